@@ -1,0 +1,26 @@
+-- Worked values of the definitions.
+use Rattle.std.specs.Prelude.{◌≡◌, [], ◌∷◌, Some, None, codes, refl}
+use Rattle.pep508.specs.Parts.{comment_place}
+use Rattle.pep508.specs.Requirement.{requirement_of, wanted_by}
+use Rattle.pep508.specs.Names.{normal_of}
+use Rattle.edits.specs.Adding.{asked_by, line_number, lines_after}
+
+-- an added line ends as the first line with an ending does, and a last line without one gets it
+ending_row : lines_after (codes "# web\r\n" ∷ codes "B_b >=1 # pin\r\n" ∷ codes "a" ∷ []) (codes "c") ≡ codes "# web\r\n" ∷ codes "B_b >=1 # pin\r\n" ∷ codes "a\r\n" ∷ codes "c\r\n" ∷ []
+ending_row = refl
+
+empty_row : lines_after [] (codes "c") ≡ codes "c\n" ∷ []
+empty_row = refl
+
+-- a text with an LF can't be a line, nor can one that asks for nothing
+asked_row : asked_by (codes "c\n") ≡ None
+asked_row = refl
+
+comment_row : asked_by (codes "# c") ≡ None
+unfolding requirement_of wanted_by comment_place
+comment_row = refl
+
+-- names compare in their normal form, and lines are numbered from 1
+number_row : line_number (codes "b-b") 1 (codes "# web\n" ∷ codes "B_b # pin\n" ∷ []) ≡ Some 2
+unfolding requirement_of wanted_by comment_place normal_of
+number_row = refl

@@ -1,0 +1,30 @@
+-- What an added line makes of the lines. All of it is reqlock's own rule.
+use Rattle.std.specs.Prelude.{ℕ, ◌+◌, ◌==◌, List, [], ◌∷◌, ◌++◌, length, Option, Some, None, if◌then◌else◌}
+use Rattle.std.specs.List.{list_any}
+use Rattle.pep508.specs.Parts.{ended, ending_of}
+use Rattle.pep508.specs.Requirement.{Wanted}
+use Rattle.edits.specs.Choice.{is_on, wanted_of}
+
+-- what a text asks for that is to be a line: it has no LF and reads as a requirement
+abbrev pub asked_by : List ℕ → Option Wanted
+asked_by text = if list_any (λ b. b == 10) text then None else wanted_of text
+
+-- the number, counted up from this one, of the first line on the name
+abbrev pub line_number : List ℕ → ℕ → List (List ℕ) → Option ℕ
+line_number name number [] = None
+line_number name number (line ∷ rest) = if is_on name (wanted_of line) then Some number else line_number name (number + 1) rest
+
+-- the ending of the first line that has one, else LF
+abbrev pub usual_ending : List (List ℕ) → List ℕ
+usual_ending [] = 10 ∷ []
+usual_ending (line ∷ rest) = if length (ending_of line) == 0 then usual_ending rest else ending_of line
+
+-- the lines, the last of them with this ending where it has none
+abbrev pub last_ended : List ℕ → List (List ℕ) → List (List ℕ)
+last_ended ending [] = []
+last_ended ending (line ∷ []) = ended ending line ∷ []
+last_ended ending (line ∷ next ∷ rest) = line ∷ last_ended ending (next ∷ rest)
+
+-- the lines with the text as their last one; the text has no LF, so it gets the ending
+abbrev pub lines_after : List (List ℕ) → List ℕ → List (List ℕ)
+lines_after lines text = last_ended (usual_ending lines) lines ++ ended (usual_ending lines) text ∷ []

@@ -1,0 +1,4 @@
+pub mod Adding
+pub mod Choice
+pub mod Content
+pub mod Edits

@@ -1,0 +1,75 @@
+// What an added line makes of the lines.
+
+ghost use Rattle.std.specs.Prelude.{◌≡◌, ◌==◌, IfOk, MatchOption, None};
+ghost use Rattle.std.specs.List.{list_any};
+ghost use Rattle.pep508.specs.Parts.{IsEnding};
+ghost use Rattle.edits.specs.Choice.{wanted_of};
+ghost use Rattle.edits.specs.Adding.{asked_by, line_number, lines_after, usual_ending};
+
+use crate::choice::is_on;
+use lists::{Seq, Text};
+use pep508::{Cause, Line, Name, ReqFile};
+use std::alloc::{AllocError, Global};
+
+/// Whether an LF is among the bytes.
+fn has_line_feed(bytes: &[u8]) -> bool
+    ensures { result ≡ list_any (λ b. b == 10) bytes.now }
+{
+    bytes.iter().any(|byte| *byte == b'\n')
+}
+
+/// The line that the text is, where it asks for something.
+pub(crate) fn asked_by(alloc: Global, text: &Text) -> Result<Option<Line>, AllocError>
+    ensures { IfOk result (λ found. MatchOption found (asked_by text.now ≡ None)
+        (λ line. (line ≡ text.now) × (asked_by text.now ≡ wanted_of line))) }
+{
+    if has_line_feed(text.as_str().as_bytes()) {
+        return Ok(None);
+    }
+    match Line::read(alloc, text.as_str()) {
+        Ok(line) => Ok(Some(line)),
+        Err(Cause::OutOfMemory) => Err(AllocError),
+        Err(_) => Ok(None),
+    }
+}
+
+/// The number, from 1, of the first line on the name.
+pub(crate) fn line_number(lines: &[Line], name: &Name) -> Option<usize>
+    ensures { result ≡ line_number name.now 1 lines.now }
+{
+    for (place, line) in lines.iter().enumerate() {
+        if is_on(line, name) {
+            return Some(place + 1);
+        }
+    }
+    None
+}
+
+/// The ending of the first line that has one, else LF.
+fn usual_ending(lines: &[Line]) -> &'static str
+    ensures ending { result.now ≡ usual_ending lines.now }
+    ensures is { IsEnding result.now }
+{
+    for line in lines {
+        if !line.ending().is_empty() {
+            return line.ending();
+        }
+    }
+    "\n"
+}
+
+/// The lines with one more as their last, each of them with an ending.
+pub(crate) fn lines_after(alloc: Global, lines: &[Line], line: Line) -> Result<ReqFile, AllocError>
+    ensures { IfOk result (λ after. after ≡ lines_after lines.now line) }
+{
+    let ending = usual_ending(lines);
+    let mut after = Vec::with_capacity(alloc, lines.len() + 1)?;
+    for old in lines {
+        after.push(old.clone()?)?;
+    }
+    if let Some(last) = after.pop() {
+        after.push(last.ended(ending)?)?;
+    }
+    after.push(line.ended(ending)?)?;
+    Ok(ReqFile::from_lines(Seq::from_vec(after)))
+}

@@ -1,0 +1,18 @@
+//! States of a requirements file with its lock, and the edits that lead from one to the next.
+#![tactic(auto)]
+
+mod adding;
+mod choice;
+mod editing;
+mod refusal;
+mod request;
+mod state;
+#[cfg(test)]
+mod tests;
+
+pub use crate::editing::{edit, init};
+pub use crate::refusal::{Refusal, SavedFile};
+pub use crate::request::{Edit, Edited};
+pub use crate::state::State;
+pub use pep508::{Cause, Fault, Line, Name, ReqFile, Requirement};
+pub use snapshot::{Release, Snapshot};

@@ -1,0 +1,19 @@
+-- Laws of the steps.
+use Rattle.std.specs.Prelude.{ℕ, ◌≡◌}
+use Rattle.journal.specs.Values.{Edit, Snapshot, Refusal, OutOfMemory}
+use Rattle.journal.specs.declared.commands.Reply.TheVariants.{Done, Refused}
+use Rattle.journal.specs.Past.{Past, present}
+use Rattle.journal.specs.Commands.{Editing, Undoing, Redoing}
+use Rattle.journal.specs.Steps.{Step}
+
+-- an undo after an accepted edit gives back the present state before the edit, and its cursor
+abbrev pub UndoGivesTheStateBack : Type 0
+UndoGivesTheStateBack = (before edited undone : Past) (edit : Edit) (snapshot : Snapshot) (k j : ℕ) → Step before (Editing edit snapshot) (Done k) edited → Step edited Undoing (Done j) undone → (present undone ≡ present before) × (j ≡ before.cursor)
+
+-- a redo after that undo gives the history that the edit gave, and its reply
+abbrev pub RedoGivesTheEditAgain : Type 0
+RedoGivesTheEditAgain = (before edited undone redone : Past) (edit : Edit) (snapshot : Snapshot) (k j i : ℕ) → Step before (Editing edit snapshot) (Done k) edited → Step edited Undoing (Done j) undone → Step undone Redoing (Done i) redone → (redone ≡ edited) × (i ≡ k)
+
+-- after an accepted edit an undo is refused for want of memory alone
+abbrev pub AnEditCanBeUndone : Type 0
+AnEditCanBeUndone = (before edited after : Past) (edit : Edit) (snapshot : Snapshot) (k : ℕ) (refusal : Refusal) → Step before (Editing edit snapshot) (Done k) edited → Step edited Undoing (Refused refusal) after → refusal ≡ OutOfMemory

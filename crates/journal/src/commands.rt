@@ -1,0 +1,22 @@
+// What a history is asked for, and what it answers.
+
+use edits::{Edit, Refusal, Snapshot};
+
+/// What a history is asked for. An edit comes with the index that it is resolved over.
+#[derive(Drop)]
+pub enum Command<'a> {
+    Edit(Edit, &'a Snapshot),
+    Undo,
+    Redo,
+}
+
+/// The answer to a command.
+#[derive(Debug, Drop, PartialEq, Eq)]
+pub enum Reply {
+    /// It was done, and the cursor stands here now.
+    Done(usize),
+    /// The edit leads to the state that is there.
+    Same,
+    /// Nothing was changed.
+    Refused(Refusal),
+}

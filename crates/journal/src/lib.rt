@@ -1,0 +1,22 @@
+//! The history of a requirements file and its lock: edits, undo and redo over whole states.
+//!
+//! A history is seen as the list of its states and a cursor, and each command is one step of it.
+#![tactic(auto)]
+
+mod commands;
+mod history;
+mod laws;
+mod running;
+mod session;
+#[cfg(test)]
+mod tests;
+mod whole;
+
+pub use crate::commands::{Command, Reply};
+pub use crate::history::History;
+pub use crate::laws::{
+    an_edit_can_be_undone, redo_gives_the_edit_again, undo_gives_the_state_back,
+};
+pub use crate::running::{apply, run};
+pub use crate::session::Session;
+pub use crate::whole::WholeHistory;

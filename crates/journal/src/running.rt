@@ -1,0 +1,71 @@
+// Commands applied to a history, one or many.
+
+ghost use Rattle.std.specs.Prelude.{◌≡◌, map, IfOk, OnErr};
+ghost use Rattle.journal.specs.Commands.{Asked, Editing, Undoing, Redoing, asked_of};
+ghost use Rattle.journal.specs.Steps.{Step, Run};
+
+use crate::commands::{Command, Reply};
+use crate::history::History;
+use edits::{Edit, Refusal, Snapshot};
+use lists::Seq;
+use std::alloc::{AllocError, Global};
+
+/// Applies one command.
+pub fn apply<H: History>(alloc: Global, history: &mut H, command: &Command<'_>) -> Reply
+    ensures step { Step (H.past history.old) (asked_of command.now) result (H.past history.new) }
+{
+    match command {
+        Command::Edit(edit, snapshot) => apply_edit(alloc, history, edit, snapshot),
+        Command::Undo => apply_undo(history),
+        Command::Redo => apply_redo(history),
+    }
+}
+
+fn apply_edit<H: History>(alloc: Global, history: &mut H, edit: &Edit, snapshot: &Snapshot) -> Reply
+    ensures step { Step (H.past history.old) (Editing edit.now snapshot.now) result (H.past history.new) }
+{
+    match edits::edit(alloc, history.state(), edit, snapshot) {
+        Ok(edited) => match history.push(edited) {
+            Ok(()) => Reply::Done(history.cursor()),
+            Err(AllocError) => Reply::Refused(Refusal::OutOfMemory),
+        },
+        Err(Refusal::NothingChanges) => Reply::Same,
+        Err(refusal) => Reply::Refused(refusal),
+    }
+}
+
+fn apply_undo<H: History>(history: &mut H) -> Reply
+    ensures step { Step (H.past history.old) Undoing result (H.past history.new) }
+{
+    match history.undo() {
+        Ok(()) => Reply::Done(history.cursor()),
+        Err(refusal) => Reply::Refused(refusal),
+    }
+}
+
+fn apply_redo<H: History>(history: &mut H) -> Reply
+    ensures step { Step (H.past history.old) Redoing result (H.past history.new) }
+{
+    match history.redo() {
+        Ok(()) => Reply::Done(history.cursor()),
+        Err(refusal) => Reply::Refused(refusal),
+    }
+}
+
+/// Applies the commands in turn and gives their replies. The room for the replies is taken
+/// first, and where that is refused no command is applied.
+pub fn run<H: History>(
+    alloc: Global,
+    history: &mut H,
+    commands: &[Command<'_>],
+) -> Result<Seq<Reply>, AllocError>
+    ensures run { IfOk result (λ replies. Run (H.past history.old) (map asked_of commands.now) replies (H.past history.new)) }
+    ensures kept { OnErr result (H.past history.new ≡ H.past history.old) }
+{
+    let mut replies = Vec::with_capacity(alloc, commands.len())?;
+    for command in commands {
+        let reply = apply(alloc, history, command);
+        replies.push_reserved(reply);
+    }
+    Ok(Seq::from_vec(replies))
+}

@@ -1,0 +1,8 @@
+use Rattle.pep440.proofs.ClauseFacts.{clause-read, read-clause}
+use Rattle.pep440.proofs.laws.a_piece_reads_as_its_clause.Goals as goal
+
+pub returns-clause-read : goal.returns-clause-read
+returns-clause-read c = read-clause
+
+pub returns-clause-found : goal.returns-clause-found
+returns-clause-found c = clause-read

@@ -1,0 +1,10 @@
+use Rattle.std.proofs.Common.{length}
+use Rattle.pep440.specs.Reading.{locals_of}
+use Rattle.pep440.proofs.SpanFacts.{PartsSoFar}
+use Rattle.pep440.proofs.reading.local_parts.Given as goal
+
+abbrev pub invariant-pieces : goal.invariant-pieces
+invariant-pieces l = PartsSoFar l.parts.items l.rest (locals_of l.fn.text)
+
+abbrev pub decreases-pieces : goal.decreases-pieces
+decreases-pieces l = length l.rest

@@ -1,0 +1,10 @@
+use Rattle.std.proofs.Common.{◌≡◌, ◌≤◌, length, take}
+use Rattle.pep440.specs.Grammar.{is_space}
+use Rattle.pep440.specs.Text.{trim_end}
+use Rattle.pep440.proofs.reading.trim_space_end.Given as goal
+
+abbrev pub invariant-loop-len : goal.invariant-loop-len
+invariant-loop-len l = (l.len ≤ length l.text) × (trim_end is_space (take l.len l.text) ≡ trim_end is_space l.text)
+
+abbrev pub decreases-loop-len : goal.decreases-loop-len
+decreases-loop-len l = l.len

@@ -1,0 +1,6 @@
+use Rattle.std.proofs.Common.{◌≡◌, drop}
+use Rattle.pep440.specs.Text.{is_blank, trim_front}
+use Rattle.pep440.proofs.sets.trim_front.Given as goal
+
+abbrev pub invariant-loop-i : goal.invariant-loop-i
+invariant-loop-i l = trim_front is_blank (drop l.i l.text) ≡ trim_front is_blank l.text

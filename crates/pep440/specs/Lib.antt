@@ -1,0 +1,12 @@
+pub mod Text
+pub mod Version
+pub mod Order
+pub mod Canonical
+pub mod Grammar
+pub mod Reading
+pub mod Hash
+pub mod OrderLaws
+pub mod Matching
+pub mod Sets
+pub mod Views
+pub mod SetGrammar

@@ -1,0 +1,90 @@
+// Specifiers, and sets of them.
+
+ghost use Rattle.std.specs.Prelude.{◌≡◌};
+
+use crate::version::Version;
+use lists::{Faithful, Seq};
+use std::alloc::AllocError;
+use std::marker::Model;
+
+/// How a clause compares a candidate with its version (PEP 440, "Version specifiers").
+#[derive(Clone, Copy, Debug, PartialEq, Eq)]
+pub enum Operator {
+    /// `~=V`
+    Compatible,
+    /// `==V`
+    Equal,
+    /// `!=V`
+    NotEqual,
+    /// `==V.*`
+    EqualPrefix,
+    /// `!=V.*`
+    NotEqualPrefix,
+    /// `<=V`
+    AtMost,
+    /// `>=V`
+    AtLeast,
+    /// `<V`
+    Below,
+    /// `>V`
+    Above,
+}
+
+/// One clause of a set: an operator and its version.
+#[derive(Debug, Drop)]
+pub struct Clause {
+    pub operator: Operator,
+    pub version: Version,
+}
+
+impl Clone for Clause {
+    ghost is_clone = { λ c d. d ≡ c };
+
+    fn clone(&self) -> Result<Clause, AllocError> {
+        let version = self.version.clone()?;
+        Ok(Clause {
+            operator: self.operator,
+            version,
+        })
+    }
+}
+
+impl Faithful for Clause {
+    ghost clone_is_source = { λ x y h. h };
+}
+
+/// A set of clauses, all of which have to hold. In a clause it is their list.
+#[derive(Drop)]
+pub struct SpecifierSet {
+    pub(crate) clauses: Seq<Clause>,
+}
+
+impl Model for SpecifierSet {
+    ghost use Rattle.std.specs.Prelude.{List};
+    ghost use Rattle.pep440.specs.declared.specifier.Clause.{Clause};
+
+    ghost Value = { List Clause };
+
+    ghost view = { λ s. s.clauses };
+}
+
+impl SpecifierSet {
+    pub fn clauses(&self) -> &[Clause]
+        ensures { result.now ≡ self.now }
+    {
+        self.clauses.as_slice()
+    }
+}
+
+impl Clone for SpecifierSet {
+    ghost is_clone = { λ s t. t ≡ s };
+
+    fn clone(&self) -> Result<SpecifierSet, AllocError> {
+        let clauses = self.clauses.clone()?;
+        Ok(SpecifierSet { clauses })
+    }
+}
+
+impl Faithful for SpecifierSet {
+    ghost clone_is_source = { λ x y h. h };
+}

@@ -1,0 +1,136 @@
+// Versions.
+
+ghost use Rattle.std.specs.Prelude.{◌≡◌, ◌<◌, length, IfOk, string_bytes, option_copied};
+ghost use Rattle.std.proofs.Common.{refl};
+ghost use Rattle.pep440.specs.Canonical.{canonical};
+ghost use Rattle.pep440.specs.Version.{IsVersion, is_post, is_pre};
+
+use crate::fault::Fault;
+use crate::parts::{LocalPart, Pre};
+use lists::{Faithful, Seq};
+use std::alloc::{AllocError, Global};
+use std::marker::Model;
+
+/// A version (PEP 440, "Version scheme"). In a clause it is the record of its parts.
+#[derive(Drop)]
+pub struct Version {
+    pub(crate) epoch: u64,
+    pub(crate) release: Seq<u64>,
+    pub(crate) pre: Option<Pre>,
+    pub(crate) post: Option<u64>,
+    pub(crate) dev: Option<u64>,
+    pub(crate) local: Seq<LocalPart>,
+}
+
+impl Model for Version {
+    ghost use Rattle.pep440.specs.Version.{IsVersion, Parts};
+
+    ghost Value = { Parts };
+
+    ghost view = { λ a. record {
+      epoch = a.epoch;
+      release = a.release;
+      pre = a.pre;
+      post = a.post;
+      dev = a.dev;
+      local = a.local;
+    } };
+
+    ghost invariant = { λ a. IsVersion (record {
+      epoch = a.epoch;
+      release = a.release;
+      pre = a.pre;
+      post = a.post;
+      dev = a.dev;
+      local = a.local;
+    }) };
+}
+
+impl Version {
+    pub fn epoch(&self) -> u64
+        ensures { result ≡ self.now.epoch }
+    {
+        self.epoch
+    }
+
+    /// The numbers of the release, trailing zeros too. There is one at least.
+    pub fn release(&self) -> &[u64]
+        ensures numbers { result.now ≡ self.now.release }
+        ensures some { 0 < length result.now }
+    {
+        self.release.as_slice()
+    }
+
+    pub fn pre(&self) -> Option<Pre>
+        ensures { result ≡ self.now.pre }
+    {
+        self.pre
+    }
+
+    pub fn post(&self) -> Option<u64>
+        ensures { result ≡ self.now.post }
+    {
+        self.post
+    }
+
+    pub fn dev(&self) -> Option<u64>
+        ensures { result ≡ self.now.dev }
+    {
+        self.dev
+    }
+
+    pub fn local(&self) -> &[LocalPart]
+        ensures { result.now ≡ self.now.local }
+    {
+        self.local.as_slice()
+    }
+
+    /// Whether the version has a pre or a dev part.
+    pub fn is_pre(&self) -> bool
+        ensures { result ≡ is_pre self.now }
+    {
+        self.pre.is_some() || self.dev.is_some()
+    }
+
+    /// Whether the version has a post part.
+    pub fn is_post(&self) -> bool
+        ensures { result ≡ is_post self.now }
+    {
+        self.post.is_some()
+    }
+
+    /// What holds of every version: the release isn't empty, local words are lawful, numbers fit.
+    pub fn is_lawful(&self)
+        ensures { IsVersion self.now }
+    {
+        let _epoch = &self.epoch;
+    }
+
+    /// The one text of the version: `[N!]N(.N)*[{a|b|rc}N][.postN][.devN][+local]`.
+    pub fn canonical(&self, alloc: Global) -> Result<String, Fault>
+        ensures { IfOk result (λ text. string_bytes text ≡ canonical self.now) }
+    {
+        Ok(format!(in alloc; "{self}")?)
+    }
+}
+
+impl Clone for Version {
+    ghost is_clone = { λ v w. w ≡ v };
+
+    fn clone(&self) -> Result<Version, AllocError> {
+        let release = self.release.clone()?;
+        let local = self.local.clone()?;
+        Ok(Version {
+            epoch: self.epoch,
+            release,
+            pre: self.pre,
+            post: self.post,
+            dev: self.dev,
+            local,
+        })
+    }
+}
+
+impl Faithful for Version {
+    ghost clone_is_source = { λ x y h. h };
+}

@@ -1,0 +1,5 @@
+pub mod Cuts
+pub mod Endings
+pub mod Files
+pub mod FirstLine
+pub mod WorkedRows

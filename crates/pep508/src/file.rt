@@ -1,0 +1,100 @@
+// Requirements files.
+
+ghost use Rattle.lists.specs.Answers.{Answers};
+ghost use Rattle.std.specs.Prelude.{◌≡◌, IfOk};
+ghost use Rattle.std.specs.List.{concat};
+ghost use Rattle.pep508.specs.Requirement.{file_of, lines_read, memory_fault};
+
+use crate::fault::{Cause, Fault};
+use crate::line::Line;
+use crate::parts::split_line;
+use lists::{Faithful, Seq, Text};
+use std::alloc::{AllocError, Global};
+use std::marker::Model;
+use std::str;
+
+/// A requirements file. In a clause it is the list of its lines, each with its ending.
+#[derive(Drop)]
+pub struct ReqFile {
+    lines: Seq<Line>,
+}
+
+impl Model for ReqFile {
+    ghost use Rattle.std.specs.Prelude.{List, ℕ};
+
+    ghost Value = { List (List ℕ) };
+
+    ghost view = { λ f. f.lines };
+
+    ghost inverse = { λ l. record { lines = l } };
+}
+
+impl ReqFile {
+    /// Reads a file. What is refused is the whole where it isn't UTF-8, else its first refused line.
+    pub fn read(alloc: Global, bytes: &[u8]) -> Result<ReqFile, Fault>
+        ensures exact { Answers memory_fault (file_of bytes.now) result }
+        ensures whole { IfOk result (λ file. concat file ≡ bytes.now) }
+    {
+        let Ok(text) = str::from_utf8(bytes) else {
+            return Err(Fault {
+                line: 0,
+                cause: Cause::NotUtf8,
+            });
+        };
+        read_lines(alloc, text)
+    }
+
+    /// The file of these lines.
+    pub fn from_lines(lines: Seq<Line>) -> ReqFile
+        ensures { result ≡ lines }
+    {
+        ReqFile { lines }
+    }
+
+    pub fn lines(&self) -> &[Line]
+        ensures { result.now ≡ self.now }
+    {
+        self.lines.as_slice()
+    }
+
+    /// The bytes of the file: its lines, joined.
+    pub fn bytes(&self, alloc: Global) -> Result<Text, AllocError>
+        ensures { IfOk result (λ bytes. bytes ≡ concat self.now) }
+    {
+        let mut bytes = Text::new(alloc);
+        for line in self.lines() {
+            bytes.push_str(line.text())?;
+        }
+        Ok(bytes)
+    }
+}
+
+/// The lines of a text, or the fault of the first that is refused.
+fn read_lines(alloc: Global, text: &str) -> Result<ReqFile, Fault>
+    ensures { Answers memory_fault (lines_read text.now) result }
+{
+    let mut lines = Seq::new(alloc);
+    let mut rest = text;
+    while !rest.is_empty() {
+        let (line, after) = split_line(rest);
+        match Line::read(alloc, line) {
+            Ok(line) => lines.push(line)?,
+            Err(cause) => return Err(Fault::at(lines.len() + 1, cause)),
+        }
+        rest = after;
+    }
+    Ok(ReqFile { lines })
+}
+
+impl Clone for ReqFile {
+    ghost is_clone = { λ f g. g ≡ f };
+
+    fn clone(&self) -> Result<ReqFile, AllocError> {
+        let lines = self.lines.clone()?;
+        Ok(ReqFile { lines })
+    }
+}
+
+impl Faithful for ReqFile {
+    ghost clone_is_source = { λ x y h. h };
+}

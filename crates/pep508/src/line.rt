@@ -1,0 +1,112 @@
+// Lines of a requirements file.
+
+ghost use Rattle.lists.specs.Answers.{Answers};
+ghost use Rattle.std.specs.Prelude.{◌≡◌, Ok, IfOk};
+ghost use Rattle.std.specs.Option.{option_copied};
+ghost use Rattle.pep508.specs.Parts.{IsEnding, ended, ending_of};
+ghost use Rattle.pep508.specs.Requirement.{checked_line, requirement_of, wanted_by};
+ghost use Rattle.pep508.specs.declared.fault.Cause.TheVariants.{OutOfMemory};
+
+use crate::fault::Cause;
+use crate::parts::{before_comment, content_of, ending_of, has_control, trim_end, trim_start};
+use crate::requirement::Requirement;
+use lists::{Faithful, Text};
+use std::alloc::{AllocError, Global};
+use std::marker::Model;
+
+/// A line with its ending, if it has one: blank, a comment, or a requirement. In a clause it is its
+/// bytes, which tell the requirement.
+#[derive(Drop)]
+pub struct Line {
+    text: Text,
+    requirement: Option<Requirement>,
+}
+
+impl Model for Line {
+    ghost use Rattle.std.specs.Prelude.{◌≡◌, List, ℕ, Ok};
+    ghost use Rattle.pep508.specs.Requirement.{requirement_of};
+
+    ghost Value = { List ℕ };
+
+    ghost view = { λ l. l.text };
+
+    ghost invariant = { λ l. requirement_of l.text ≡ Ok l.requirement };
+}
+
+/// What the content of a line asks for: nothing where it is blank or a comment.
+#[tactic(auto, unfolding(crate::specs::Requirement::wanted_by))]
+fn wanted_by(alloc: Global, content: &str) -> Result<Option<Requirement>, Cause>
+    ensures { Answers OutOfMemory (wanted_by content.now) result }
+{
+    if has_control(content.as_bytes()) {
+        return Err(Cause::OddCharacter);
+    }
+    let body = trim_end(trim_start(before_comment(content)));
+    if body.is_empty() {
+        return Ok(None);
+    }
+    Ok(Some(Requirement::read(alloc, body)?))
+}
+
+impl Line {
+    /// Reads a line with its ending.
+    #[tactic(auto, unfolding(crate::specs::Requirement::requirement_of))]
+    pub fn read(alloc: Global, line: &str) -> Result<Line, Cause>
+        ensures { Answers OutOfMemory (checked_line line.now) result }
+    {
+        let requirement = wanted_by(alloc, content_of(line))?;
+        let text = Text::copy_of(alloc, line)?;
+        Ok(Line { text, requirement })
+    }
+
+    /// The line with its ending.
+    pub fn text(&self) -> &str
+        ensures { result.now ≡ self.now }
+    {
+        self.text.as_str()
+    }
+
+    /// How the line ends: LF, CR and LF, or nothing.
+    pub fn ending(&self) -> &'static str
+        ensures { result.now ≡ ending_of self.now }
+    {
+        ending_of(self.text.as_str())
+    }
+
+    /// The line, with this ending where it has none.
+    pub fn ended(self, ending: &str) -> Result<Line, AllocError>
+        requires { IsEnding ending.now }
+        ensures { IfOk result (λ line. line ≡ ended ending.now self) }
+    {
+        if !self.ending().is_empty() {
+            return Ok(self);
+        }
+        let Line {
+            mut text,
+            requirement,
+        } = self;
+        text.push_str(ending)?;
+        Ok(Line { text, requirement })
+    }
+
+    /// What the line asks for; none where it is blank or a comment.
+    pub fn requirement(&self) -> Option<&Requirement>
+        ensures { requirement_of self.now ≡ Ok (option_copied result) }
+    {
+        self.requirement.as_ref()
+    }
+}
+
+impl Clone for Line {
+    ghost is_clone = { λ l k. k ≡ l };
+
+    fn clone(&self) -> Result<Line, AllocError> {
+        let text = self.text.clone()?;
+        let requirement = self.requirement.clone()?;
+        Ok(Line { text, requirement })
+    }
+}
+
+impl Faithful for Line {
+    ghost clone_is_source = { λ x y h. h };
+}

@@ -1,0 +1,5 @@
+pub mod Lines
+pub mod Texts
+pub mod Batches
+pub mod Requests
+pub mod WorkedRows

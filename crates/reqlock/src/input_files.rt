@@ -1,0 +1,125 @@
+// The files that the program reads.
+
+use pep440::Fault as SpecifierFault;
+use pep508::{Cause, Fault as LineFault, ReqFile};
+use snapshot::{Fault as IndexFault, Snapshot};
+use std::alloc::{AllocError, Global};
+use std::rt::Files;
+use std::{fmt, fs, io};
+
+/// A file that the program reads.
+#[derive(Clone, Copy, Debug, PartialEq, Eq)]
+pub enum InputFile {
+    Requirements,
+    Index,
+}
+
+impl fmt::Display for InputFile {
+    fn fmt<W: fmt::Write>(&self, f: &mut fmt::Formatter<W>) -> fmt::Result {
+        match self {
+            InputFile::Requirements => write!(f, "requirements.txt"),
+            InputFile::Index => write!(f, "index"),
+        }
+    }
+}
+
+/// Why an input was refused.
+#[derive(Debug, Drop)]
+pub enum InputFault {
+    /// The file could not be read.
+    Unreadable,
+    /// The requirements file is refused. The line is 0 where the fault is of no line.
+    Requirements(LineFault),
+    /// The index is refused.
+    Index(IndexFault),
+    OutOfMemory,
+}
+
+impl From<AllocError> for InputFault {
+    fn from(_error: AllocError) -> InputFault {
+        InputFault::OutOfMemory
+    }
+}
+
+impl fmt::Display for InputFault {
+    fn fmt<W: fmt::Write>(&self, f: &mut fmt::Formatter<W>) -> fmt::Result {
+        match self {
+            InputFault::Unreadable => write!(f, "unreadable"),
+            InputFault::Requirements(fault) => write_line_fault(f, *fault),
+            InputFault::Index(fault) => write_index_fault(f, fault),
+            InputFault::OutOfMemory => write!(f, "out-of-memory"),
+        }
+    }
+}
+
+fn write_line_fault<W: fmt::Write>(f: &mut fmt::Formatter<W>, fault: LineFault) -> fmt::Result {
+    let line = fault.line;
+    let word = cause_word(fault.cause);
+    if line == 0 {
+        write!(f, "{word}")
+    } else {
+        write!(f, "line {line}: {word}")
+    }
+}
+
+/// The word of a cause: its name in lower case with a hyphen before each inner capital. That of a
+/// specifier is the word of its own fault.
+pub fn cause_word(cause: Cause) -> &'static str {
+    match cause {
+        Cause::BadName => "bad-name",
+        Cause::UrlRequirement => "url-requirement",
+        Cause::OptionLine => "option-line",
+        Cause::OddCharacter => "odd-character",
+        Cause::NotUtf8 => "not-utf8",
+        Cause::Specifier(SpecifierFault::BadVersion) => "bad-version",
+        Cause::Specifier(SpecifierFault::NumberTooLarge) => "number-too-large",
+        Cause::Specifier(SpecifierFault::BadClause(_)) => "bad-clause",
+        Cause::Specifier(SpecifierFault::ArbitraryEquality) => "arbitrary-equality",
+        Cause::Specifier(SpecifierFault::OutOfMemory) | Cause::OutOfMemory => "out-of-memory",
+    }
+}
+
+fn write_index_fault<W: fmt::Write>(f: &mut fmt::Formatter<W>, fault: &IndexFault) -> fmt::Result {
+    match fault {
+        IndexFault::NotJson => write!(f, "not-json"),
+        IndexFault::Shape(path) => write_detail(f, "shape", path.as_str()),
+        IndexFault::DuplicatePackage(name) => write_detail(f, "duplicate-package", name.normal()),
+        IndexFault::OutOfMemory => write!(f, "out-of-memory"),
+    }
+}
+
+// An empty detail is left out with its space.
+fn write_detail<W: fmt::Write>(f: &mut fmt::Formatter<W>, word: &str, detail: &str) -> fmt::Result {
+    if detail.is_empty() {
+        write!(f, "{word}")
+    } else {
+        write!(f, "{word} {detail}")
+    }
+}
+
+/// The bytes of a file.
+pub fn read_bytes<R: Files + AllocGlobal>(rt: &R, path: &str) -> Result<Vec<u8>, InputFault> {
+    match fs::read(rt, path) {
+        Ok(bytes) => Ok(bytes),
+        Err(error) if error.kind() == io::ErrorKind::OutOfMemory => Err(InputFault::OutOfMemory),
+        Err(_) => Err(InputFault::Unreadable),
+    }
+}
+
+/// The requirements file that these bytes are.
+pub fn read_requirements(alloc: Global, bytes: &[u8]) -> Result<ReqFile, InputFault> {
+    match ReqFile::read(alloc, bytes) {
+        Ok(file) => Ok(file),
+        Err(fault) if fault.cause == Cause::OutOfMemory => Err(InputFault::OutOfMemory),
+        Err(fault) => Err(InputFault::Requirements(fault)),
+    }
+}
+
+/// The index that these bytes are.
+pub fn read_index(alloc: Global, bytes: &[u8]) -> Result<Snapshot, InputFault> {
+    match Snapshot::read(alloc, bytes) {
+        Ok(snapshot) => Ok(snapshot),
+        Err(IndexFault::OutOfMemory) => Err(InputFault::OutOfMemory),
+        Err(fault) => Err(InputFault::Index(fault)),
+    }
+}

@@ -1,0 +1,28 @@
+//! `reqlock`: a locker for Python requirements files, with undo and redo.
+#![tactic(auto)]
+
+mod batch;
+mod command_line;
+mod counted;
+mod input_files;
+mod pending_line;
+mod program;
+#[cfg(test)]
+mod program_tests;
+mod reply_text;
+mod request;
+mod sink;
+mod source;
+#[cfg(test)]
+mod tests;
+
+use std::io;
+use std::process::ExitCode;
+
+fn main(rt: HostRuntime) -> io::Result<ExitCode> {
+    let words: Vec<String> = std::env::args(&rt)?.collect(rt.alloc())?;
+    let mut output = rt.stdout();
+    let mut errors = rt.stderr();
+    let status = program::program(&rt, words.as_slice(), rt.stdin(), &mut output, &mut errors);
+    Ok(ExitCode::from(status as u8))
+}

@@ -1,0 +1,242 @@
+// The program from end to end, over files in the folder for temporary files.
+
+use crate::program::{Status, program};
+use std::test::Fail;
+use std::{env, fs, process};
+
+// Indexes with releases of these names.
+const A_C: &str = r#"{"snapshot":1,"packages":[{"name":"a","releases":[{"version":"1"}]},
+    {"name":"c","releases":[{"version":"1"},{"version":"2"}]}]}"#;
+
+const A_B_C: &str = r#"{"snapshot":1,"packages":[{"name":"a","releases":[{"version":"1"}]},
+    {"name":"b-b","releases":[{"version":"1"}]},{"name":"b","releases":[{"version":"1"}]},
+    {"name":"c","releases":[{"version":"1"}]}]}"#;
+
+// How the program ended, and what it wrote.
+#[derive(Drop)]
+struct Outcome {
+    status: Status,
+    output: Vec<u8>,
+    errors: Vec<u8>,
+}
+
+fn run_program(rt: &HostRuntime, words: &[&str], input: &[u8]) -> Result<Outcome, Fail> {
+    let alloc = rt.alloc();
+    let mut owned = Vec::new(alloc);
+    for word in words {
+        owned.push(String::from_str(alloc, word)?)?;
+    }
+    let mut output = Vec::new(alloc);
+    let mut errors = Vec::new(alloc);
+    let status = program(rt, owned.as_slice(), input, &mut output, &mut errors);
+    Ok(Outcome {
+        status,
+        output,
+        errors,
+    })
+}
+
+// A new folder with this requirements file and this index.
+fn folder(rt: &HostRuntime, name: &str, requirements: &[u8], index: &[u8]) -> Result<String, Fail> {
+    let alloc = rt.alloc();
+    let process = process::id(rt.process());
+    let temporary = env::temp_dir(rt)?;
+    let temporary = temporary.as_str();
+    let dir = format!(in alloc; "{temporary}/reqlock-{process}-{name}")?;
+    fs::create_dir_all(rt, dir.as_str())?;
+    fs::write(
+        rt,
+        format!(in alloc; "{dir}/requirements.txt")?,
+        requirements,
+    )?;
+    fs::write(rt, format!(in alloc; "{dir}/index.json")?, index)?;
+    Ok(dir)
+}
+
+// What `try` answers to this input over a folder with these files.
+fn tried(
+    rt: &HostRuntime,
+    name: &str,
+    requirements: &[u8],
+    index: &[u8],
+    input: &[u8],
+) -> Result<Outcome, Fail> {
+    let alloc = rt.alloc();
+    let dir = folder(rt, name, requirements, index)?;
+    let file = format!(in alloc; "{dir}/index.json")?;
+    let words = [
+        "reqlock",
+        "--dir",
+        dir.as_str(),
+        "--index",
+        file.as_str(),
+        "try",
+    ];
+    let outcome = run_program(rt, words.as_slice(), input)?;
+    fs::remove_dir_all(rt, dir.as_str())?;
+    Ok(outcome)
+}
+
+#[test]
+fn tries_additions(rt: HostRuntime) -> Result<(), Fail> {
+    let rows = [
+        ("a\n", "add c<2", "ok 1\na\nc<2\n"),
+        (
+            "a\n",
+            "add A\nadd z\nadd c>>1\n\nbogus\nundo\n",
+            "refused already-present\nrefused no-solution\nrefused bad-text\nrefused bad-command\nrefused nothing-to-undo\na\n",
+        ),
+        ("", "", ""),
+        ("", "undo", "refused nothing-to-undo\n"),
+    ];
+    for (file, input, wanted) in rows.iter() {
+        let outcome = tried(
+            &rt,
+            "additions",
+            file.as_bytes(),
+            A_C.as_bytes(),
+            input.as_bytes(),
+        )?;
+        assert_eq!(rt; outcome.status, Status::Done);
+        assert_eq!(rt; outcome.output.as_slice(), wanted.as_bytes());
+        assert!(rt; outcome.errors.is_empty());
+    }
+    Ok(())
+}
+
+#[test]
+fn undo_and_redo_give_each_byte(rt: HostRuntime) -> Result<(), Fail> {
+    let comments = "# z\nb\n# a\na\n";
+    let windows = "# web\r\nB_b >=1 # pin\r\na";
+    let rows = [
+        (
+            comments,
+            "add c\nundo\nredo\nundo\n",
+            "ok 1\nok 0\nok 1\nok 0\n",
+            comments,
+        ),
+        (
+            windows,
+            "add c\n",
+            "ok 1\n",
+            "# web\r\nB_b >=1 # pin\r\na\r\nc\r\n",
+        ),
+        (windows, "add c\r\nundo\r\n", "ok 1\nok 0\n", windows),
+        (
+            "a\n",
+            "add c\nundo\nadd b\nredo\n",
+            "ok 1\nok 0\nok 1\nrefused nothing-to-redo\n",
+            "a\nb\n",
+        ),
+        (
+            "a\n",
+            "add c\nadd C\nbogus\n\nundo\nundo\n",
+            "ok 1\nrefused already-present\nrefused bad-command\nok 0\nrefused nothing-to-undo\n",
+            "a\n",
+        ),
+    ];
+    for (file, input, replies, after) in rows.iter() {
+        let outcome = tried(
+            &rt,
+            "bytes",
+            file.as_bytes(),
+            A_B_C.as_bytes(),
+            input.as_bytes(),
+        )?;
+        let wanted = format!(in rt.alloc(); "{replies}{after}")?;
+        assert_eq!(rt; outcome.status, Status::Done);
+        assert_eq!(rt; outcome.output.as_slice(), wanted.as_bytes());
+    }
+    Ok(())
+}
+
+#[test]
+fn a_file_without_a_solution_has_status_3(rt: HostRuntime) -> Result<(), Fail> {
+    let outcome = tried(
+        &rt,
+        "unsolved",
+        b"z\n".as_slice(),
+        A_C.as_bytes(),
+        b"add c\n".as_slice(),
+    )?;
+    assert_eq!(rt; outcome.status, Status::NoSolution);
+    assert_eq!(rt;
+        outcome.output.as_slice(),
+        b"refused no-solution\n".as_slice()
+    );
+    Ok(())
+}
+
+#[test]
+fn refused_inputs_are_named(rt: HostRuntime) -> Result<(), Fail> {
+    let rows = [
+        (
+            b"a\n-r more.txt\n".as_slice(),
+            A_C.as_bytes(),
+            "requirements.txt: line 2: option-line",
+        ),
+        (
+            b"a @ https://x.example/a.whl\n".as_slice(),
+            A_C.as_bytes(),
+            "requirements.txt: line 1: url-requirement",
+        ),
+        (
+            b"a>>1\n".as_slice(),
+            A_C.as_bytes(),
+            "requirements.txt: line 1: bad-clause",
+        ),
+        (
+            b"\xff\n".as_slice(),
+            A_C.as_bytes(),
+            "requirements.txt: not-utf8",
+        ),
+        (b"a\n".as_slice(), b"{".as_slice(), "index: not-json"),
+        (b"a\n".as_slice(), b"[]".as_slice(), "index: shape"),
+        (
+            b"a\n".as_slice(),
+            b"{\"snapshot\":2}".as_slice(),
+            "index: shape /snapshot",
+        ),
+        (
+            b"-e .\n".as_slice(),
+            b"{".as_slice(),
+            "requirements.txt: line 1: option-line",
+        ),
+    ];
+    for (file, index, wanted) in rows.iter() {
+        let outcome = tried(&rt, "inputs", file, index, b"add c\n".as_slice())?;
+        let wanted = format!(in rt.alloc(); "reqlock: {wanted}\n")?;
+        assert_eq!(rt; outcome.status, Status::InputRefused);
+        assert_eq!(rt; outcome.errors.as_slice(), wanted.as_bytes());
+        assert!(rt; outcome.output.is_empty());
+    }
+    Ok(())
+}
+
+#[test]
+fn missing_files_and_options_are_named(rt: HostRuntime) -> Result<(), Fail> {
+    let words = [
+        "reqlock",
+        "--dir",
+        "/nowhere",
+        "--index",
+        "/nowhere/index.json",
+        "try",
+    ];
+    let missing = run_program(&rt, words.as_slice(), b"".as_slice())?;
+    assert_eq!(rt; missing.status, Status::InputRefused);
+    assert_eq!(rt;
+        missing.errors.as_slice(),
+        b"reqlock: requirements.txt: unreadable\n".as_slice()
+    );
+    let unasked = run_program(&rt, ["reqlock", "try"].as_slice(), b"".as_slice())?;
+    assert_eq!(rt; unasked.status, Status::Usage);
+    assert_eq!(rt;
+        unasked.errors.as_slice(),
+        b"reqlock: --index is needed\n".as_slice()
+    );
+    let helped = run_program(&rt, ["reqlock", "--help"].as_slice(), b"".as_slice())?;
+    assert_eq!(rt; helped.status, Status::Done);
+    assert!(rt; !helped.output.is_empty());
+    Ok(())
+}

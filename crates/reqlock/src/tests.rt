@@ -1,0 +1,230 @@
+// What no clause says: the words of each kind, and that what takes memory succeeds where there is
+// enough.
+
+use crate::batch::{BatchFault, batch};
+use crate::command_line::{Item, read_item};
+use crate::counted::Counted;
+use crate::reply_text::{ReplyText, refusal_word};
+use crate::request::{NeededOption, RequestFault, Subcommand, request};
+use crate::sink::Sink;
+use crate::source::Source;
+use edits::{Edit, Refusal, ReqFile, SavedFile, Snapshot};
+use journal::{Reply, Session};
+use lists::Text;
+use std::alloc::Global;
+use std::io;
+use std::process::Abort;
+use std::test::Fail;
+
+// An index with no packages.
+const NO_PACKAGES: &str = "{\"snapshot\":1,\"packages\":[]}";
+
+fn reply_bytes(alloc: Global, reply: &Reply) -> Result<Vec<u8>, Fail> {
+    let mut text = ReplyText::new(alloc)?;
+    text.set(reply);
+    Ok(Vec::from_slice(alloc, text.as_bytes())?)
+}
+
+#[test]
+fn writes_replies(rt: HostRuntime) -> Result<(), Fail> {
+    let rows = [
+        (Reply::Done(0), "ok 0\n"),
+        (
+            Reply::Done(18446744073709551615),
+            "ok 18446744073709551615\n",
+        ),
+        (Reply::Same, "same\n"),
+        (
+            Reply::Refused(Refusal::AlreadyPresent(7)),
+            "refused already-present\n",
+        ),
+        (Reply::Refused(Refusal::BadCommand), "refused bad-command\n"),
+    ];
+    for (reply, text) in rows.iter() {
+        let bytes = reply_bytes(rt.alloc(), reply)?;
+        assert_eq!(rt; bytes.as_slice(), text.as_bytes());
+    }
+    Ok(())
+}
+
+#[test]
+fn has_a_word_for_each_refusal(rt: HostRuntime) {
+    let rows = [
+        (Refusal::BadText, "bad-text"),
+        (Refusal::AlreadyPresent(1), "already-present"),
+        (Refusal::NotPresent, "not-present"),
+        (Refusal::Ambiguous(2), "ambiguous"),
+        (Refusal::NotLocked(Text::new(rt.alloc())), "not-locked"),
+        (Refusal::NoSolution, "no-solution"),
+        (Refusal::NothingChanges, "nothing-changes"),
+        (Refusal::OutOfMemory, "out-of-memory"),
+        (Refusal::NothingToUndo, "nothing-to-undo"),
+        (Refusal::NothingToRedo, "nothing-to-redo"),
+        (Refusal::FilesDisagree(SavedFile::Lock), "files-disagree"),
+        (Refusal::JournalBroken(3), "journal-broken"),
+        (Refusal::BadCommand, "bad-command"),
+    ];
+    for (refusal, word) in rows.iter() {
+        assert_eq!(rt; refusal_word(refusal), *word);
+    }
+}
+
+// What a line asks for, as a short text.
+fn asked(item: &Option<Item>) -> &str {
+    match item {
+        None => "",
+        Some(Item::Edit(Edit::Add(text))) => text.as_str(),
+        Some(Item::Undo) => "(undo)",
+        Some(Item::Redo) => "(redo)",
+        Some(Item::BadCommand) => "(bad)",
+    }
+}
+
+#[test]
+fn reads_lines(rt: HostRuntime) -> Result<(), Fail> {
+    let rows = [
+        (b"add c".as_slice(), true, "c"),
+        (b" \tadd \t c<2 \r".as_slice(), true, "c<2 "),
+        (b"add c\r".as_slice(), false, "c\r"),
+        (b"add ".as_slice(), true, "(bad)"),
+        (b"add".as_slice(), true, "(bad)"),
+        (b"addc".as_slice(), true, "(bad)"),
+        (b"Add c".as_slice(), true, "(bad)"),
+        (b"add \xff".as_slice(), true, "(bad)"),
+        (b"undo".as_slice(), true, "(undo)"),
+        (b"undo \t".as_slice(), true, "(undo)"),
+        (b"undo\r".as_slice(), true, "(undo)"),
+        (b"undo\r".as_slice(), false, "(bad)"),
+        (b"undo x".as_slice(), true, "(bad)"),
+        (b"redo".as_slice(), false, "(redo)"),
+        (b"relock".as_slice(), true, "(bad)"),
+        (b"".as_slice(), true, ""),
+        (b"\r".as_slice(), true, ""),
+        (b" \t ".as_slice(), true, ""),
+    ];
+    for (line, is_ended, wanted) in rows.iter() {
+        let item = read_item(rt.alloc(), line, *is_ended)?;
+        assert_eq!(rt; asked(&item), *wanted);
+    }
+    Ok(())
+}
+
+#[test]
+fn refuses_a_line_that_is_too_long(rt: HostRuntime) -> Result<(), Fail> {
+    let spaces = vec![in rt.alloc(); b' '; 65537]?;
+    let item = read_item(rt.alloc(), spaces.as_slice(), true)?;
+    assert_eq!(rt; asked(&item), "(bad)");
+    let item = read_item(rt.alloc(), &spaces.as_slice()[1..], true)?;
+    assert_eq!(rt; asked(&item), "");
+    Ok(())
+}
+
+#[test]
+fn reads_requests(rt: HostRuntime) -> Result<(), Fail> {
+    let words = ["reqlock", "--index", "i.json", "try"];
+    match request(rt.alloc(), words.as_slice()) {
+        Ok(found) => {
+            assert_eq!(rt; found.subcommand, Subcommand::Try);
+            assert_eq!(rt; found.dir, ".");
+            assert_eq!(rt; found.index, "i.json");
+        }
+        Err(_) => assert!(rt; false, "a request"),
+    }
+    let words = ["reqlock", "--dir", "d", "try"];
+    match request(rt.alloc(), words.as_slice()) {
+        Err(RequestFault::Needed(NeededOption::Index)) => {}
+        _ => assert!(rt; false, "a needed option"),
+    }
+    let words = ["reqlock", "--index", "i.json", "--env", "e.json", "try"];
+    match request(rt.alloc(), words.as_slice()) {
+        Err(RequestFault::Usage(error)) => assert!(rt; error.use_stderr()),
+        _ => assert!(rt; false, "a usage fault"),
+    }
+    let words = ["reqlock"];
+    match request(rt.alloc(), words.as_slice()) {
+        Err(RequestFault::Usage(error)) => assert!(rt; error.use_stderr()),
+        _ => assert!(rt; false, "a usage fault"),
+    }
+    let words = ["reqlock", "--help"];
+    match request(rt.alloc(), words.as_slice()) {
+        Err(RequestFault::Usage(error)) => assert!(rt; !error.use_stderr()),
+        _ => assert!(rt; false, "help"),
+    }
+    Ok(())
+}
+
+#[test]
+fn counts_reads_and_writes(rt: HostRuntime) -> Result<(), Fail> {
+    let mut source = Counted::new(b"abc".as_slice());
+    let mut buffer = [0u8; 2];
+    assert_eq!(rt; source.read(&mut buffer)?, 2);
+    assert_eq!(rt; source.read(&mut buffer)?, 1);
+    assert_eq!(rt; source.read(&mut buffer)?, 0);
+    let mut sink = Counted::new(Vec::new(rt.alloc()));
+    assert_eq!(rt; sink.write(b"xy".as_slice())?, 2);
+    assert_eq!(rt; sink.into_inner().as_slice(), b"xy".as_slice());
+    Ok(())
+}
+
+fn session(rt: &impl Abort, alloc: Global, snapshot: &Snapshot) -> Session {
+    let lines = ReqFile::read(alloc, b"".as_slice()).expect(rt, "an empty file");
+    Session::init(alloc, lines, snapshot).expect(rt, "a session")
+}
+
+#[test]
+fn answers_a_batch(rt: HostRuntime) -> Result<(), Fail> {
+    let alloc = rt.alloc();
+    let snapshot = Snapshot::read(alloc, NO_PACKAGES.as_bytes()).expect(&rt, "an index");
+    let mut session = session(&rt, alloc, &snapshot);
+    let mut source = Counted::new(b"undo\r\n\n \t\nbogus\nredo".as_slice());
+    let mut sink = Counted::new(Vec::new(alloc));
+    let done = batch(alloc, &mut source, &mut sink, &mut session, &snapshot);
+    assert!(rt; done.is_ok());
+    let written = sink.into_inner();
+    let wanted = "refused nothing-to-undo\nrefused bad-command\nrefused nothing-to-redo\n";
+    assert_eq!(rt; written.as_slice(), wanted.as_bytes());
+    Ok(())
+}
+
+// A reader that gives one line and then fails, and a writer that takes nothing.
+#[derive(Drop)]
+struct Failing {
+    is_begun: bool,
+}
+
+impl io::Read for Failing {
+    fn read(&mut self, buffer: &mut [u8]) -> io::Result<usize> {
+        if self.is_begun || buffer.is_empty() {
+            return Err(io::Error::other("broken"));
+        }
+        self.is_begun = true;
+        buffer[0] = b'\n';
+        Ok(1)
+    }
+}
+
+impl io::Write for Failing {
+    fn write(&mut self, _buffer: &[u8]) -> io::Result<usize> {
+        Ok(0)
+    }
+
+    fn flush(&mut self) -> io::Result<()> {
+        Ok(())
+    }
+}
+
+#[test]
+fn ends_at_a_failed_call(rt: HostRuntime) -> Result<(), Fail> {
+    let alloc = rt.alloc();
+    let snapshot = Snapshot::read(alloc, NO_PACKAGES.as_bytes()).expect(&rt, "an index");
+    let mut session = session(&rt, alloc, &snapshot);
+    let mut source = Counted::new(Failing { is_begun: false });
+    let mut sink = Counted::new(Vec::new(alloc));
+    let done = batch(alloc, &mut source, &mut sink, &mut session, &snapshot);
+    assert_eq!(rt; done, Err(BatchFault::Read));
+    let mut source = Counted::new(b"undo\n".as_slice());
+    let mut sink = Counted::new(Failing { is_begun: true });
+    let done = batch(alloc, &mut source, &mut sink, &mut session, &snapshot);
+    assert_eq!(rt; done, Err(BatchFault::Write));
+    Ok(())
+}

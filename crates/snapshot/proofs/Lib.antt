@@ -1,0 +1,4 @@
+pub mod Loops
+pub mod PlaceFacts
+pub mod JsonFacts
+pub mod SortedFacts

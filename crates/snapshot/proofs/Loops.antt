@@ -1,0 +1,65 @@
+-- Reading the items of an array one after the other, as a loop does.
+use Rattle.std.proofs.Common.{◌≡◌, ℕ, suc, ◌+◌, ◌<◌, ◌≤◌, List, [], ◌∷◌, ◌++◌, length, get_or, drop, Result, Ok, Err, fold, refl, sym, ap, ◌∙◌, append_assoc, add-one, inl, inr, ◌⊎◌}
+use Rattle.std.proofs.lemmas.List.{append-nil}
+use Rattle.std.proofs.Math.Seq.{drop-cons}
+use Rattle.std.proofs.Math.ListN.{drop_of_length-le}
+use Rattle.serde_json.specs.Data.{Data}
+use Rattle.serde_json.specs.View.{items_view, view}
+use Rattle.serde_json.specs.declared.value.Value.{Value}
+use Rattle.snapshot.specs.declared.fault.Fault.{Fault}
+use Rattle.snapshot.specs.declared.fault.Fault.TheVariants.{OutOfMemory}
+use Rattle.snapshot.specs.Shape.{◌>>=◌, below, each_from, place_path}
+
+-- what was gathered so far, and what is still to be read
+abbrev pub gather : {A B : Type 0} → (B → A → B) → B → Result (List A) Fault → Result B Fault
+gather step so_far read = read >>= λ xs. Ok (fold step so_far xs)
+
+-- one item more at the end
+abbrev pub push : {A : Type 0} → List A → A → List A
+push xs x = xs ++ x ∷ []
+
+-- what pushes one item after another appends them
+fold-push : {A : Type 0} (front xs : List A) → fold push front xs ≡ front ++ xs
+fold-push front [] = sym (append-nil front)
+fold-push front (x ∷ xs) = fold-push (front ++ x ∷ []) xs ∙ append_assoc front (x ∷ []) xs
+
+-- pushing what is read onto nothing gives what is read
+pub gather-push : {A : Type 0} (read : Result (List A) Fault) → gather push [] read ≡ read
+gather-push (Ok xs) = ap Ok (fold-push [] xs)
+gather-push (Err e) = refl
+
+gather-first : {A B : Type 0} (step : B → A → B) (so_far : B) (x : A) (read : Result (List A) Fault) → gather step so_far (read >>= λ xs. Ok (x ∷ xs)) ≡ gather step (step so_far x) read
+gather-first step so_far x (Ok xs) = refl
+gather-first step so_far x (Err e) = refl
+
+-- the items from a place on: the one there, and the others
+each-drop : {A : Type 0} (form : Data → Result A Fault) (vs : List Value) (i : ℕ) (v : Value) → i < length vs → v ≡ get_or vs i v
+    → each_from form i (items_view (drop i vs)) ≡ (below (place_path i) (form (view v)) >>= λ x. each_from form (suc i) (items_view (drop (suc i) vs)) >>= λ xs. Ok (x ∷ xs))
+unfolding each_from
+each-drop form vs i v lt is = rw (drop-cons vs i v lt, ← is) refl
+
+-- the item at the place is read: it is gathered, and the others are left
+pub goes_on : {A B : Type 0} (step : B → A → B) (so_far : B) (form : Data → Result A Fault) (vs : List Value) (i : ℕ) (v : Value) (x : A) (total : Result B Fault) → i < length vs → v ≡ get_or vs i v
+    → below (place_path i) (form (view v)) ≡ Ok x → gather step so_far (each_from form i (items_view (drop i vs))) ≡ total
+    → gather step (step so_far x) (each_from form (i + 1) (items_view (drop (i + 1) vs))) ≡ total
+goes_on step so_far form vs i v x total lt is h before =
+    let first : gather step so_far (each_from form i (items_view (drop i vs))) ≡ gather step (step so_far x) (each_from form (suc i) (items_view (drop (suc i) vs))) =
+    rw (each-drop form vs i v lt is, h) (gather-first step so_far x (each_from form (suc i) (items_view (drop (suc i) vs)))) in
+    rw add-one (sym first ∙ before)
+
+-- the item at the place has a fault: that is the fault of all
+pub ends : {A B : Type 0} (step : B → A → B) (so_far : B) (form : Data → Result A Fault) (vs : List Value) (i : ℕ) (v : Value) (e : Fault) (total : Result B Fault) → i < length vs → v ≡ get_or vs i v
+    → (e ≡ OutOfMemory) ⊎ (below (place_path i) (form (view v)) ≡ Err e) → gather step so_far (each_from form i (items_view (drop i vs))) ≡ total
+    → (e ≡ OutOfMemory) ⊎ (total ≡ Err e)
+ends step so_far form vs i v e total lt is (inl memory) before = inl memory
+ends step so_far form vs i v e total lt is (inr h) before =
+    let first : gather step so_far (each_from form i (items_view (drop i vs))) ≡ Err e = rw (each-drop form vs i v lt is, h) refl in
+    inr (sym before ∙ first)
+
+-- past the last item all is gathered
+pub is_done : {A B : Type 0} (step : B → A → B) (so_far : B) (form : Data → Result A Fault) (vs : List Value) (i : ℕ) (total : Result B Fault) → length vs ≤ i
+    → gather step so_far (each_from form i (items_view (drop i vs))) ≡ total → total ≡ Ok so_far
+unfolding each_from
+is_done step so_far form vs i total le before =
+    let none : gather step so_far (each_from form i (items_view (drop i vs))) ≡ Ok so_far = rw (drop_of_length-le vs le) refl in
+    sym before ∙ none

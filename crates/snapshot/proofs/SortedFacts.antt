@@ -1,0 +1,118 @@
+-- Items put one after another into a list that is in order.
+use Rattle.std.proofs.Common.{◌≡◌, Bool, true, false, cond, List, [], ◌∷◌, Option, Some, None, Ordering, Less, Equal, Greater, find, fold, refl, ap, ◌∙◌}
+use Rattle.std.specs.BTreeSet.{insert_key}
+use Rattle.std.specs.Cmp.{IsTotalOrder, alike_right}
+use Rattle.std.specs.List.{AllByRecursion, filter_map}
+use Rattle.std.specs.List.Sorted.{IsStrictlySortedBy}
+use Rattle.std.specs.Ordering.{is_eq, match_ordering, ordering_reverse}
+use Rattle.snapshot.specs.declared.release.Release.{Release}
+use Rattle.snapshot.specs.OrderLaws.{newer_total}
+use Rattle.snapshot.specs.Releases.{newer_cmp, newest_first, with_release}
+
+above_by : {K : Type 0} (o : Ordering) (R : K → K → Ordering) (x k y : K) (ys more : List K) → R x k ≡ Less → AllByRecursion (λ z. R x z ≡ Less) (y ∷ ys) → AllByRecursion (λ z. R x z ≡ Less) more
+    → AllByRecursion (λ z. R x z ≡ Less) (match_ordering o (k ∷ y ∷ ys) (y ∷ ys) (y ∷ more))
+above_by Less R x k y ys more lt all rest = (lt, all)
+above_by Equal R x k y ys more lt all rest = all
+above_by Greater R x k y ys more lt all rest = (all.0, rest)
+
+-- x stays below each item
+above-insert : {K : Type 0} (R : K → K → Ordering) (x k : K) (ks : List K) → R x k ≡ Less → AllByRecursion (λ z. R x z ≡ Less) ks → AllByRecursion (λ z. R x z ≡ Less) (insert_key R ks k)
+above-insert R x k [] lt all = (lt, tt)
+above-insert R x k (y ∷ ys) lt all = above_by (R k y) R x k y ys (insert_key R ys k) lt all (above-insert R x k ys lt all.1)
+
+-- what is below x is below each item that x is below
+above-trans : {K : Type 0} {R : K → K → Ordering} (total : IsTotalOrder R) (k x : K) (ks : List K) → R k x ≡ Less → AllByRecursion (λ z. R x z ≡ Less) ks → AllByRecursion (λ z. R k z ≡ Less) ks
+above-trans total k x [] lt all = tt
+above-trans total k x (y ∷ ys) lt all = (total.trans k x y lt all.0, above-trans total k x ys lt all.1)
+
+sorted_by : {K : Type 0} {R : K → K → Ordering} (total : IsTotalOrder R) (o : Ordering) (x k : K) (xs : List K) → R k x ≡ o → IsStrictlySortedBy R (x ∷ xs) → IsStrictlySortedBy R (insert_key R xs k)
+    → IsStrictlySortedBy R (match_ordering o (k ∷ x ∷ xs) (x ∷ xs) (x ∷ insert_key R xs k))
+unfolding IsStrictlySortedBy
+sorted_by total Less x k xs is s more = ((is, above-trans total k x xs is s.0), s)
+sorted_by total Equal x k xs is s more = s
+sorted_by {R = R} total Greater x k xs is s more = (above-insert R x k xs (total.antisymm x k ∙ ap ordering_reverse is) s.0, more)
+
+-- the list stays in order
+sorted-insert : {K : Type 0} {R : K → K → Ordering} (total : IsTotalOrder R) (ks : List K) (k : K) → IsStrictlySortedBy R ks → IsStrictlySortedBy R (insert_key R ks k)
+unfolding IsStrictlySortedBy
+sorted-insert total [] k s = (tt, tt)
+sorted-insert {R = R} total (x ∷ xs) k s = sorted_by total (R k x) x k xs refl s (sorted-insert total xs k s.1)
+
+sorted-gathered : (so_far : List Release) (listed : List (Option Release)) → IsStrictlySortedBy newer_cmp so_far → IsStrictlySortedBy newer_cmp (fold with_release so_far listed)
+sorted-gathered so_far [] s = s
+sorted-gathered so_far (None ∷ listed) s = sorted-gathered so_far listed s
+sorted-gathered so_far (Some r ∷ listed) s = sorted-gathered (insert_key newer_cmp so_far r) listed (sorted-insert newer_total so_far r s)
+
+-- the newest release is first
+pub newest_first-sorted : (listed : List (Option Release)) → IsStrictlySortedBy newer_cmp (newest_first listed)
+unfolding IsStrictlySortedBy
+newest_first-sorted listed = sorted-gathered [] listed tt
+
+-- ---- the first of equal items stays
+
+-- the first option that has a value
+abbrev or_else : {X : Type 0} → Option X → Option X → Option X
+or_else (Some x) other = Some x
+or_else None other = other
+
+or_else-none : {X : Type 0} (o : Option X) → o ≡ or_else o None
+or_else-none (Some x) = refl
+or_else-none None = refl
+
+or_else-assoc : {X : Type 0} (a b c : Option X) → or_else (or_else a b) c ≡ or_else a (or_else b c)
+or_else-assoc (Some x) b c = refl
+or_else-assoc None b c = refl
+
+-- an item that is below all of a list is equal to a: no item of the list is
+none_above : {K : Type 0} {R : K → K → Ordering} (total : IsTotalOrder R) (a k : K) (ks : List K) → R a k ≡ Equal → AllByRecursion (λ z. R k z ≡ Less) ks → find (λ z. is_eq (R a z)) ks ≡ None
+none_above total a k [] e all = refl
+none_above total a k (y ∷ ys) e all = rw (total.congr a k y e, all.0) (none_above total a k ys e all.1)
+
+below_all : {K : Type 0} {R : K → K → Ordering} (total : IsTotalOrder R) (o : Ordering) (a k : K) (ks : List K) → R a k ≡ o → AllByRecursion (λ z. R k z ≡ Less) ks
+    → cond (is_eq o) (Some k) (find (λ z. is_eq (R a z)) ks) ≡ or_else (find (λ z. is_eq (R a z)) ks) (cond (is_eq o) (Some k) None)
+below_all {R = R} total Less a k ks is all = or_else-none (find (λ z. is_eq (R a z)) ks)
+below_all total Equal a k ks is all = rw (none_above total a k ks is all) refl
+below_all {R = R} total Greater a k ks is all = or_else-none (find (λ z. is_eq (R a z)) ks)
+
+-- an equal item is there
+equal_there : {X : Type 0} (b : Bool) (x k : X) (later : Option X) → cond b (Some x) later ≡ or_else (cond b (Some x) later) (cond b (Some k) None)
+equal_there true x k later = refl
+equal_there false x k later = or_else-none later
+
+past : {X : Type 0} (b : Bool) (x : X) (new later more : Option X) → new ≡ or_else later more → cond b (Some x) new ≡ or_else (cond b (Some x) later) more
+past true x new later more e = refl
+past false x new later more e = e
+
+find_by : {K : Type 0} {R : K → K → Ordering} (total : IsTotalOrder R) (o : Ordering) (a x k : K) (xs : List K) → R k x ≡ o → IsStrictlySortedBy R (x ∷ xs)
+    → find (λ z. is_eq (R a z)) (insert_key R xs k) ≡ or_else (find (λ z. is_eq (R a z)) xs) (cond (is_eq (R a k)) (Some k) None)
+    → find (λ z. is_eq (R a z)) (match_ordering o (k ∷ x ∷ xs) (x ∷ xs) (x ∷ insert_key R xs k)) ≡ or_else (find (λ z. is_eq (R a z)) (x ∷ xs)) (cond (is_eq (R a k)) (Some k) None)
+unfolding IsStrictlySortedBy
+find_by {R = R} total Less a x k xs is s more = below_all total (R a k) a k (x ∷ xs) refl (is, above-trans total k x xs is s.0)
+find_by {R = R} total Equal a x k xs is s more = rw (alike_right total k x a is) (equal_there (is_eq (R a x)) x k (find (λ z. is_eq (R a z)) xs))
+find_by {R = R} total Greater a x k xs is s more = past (is_eq (R a x)) x _ _ _ more
+
+-- an item that is put in is found where no equal one is there
+find-insert : {K : Type 0} {R : K → K → Ordering} (total : IsTotalOrder R) (a : K) (ks : List K) (k : K) → IsStrictlySortedBy R ks
+    → find (λ z. is_eq (R a z)) (insert_key R ks k) ≡ or_else (find (λ z. is_eq (R a z)) ks) (cond (is_eq (R a k)) (Some k) None)
+unfolding IsStrictlySortedBy
+find-insert total a [] k s = refl
+find-insert {R = R} total a (x ∷ xs) k s = find_by total (R k x) a x k xs refl s (find-insert total a xs k s.1)
+
+front_found : {X : Type 0} (b : Bool) (x : X) (later : Option X) → or_else (cond b (Some x) None) later ≡ cond b (Some x) later
+front_found true x later = refl
+front_found false x later = refl
+
+find-gathered : (r : Release) (so_far : List Release) (listed : List (Option Release)) → IsStrictlySortedBy newer_cmp so_far
+    → find (λ s. is_eq (newer_cmp r s)) (fold with_release so_far listed) ≡ or_else (find (λ s. is_eq (newer_cmp r s)) so_far) (find (λ s. is_eq (newer_cmp r s)) (filter_map (λ o. o) listed))
+find-gathered r so_far [] s = or_else-none (find (λ s. is_eq (newer_cmp r s)) so_far)
+find-gathered r so_far (None ∷ listed) s = find-gathered r so_far listed s
+find-gathered r so_far (Some x ∷ listed) s =
+    find-gathered r (insert_key newer_cmp so_far x) listed (sorted-insert newer_total so_far x s)
+    ∙ ap (λ (o : Option Release). or_else o (find (λ s. is_eq (newer_cmp r s)) (filter_map (λ o. o) listed))) (find-insert newer_total r so_far x s)
+    ∙ or_else-assoc (find (λ s. is_eq (newer_cmp r s)) so_far) _ _
+    ∙ ap (or_else (find (λ s. is_eq (newer_cmp r s)) so_far)) (front_found (is_eq (newer_cmp r x)) x _)
+
+-- of equal releases the first that is listed stays
+pub newest_first-first : (r : Release) (listed : List (Option Release)) → find (λ s. is_eq (newer_cmp r s)) (newest_first listed) ≡ find (λ s. is_eq (newer_cmp r s)) (filter_map (λ o. o) listed)
+unfolding IsStrictlySortedBy
+newest_first-first r listed = find-gathered r [] listed tt

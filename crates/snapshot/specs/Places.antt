@@ -1,0 +1,11 @@
+-- Where each package stands.
+use Rattle.std.specs.Prelude.{◌≡◌, ℕ, List, String}
+use Rattle.std.specs.BTreeMap.{BTreeMap, get_by_text}
+use Rattle.std.specs.List.{position_from}
+use Rattle.std.specs.declared.alloc.Global.{Global}
+use Rattle.snapshot.specs.declared.package.Package.{Package}
+use Rattle.snapshot.specs.Packages.{is_named}
+
+-- the map has the place of the first package of each name
+abbrev pub ArePlaces : BTreeMap (String Global) ℕ → List Package → Type 0
+ArePlaces places packages = (name : List ℕ) → get_by_text places name ≡ position_from (is_named name) 0 packages

@@ -1,0 +1,12 @@
+// The packages of an index.
+
+use crate::release::Release;
+use lists::Seq;
+use pep508::Name;
+
+/// A package: its name, and the releases of it that can be used, newest first.
+#[derive(Debug, Drop, PartialEq, Eq)]
+pub struct Package {
+    pub(crate) name: Name,
+    pub(crate) releases: Seq<Release>,
+}

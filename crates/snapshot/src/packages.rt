@@ -1,0 +1,80 @@
+// Reading the packages of an index.
+
+ghost use Rattle.std.specs.Prelude.{codes};
+ghost use Rattle.serde_json.specs.View.{items_view, view};
+ghost use Rattle.snapshot.specs.Packages.{as_name, as_one, package_of, packages_of};
+ghost use Rattle.snapshot.specs.Shape.{Gives, below, each_from, field, place_path, required};
+
+use crate::fault::Fault;
+use crate::package::Package;
+use crate::releases::releases_of;
+use crate::shape::{array_at, below_key, below_place, check_object, misshapen, text_at};
+use pep508::{Cause, Name};
+use serde_json::Value;
+use std::alloc::Global;
+
+/// The name of a package.
+fn name_of(alloc: Global, object: &Value) -> Result<Name, Fault>
+    ensures { Gives (λ n. n) (field (required as_name) (codes "name") (view object.now)) result }
+{
+    let text = text_at(alloc, object, "name")?;
+    match Name::parse(alloc, text) {
+        Ok(name) => Ok(name),
+        Err(fault) => match fault.cause {
+            Cause::OutOfMemory => Err(Fault::OutOfMemory),
+            _ => Err(misshapen(alloc, "name")),
+        },
+    }
+}
+
+/// The package that a value lists.
+#[tactic(auto, unfolding(crate::specs::Packages::package_of))]
+fn package_of(alloc: Global, value: &Value) -> Result<Package, Fault>
+    ensures { Gives (λ p. p) (package_of (view value.now)) result }
+{
+    check_object(alloc, value)?;
+    let name = name_of(alloc, value)?;
+    let listed = array_at(alloc, value, "releases")?;
+    let releases = below_key(alloc, "releases", releases_of(alloc, listed))?;
+    Ok(Package { name, releases })
+}
+
+/// The package that the value at `place` lists.
+fn package_at_place(alloc: Global, place: usize, value: &Value) -> Result<Package, Fault>
+    ensures { Gives (λ p. p) (below (place_path place) (package_of (view value.now))) result }
+{
+    below_place(alloc, place, package_of(alloc, value))
+}
+
+/// The packages that the values list.
+fn listed_packages(alloc: Global, values: &[Value]) -> Result<Vec<Package>, Fault>
+    ensures { Gives (λ packages. packages.items) (each_from package_of 0 (items_view values.now)) result }
+{
+    let mut packages = Vec::new(alloc);
+    for place in 0..values.len() {
+        let package = package_at_place(alloc, place, &values[place])?;
+        packages.push(package)?;
+    }
+    Ok(packages)
+}
+
+/// Asks for version 1 of the format.
+fn check_format(alloc: Global, index: &Value) -> Result<(), Fault>
+    ensures { Gives (λ _. tt) (field (required as_one) (codes "snapshot") (view index.now)) result }
+{
+    match index.get("snapshot").and_then(Value::as_u64) {
+        Some(1) => Ok(()),
+        _ => Err(misshapen(alloc, "snapshot")),
+    }
+}
+
+/// The packages of an index, in its order.
+#[tactic(auto, unfolding(crate::specs::Packages::packages_of))]
+pub(crate) fn packages_of(alloc: Global, index: &Value) -> Result<Vec<Package>, Fault>
+    ensures { Gives (λ packages. packages.items) (packages_of (view index.now)) result }
+{
+    check_object(alloc, index)?;
+    check_format(alloc, index)?;
+    let listed = array_at(alloc, index, "packages")?;
+    below_key(alloc, "packages", listed_packages(alloc, listed))
+}

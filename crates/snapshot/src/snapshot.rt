@@ -1,0 +1,103 @@
+// The index.
+
+ghost use Rattle.std.specs.Prelude.{◌≡◌, ◌⊎◌, Err, IfErr, IfOk, None, []};
+ghost use Rattle.lists.specs.Answers.{Answers};
+ghost use Rattle.serde_json.specs.View.{view};
+ghost use Rattle.snapshot.specs.Packages.{index_of, json_of, releases_of, repeated_from, snapshot_of};
+ghost use Rattle.snapshot.specs.Places.{ArePlaces};
+ghost use Rattle.snapshot.specs.Shape.{Gives};
+ghost use Rattle.snapshot.specs.declared.fault.Fault.TheVariants.{OutOfMemory};
+
+use crate::fault::Fault;
+use crate::package::Package;
+use crate::packages::packages_of;
+use crate::release::Release;
+use lists::Seq;
+use pep508::Name;
+use serde_json::Value;
+use std::alloc::Global;
+use std::collections::BTreeMap;
+use std::marker::Model;
+
+/// The index: packages, each with its name and the releases of it that a lock may choose, newest
+/// first. In a clause it is its packages, in the order in which the JSON text lists them.
+#[derive(Drop)]
+pub struct Snapshot {
+    packages: Seq<Package>,
+    places: BTreeMap<String, usize>,
+}
+
+impl Model for Snapshot {
+    ghost use Rattle.snapshot.specs.Packages.{Index};
+    ghost use Rattle.snapshot.specs.Places.{ArePlaces};
+
+    ghost Value = { Index };
+
+    ghost view = { λ s. record { packages = s.packages } };
+
+    ghost invariant = { λ s. ArePlaces s.places s.packages };
+}
+
+/// The JSON value of the bytes.
+#[tactic(auto, unfolding(crate::specs::Packages::json_of))]
+fn json_of(alloc: Global, bytes: &[u8]) -> Result<Value, Fault>
+    ensures { Gives view (json_of bytes.now) result }
+{
+    match Value::from_slice(alloc, bytes) {
+        Ok(value) => Ok(value),
+        Err(error) => {
+            if error.is_memory() {
+                return Err(Fault::OutOfMemory);
+            }
+            Err(Fault::NotJson)
+        }
+    }
+}
+
+/// The place of each package, by its name.
+fn places_of(alloc: Global, packages: &[Package]) -> Result<BTreeMap<String, usize>, Fault>
+    ensures distinct { IfOk result (λ _. repeated_from [] packages.now ≡ None) }
+    ensures places { IfOk result (λ places. ArePlaces places packages.now) }
+    ensures err { IfErr result (λ e. (e ≡ OutOfMemory) ⊎ (index_of packages.now ≡ Err e)) }
+{
+    let mut places = BTreeMap::new(alloc);
+    for place in 0..packages.len() {
+        let name = &packages[place].name;
+        if places.contains_key(name.normal()) {
+            return Err(Fault::DuplicatePackage(name.clone()?));
+        }
+        places.insert(String::from_str(alloc, name.normal())?, place)?;
+    }
+    Ok(places)
+}
+
+impl Snapshot {
+    /// The index that the bytes of a JSON text hold.
+    ///
+    /// `NotJson` where the bytes aren't UTF-8 or no JSON. `Shape` with a JSON Pointer to the first
+    /// value that hasn't the shape which the format asks for. `DuplicatePackage` with the first
+    /// name that a package before it has too.
+    #[tactic(auto, unfolding(crate::specs::Packages::snapshot_of))]
+    pub fn read(alloc: Global, bytes: &[u8]) -> Result<Snapshot, Fault>
+        ensures { Answers OutOfMemory (snapshot_of bytes.now) result }
+    {
+        let value = json_of(alloc, bytes)?;
+        let packages = packages_of(alloc, &value)?;
+        let places = places_of(alloc, packages.as_slice())?;
+        Ok(Snapshot {
+            packages: Seq::from_vec(packages),
+            places,
+        })
+    }
+
+    /// The releases of a package that a lock may choose, newest first; none where the index has
+    /// no package of that name.
+    pub fn releases(&self, name: &Name) -> &[Release]
+        ensures { result.now ≡ releases_of name.now self.now.packages }
+    {
+        match self.places.get(name.normal()) {
+            Some(place) => self.packages.as_slice()[*place].releases.as_slice(),
+            None => &[],
+        }
+    }
+}
