@@ -1,11 +1,14 @@
 #!/usr/bin/env python3
-"""Runs reqlock and the peer in turn on the same data, three times each, and prints the best times and their ratio."""
+"""Runs reqlock and the peer in turn on the same data, three times each, and prints the best times and their ratio.
+
+compare.py PROGRAM VERSION_PROGRAM FOLDER
+"""
 import os
 import subprocess
 import sys
 import time
 
-program, folder = sys.argv[1], sys.argv[2]
+program, version_program, folder = sys.argv[1:]
 here = os.path.dirname(os.path.abspath(__file__))
 peer = [sys.executable, f"{here}/peer.py"]
 empty = f"{folder}/empty"
@@ -34,17 +37,34 @@ def compare(what, ours, theirs, source, same):
 
 
 index = f"{folder}/index.json"
+environment = f"{here}/../examples/web/environment.json"
 compare(
     "index of 51,250 releases, read",
-    [program, "--dir", empty, "--index", index, "try"],
+    [program, "--dir", empty, "--index", index, "--env", environment, "try"],
     [*peer, "index", index],
     os.devnull,
     False,
 )
 compare(
     "1,000 additions and undos, 2,000 lines",
-    [program, "--dir", folder, "--index", index, "try"],
+    [program, "--dir", folder, "--index", index, "--env", environment, "try"],
     [*peer, "try", folder],
     f"{folder}/commands.txt",
     True,
 )
+long = f"{folder}/long"
+compare(
+    "requirements file of a million lines, read",
+    [program, "--dir", long, "--index", f"{long}/index.json", "--env", environment, "try"],
+    [*peer, "read", long, environment],
+    os.devnull,
+    True,
+)
+for what, word in ("comparisons", "compare"), ("matches", "match"):
+    compare(
+        f"a million {what} of versions",
+        [version_program, word],
+        [sys.executable, f"{here}/version_peer.py", word],
+        f"{folder}/versions.txt",
+        True,
+    )

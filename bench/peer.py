@@ -3,6 +3,7 @@
 
 peer.py index INDEX             reads the index
 peer.py try FOLDER <COMMANDS    reads the index and the requirements file, and does the commands
+peer.py read FOLDER ENVIRONMENT reads the requirements file, sees that no line asks for anything there, and prints it
 """
 import json
 import re
@@ -64,9 +65,23 @@ def reply(state, past, line, index):
     return (after, locked), f"ok {len(past)}"
 
 
+def read_idle(folder, environment):
+    with open(environment, "rb") as file:
+        values = {**json.load(file), "extra": ""}
+    with open(f"{folder}/requirements.txt") as file:
+        lines = [(line, wanted(line)) for line in file]
+    for line, requirement in lines:
+        if requirement is not None and (requirement.marker is None or requirement.marker.evaluate(values)):
+            sys.exit(f"peer: a line asks for something: {line}")
+    sys.stdout.write("".join(line for line, _ in lines))
+
+
 def main():
     if sys.argv[1] == "index":
         read_index(sys.argv[2])
+        return
+    if sys.argv[1] == "read":
+        read_idle(*sys.argv[2:])
         return
     folder = sys.argv[2]
     index = read_index(f"{folder}/index.json")

@@ -22,5 +22,5 @@ Adds-present state text index w number asks present = rw (asks, present) refl
 
 -- a text on a name that no line has is answered as the lines with it are
 pub Adds-locks : (state : Content) (text : List ℕ) (index : Index) (w : Wanted) (answer : Result Content Refusal) → asked_by text ≡ Some w
-    → line_number w.name 1 state.lines ≡ None → Locks (lines_after state.lines text) index answer → Adds state text index (asked_by text) answer
+    → line_number w.name 1 state.lines ≡ None → Locks (lines_after state.lines text) state.environment index answer → Adds state text index (asked_by text) answer
 Adds-locks state text index w answer asks absent locks = rw (asks, absent) locks

@@ -1,8 +1,9 @@
 -- Worked values of the definitions.
 use Rattle.std.specs.Prelude.{◌≡◌, [], ◌∷◌, Some, None, codes, refl}
-use Rattle.pep508.specs.Parts.{comment_place}
-use Rattle.pep508.specs.Requirement.{requirement_of, wanted_by}
-use Rattle.pep508.specs.Names.{normal_of}
+use Rattle.pep508.specs.Parts.{comment_place, has_odd}
+use Rattle.pep508.specs.Requirement.{asked_in, requirement_of, wanted_by}
+use Rattle.pep508.specs.Slices.{slices_with}
+use Rattle.markers.specs.Names.{normal_of}
 use Rattle.edits.specs.Adding.{asked_by, line_number, lines_after}
 
 -- an added line ends as the first line with an ending does, and a last line without one gets it
@@ -17,10 +18,10 @@ asked_row : asked_by (codes "c\n") ≡ None
 asked_row = refl
 
 comment_row : asked_by (codes "# c") ≡ None
-unfolding requirement_of wanted_by comment_place
+unfolding requirement_of wanted_by comment_place has_odd
 comment_row = refl
 
 -- names compare in their normal form, and lines are numbered from 1
 number_row : line_number (codes "b-b") 1 (codes "# web\n" ∷ codes "B_b # pin\n" ∷ []) ≡ Some 2
-unfolding requirement_of wanted_by comment_place normal_of
+unfolding requirement_of wanted_by comment_place has_odd asked_in slices_with normal_of
 number_row = refl

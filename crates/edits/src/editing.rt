@@ -9,18 +9,23 @@ use crate::refusal::Refusal;
 use crate::request::{Edit, Edited};
 use crate::state::State;
 use lists::Text;
-use pep508::ReqFile;
+use pep508::{Environment, ReqFile};
 use snapshot::Snapshot;
 use std::alloc::Global;
 
-/// The state that a history of the file begins with: its lines, with their lock.
-pub fn init(alloc: Global, lines: ReqFile, snapshot: &Snapshot) -> Result<State, Refusal>
-    ensures ok { IfOk result (λ state. InitResult lines snapshot.now (Ok state)) }
+/// The state that a history of the file begins with: its lines, with their lock in the environment.
+pub fn init(
+    alloc: Global,
+    lines: ReqFile,
+    environment: Environment,
+    snapshot: &Snapshot,
+) -> Result<State, Refusal>
+    ensures ok { IfOk result (λ state. InitResult lines environment snapshot.now (Ok state)) }
     ensures err { IfErr result (λ refusal. (refusal ≡ Refusal.OutOfMemory)
-        ⊎ InitResult lines snapshot.now (Err refusal)) }
+        ⊎ InitResult lines environment snapshot.now (Err refusal)) }
 {
-    let lock = lock_of(alloc, lines.lines(), snapshot)?;
-    Ok(State::new(lines, lock))
+    let lock = lock_of(alloc, &environment, lines.lines(), snapshot)?;
+    Ok(State::new(lines, environment, lock))
 }
 
 /// What the edit of the state leads to, over the snapshot. The state stays.
@@ -56,6 +61,7 @@ fn add(alloc: Global, state: &State, text: &Text, snapshot: &Snapshot) -> Result
         return Err(Refusal::AlreadyPresent(number));
     }
     let lines = lines_after(alloc, lines, line)?;
-    let state = init(alloc, lines, snapshot)?;
+    let environment = state.environment().clone()?;
+    let state = init(alloc, lines, environment, snapshot)?;
     Ok(Edited { state })
 }

@@ -14,5 +14,5 @@ pub use crate::editing::{edit, init};
 pub use crate::refusal::{Refusal, SavedFile};
 pub use crate::request::{Edit, Edited};
 pub use crate::state::State;
-pub use pep508::{Cause, Fault, Line, Name, ReqFile, Requirement};
+pub use pep508::{Cause, Environment, Fault, Line, Name, ReqFile, Requirement};
 pub use snapshot::{Release, Snapshot};

@@ -6,15 +6,16 @@ ghost use Rattle.std.specs.Option.{option_copied};
 ghost use Rattle.std.specs.Str.{bytes_eq};
 
 use pep440::Version;
-use pep508::{Name, ReqFile};
+use pep508::{Environment, Name, ReqFile};
 use std::collections::BTreeMap;
 use std::marker::Model;
 
-/// A requirements file and the lock that belongs to it. In a clause it is the list of its lines, and the
-/// list of its locked names with their versions.
+/// A requirements file and the lock that belongs to it in an environment. In a clause it is the list of
+/// its lines, the texts of the environment, and the list of its locked names with their versions.
 #[derive(Drop)]
 pub struct State {
     lines: ReqFile,
+    environment: Environment,
     lock: BTreeMap<Name, Version>,
 }
 
@@ -23,15 +24,24 @@ impl Model for State {
 
     ghost Value = { Content };
 
-    ghost view = { λ s. record { lines = s.lines; lock = s.lock.entries } };
+    ghost view = { λ s. record { lines = s.lines; environment = s.environment; lock = s.lock.entries } };
 }
 
 impl State {
-    /// The state of these lines and this lock.
-    pub(crate) fn new(lines: ReqFile, lock: BTreeMap<Name, Version>) -> State
-        ensures { result ≡ record { lines = lines; lock = lock.entries } }
+    /// The state of these lines, this environment and this lock.
+    pub(crate) fn new(
+        lines: ReqFile,
+        environment: Environment,
+        lock: BTreeMap<Name, Version>,
+    ) -> State
+        ensures { result
+            ≡ record { lines = lines; environment = environment; lock = lock.entries } }
     {
-        State { lines, lock }
+        State {
+            lines,
+            environment,
+            lock,
+        }
     }
 
     /// The lines of the requirements file.
@@ -39,6 +49,13 @@ impl State {
         ensures { result.now ≡ self.now.lines }
     {
         &self.lines
+    }
+
+    /// The environment that the lock is made for.
+    pub fn environment(&self) -> &Environment
+        ensures { result.now ≡ self.now.environment }
+    {
+        &self.environment
     }
 
     /// The locked version of the name.

@@ -1,6 +1,6 @@
 // The first states and edits of small files, each call that allocates once.
 
-use crate::{Edit, Name, Refusal, ReqFile, Snapshot, State, edit, init};
+use crate::{Edit, Environment, Name, Refusal, ReqFile, Snapshot, State, edit, init};
 use lists::Text;
 use std::alloc::Global;
 use std::test::Fail;
@@ -11,9 +11,17 @@ const INDEX: &str = r#"{"snapshot":1,"packages":[
     {"name":"b-b","releases":[{"version":"1"}]},
     {"name":"c","releases":[{"version":"1"},{"version":"2"}]}]}"#;
 
+/// The environment of the tests, one with Linux.
+const ENVIRONMENT: &str = r##"{"implementation_name":"cpython","implementation_version":"3.12.3",
+    "os_name":"posix","platform_machine":"x86_64","platform_python_implementation":"CPython",
+    "platform_release":"6.1.0-13-amd64","platform_system":"Linux",
+    "platform_version":"#1 SMP Debian 6.1.55-1","python_full_version":"3.12.3",
+    "python_version":"3.12","sys_platform":"linux"}"##;
+
 fn begin(alloc: Global, text: &str, snapshot: &Snapshot) -> Result<State, Fail> {
     let lines = ReqFile::read(alloc, text.as_bytes())?;
-    Ok(init(alloc, lines, snapshot)?)
+    let environment = Environment::read(alloc, ENVIRONMENT.as_bytes())?;
+    Ok(init(alloc, lines, environment, snapshot)?)
 }
 
 fn locked(alloc: Global, state: &State, name: &str) -> Result<String, Fail> {
@@ -41,10 +49,30 @@ fn a_name_without_a_match_has_no_lock(rt: HostRuntime) -> Result<(), Fail> {
     let snapshot = Snapshot::read(alloc, INDEX.as_bytes())?;
     for text in ["z\n", "a>=3\n", "a\nA<1\n"] {
         let lines = ReqFile::read(alloc, text.as_bytes())?;
-        match init(alloc, lines, &snapshot) {
+        let environment = Environment::read(alloc, ENVIRONMENT.as_bytes())?;
+        match init(alloc, lines, environment, &snapshot) {
             Ok(_) => assert!(rt; false, "{text:?}"),
             Err(refusal) => assert!(rt; refusal == Refusal::NoSolution, "{text:?}"),
         }
+    }
+    Ok(())
+}
+
+#[test]
+fn an_inactive_line_is_there_and_locks_nothing(rt: HostRuntime) -> Result<(), Fail> {
+    let alloc = rt.alloc();
+    let snapshot = Snapshot::read(alloc, INDEX.as_bytes())?;
+    let state = begin(
+        alloc,
+        "a ; os_name==\"nt\"\nc<2 ; os_name==\"posix\"\n",
+        &snapshot,
+    )?;
+    assert_eq!(rt; locked(alloc, &state, "a")?.as_str(), "-");
+    assert_eq!(rt; locked(alloc, &state, "c")?.as_str(), "1");
+    let addition = Edit::Add(Text::copy_of(alloc, "a")?);
+    match edit(alloc, &state, &addition, &snapshot) {
+        Ok(_) => assert!(rt; false),
+        Err(refusal) => assert!(rt; refusal == Refusal::AlreadyPresent(1)),
     }
     Ok(())
 }

@@ -1,6 +1,7 @@
 -- What commands do to a history, over whole states. All of it is reqlock's own rule.
 use Rattle.std.specs.Prelude.{◌≡◌, ◌≢◌, ◌⊎◌, List, [], ◌∷◌, Result, Ok, Err, IsSomeAnd}
 use Rattle.journal.specs.Values.{State, Edit, Snapshot, ReqFile, Refusal, NothingChanges, NothingToUndo, NothingToRedo, OutOfMemory}
+use Rattle.markers.specs.Environment.{Texts}
 use Rattle.edits.specs.Edits.{InitResult, EditResult}
 use Rattle.journal.specs.declared.commands.Reply.{Reply}
 use Rattle.journal.specs.declared.commands.Reply.TheVariants.{Done, Same, Refused}
@@ -38,6 +39,6 @@ Run old (asked ∷ more) (reply ∷ replies) new = (next : Past) × Step old ask
 Run old [] (reply ∷ replies) new = ⊥
 Run old (asked ∷ more) [] new = ⊥
 
--- the history begins with the state of these lines
-abbrev pub IsStart : ReqFile → Snapshot → Past → Type 0
-IsStart lines snapshot past = (state : State) × InitResult lines snapshot (Ok state) × (past ≡ starts state)
+-- the history begins with the state of these lines in the environment
+abbrev pub IsStart : ReqFile → Texts → Snapshot → Past → Type 0
+IsStart lines environment snapshot past = (state : State) × InitResult lines environment snapshot (Ok state) × (past ≡ starts state)

@@ -10,7 +10,7 @@ use crate::commands::{Command, Reply};
 use crate::history::History;
 use crate::running;
 use crate::whole::WholeHistory;
-use edits::{Refusal, ReqFile, Snapshot, State};
+use edits::{Environment, Refusal, ReqFile, Snapshot, State};
 use lists::Seq;
 use std::alloc::{AllocError, Global};
 use std::marker::Model;
@@ -30,12 +30,18 @@ impl Model for Session {
 }
 
 impl Session {
-    /// Locks the lines, and begins a history with that state.
-    pub fn init(alloc: Global, lines: ReqFile, snapshot: &Snapshot) -> Result<Session, Refusal>
-        ensures start { IfOk result (λ session. IsStart lines snapshot.now session) }
-        ensures refused { IfErr result (λ r. (r ≡ Refusal.OutOfMemory) ⊎ InitResult lines snapshot.now (Err r)) }
+    /// Locks the lines in the environment, and begins a history with that state.
+    pub fn init(
+        alloc: Global,
+        lines: ReqFile,
+        environment: Environment,
+        snapshot: &Snapshot,
+    ) -> Result<Session, Refusal>
+        ensures start { IfOk result (λ session. IsStart lines environment snapshot.now session) }
+        ensures refused { IfErr result (λ r. (r ≡ Refusal.OutOfMemory)
+            ⊎ InitResult lines environment snapshot.now (Err r)) }
     {
-        let state = edits::init(alloc, lines, snapshot)?;
+        let state = edits::init(alloc, lines, environment, snapshot)?;
         match WholeHistory::new(alloc, state) {
             Ok(history) => Ok(Session { history }),
             Err(AllocError) => Err(Refusal::OutOfMemory),

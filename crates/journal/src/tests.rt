@@ -1,7 +1,7 @@
 // A history of a small file, each call that allocates once.
 
 use crate::{Command, History, Reply, Session, WholeHistory};
-use edits::{Edit, Refusal, ReqFile, Snapshot};
+use edits::{Edit, Environment, Refusal, ReqFile, Snapshot};
 use lists::Text;
 use std::alloc::Global;
 use std::test::Fail;
@@ -10,9 +10,17 @@ const INDEX: &str = r#"{"snapshot":1,"packages":[
     {"name":"a","releases":[{"version":"1"},{"version":"2"}]},
     {"name":"b","releases":[{"version":"1"}]}]}"#;
 
+// The environment of the tests, one with Linux.
+const ENVIRONMENT: &str = r##"{"implementation_name":"cpython","implementation_version":"3.12.3",
+    "os_name":"posix","platform_machine":"x86_64","platform_python_implementation":"CPython",
+    "platform_release":"6.1.0-13-amd64","platform_system":"Linux",
+    "platform_version":"#1 SMP Debian 6.1.55-1","python_full_version":"3.12.3",
+    "python_version":"3.12","sys_platform":"linux"}"##;
+
 fn begin(alloc: Global, text: &str, snapshot: &Snapshot) -> Result<Session, Fail> {
     let lines = ReqFile::read(alloc, text.as_bytes())?;
-    Ok(Session::init(alloc, lines, snapshot)?)
+    let environment = Environment::read(alloc, ENVIRONMENT.as_bytes())?;
+    Ok(Session::init(alloc, lines, environment, snapshot)?)
 }
 
 #[test]
@@ -66,7 +74,9 @@ fn a_history_begins_with_its_state(rt: HostRuntime) -> Result<(), Fail> {
     let alloc = rt.alloc();
     let snapshot = Snapshot::read(alloc, INDEX.as_bytes())?;
     let lines = ReqFile::read(alloc, "a\n".as_bytes())?;
-    let history = WholeHistory::new(alloc, edits::init(alloc, lines, &snapshot)?)?;
+    let environment = Environment::read(alloc, ENVIRONMENT.as_bytes())?;
+    let state = edits::init(alloc, lines, environment, &snapshot)?;
+    let history = WholeHistory::new(alloc, state)?;
     assert_eq!(rt; history.cursor(), 0);
     assert_eq!(rt; history.steps(), 0);
     Ok(())

@@ -8,6 +8,7 @@ ghost use Rattle.std.specs.Cmp.Rules.{hashing};
 ghost use Rattle.std.specs.Hash as fed;
 ghost use Rattle.std.specs.Ordering.{as_partial_cmp, nat_cmp};
 
+use crate::seq::Faithful;
 use std::alloc::{AllocError, Global};
 use std::cmp::Ordering;
 use std::fmt;
@@ -89,6 +90,10 @@ impl Clone for Text {
         let text = self.text.clone()?;
         Ok(Text { text })
     }
+}
+
+impl Faithful for Text {
+    ghost clone_is_source = { λ x y h. h };
 }
 
 impl fmt::Debug for Text {

@@ -17,7 +17,7 @@ pub all-append : (test : ℕ → Bool) (a b : List ℕ) → list_all test a ≡ 
 all-append test [] b h g = g
 all-append test (x ∷ a) b h g = rw (first_so (test x) (list_all test a) h, all-append test a b (second_so (test x) (list_all test a) h) g) refl
 
-all-weaker : (p q : ℕ → Bool) (text : List ℕ) → ((b : ℕ) → p b ≡ true → q b ≡ true) → list_all p text ≡ true → list_all q text ≡ true
+pub all-weaker : (p q : ℕ → Bool) (text : List ℕ) → ((b : ℕ) → p b ≡ true → q b ≡ true) → list_all p text ≡ true → list_all q text ≡ true
 all-weaker p q [] f h = refl
 all-weaker p q (b ∷ text) f h = rw (f b (first_so (p b) (list_all p text) h), all-weaker p q text f (second_so (p b) (list_all p text) h)) refl
 

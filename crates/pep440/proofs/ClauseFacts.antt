@@ -332,7 +332,7 @@ map-some : (o : Option Spans) (v : Parts) → option_map parts_in o ≡ Some v �
 map-some None v h = absurd cc
 map-some (Some s) v h = (s, refl, cc)
 
-bare-spells : (text : List ℕ) (v : Parts) → bare_parts text ≡ Some v → IsVersionText text v
+pub bare-spells : (text : List ℕ) (v : Parts) → bare_parts text ≡ Some v → IsVersionText text v
 bare-spells text v h = let m = map-some (spans_of text) v h in subst (λ (w : Parts). IsVersionText text w) m.2 (read-spells text m.0 m.1)
 
 behind-cut : (k : ℕ) (piece : List ℕ) (o : Option (Operator × List ℕ)) (c : Clause) → operator_of piece ≡ o → clause_behind k o ≡ Ok c → IsClause piece c × (fits c.version ≡ true)

@@ -8,6 +8,7 @@ pub mod MatchFacts
 pub mod ReadFacts
 pub mod ReleaseFacts
 pub mod ReleaseReads
+pub mod SetBytes
 pub mod SetFacts
 pub mod SoundFacts
 pub mod SpanFacts

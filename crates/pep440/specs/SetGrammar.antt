@@ -1,13 +1,22 @@
 -- Which pieces of a set of specifiers are clauses (PEP 440, "Version specifiers"), as a relation between a
 -- whole piece and its clause.
-use Rattle.std.specs.Prelude.{◌≡◌, ℕ, true, List, [], ◌++◌, codes}
+use Rattle.std.specs.Prelude.{◌≡◌, ℕ, ◌==◌, ◌||◌, Bool, true, List, [], ◌++◌, codes}
+use Rattle.std.specs.Char.{is_ascii_alphanumeric}
 use Rattle.std.specs.List.{list_all}
 use Rattle.pep440.specs.declared.specifier.Operator.{Operator}
 use Rattle.pep440.specs.declared.specifier.Operator.TheVariants as operators
 use Rattle.pep440.specs.declared.specifier.Clause.{Clause}
 use Rattle.pep440.specs.Text.{is_blank}
-use Rattle.pep440.specs.Grammar.{IsVersionText}
+use Rattle.pep440.specs.Grammar.{IsVersionText, is_separator}
 use Rattle.pep440.specs.Sets.{takes}
+
+-- a byte that begins an operator: `!`, `<`, `=`, `>` or `~`
+abbrev pub begins_operator : ℕ → Bool
+begins_operator b = (b == 33) || ((b == 60) || ((b == 61) || ((b == 62) || (b == 126))))
+
+-- a byte of a set: a letter, a digit, a separator, a space or a tab, `*`, `+`, `,`, or one that begins an operator
+abbrev pub is_set_byte : ℕ → Bool
+is_set_byte b = is_ascii_alphanumeric b || (is_separator b || (is_blank b || ((b == 42) || ((b == 43) || ((b == 44) || begins_operator b)))))
 
 -- how an operator is written before its version
 abbrev pub sign : Operator → List ℕ

@@ -1,16 +1,25 @@
 //! Laws of the grammars of versions and of specifiers.
 
-ghost use Rattle.std.specs.Prelude.{◌≡◌, ℕ, List, Ok, true};
+ghost use Rattle.std.specs.Prelude.{◌≡◌, ℕ, List, Ok, Some, true, ◌⊎◌, [], false, slice_index};
+ghost use Rattle.std.specs.List.{list_all};
+ghost use Rattle.pep440.specs.Text.{is_blank};
 ghost use Rattle.pep440.specs.Canonical.{canonical};
-ghost use Rattle.pep440.specs.Grammar.{Spells};
-ghost use Rattle.pep440.specs.SetGrammar.{IsClause};
-ghost use Rattle.pep440.specs.Sets.{clause_of};
+ghost use Rattle.pep440.specs.Grammar.{IsVersionText, Spells};
+ghost use Rattle.pep440.specs.Reading.{bare_parts};
+ghost use Rattle.pep440.specs.SetGrammar.{IsClause, begins_operator, is_set_byte};
+ghost use Rattle.pep440.specs.Sets.{clause_of, set_of};
 ghost use Rattle.pep440.specs.Version.{IsVersion, Parts, fits};
 ghost use Rattle.pep440.specs.declared.specifier.Clause.{Clause};
 
 /// A text spells at most one version.
 pub fn a_text_spells_one_version()
     ensures { (text : List ℕ) (v w : Parts) → Spells text v → Spells text w → v ≡ w }
+{}
+
+/// A text with nothing around it reads as the parts that it spells, over numbers of any size.
+pub fn a_bare_text_reads_as_its_parts()
+    ensures read { (text : List ℕ) (v : Parts) → bare_parts text ≡ Some v → IsVersionText text v }
+    ensures found { (text : List ℕ) (v : Parts) → IsVersionText text v → bare_parts text ≡ Some v }
 {}
 
 /// The canonical text of a version spells that version, trailing zeros too.
@@ -24,4 +33,13 @@ pub fn a_piece_reads_as_its_clause()
         → clause_of place piece ≡ Ok c → IsClause piece c × (fits c.version ≡ true) }
     ensures found { (place : ℕ) (piece : List ℕ) (c : Clause)
         → IsClause piece c → fits c.version ≡ true → clause_of place piece ≡ Ok c }
+{}
+
+/// A text that reads as a set has bytes of its own alone, and an operator begins it where no space does.
+pub fn a_set_has_its_bytes()
+    ensures bytes { (text : List ℕ) (clauses : List Clause)
+        → set_of text ≡ Ok clauses → list_all is_set_byte text ≡ true }
+    ensures first { (text : List ℕ) (clauses : List Clause)
+        → set_of text ≡ Ok clauses → is_blank (slice_index text 0) ≡ false
+        → (text ≡ []) ⊎ (begins_operator (slice_index text 0) ≡ true) }
 {}

@@ -12,9 +12,13 @@ mod sets;
 mod spans;
 mod specifier;
 #[cfg(test)]
+mod table_tests;
+#[cfg(test)]
 mod tests;
 mod text;
 mod version;
+#[cfg(test)]
+mod version_table;
 mod words;
 
 pub use crate::fault::Fault;

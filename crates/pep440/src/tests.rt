@@ -18,7 +18,7 @@ fn hash_of(rt: &HostRuntime, text: &str) -> Result<u64, Fault> {
     Ok(hasher.finish())
 }
 
-fn fault_of(rt: &HostRuntime, text: &str) -> Option<Fault> {
+pub(crate) fn fault_of(rt: &HostRuntime, text: &str) -> Option<Fault> {
     Version::parse(rt.alloc(), text).err()
 }
 
@@ -32,7 +32,7 @@ fn is_match(rt: &HostRuntime, set: &str, candidate: &str) -> Result<bool, Fault>
     Ok(set.matches(&candidate))
 }
 
-fn canonical_of(rt: &HostRuntime, text: &str) -> Result<String, Fault> {
+pub(crate) fn canonical_of(rt: &HostRuntime, text: &str) -> Result<String, Fault> {
     Version::parse(rt.alloc(), text)?.canonical(rt.alloc())
 }
 
@@ -177,6 +177,9 @@ fn matches_versions(rt: HostRuntime) -> Result<(), Fail> {
         ("==1.0+x", "1.0", false),
         (">=1,<2", "1.7", true),
         (">=1,<2", "2.0", false),
+        ("==0.*", "1!0", false),
+        ("~=0.0", "1!0.9", false),
+        ("==1!1.*", "1!1.0a1", true),
     ];
     for (set, candidate, expected) in rows.iter() {
         assert_eq!(rt; is_match(&rt, set, candidate)?, *expected);
@@ -197,6 +200,24 @@ fn tells_sets_apart(rt: HostRuntime) -> Result<(), Fail> {
         let set = SpecifierSet::parse(rt.alloc(), text)?;
         assert_eq!(rt; set.names_pre(), *names_pre);
         assert_eq!(rt; set.pins(), *pins);
+    }
+    Ok(())
+}
+
+#[test]
+fn prints_faults(rt: HostRuntime) -> Result<(), Fail> {
+    let rows = [
+        (Fault::BadVersion, "this is no version"),
+        (Fault::NumberTooLarge, "a number has more than 64 bits"),
+        (Fault::BadClause(2), "clause 2 is no version specifier"),
+        (
+            Fault::ArbitraryEquality,
+            "the operator `===` is not supported",
+        ),
+        (Fault::OutOfMemory, "out of memory"),
+    ];
+    for (fault, text) in rows.iter() {
+        assert_eq!(rt; format!(in rt.alloc(); "{fault}")?.as_str(), *text);
     }
     Ok(())
 }

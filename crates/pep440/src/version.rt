@@ -1,8 +1,9 @@
 // Versions.
 
-ghost use Rattle.std.specs.Prelude.{◌≡◌, ◌<◌, length, IfOk, string_bytes, option_copied};
+ghost use Rattle.std.specs.Prelude.{◌≡◌, ◌<◌, length, string_bytes, option_copied};
 ghost use Rattle.std.proofs.Common.{refl};
 ghost use Rattle.pep440.specs.Canonical.{canonical};
+ghost use Rattle.pep440.specs.Reading.{Gives};
 ghost use Rattle.pep440.specs.Version.{IsVersion, is_post, is_pre};
 
 use crate::fault::Fault;
@@ -108,7 +109,7 @@ impl Version {
 
     /// The one text of the version: `[N!]N(.N)*[{a|b|rc}N][.postN][.devN][+local]`.
     pub fn canonical(&self, alloc: Global) -> Result<String, Fault>
-        ensures { IfOk result (λ text. string_bytes text ≡ canonical self.now) }
+        ensures { Gives (λ text. string_bytes text) result (Ok (canonical self.now)) }
     {
         Ok(format!(in alloc; "{self}")?)
     }

@@ -4,9 +4,10 @@ use Rattle.std.proofs.lemmas.Bool.{cases_Bool}
 use Rattle.std.specs.List.{concat, onto_first}
 use Rattle.pep508.specs.Lines.{lines_of}
 use Rattle.lists.specs.Answers.{Answers}
-use Rattle.pep508.specs.Requirement.{Wanted, checked, fault_of, first_fault, lines_read, memory_fault, requirement_of, unless}
-use Rattle.pep508.specs.declared.fault.Cause.{Cause}
-use Rattle.pep508.specs.declared.fault.Fault.{Fault}
+use Rattle.markers.specs.Faults.{fault_of, memory_fault}
+use Rattle.pep508.specs.Requirement.{Wanted, checked, first_fault, lines_read, requirement_of, unless}
+use Rattle.markers.specs.declared.fault.Cause.{Cause}
+use Rattle.markers.specs.declared.fault.Fault.{Fault}
 
 -- a line that passed its check reads, and is the line
 pub checked-Ok : (line found : List ℕ) (read : Result (Option Wanted) Cause) → checked line read ≡ Ok found

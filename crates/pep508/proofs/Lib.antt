@@ -1,5 +1,15 @@
-pub mod Cuts
+pub mod AroundSet
+pub mod Comments
 pub mod Endings
 pub mod Files
 pub mod FirstLine
+pub mod LineCut
+pub mod Names
+pub mod OddFacts
+pub mod OneCut
+pub mod Places
+pub mod Runs
+pub mod SetText
+pub mod Slicewise
+pub mod WithSpecifier
 pub mod WorkedRows

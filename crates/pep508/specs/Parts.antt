@@ -1,18 +1,44 @@
 -- The parts of a line of a requirements file (pip, "Requirements File Format").
-use Rattle.std.specs.Prelude.{◌≡◌, ◌⊎◌, ℕ, suc, ◌-◌, ◌==◌, ◌&&◌, ◌||◌, nat_lt, not, Bool, true, List, [], ◌∷◌, ◌++◌, length, take, drop, slice_index, if◌then◌else◌}
-use Rattle.std.specs.List.{prefix_len, suffix_len}
+use Rattle.std.specs.Prelude.{◌≡◌, ◌⊎◌, ℕ, suc, ◌-◌, ◌==◌, ◌&&◌, ◌||◌, nat_le, nat_lt, not, Bool, true, false, List, [], ◌∷◌, ◌++◌, length, take, drop, slice_index, Option, Some, None, if◌then◌else◌}
+use Rattle.std.specs.List.{prefix_len, suffix_len, position_or_len, take_while}
 
 -- a space or a tab
 abbrev pub is_space : ℕ → Bool
 is_space b = (b == 32) || (b == 9)
 
--- the text without the spaces and tabs that lead it
+-- the spaces and tabs that lead the text, and the text without them
+abbrev pub lead_of : List ℕ → List ℕ
+lead_of text = take_while is_space text
+
 abbrev pub trim_start : List ℕ → List ℕ
 trim_start text = drop (prefix_len is_space text) text
 
--- the text without the spaces and tabs at its end
+-- the spaces and tabs at the end of the text, and the text without them
+abbrev pub tail_of : List ℕ → List ℕ
+tail_of text = drop (length text - suffix_len is_space text) text
+
 abbrev pub trim_end : List ℕ → List ℕ
 trim_end text = take (length text - suffix_len is_space text) text
+
+-- the text without the spaces and tabs around it
+abbrev pub trim : List ℕ → List ℕ
+trim text = trim_start (trim_end text)
+
+-- whether the text begins, or ends, with the byte
+abbrev pub begins_with : ℕ → List ℕ → Bool
+begins_with b text = slice_index text 0 == b
+
+abbrev pub ends_with : ℕ → List ℕ → Bool
+ends_with b text = slice_index text (length text - 1) == b
+
+-- where the byte first stands, or the length of the text
+abbrev pub place_of : ℕ → List ℕ → ℕ
+place_of byte text = position_or_len (λ b. b == byte) text
+
+-- what stands between two bytes that begin and end the text
+abbrev pub inside : ℕ → ℕ → List ℕ → Option (List ℕ)
+inside first last text =
+    if nat_le 2 (length text) && (begins_with first text && ends_with last text) then Some (take (length text - 2) (drop 1 text)) else None
 
 -- how a line ends: LF, CR and LF, or nothing
 abbrev pub ending_of : List ℕ → List ℕ
@@ -33,15 +59,32 @@ ended ending line = if length (ending_of line) == 0 then line ++ ending else lin
 abbrev pub content_of : List ℕ → List ℕ
 content_of line = take (length line - length (ending_of line)) line
 
--- a control character other than a tab
+-- a control character of one byte other than a tab
 abbrev pub is_control : ℕ → Bool
 is_control b = (nat_lt b 32 && not (b == 9)) || (b == 127)
+
+-- whether an odd character begins with the byte before the rest: a control character other than a tab, U+0085 (in UTF-8 the bytes 194 133), U+2028 or U+2029 (226 128 168 and 226 128 169)
+abbrev pub is_odd : ℕ → List ℕ → Bool
+is_odd b rest =
+    is_control b || (((b == 194) && (slice_index rest 0 == 133))
+    || ((b == 226) && ((slice_index rest 0 == 128) && ((slice_index rest 1 == 168) || (slice_index rest 1 == 169)))))
+
+unfoldable pub has_odd : List ℕ → Bool
+has_odd [] = false
+has_odd (b ∷ rest) = is_odd b rest || has_odd rest
+
+-- whether a byte-order mark leads the text: U+FEFF, in UTF-8 the bytes 239 187 191
+abbrev pub is_marked : List ℕ → Bool
+is_marked text = (slice_index text 0 == 239) && ((slice_index text 1 == 187) && (slice_index text 2 == 191))
 
 -- the place of the first `#` at the start or after a space or a tab; before the text stands a start where at_start says so
 unfoldable pub comment_place : Bool → List ℕ → ℕ
 comment_place at_start [] = 0
 comment_place at_start (b ∷ bs) = if at_start && (b == 35) then 0 else suc (comment_place (is_space b) bs)
 
--- what stands before the comment
+-- what stands before the comment, and the comment
 abbrev pub before_comment : List ℕ → List ℕ
 before_comment content = take (comment_place true content) content
+
+abbrev pub comment_of : List ℕ → List ℕ
+comment_of content = drop (comment_place true content) content

@@ -1,58 +1,108 @@
 -- Requirements, and what a line of a requirements file asks for.
-use Rattle.std.specs.Prelude.{ℕ, ◌+◌, ◌==◌, Bool, List, [], ◌∷◌, drop, length, slice_index, Option, Some, None, Result, Ok, Err, if◌then◌else◌}
-use Rattle.std.specs.List.{list_any, prefix_len, take_while}
+use Rattle.std.specs.Prelude.{◌≡◌, ℕ, ◌+◌, ◌-◌, ◌==◌, ◌||◌, Bool, true, false, List, [], ◌∷◌, drop, length, slice_index, is_ok, Option, Some, None, unwrap_or, Result, Ok, Err, if◌then◌else◌}
+use Rattle.std.specs.List.{list_all}
 use Rattle.std.specs.Str.{is_utf8}
 use Rattle.pep440.specs.Sets.{set_of}
+use Rattle.pep440.specs.Text.{pieces}
 use Rattle.pep440.specs.declared.specifier.Clause.{Clause}
 use Rattle.pep440.specs.declared.fault.Fault.{Fault as SpecifierFault}
-use Rattle.pep440.specs.declared.fault.Fault.TheVariants as specifier
+use Rattle.markers.specs.Environment.{Texts}
+use Rattle.markers.specs.Faults.{cause_of, fault_of}
+use Rattle.markers.specs.Marker.{Tree, holds, marker_of}
+use Rattle.markers.specs.Names.{name_of}
+use Rattle.markers.specs.declared.fault.Cause.{Cause}
+use Rattle.markers.specs.declared.fault.Cause.TheVariants.{BadName, UrlRequirement, OptionLine, Continuation, OddCharacter, NotUtf8}
+use Rattle.markers.specs.declared.fault.Fault.{Fault}
 use Rattle.pep508.specs.Lines.{lines_of}
-use Rattle.pep508.specs.Names.{is_name, is_name_byte, normal_of}
-use Rattle.pep508.specs.Parts.{before_comment, content_of, is_control, trim_end, trim_start}
-use Rattle.pep508.specs.declared.fault.Cause.{Cause}
-use Rattle.pep508.specs.declared.fault.Cause.TheVariants.{BadName, UrlRequirement, OptionLine, OddCharacter, NotUtf8, Specifier, OutOfMemory}
-use Rattle.pep508.specs.declared.fault.Fault.{Fault}
+use Rattle.pep508.specs.Parts.{begins_with, content_of, ends_with, has_odd, inside, is_marked, is_space, trim, trim_start}
+use Rattle.pep508.specs.Slices.{Slices, asking, slices_of, slices_with}
 
--- a name in its normal form, and the clauses that a version of it has to match
+-- a name and extras in their normal form, the clauses that a version has to match, and the marker, if there is one
 pub record Wanted : Type 0 where
   pub name : List ℕ
+  pub extras : List (List ℕ)
   pub clauses : List Clause
+  pub marker : Option Tree
 
--- the name that a text is, in its normal form
-abbrev pub name_of : List ℕ → Result (List ℕ) Cause
-name_of text = if is_name text then Ok (normal_of text) else Err BadName
+-- what is read next, where the first was read
+infixl 10 ◌>>=◌
+abbrev pub ◌>>=◌ : {A B : Type 0} → Result A Cause → (A → Result B Cause) → Result B Cause
+(Ok x) >>= f = f x
+(Err cause) >>= f = Err cause
 
--- the cause that a fault of the specifiers is
-abbrev pub cause_of : SpecifierFault → Cause
-cause_of specifier.OutOfMemory = OutOfMemory
-cause_of specifier.BadVersion = Specifier specifier.BadVersion
-cause_of specifier.NumberTooLarge = Specifier specifier.NumberTooLarge
-cause_of (specifier.BadClause k) = Specifier (specifier.BadClause k)
-cause_of specifier.ArbitraryEquality = Specifier specifier.ArbitraryEquality
+-- the names that pieces are, each freed of the space around it
+unfoldable pub names_of : List (List ℕ) → Result (List (List ℕ)) Cause
+names_of [] = Ok []
+names_of (piece ∷ rest) = name_of (trim piece) >>= λ name. names_of rest >>= λ names. Ok (name ∷ names)
 
--- a name with what was read of its specifiers
-abbrev pub with_clauses : List ℕ → Result (List Clause) SpecifierFault → Result Wanted Cause
-with_clauses name (Ok clauses) = Ok (record { name = name; clauses = clauses })
-with_clauses name (Err fault) = Err (cause_of fault)
+-- the extras within brackets: none where space stands there, else names with commas between them
+abbrev pub names_within : Option (List ℕ) → Result (List (List ℕ)) Cause
+names_within None = Err BadName
+names_within (Some text) = if list_all is_space text then Ok [] else names_of (pieces text)
 
--- whether the text begins with the byte
-abbrev pub begins_with : ℕ → List ℕ → Bool
-begins_with b text = slice_index text 0 == b
+-- the extras of their slice, which ends with the first `]` (PEP 508, "Extras")
+abbrev pub extras_of : List ℕ → Result (List (List ℕ)) Cause
+extras_of extras = if length extras == 0 then Ok [] else names_within (inside 91 93 extras)
 
--- a requirement, from what was read of its name and the text behind it
-abbrev pub named : Result (List ℕ) Cause → List ℕ → Result Wanted Cause
-named (Err cause) rest = Err cause
-named (Ok name) rest = if begins_with 64 (trim_start rest) then Err UrlRequirement else with_clauses name (set_of rest)
+-- what was read of a set of specifiers
+abbrev pub caused : Result (List Clause) SpecifierFault → Result (List Clause) Cause
+caused (Ok clauses) = Ok clauses
+caused (Err fault) = Err (cause_of fault)
 
--- a requirement: a name and its specifiers (PEP 508, "Grammar"; so far without extras, parentheses and markers)
-abbrev pub wanted_in : List ℕ → Result Wanted Cause
-wanted_in body =
-    if begins_with 45 body then Err OptionLine
-    else named (name_of (take_while is_name_byte body)) (drop (prefix_len is_name_byte body) body)
+-- the set that a version slice is, with parentheses around it or not
+abbrev pub set_text : List ℕ → List ℕ
+set_text version = unwrap_or (inside 40 41 version) version
 
--- what the content of a line has besides its comment and the space around
-abbrev pub body_of : List ℕ → List ℕ
-body_of content = trim_end (trim_start (before_comment content))
+-- the clauses of a version slice; `@` leads a URL there
+abbrev pub clauses_of : List ℕ → Result (List Clause) Cause
+clauses_of version = if begins_with 64 version then Err UrlRequirement else caused (set_of (set_text version))
+
+-- a text that reads as a set, with no space around it
+pub record IsSpecifier (text : List ℕ) : Type 0 where
+  pub reads : is_ok (set_of text) ≡ true
+  pub first : is_space (slice_index text 0) ≡ false
+  pub last : is_space (slice_index text (length text - 1)) ≡ false
+
+-- a text that was read as a set
+abbrev pub kept : List ℕ → Result (List Clause) SpecifierFault → Result (List ℕ) Cause
+kept text (Ok clauses) = Ok text
+kept text (Err fault) = Err (cause_of fault)
+
+-- the specifiers that a text asks for: the text without space around it, where it is a set without parentheses
+abbrev pub specifier_of : List ℕ → Result (List ℕ) Cause
+specifier_of text = kept (trim text) (set_of (trim text))
+
+-- a marker that was read
+abbrev pub conditional : Result Tree Cause → Result (Option Tree) Cause
+conditional (Ok tree) = Ok (Some tree)
+conditional (Err cause) = Err cause
+
+-- the marker of its slice: what stands behind `;`
+abbrev pub condition_of : List ℕ → Result (Option Tree) Cause
+condition_of marker = if begins_with 59 marker then conditional (marker_of (drop 1 marker)) else Ok None
+
+-- a requirement, from its slices (PEP 508, "Grammar")
+abbrev pub wanted_in : Slices → Result Wanted Cause
+wanted_in s =
+    name_of s.name >>= λ name. extras_of s.extras >>= λ extras. clauses_of s.version >>= λ clauses. condition_of s.marker
+    >>= λ marker. Ok (record { name = name; extras = extras; clauses = clauses; marker = marker })
+
+-- the requirement that a text is which no space leads
+unfoldable pub asked_in : List ℕ → Result Wanted Cause
+asked_in text = wanted_in (slices_with [] text [] [])
+
+-- the requirement that a text is
+abbrev pub requirement_text : List ℕ → Result Wanted Cause
+requirement_text text = asked_in (trim_start text)
+
+-- whether a marker that may be there holds with no extra
+abbrev pub applies : Option Tree → Texts → Bool
+applies None texts = true
+applies (Some tree) texts = holds tree texts None
+
+-- whether a requirement counts in an environment
+abbrev pub is_active : Wanted → Texts → Bool
+is_active wanted texts = applies wanted.marker texts
 
 -- a requirement that is there
 abbrev pub present : Result Wanted Cause → Result (Option Wanted) Cause
@@ -62,9 +112,11 @@ present (Err cause) = Err cause
 -- what the content of a line asks for: nothing where it is blank or a comment
 unfoldable pub wanted_by : List ℕ → Result (Option Wanted) Cause
 wanted_by content =
-    if list_any is_control content then Err OddCharacter
-    else if length (body_of content) == 0 then Ok None
-    else present (wanted_in (body_of content))
+    if is_marked content || has_odd content then Err OddCharacter
+    else if ends_with 92 content then Err Continuation
+    else if begins_with 45 (trim_start content) then Err OptionLine
+    else if length (asking content) == 0 then Ok None
+    else present (asked_in (asking content))
 
 -- the requirement of a line, or why the line is refused
 unfoldable pub requirement_of : List ℕ → Result (Option Wanted) Cause
@@ -78,19 +130,21 @@ checked line (Err cause) = Err cause
 abbrev pub checked_line : List ℕ → Result (List ℕ) Cause
 checked_line line = checked line (requirement_of line)
 
--- memory was refused
-abbrev pub memory_fault : Fault
-memory_fault = record { line = 0; cause = OutOfMemory }
+-- the slices of a line that is not refused
+abbrev pub cut : Slices → Result (Option Wanted) Cause → Result Slices Cause
+cut slices (Ok wanted) = Ok slices
+cut slices (Err cause) = Err cause
 
--- the fault of the line with this number
-abbrev pub fault_of : ℕ → Cause → Fault
-fault_of number OutOfMemory = memory_fault
-fault_of number cause = record { line = number; cause = cause }
+abbrev pub cut_line : List ℕ → Result Slices Cause
+cut_line line = cut (slices_of line) (requirement_of line)
 
--- what one text reads as, its fault on line 1
-abbrev pub one_line : {A : Type 0} → Result A Cause → Result A Fault
-one_line (Ok value) = Ok value
-one_line (Err cause) = Err (fault_of 1 cause)
+-- a text reads as a line of the same name, extras, marker and comment, and asks for the same but for the clauses
+pub record ReadsWith (s : Slices) (wanted : Wanted) (clauses : List Clause) (text : List ℕ) : Type 0 where
+  pub requirement : requirement_of text ≡ Ok (Some (record wanted { clauses = clauses }))
+  pub name : (slices_of text).name ≡ s.name
+  pub extras : (slices_of text).extras ≡ s.extras
+  pub marker : (slices_of text).marker ≡ s.marker
+  pub comment : (slices_of text).comment ≡ s.comment
 
 -- the fault of a line, or of a later one
 abbrev pub fault_or : ℕ → Result (Option Wanted) Cause → Option Fault → Option Fault

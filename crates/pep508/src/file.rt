@@ -3,12 +3,13 @@
 ghost use Rattle.lists.specs.Answers.{Answers};
 ghost use Rattle.std.specs.Prelude.{◌≡◌, IfOk};
 ghost use Rattle.std.specs.List.{concat};
-ghost use Rattle.pep508.specs.Requirement.{file_of, lines_read, memory_fault};
+ghost use Rattle.markers.specs.Faults.{memory_fault};
+ghost use Rattle.pep508.specs.Requirement.{file_of, lines_read};
 
-use crate::fault::{Cause, Fault};
 use crate::line::Line;
 use crate::parts::split_line;
 use lists::{Faithful, Seq, Text};
+use markers::{Cause, Fault};
 use std::alloc::{AllocError, Global};
 use std::marker::Model;
 use std::str;

@@ -1,17 +1,21 @@
-//! Dependency specifiers (PEP 508): names, requirements, and the lines of a requirements file.
+//! Dependency specifiers (PEP 508): requirements, and the lines of a requirements file.
 #![tactic(auto)]
 
-mod fault;
+mod cuts;
 mod file;
+pub mod laws;
 mod line;
-mod name;
 mod parts;
+mod req_line;
 mod requirement;
+mod slices;
+mod specifier_text;
 #[cfg(test)]
 mod tests;
 
-pub use crate::fault::{Cause, Fault};
 pub use crate::file::ReqFile;
 pub use crate::line::Line;
-pub use crate::name::Name;
+pub use crate::req_line::ReqLine;
 pub use crate::requirement::Requirement;
+pub use crate::specifier_text::SpecifierText;
+pub use markers::{Cause, Environment, Fault, Marker, Name, Variable};

@@ -5,12 +5,13 @@ ghost use Rattle.std.specs.Prelude.{◌≡◌, Ok, IfOk};
 ghost use Rattle.std.specs.Option.{option_copied};
 ghost use Rattle.pep508.specs.Parts.{IsEnding, ended, ending_of};
 ghost use Rattle.pep508.specs.Requirement.{checked_line, requirement_of, wanted_by};
-ghost use Rattle.pep508.specs.declared.fault.Cause.TheVariants.{OutOfMemory};
+ghost use Rattle.markers.specs.declared.fault.Cause.TheVariants.{OutOfMemory};
 
-use crate::fault::Cause;
-use crate::parts::{before_comment, content_of, ending_of, has_control, trim_end, trim_start};
+use crate::cuts::{cut_comment, trim_start};
+use crate::parts::{begins_with, cut_ending, ending_of, ends_with, is_refused};
 use crate::requirement::Requirement;
 use lists::{Faithful, Text};
+use markers::Cause;
 use std::alloc::{AllocError, Global};
 use std::marker::Model;
 
@@ -35,17 +36,23 @@ impl Model for Line {
 
 /// What the content of a line asks for: nothing where it is blank or a comment.
 #[tactic(auto, unfolding(crate::specs::Requirement::wanted_by))]
-fn wanted_by(alloc: Global, content: &str) -> Result<Option<Requirement>, Cause>
+pub(crate) fn wanted_by(alloc: Global, content: &str) -> Result<Option<Requirement>, Cause>
     ensures { Answers OutOfMemory (wanted_by content.now) result }
 {
-    if has_control(content.as_bytes()) {
+    if is_refused(content) {
         return Err(Cause::OddCharacter);
     }
-    let body = trim_end(trim_start(before_comment(content)));
-    if body.is_empty() {
+    if ends_with(b'\\', content) {
+        return Err(Cause::Continuation);
+    }
+    if begins_with(b'-', trim_start(content)) {
+        return Err(Cause::OptionLine);
+    }
+    let text = trim_start(cut_comment(content).0);
+    if text.is_empty() {
         return Ok(None);
     }
-    Ok(Some(Requirement::read(alloc, body)?))
+    Ok(Some(Requirement::asked_in(alloc, text)?))
 }
 
 impl Line {
@@ -54,7 +61,7 @@ impl Line {
     pub fn read(alloc: Global, line: &str) -> Result<Line, Cause>
         ensures { Answers OutOfMemory (checked_line line.now) result }
     {
-        let requirement = wanted_by(alloc, content_of(line))?;
+        let requirement = wanted_by(alloc, cut_ending(line).0)?;
         let text = Text::copy_of(alloc, line)?;
         Ok(Line { text, requirement })
     }

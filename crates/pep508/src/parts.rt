@@ -1,13 +1,10 @@
-// Cuts of a line. Each is made beside an ASCII character, so that what is left of a text is a text.
+// Lines, their endings, and the characters that they may not have.
 
-ghost use Rattle.std.specs.Prelude.{◌≡◌, ◌<◌, ◌∷◌, length, take, drop};
-ghost use Rattle.std.specs.List.{list_any, prefix_len};
+ghost use Rattle.std.specs.Prelude.{◌≡◌, ◌<◌, ◌∷◌, ◌||◌, length, slice_index};
+ghost use Rattle.std.specs.List.{list_all};
 ghost use Rattle.std.specs.Str.{IsUtf8};
 ghost use Rattle.pep508.specs.Lines.{lines_of};
-ghost use Rattle.pep508.specs.Names.{is_name_byte};
 ghost use Rattle.pep508.specs.Parts as spec;
-
-use crate::name::is_name_byte;
 
 /// Whether the byte is a space or a tab.
 pub(crate) fn is_space(byte: u8) -> bool
@@ -16,37 +13,81 @@ pub(crate) fn is_space(byte: u8) -> bool
     byte == b' ' || byte == b'\t'
 }
 
-/// Whether a control character other than a tab is among the bytes.
-pub(crate) fn has_control(bytes: &[u8]) -> bool
-    ensures { result ≡ list_any spec.is_control bytes.now }
+/// Whether spaces and tabs alone stand in the text.
+pub(crate) fn is_blank(text: &str) -> bool
+    ensures { result ≡ list_all spec.is_space text.now }
 {
-    bytes
-        .iter()
-        .any(|byte| (*byte < 32 && *byte != b'\t') || *byte == 127)
+    text.as_bytes().iter().all(|byte| is_space(*byte))
 }
 
-/// The text without the spaces and tabs that lead it.
-pub(crate) fn trim_start(text: &str) -> &str
-    ensures { result.now ≡ spec.trim_start text.now }
+/// The byte at a place, or 0 behind the end.
+fn byte_at(bytes: &[u8], place: usize) -> u8
+    ensures { result ≡ slice_index bytes.now place }
 {
-    let bytes = text.as_bytes();
-    let mut place = 0;
-    while place < bytes.len() && is_space(bytes[place]) {
-        place += 1;
-    }
-    &text[place..]
+    if place < bytes.len() { bytes[place] } else { 0 }
 }
 
-/// The text without the spaces and tabs at its end.
-pub(crate) fn trim_end(text: &str) -> &str
-    ensures { result.now ≡ spec.trim_end text.now }
+/// Whether the text begins with the byte.
+pub(crate) fn begins_with(byte: u8, text: &str) -> bool
+    ensures { result ≡ spec.begins_with byte text.now }
 {
-    let bytes = text.as_bytes();
-    let mut end = bytes.len();
-    while end > 0 && is_space(bytes[end - 1]) {
-        end -= 1;
+    byte_at(text.as_bytes(), 0) == byte
+}
+
+/// Whether the text ends with the byte.
+pub(crate) fn ends_with(byte: u8, text: &str) -> bool
+    requires { 0 < byte }
+    ensures { result ≡ spec.ends_with byte text.now }
+{
+    match text.as_bytes() {
+        [] => false,
+        [.., last] => *last == byte,
     }
-    &text[..end]
+}
+
+/// Whether the byte is a control character other than a tab.
+fn is_control(byte: u8) -> bool
+    ensures { result ≡ spec.is_control byte }
+{
+    (byte < 32 && byte != b'\t') || byte == 127
+}
+
+/// Whether an odd character begins with the byte before `rest`.
+fn is_odd(byte: u8, rest: &[u8]) -> bool
+    ensures { result ≡ spec.is_odd byte rest.now }
+{
+    let next = byte_at(rest, 0);
+    let last = byte_at(rest, 1);
+    is_control(byte)
+        || ((byte == 0xC2 && next == 0x85)
+            || (byte == 0xE2 && (next == 0x80 && (last == 0xA8 || last == 0xA9))))
+}
+
+/// Whether a control character other than a tab, U+0085, U+2028 or U+2029 is among the bytes.
+fn has_odd(bytes: &[u8]) -> bool
+    ensures { result ≡ spec.has_odd bytes.now }
+{
+    for place in 0..bytes.len() {
+        if is_odd(bytes[place], &bytes[place + 1..]) {
+            return true;
+        }
+    }
+    false
+}
+
+/// Whether a byte-order mark leads the bytes.
+fn is_marked(bytes: &[u8]) -> bool
+    ensures { result ≡ spec.is_marked bytes.now }
+{
+    byte_at(bytes, 0) == 0xEF && (byte_at(bytes, 1) == 0xBB && byte_at(bytes, 2) == 0xBF)
+}
+
+/// Whether a line may not have this content: an odd character stands in it.
+pub(crate) fn is_refused(content: &str) -> bool
+    ensures { result ≡ spec.is_marked content.now || spec.has_odd content.now }
+{
+    let bytes = content.as_bytes();
+    is_marked(bytes) || has_odd(bytes)
 }
 
 /// How the line ends: LF, CR and LF, or nothing.
@@ -60,44 +101,17 @@ pub(crate) fn ending_of(line: &str) -> &'static str
     }
 }
 
-/// The line without its ending.
-pub(crate) fn content_of(line: &str) -> &str
-    ensures { result.now ≡ spec.content_of line.now }
+/// The line without its ending, and the ending.
+pub(crate) fn cut_ending(line: &str) -> (&str, &str)
+    ensures content { result.0.now ≡ spec.content_of line.now }
+    ensures ending { result.1.now ≡ spec.ending_of line.now }
 {
     let end = match line.as_bytes() {
         [.., b'\r', b'\n'] => line.len() - 2,
         [.., b'\n'] => line.len() - 1,
         _ => line.len(),
     };
-    &line[..end]
-}
-
-/// What stands before the comment of a line.
-pub(crate) fn before_comment(content: &str) -> &str
-    ensures { result.now ≡ spec.before_comment content.now }
-{
-    let mut at_start = true;
-    let bytes = content.as_bytes();
-    for place in 0..bytes.len() {
-        if at_start && bytes[place] == b'#' {
-            return &content[..place];
-        }
-        at_start = is_space(bytes[place]);
-    }
-    content
-}
-
-/// The longest run of bytes of a name that leads the text, and what follows it.
-pub(crate) fn split_name(text: &str) -> (&str, &str)
-    ensures name { result.0.now ≡ take (prefix_len is_name_byte text.now) text.now }
-    ensures rest { result.1.now ≡ drop (prefix_len is_name_byte text.now) text.now }
-{
-    let bytes = text.as_bytes();
-    let mut end = 0;
-    while end < bytes.len() && is_name_byte(bytes[end]) {
-        end += 1;
-    }
-    text.split_at(end)
+    line.split_at(end)
 }
 
 /// The first line of a text that isn't empty, with its ending, and what follows it.

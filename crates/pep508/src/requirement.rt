@@ -1,60 +1,152 @@
 // Requirements.
 
 ghost use Rattle.lists.specs.Answers.{Answers};
-ghost use Rattle.std.specs.Prelude.{◌≡◌, ◌<◌};
-ghost use Rattle.pep508.specs.Requirement.{begins_with, wanted_in};
-ghost use Rattle.pep508.specs.declared.fault.Cause.TheVariants.{OutOfMemory};
+ghost use Rattle.std.specs.Prelude.{◌≡◌, None};
+ghost use Rattle.std.specs.Option.{option_copied};
+ghost use Rattle.markers.specs.Faults.{memory_fault, one_line};
+ghost use Rattle.markers.specs.declared.fault.Cause.TheVariants.{OutOfMemory};
+ghost use Rattle.pep440.specs.Text.{pieces};
+ghost use Rattle.pep508.specs.Requirement as spec;
 
-use crate::fault::Cause;
-use crate::name::Name;
-use crate::parts::{split_name, trim_start};
-use lists::Faithful;
+use crate::cuts::{inside, trim, trim_start};
+use crate::parts::{begins_with, is_blank};
+use crate::slices::{Slices, slices_with};
+use lists::{Faithful, Seq};
+use markers::{Cause, Environment, Fault, Marker, Name};
 use pep440::SpecifierSet;
 use std::alloc::{AllocError, Global};
 use std::marker::Model;
 
-/// What a line or a release asks for: a project by its name, and specifiers that its version has to
-/// match (PEP 508, "Grammar").
+/// What a line or a release asks for: a project by its name, extras of it, specifiers that its
+/// version has to match, and a marker that says where it counts (PEP 508, "Grammar").
 #[derive(Drop)]
 pub struct Requirement {
     name: Name,
+    extras: Seq<Name>,
     specifiers: SpecifierSet,
+    marker: Option<Marker>,
 }
 
 impl Model for Requirement {
+    ghost use Rattle.std.specs.Coded.{codes};
+    ghost use Rattle.markers.specs.MarkerCode.{tree_code};
     ghost use Rattle.pep508.specs.Requirement.{Wanted};
 
     ghost Value = { Wanted };
 
-    ghost view = { λ r. record { name = r.name; clauses = r.specifiers } };
+    ghost coded = { Prim.hlevel (codes, tree_code) };
+
+    ghost view = { λ r. record {
+      name = r.name;
+      extras = r.extras;
+      clauses = r.specifiers;
+      marker = r.marker;
+    } };
 }
 
-/// Whether the text begins with the ASCII character.
-fn begins_with(byte: u8, text: &str) -> bool
-    requires { 0 < byte }
-    ensures { result ≡ begins_with byte text.now }
+/// The names between the commas of a text, each freed of the space around it.
+fn names_of(alloc: Global, text: &str) -> Result<Seq<Name>, Cause>
+    ensures { Answers OutOfMemory (spec.names_of (pieces text.now)) result }
 {
-    match text.as_bytes() {
-        [] => false,
-        [first, ..] => *first == byte,
+    let mut names = Seq::new(alloc);
+    for piece in text.split(',') {
+        let name = Name::read(alloc, trim(piece))?;
+        let Ok(()) = names.push(name) else {
+            return Err(Cause::OutOfMemory);
+        };
+    }
+    Ok(names)
+}
+
+/// The extras of their slice.
+fn extras_of(alloc: Global, extras: &str) -> Result<Seq<Name>, Cause>
+    ensures { Answers OutOfMemory (spec.extras_of extras.now) result }
+{
+    if extras.is_empty() {
+        return Ok(Seq::new(alloc));
+    }
+    let Some(text) = inside(b'[', b']', extras) else {
+        return Err(Cause::BadName);
+    };
+    if is_blank(text) {
+        return Ok(Seq::new(alloc));
+    }
+    names_of(alloc, text)
+}
+
+/// The set that a version slice is, with parentheses around it or not.
+fn set_text(version: &str) -> &str
+    ensures { result.now ≡ spec.set_text version.now }
+{
+    match inside(b'(', b')', version) {
+        Some(text) => text,
+        None => version,
     }
 }
 
+/// The clauses of a version slice.
+fn clauses_of(alloc: Global, version: &str) -> Result<SpecifierSet, Cause>
+    ensures { Answers OutOfMemory (spec.clauses_of version.now) result }
+{
+    if begins_with(b'@', version) {
+        return Err(Cause::UrlRequirement);
+    }
+    let specifiers = SpecifierSet::parse(alloc, set_text(version))?;
+    Ok(specifiers)
+}
+
+/// The marker of its slice.
+fn condition_of(alloc: Global, marker: &str) -> Result<Option<Marker>, Cause>
+    ensures { Answers OutOfMemory (spec.condition_of marker.now) result }
+{
+    if !begins_with(b';', marker) {
+        return Ok(None);
+    }
+    let marker = Marker::read(alloc, &marker[1..])?;
+    Ok(Some(marker))
+}
+
+/// The requirement of its slices.
+fn wanted_in(alloc: Global, slices: &Slices<'_>) -> Result<Requirement, Cause>
+    ensures { Answers OutOfMemory (spec.wanted_in slices.now) result }
+{
+    let name = Name::read(alloc, slices.name)?;
+    let extras = extras_of(alloc, slices.extras)?;
+    let specifiers = clauses_of(alloc, slices.version)?;
+    let marker = condition_of(alloc, slices.marker)?;
+    Ok(Requirement {
+        name,
+        extras,
+        specifiers,
+        marker,
+    })
+}
+
 impl Requirement {
-    /// Reads a requirement with no space around it.
-    pub(crate) fn read(alloc: Global, body: &str) -> Result<Requirement, Cause>
-        ensures { Answers OutOfMemory (wanted_in body.now) result }
+    /// Reads a requirement; space may stand around it. The first fault from the left is answered:
+    /// `BadName` (of the name or of extras), `UrlRequirement`, `Specifier`, the marker's.
+    pub fn parse(alloc: Global, text: &str) -> Result<Requirement, Fault>
+        ensures { Answers memory_fault (one_line (spec.requirement_text text.now)) result }
     {
-        if begins_with(b'-', body) {
-            return Err(Cause::OptionLine);
+        match Requirement::read(alloc, text) {
+            Ok(requirement) => Ok(requirement),
+            Err(cause) => Err(Fault::at(1, cause)),
         }
-        let (name, rest) = split_name(body);
-        let name = Name::read(alloc, name)?;
-        if begins_with(b'@', trim_start(rest)) {
-            return Err(Cause::UrlRequirement);
-        }
-        let specifiers = SpecifierSet::parse(alloc, rest)?;
-        Ok(Requirement { name, specifiers })
+    }
+
+    /// Reads a requirement, as `parse` does; the fault is its cause alone.
+    pub fn read(alloc: Global, text: &str) -> Result<Requirement, Cause>
+        ensures { Answers OutOfMemory (spec.requirement_text text.now) result }
+    {
+        Requirement::asked_in(alloc, trim_start(text))
+    }
+
+    /// Reads a requirement that no space leads.
+    #[tactic(auto, unfolding(crate::specs::Requirement::asked_in))]
+    pub(crate) fn asked_in(alloc: Global, text: &str) -> Result<Requirement, Cause>
+        ensures { Answers OutOfMemory (spec.asked_in text.now) result }
+    {
+        wanted_in(alloc, &slices_with("", text, "", ""))
     }
 
     pub fn name(&self) -> &Name
@@ -63,10 +155,34 @@ impl Requirement {
         &self.name
     }
 
+    /// The extras in the order in which they are written.
+    pub fn extras(&self) -> &[Name]
+        ensures { result.now ≡ self.now.extras }
+    {
+        self.extras.as_slice()
+    }
+
     pub fn specifiers(&self) -> &SpecifierSet
         ensures { result.now ≡ self.now.clauses }
     {
         &self.specifiers
+    }
+
+    pub fn marker(&self) -> Option<&Marker>
+        ensures { option_copied result ≡ self.now.marker }
+    {
+        self.marker.as_ref()
+    }
+
+    /// Whether the requirement counts in an environment: it has no marker, or its marker holds with
+    /// no extra.
+    pub fn is_active(&self, environment: &Environment) -> bool
+        ensures { result ≡ spec.is_active self.now environment.now }
+    {
+        match &self.marker {
+            None => true,
+            Some(marker) => marker.holds(environment, None),
+        }
     }
 }
 
@@ -75,8 +191,15 @@ impl Clone for Requirement {
 
     fn clone(&self) -> Result<Requirement, AllocError> {
         let name = self.name.clone()?;
+        let extras = self.extras.clone()?;
         let specifiers = self.specifiers.clone()?;
-        Ok(Requirement { name, specifiers })
+        let marker = self.marker.clone()?;
+        Ok(Requirement {
+            name,
+            extras,
+            specifiers,
+            marker,
+        })
     }
 }
 

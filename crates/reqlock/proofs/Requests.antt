@@ -1,6 +1,6 @@
 -- Lemmas on what clap reads.
 use Rattle.std.proofs.Common.{◌≡◌, ◌∙◌, ℕ, Bor, true, List, Option, None, Some, refl, sym, ap, subst, inl, inr, codes}
-use Rattle.std.specs.Prelude.{option_map, unwrap_or, Box, Result}
+use Rattle.std.specs.Prelude.{IsSome, option_map, unwrap_or, Box, Result}
 use Rattle.clap.specs.Words.{App, FailsBy, HasMatchesOf, Text, HasKind, IsAmong, fault_of, first_of, first_value, found_of, is_simple, is_simple_and_free, kind_of, matches_of, rows_of, subcommand_name_of, subcommand_of, subcommand_rows, subcommand_rows_of}
 use Rattle.clap.specs.declared.error.Error.{Error}
 use Rattle.clap.specs.declared.parser.matches.ArgMatches.{ArgMatches}
@@ -59,6 +59,10 @@ named_is words m rows = name_in m ∙ ap (option_map (λ found. found.0)) rows
 pub now_or : (text : Option (Bor (List ℕ))) (other : Bor (List ℕ)) → (unwrap_or text other).now ≡ unwrap_or (option_map (λ s. s.now) text) other.now
 now_or None other = refl
 now_or (Some text) other = refl
+
+-- an option that is given is there
+pub is_some_at : {X : Type 0} (o : Option X) (x : X) → o ≡ Some x → IsSome o
+is_some_at o x is = rw is refl
 
 -- there is one subcommand so far
 pub is_try : (subcommand : Subcommand) → name_of subcommand ≡ codes "try"

@@ -1,5 +1,5 @@
 -- What the words of a command line ask for, as clap reads them. All of it is reqlock's own rule.
-use Rattle.std.specs.Prelude.{◌≡◌, ◌≢◌, ◌⊎◌, List, [], Option, None, Some, codes, unwrap_or, option_map}
+use Rattle.std.specs.Prelude.{◌≡◌, ◌≢◌, ◌⊎◌, List, [], Option, None, Some, codes, unwrap_or, option_map, IsSome}
 use Rattle.clap.specs.Words.{Text, IsAmong, fault_of, first_of, kind_of, matches_of, subcommand_of}
 use Rattle.clap.specs.declared.error.Error.{Error}
 use Rattle.clap.specs.declared.error.kind.ErrorKind.{ErrorKind}
@@ -9,7 +9,7 @@ use Rattle.reqlock.specs.declared.request.RequestFault.{RequestFault}
 use Rattle.reqlock.specs.declared.request.RequestFault.TheVariants.{Usage, Needed, OutOfMemory}
 use Rattle.reqlock.specs.declared.request.Subcommand.{Subcommand}
 use Rattle.reqlock.specs.declared.request.Subcommand.TheVariants.{Try}
-use Rattle.reqlock.specs.declared.request.NeededOption.TheVariants.{Index}
+use Rattle.reqlock.specs.declared.request.NeededOption.TheVariants.{Index, Environment}
 use Rattle.reqlock.specs.CommandWords.{reqlock_app}
 
 -- the value that the words give an option
@@ -30,13 +30,16 @@ pub record IsRequest (words : List Text) (request : Invocation) : Type 0 where
   pub subcommand : named words ≡ Some (name_of request.subcommand)
   pub dir : request.dir.now ≡ unwrap_or (given words (codes "dir")) (codes ".")
   pub index : given words (codes "index") ≡ Some request.index.now
+  pub environment : given words (codes "env") ≡ Some request.environment.now
 
 -- why the words are no request
 abbrev pub IsFault : List Text → RequestFault → Type 0
 -- clap refuses them or gives help, or they name no subcommand
 IsFault words (Usage error) = IsAmong (kind_of error) (fault_of reqlock_app words) ⊎ ((fault_of reqlock_app words ≡ []) × (named words ≢ Some (codes "try")))
--- clap reads them, and only that option is missing
+-- clap reads them, and that option is missing; the index is asked for first
 IsFault words (Needed Index) = (fault_of reqlock_app words ≡ []) × (named words ≡ Some (codes "try")) × (given words (codes "index") ≡ None)
+IsFault words (Needed Environment) =
+    (fault_of reqlock_app words ≡ []) × (named words ≡ Some (codes "try")) × IsSome (given words (codes "index")) × (given words (codes "env") ≡ None)
 IsFault words OutOfMemory = Unit {0}
 
 -- want of memory where that is clap's error, and else the error itself

@@ -1,7 +1,7 @@
 // The files that the program reads.
 
 use pep440::Fault as SpecifierFault;
-use pep508::{Cause, Fault as LineFault, ReqFile};
+use pep508::{Cause, Environment, Fault as LineFault, ReqFile};
 use snapshot::{Fault as IndexFault, Snapshot};
 use std::alloc::{AllocError, Global};
 use std::rt::Files;
@@ -12,6 +12,7 @@ use std::{fmt, fs, io};
 pub enum InputFile {
     Requirements,
     Index,
+    Environment,
 }
 
 impl fmt::Display for InputFile {
@@ -19,6 +20,7 @@ impl fmt::Display for InputFile {
         match self {
             InputFile::Requirements => write!(f, "requirements.txt"),
             InputFile::Index => write!(f, "index"),
+            InputFile::Environment => write!(f, "environment"),
         }
     }
 }
@@ -32,6 +34,8 @@ pub enum InputFault {
     Requirements(LineFault),
     /// The index is refused.
     Index(IndexFault),
+    /// The environment is refused.
+    Environment(Cause),
     OutOfMemory,
 }
 
@@ -47,6 +51,7 @@ impl fmt::Display for InputFault {
             InputFault::Unreadable => write!(f, "unreadable"),
             InputFault::Requirements(fault) => write_line_fault(f, *fault),
             InputFault::Index(fault) => write_index_fault(f, fault),
+            InputFault::Environment(cause) => write_cause(f, *cause),
             InputFault::OutOfMemory => write!(f, "out-of-memory"),
         }
     }
@@ -54,12 +59,18 @@ impl fmt::Display for InputFault {
 
 fn write_line_fault<W: fmt::Write>(f: &mut fmt::Formatter<W>, fault: LineFault) -> fmt::Result {
     let line = fault.line;
-    let word = cause_word(fault.cause);
-    if line == 0 {
-        write!(f, "{word}")
-    } else {
-        write!(f, "line {line}: {word}")
+    if line != 0 {
+        write!(f, "line {line}: ")?;
     }
+    write_cause(f, fault.cause)
+}
+
+fn write_cause<W: fmt::Write>(f: &mut fmt::Formatter<W>, cause: Cause) -> fmt::Result {
+    let detail = match cause {
+        Cause::BadEnvironment(Some(variable)) => variable.name(),
+        _ => "",
+    };
+    write_detail(f, cause_word(cause), detail)
 }
 
 /// The word of a cause: its name in lower case with a hyphen before each inner capital. That of a
@@ -67,10 +78,14 @@ fn write_line_fault<W: fmt::Write>(f: &mut fmt::Formatter<W>, fault: LineFault) 
 pub fn cause_word(cause: Cause) -> &'static str {
     match cause {
         Cause::BadName => "bad-name",
+        Cause::BadMarker => "bad-marker",
+        Cause::MarkerTooDeep => "marker-too-deep",
         Cause::UrlRequirement => "url-requirement",
         Cause::OptionLine => "option-line",
+        Cause::Continuation => "continuation",
         Cause::OddCharacter => "odd-character",
         Cause::NotUtf8 => "not-utf8",
+        Cause::BadEnvironment(_) => "bad-environment",
         Cause::Specifier(SpecifierFault::BadVersion) => "bad-version",
         Cause::Specifier(SpecifierFault::NumberTooLarge) => "number-too-large",
         Cause::Specifier(SpecifierFault::BadClause(_)) => "bad-clause",
@@ -121,5 +136,14 @@ pub fn read_index(alloc: Global, bytes: &[u8]) -> Result<Snapshot, InputFault> {
         Ok(snapshot) => Ok(snapshot),
         Err(IndexFault::OutOfMemory) => Err(InputFault::OutOfMemory),
         Err(fault) => Err(InputFault::Index(fault)),
+    }
+}
+
+/// The environment that these bytes are.
+pub fn read_environment(alloc: Global, bytes: &[u8]) -> Result<Environment, InputFault> {
+    match Environment::read(alloc, bytes) {
+        Ok(environment) => Ok(environment),
+        Err(fault) if fault.cause == Cause::OutOfMemory => Err(InputFault::OutOfMemory),
+        Err(fault) => Err(InputFault::Environment(fault.cause)),
     }
 }

@@ -2,12 +2,14 @@
 
 use crate::batch::{BatchFault, batch, write_all};
 use crate::counted::Counted;
-use crate::input_files::{InputFault, InputFile, read_bytes, read_index, read_requirements};
+use crate::input_files::{
+    InputFault, InputFile, read_bytes, read_environment, read_index, read_requirements,
+};
 use crate::reply_text::refusal_word;
 use crate::request::{Invocation, NeededOption, RequestFault, Subcommand, request};
 use edits::Refusal;
 use journal::Session;
-use pep508::ReqFile;
+use pep508::{Environment, ReqFile};
 use snapshot::Snapshot;
 use std::alloc::{AllocError, Global};
 use std::io::{Read, Write};
@@ -93,8 +95,12 @@ fn try_commands<R: Files + AllocGlobal, I: Read + Drop, O: Write>(
     input: I,
     output: &mut O,
 ) -> Result<(), Stop> {
-    let (lines, snapshot) = read_inputs(rt, invocation)?;
-    let mut session = begin(rt.alloc(), lines, &snapshot)?;
+    let Inputs {
+        lines,
+        environment,
+        snapshot,
+    } = read_inputs(rt, invocation)?;
+    let mut session = begin(rt.alloc(), lines, environment, &snapshot)?;
     let mut source = Counted::new(input);
     let mut sink = Counted::new(output);
     batch(rt.alloc(), &mut source, &mut sink, &mut session, &snapshot)?;
@@ -103,19 +109,38 @@ fn try_commands<R: Files + AllocGlobal, I: Read + Drop, O: Write>(
     Ok(())
 }
 
+// What a session begins with.
+#[derive(Drop)]
+struct Inputs {
+    lines: ReqFile,
+    environment: Environment,
+    snapshot: Snapshot,
+}
+
 // All files are read before a fault in one of them is told.
 fn read_inputs<R: Files + AllocGlobal>(
     rt: &R,
     invocation: &Invocation<'_>,
-) -> Result<(ReqFile, Snapshot), Stop> {
+) -> Result<Inputs, Stop> {
+    let alloc = rt.alloc();
     let dir = invocation.dir;
-    let path = format!(in rt.alloc(); "{dir}/requirements.txt")?;
+    let path = format!(in alloc; "{dir}/requirements.txt")?;
     let lines = in_file(InputFile::Requirements, read_bytes(rt, path.as_str()))?;
     let index = in_file(InputFile::Index, read_bytes(rt, invocation.index))?;
-    let lines = read_requirements(rt.alloc(), lines.as_slice());
+    let environment = in_file(
+        InputFile::Environment,
+        read_bytes(rt, invocation.environment),
+    )?;
+    let lines = read_requirements(alloc, lines.as_slice());
     let lines = in_file(InputFile::Requirements, lines)?;
-    let snapshot = in_file(InputFile::Index, read_index(rt.alloc(), index.as_slice()))?;
-    Ok((lines, snapshot))
+    let snapshot = in_file(InputFile::Index, read_index(alloc, index.as_slice()))?;
+    let environment = read_environment(alloc, environment.as_slice());
+    let environment = in_file(InputFile::Environment, environment)?;
+    Ok(Inputs {
+        lines,
+        environment,
+        snapshot,
+    })
 }
 
 // What was read, or the fault with the file that has it.
@@ -127,8 +152,13 @@ fn in_file<T>(file: InputFile, read: Result<T, InputFault>) -> Result<T, Stop> {
     }
 }
 
-fn begin(alloc: Global, lines: ReqFile, snapshot: &Snapshot) -> Result<Session, Stop> {
-    match Session::init(alloc, lines, snapshot) {
+fn begin(
+    alloc: Global,
+    lines: ReqFile,
+    environment: Environment,
+    snapshot: &Snapshot,
+) -> Result<Session, Stop> {
+    match Session::init(alloc, lines, environment, snapshot) {
         Ok(session) => Ok(session),
         Err(Refusal::OutOfMemory) => Err(Stop::Fault(BatchFault::OutOfMemory)),
         Err(refusal) => Err(Stop::Refused(refusal)),
@@ -141,6 +171,10 @@ fn report<O: Write, E: Write>(stop: &Stop, output: &mut O, errors: &mut E) -> St
         Stop::Usage(error) => report_usage(error, output, errors),
         Stop::Needed(NeededOption::Index) => {
             let _ = writeln!(errors, "reqlock: --index is needed");
+            Status::Usage
+        }
+        Stop::Needed(NeededOption::Environment) => {
+            let _ = writeln!(errors, "reqlock: --env is needed");
             Status::Usage
         }
         Stop::Refused(refusal) => report_refusal(refusal, output, errors),

@@ -1,6 +1,7 @@
 // The program from end to end, over files in the folder for temporary files.
 
 use crate::program::{Status, program};
+use crate::tests::ENVIRONMENT;
 use std::test::Fail;
 use std::{env, fs, process};
 
@@ -50,6 +51,11 @@ fn folder(rt: &HostRuntime, name: &str, requirements: &[u8], index: &[u8]) -> Re
         requirements,
     )?;
     fs::write(rt, format!(in alloc; "{dir}/index.json")?, index)?;
+    fs::write(
+        rt,
+        format!(in alloc; "{dir}/environment.json")?,
+        ENVIRONMENT.as_bytes(),
+    )?;
     Ok(dir)
 }
 
@@ -63,13 +69,16 @@ fn tried(
 ) -> Result<Outcome, Fail> {
     let alloc = rt.alloc();
     let dir = folder(rt, name, requirements, index)?;
-    let file = format!(in alloc; "{dir}/index.json")?;
+    let index = format!(in alloc; "{dir}/index.json")?;
+    let environment = format!(in alloc; "{dir}/environment.json")?;
     let words = [
         "reqlock",
         "--dir",
         dir.as_str(),
         "--index",
-        file.as_str(),
+        index.as_str(),
+        "--env",
+        environment.as_str(),
         "try",
     ];
     let outcome = run_program(rt, words.as_slice(), input)?;
@@ -122,6 +131,12 @@ fn undo_and_redo_give_each_byte(rt: HostRuntime) -> Result<(), Fail> {
             "# web\r\nB_b >=1 # pin\r\na\r\nc\r\n",
         ),
         (windows, "add c\r\nundo\r\n", "ok 1\nok 0\n", windows),
+        (
+            "a ; os_name==\"nt\"\n",
+            "add a\nadd b ; os_name==\"nt\"\nundo\n",
+            "refused already-present\nok 1\nok 0\n",
+            "a ; os_name==\"nt\"\n",
+        ),
         (
             "a\n",
             "add c\nundo\nadd b\nredo\n",
@@ -221,6 +236,8 @@ fn missing_files_and_options_are_named(rt: HostRuntime) -> Result<(), Fail> {
         "/nowhere",
         "--index",
         "/nowhere/index.json",
+        "--env",
+        "/nowhere/environment.json",
         "try",
     ];
     let missing = run_program(&rt, words.as_slice(), b"".as_slice())?;
@@ -229,12 +246,22 @@ fn missing_files_and_options_are_named(rt: HostRuntime) -> Result<(), Fail> {
         missing.errors.as_slice(),
         b"reqlock: requirements.txt: unreadable\n".as_slice()
     );
-    let unasked = run_program(&rt, ["reqlock", "try"].as_slice(), b"".as_slice())?;
-    assert_eq!(rt; unasked.status, Status::Usage);
-    assert_eq!(rt;
-        unasked.errors.as_slice(),
-        b"reqlock: --index is needed\n".as_slice()
-    );
+    for (words, told) in [
+        (["reqlock", "try"].as_slice(), "--index is needed"),
+        (
+            ["reqlock", "--env", "e", "try"].as_slice(),
+            "--index is needed",
+        ),
+        (
+            ["reqlock", "--index", "i", "try"].as_slice(),
+            "--env is needed",
+        ),
+    ] {
+        let unasked = run_program(&rt, words, b"".as_slice())?;
+        assert_eq!(rt; unasked.status, Status::Usage);
+        let told = format!(in rt.alloc(); "reqlock: {told}\n")?;
+        assert_eq!(rt; unasked.errors.as_slice(), told.as_bytes());
+    }
     let helped = run_program(&rt, ["reqlock", "--help"].as_slice(), b"".as_slice())?;
     assert_eq!(rt; helped.status, Status::Done);
     assert!(rt; !helped.output.is_empty());

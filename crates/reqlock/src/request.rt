@@ -22,6 +22,7 @@ pub enum Subcommand {
 #[derive(Clone, Copy, Debug, PartialEq, Eq)]
 pub enum NeededOption {
     Index,
+    Environment,
 }
 
 /// What the words of the command line ask for. The texts are those of the words.
@@ -32,6 +33,8 @@ pub struct Invocation<'a> {
     pub dir: &'a str,
     /// The file of the index.
     pub index: &'a str,
+    /// The file of the environment.
+    pub environment: &'a str,
 }
 
 /// Why the words ask for nothing.
@@ -64,10 +67,14 @@ pub fn request<'a, S: AsStr>(alloc: Global, words: &'a [S]) -> Result<Invocation
     let Some(index) = matches.get_str("index") else {
         return Err(RequestFault::Needed(NeededOption::Index));
     };
+    let Some(environment) = matches.get_str("env") else {
+        return Err(RequestFault::Needed(NeededOption::Environment));
+    };
     Ok(Invocation {
         subcommand,
         dir: matches.get_str("dir").unwrap_or("."),
         index,
+        environment,
     })
 }
 
@@ -114,10 +121,12 @@ fn command<'a>(alloc: Global) -> Result<Command<'a>, AllocError>
 {
     let dir = Arg::new(alloc, "dir").long("dir").value_name("DIR");
     let index = Arg::new(alloc, "index").long("index").value_name("FILE");
+    let environment = Arg::new(alloc, "env").long("env").value_name("FILE");
     let attempt = Command::new(alloc, "try");
     Command::new(alloc, "reqlock")
         .arg(dir)?
         .arg(index)?
+        .arg(environment)?
         .subcommand(attempt)
 }
 

@@ -8,13 +8,21 @@ use crate::reply_text::{ReplyText, refusal_word};
 use crate::request::{NeededOption, RequestFault, Subcommand, request};
 use crate::sink::Sink;
 use crate::source::Source;
-use edits::{Edit, Refusal, ReqFile, SavedFile, Snapshot};
+use edits::{Edit, Environment, Refusal, ReqFile, SavedFile, Snapshot};
 use journal::{Reply, Session};
 use lists::Text;
 use std::alloc::Global;
 use std::io;
 use std::process::Abort;
 use std::test::Fail;
+
+// The environment of the tests, one with Linux.
+pub const ENVIRONMENT: &str =
+    r##"{"implementation_name":"cpython","implementation_version":"3.12.3",
+    "os_name":"posix","platform_machine":"x86_64","platform_python_implementation":"CPython",
+    "platform_release":"6.1.0-13-amd64","platform_system":"Linux",
+    "platform_version":"#1 SMP Debian 6.1.55-1","python_full_version":"3.12.3",
+    "python_version":"3.12","sys_platform":"linux"}"##;
 
 // An index with no packages.
 const NO_PACKAGES: &str = "{\"snapshot\":1,\"packages\":[]}";
@@ -121,12 +129,13 @@ fn refuses_a_line_that_is_too_long(rt: HostRuntime) -> Result<(), Fail> {
 
 #[test]
 fn reads_requests(rt: HostRuntime) -> Result<(), Fail> {
-    let words = ["reqlock", "--index", "i.json", "try"];
+    let words = ["reqlock", "--index", "i.json", "--env", "e.json", "try"];
     match request(rt.alloc(), words.as_slice()) {
         Ok(found) => {
             assert_eq!(rt; found.subcommand, Subcommand::Try);
             assert_eq!(rt; found.dir, ".");
             assert_eq!(rt; found.index, "i.json");
+            assert_eq!(rt; found.environment, "e.json");
         }
         Err(_) => assert!(rt; false, "a request"),
     }
@@ -135,10 +144,10 @@ fn reads_requests(rt: HostRuntime) -> Result<(), Fail> {
         Err(RequestFault::Needed(NeededOption::Index)) => {}
         _ => assert!(rt; false, "a needed option"),
     }
-    let words = ["reqlock", "--index", "i.json", "--env", "e.json", "try"];
+    let words = ["reqlock", "--index", "i.json", "try"];
     match request(rt.alloc(), words.as_slice()) {
-        Err(RequestFault::Usage(error)) => assert!(rt; error.use_stderr()),
-        _ => assert!(rt; false, "a usage fault"),
+        Err(RequestFault::Needed(NeededOption::Environment)) => {}
+        _ => assert!(rt; false, "a needed option"),
     }
     let words = ["reqlock"];
     match request(rt.alloc(), words.as_slice()) {
@@ -168,7 +177,9 @@ fn counts_reads_and_writes(rt: HostRuntime) -> Result<(), Fail> {
 
 fn session(rt: &impl Abort, alloc: Global, snapshot: &Snapshot) -> Session {
     let lines = ReqFile::read(alloc, b"".as_slice()).expect(rt, "an empty file");
-    Session::init(alloc, lines, snapshot).expect(rt, "a session")
+    let environment = Environment::read(alloc, ENVIRONMENT.as_bytes());
+    let environment = environment.expect(rt, "an environment");
+    Session::init(alloc, lines, environment, snapshot).expect(rt, "a session")
 }
 
 #[test]

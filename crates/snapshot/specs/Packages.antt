@@ -6,7 +6,7 @@ use Rattle.std.specs.Str.{bytes_eq, is_utf8}
 use Rattle.serde_json.specs.Data.{Data}
 use Rattle.serde_json.specs.Find.{as_array, as_number, as_str, as_u64}
 use Rattle.serde_json.specs.Read.{read}
-use Rattle.pep508.specs.Names.{is_name, normal_of}
+use Rattle.markers.specs.Names.{is_name, normal_of}
 use Rattle.snapshot.specs.declared.fault.Fault.{Fault}
 use Rattle.snapshot.specs.declared.fault.Fault.TheVariants.{NotJson, DuplicatePackage}
 use Rattle.snapshot.specs.declared.package.Package.{Package}

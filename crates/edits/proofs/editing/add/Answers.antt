@@ -20,7 +20,7 @@ returns-in_err-state-clause-err c =
     rw (p.1, p.2) (elim c.in_err-state.ensures.err [
       | inl memory ↦ inl memory
       | inr none ↦ inr (Adds-locks c.args.state.now c.args.text.now c.args.snapshot.now c.in-Some-requirement.requirement.now (Err c.in_err-state.field-0.0)
-          asks (sym absent) (rw lines at none))
+          asks (sym absent) (rw (lines, c.in_ok-environment.ensures.cases ∙ c.environment.ensures) at none))
     ])
 
 pub returns-clause-ok : goal.returns-clause-ok
@@ -30,4 +30,4 @@ returns-clause-ok c =
     let absent = rw (c.lines-lines.ensures, c.lines.ensures, c.name.ensures) at c.in_default-line_number.ensures in
     let lines = rw (c.lines-lines.ensures, c.lines.ensures, found.0) at c.in_ok-lines.ensures in
     Adds-locks c.args.state.now c.args.text.now c.args.snapshot.now c.in-Some-requirement.requirement.now (Ok c.in_ok-state.state)
-    asks (sym absent) (rw lines at c.in_ok-state.ensures.ok)
+    asks (sym absent) (rw (lines, c.in_ok-environment.ensures.cases ∙ c.environment.ensures) at c.in_ok-state.ensures.ok)

@@ -1,0 +1,11 @@
+mod EnvironmentFacts
+mod LawFacts
+mod MarkerFacts
+mod OwnFacts
+mod ReadFacts
+mod SelfFacts
+mod SoundFacts
+mod SpellFacts
+mod SpelledFacts
+mod TextLaw
+mod TokenFacts

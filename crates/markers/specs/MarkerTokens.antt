@@ -1,0 +1,122 @@
+-- The tokens of a marker (PEP 508, "Grammar").
+use Rattle.std.specs.Prelude.{ℕ, zero, suc, ◌+◌, ◌-◌, ◌==◌, ◌&&◌, ◌||◌, nat_le, nat_lt, not, Bool, false, List, [], ◌∷◌, length, codes, is_none, Option, Some, None, if◌then◌else◌}
+use Rattle.std.specs.Char.{is_ascii_alphabetic}
+use Rattle.std.specs.Option.{option_map}
+use Rattle.std.specs.Str.{bytes_eq}
+use Rattle.pep440.specs.Text.{is_blank}
+use Rattle.markers.specs.Environment.{variable_named}
+use Rattle.markers.specs.declared.comparison.Comparison.{Comparison}
+use Rattle.markers.specs.declared.comparison.Comparison.TheVariants as comparisons
+use Rattle.markers.specs.declared.marker_atom.Operand.TheVariants as operands
+use Rattle.markers.specs.declared.marker_token.Side.TheVariants as sides
+use Rattle.markers.specs.declared.marker_token.Token.{Token}
+use Rattle.markers.specs.declared.marker_token.Token.TheVariants as tokens
+
+-- `"` or `'`
+abbrev pub is_quote : ℕ → Bool
+is_quote b = (b == 34) || (b == 39)
+
+-- ---- how deep parentheses nest
+
+-- the quote that encloses what follows a byte, where one does
+abbrev pub quote_after : Option ℕ → ℕ → Option ℕ
+quote_after None b = if is_quote b then Some b else None
+quote_after (Some q) b = if b == q then None else Some q
+
+-- whether more than 64 parentheses are open at some place, where so many were begun and ended before the text; those in quotes do not count, and a quote that isn't closed runs to the end
+abbrev pub is_deep_from : Option ℕ → ℕ → ℕ → List ℕ → Bool
+is_deep_from quote begun ended [] = false
+is_deep_from quote begun ended (b ∷ rest) =
+    if is_none quote && (b == 40) then nat_lt (ended + 64) (begun + 1) || is_deep_from quote (begun + 1) ended rest
+    else (if is_none quote && (b == 41) then is_deep_from quote begun (ended + 1) rest
+    else is_deep_from (quote_after quote b) begun ended rest)
+
+-- whether more than 64 parentheses are open at some place outside quotes (reqlock's own rule)
+abbrev pub is_too_deep : List ℕ → Bool
+is_too_deep text = is_deep_from None 0 0 text
+
+-- ---- tokens, each with the number of its bytes behind the first
+
+-- a byte of a quoted text: printable ASCII without backslash (reqlock's own rule)
+abbrev pub is_quotable : ℕ → Bool
+is_quotable b = nat_le 32 b && nat_le b 126 && not (b == 92)
+
+-- the text up to the quote that ends it
+abbrev pub quoted_text : ℕ → List ℕ → Option (List ℕ)
+quoted_text q [] = None
+quoted_text q (b ∷ rest) =
+    if b == q then Some [] else (if is_quotable b then option_map (λ text. b ∷ text) (quoted_text q rest) else None)
+
+abbrev pub quoted_at : ℕ → List ℕ → Option (Token × ℕ)
+quoted_at q rest =
+    option_map (λ text. (tokens.Side (sides.Operand (operands.Quoted text)), length text + 1)) (quoted_text q rest)
+
+-- a letter or `_`
+abbrev pub is_word_byte : ℕ → Bool
+is_word_byte b = is_ascii_alphabetic b || (b == 95)
+
+-- the longest word that a text begins with
+abbrev pub word_of : List ℕ → List ℕ
+word_of [] = []
+word_of (b ∷ rest) = if is_word_byte b then b ∷ word_of rest else []
+
+-- the token that a word is; any word that is no other has to be a variable
+abbrev pub word_token : List ℕ → Option Token
+word_token word =
+    if bytes_eq word (codes "and") then Some tokens.And
+    else (if bytes_eq word (codes "or") then Some tokens.Or
+    else (if bytes_eq word (codes "not") then Some tokens.Not
+    else (if bytes_eq word (codes "in") then Some tokens.In
+    else (if bytes_eq word (codes "extra") then Some (tokens.Side sides.Extra)
+    else option_map (λ variable. tokens.Side (sides.Operand (operands.Variable variable))) (variable_named word)))))
+
+abbrev pub word_at : List ℕ → Option (Token × ℕ)
+word_at text = option_map (λ token. (token, length (word_of text) - 1)) (word_token (word_of text))
+
+-- the comparisons of two characters, by what stands before `=`
+abbrev pub double_sign : ℕ → Option Comparison
+double_sign b =
+    if b == 126 then Some comparisons.Compatible
+    else (if b == 61 then Some comparisons.Equal
+    else (if b == 33 then Some comparisons.NotEqual
+    else (if b == 60 then Some comparisons.AtMost
+    else (if b == 62 then Some comparisons.AtLeast else None))))
+
+-- the comparisons of one character
+abbrev pub single_sign : ℕ → Option Comparison
+single_sign b = if b == 60 then Some comparisons.Below else (if b == 62 then Some comparisons.Above else None)
+
+-- `=` leads the text
+abbrev pub starts_equal : List ℕ → Bool
+starts_equal [] = false
+starts_equal (b ∷ rest) = b == 61
+
+-- the longest comparison that begins with a byte, behind which the text stands
+abbrev pub sign_at : ℕ → List ℕ → Option (Token × ℕ)
+sign_at b rest =
+    if starts_equal rest then option_map (λ comparison. (tokens.Compare comparison, 1)) (double_sign b)
+    else option_map (λ comparison. (tokens.Compare comparison, 0)) (single_sign b)
+
+-- the token that a text begins with
+unfoldable pub token_at : List ℕ → Option (Token × ℕ)
+token_at [] = None
+token_at (b ∷ rest) =
+    if is_quote b then quoted_at b rest
+    else (if is_word_byte b then word_at (b ∷ rest)
+    else (if b == 40 then Some (tokens.Open, 0) else (if b == 41 then Some (tokens.Close, 0) else sign_at b rest)))
+
+-- a token before others
+abbrev pub before_tokens : Option (Token × ℕ) → (ℕ → Option (List Token)) → Option (List Token)
+before_tokens None more = None
+before_tokens (Some found) more = option_map (λ rest. found.0 ∷ rest) (more found.1)
+
+-- the tokens of a text behind its first `skipped` bytes
+unfoldable pub tokens_from : ℕ → List ℕ → Option (List Token)
+tokens_from skipped [] = Some []
+tokens_from (suc k) (b ∷ rest) = tokens_from k rest
+tokens_from zero (b ∷ rest) =
+    if is_blank b then tokens_from 0 rest else before_tokens (token_at (b ∷ rest)) (λ behind. tokens_from behind rest)
+
+-- the tokens of a text
+abbrev pub tokens_of : List ℕ → Option (List Token)
+tokens_of text = tokens_from 0 text

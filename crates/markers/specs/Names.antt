@@ -1,0 +1,38 @@
+-- Names of projects and extras.
+use Rattle.std.specs.Prelude.{ℕ, ◌-◌, ◌==◌, ◌&&◌, ◌||◌, Bool, false, List, [], ◌∷◌, ◌++◌, length, slice_index, nat_lt, Result, Ok, Err, if◌then◌else◌}
+use Rattle.std.specs.Char.{is_ascii_alphanumeric, to_ascii_lowercase}
+use Rattle.std.specs.List.{list_all}
+use Rattle.markers.specs.declared.fault.Cause.{Cause}
+use Rattle.markers.specs.declared.fault.Cause.TheVariants.{BadName}
+
+-- what stands between the words of a name (PEP 503, "Normalized Names")
+abbrev pub is_separator : ℕ → Bool
+is_separator b = (b == 45) || (b == 95) || (b == 46)
+
+-- a byte of a name (PEP 508, "Names")
+abbrev pub is_name_byte : ℕ → Bool
+is_name_byte b = is_ascii_alphanumeric b || is_separator b
+
+-- a name: letters, digits and separators, with a letter or a digit at both ends (PEP 508, "Names")
+abbrev pub is_name : List ℕ → Bool
+is_name text = nat_lt 0 (length text) && list_all is_name_byte text && is_ascii_alphanumeric (slice_index text 0) && is_ascii_alphanumeric (slice_index text (length text - 1))
+
+-- whether a separator leads the text
+abbrev pub starts_separated : List ℕ → Bool
+starts_separated [] = false
+starts_separated (b ∷ rest) = is_separator b
+
+-- what stands in the normal form for a byte before others: a letter in lower case, one hyphen for the last of a run of separators
+abbrev pub normal_byte : ℕ → List ℕ → List ℕ
+normal_byte b rest =
+    if is_separator b then if starts_separated rest then [] else 45 ∷ []
+    else to_ascii_lowercase b ∷ []
+
+-- the normal form of a name (PEP 503, "Normalized Names"; PEP 685 for extras)
+unfoldable pub normal_of : List ℕ → List ℕ
+normal_of [] = []
+normal_of (b ∷ rest) = normal_byte b rest ++ normal_of rest
+
+-- the name that a text is, in its normal form
+abbrev pub name_of : List ℕ → Result (List ℕ) Cause
+name_of text = if is_name text then Ok (normal_of text) else Err BadName

@@ -1,0 +1,30 @@
+//! Names, environments and their markers (PEP 503, PEP 508, PEP 685).
+#![tactic(auto)]
+
+mod comparison;
+mod environment;
+#[cfg(test)]
+mod environment_tests;
+mod fault;
+pub mod laws;
+mod marker;
+mod marker_atom;
+mod marker_group;
+pub mod marker_laws;
+mod marker_reader;
+mod marker_stack;
+#[cfg(test)]
+mod marker_tests;
+mod marker_token;
+mod name;
+#[cfg(test)]
+mod tests;
+mod value;
+mod variable;
+
+pub use crate::comparison::Comparison;
+pub use crate::environment::Environment;
+pub use crate::fault::{Cause, Fault};
+pub use crate::marker::Marker;
+pub use crate::name::{Name, is_name_byte};
+pub use crate::variable::Variable;

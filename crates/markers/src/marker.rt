@@ -1,0 +1,182 @@
+// Markers.
+
+ghost use Rattle.lists.specs.Answers.{Answers};
+ghost use Rattle.std.specs.Prelude.{◌≡◌, IfOk};
+ghost use Rattle.std.specs.Option.{option_copied};
+ghost use Rattle.markers.specs.Faults.{memory_fault, one_line};
+ghost use Rattle.markers.specs.Marker.{holds, marker_of};
+ghost use Rattle.markers.specs.MarkerHolds.{all_hold, any_holds};
+ghost use Rattle.markers.specs.MarkerTree.{all_of, any_of, atom as atom_tree, trees_of};
+ghost use Rattle.markers.specs.declared.fault.Cause.TheVariants.{OutOfMemory};
+
+use crate::environment::Environment;
+use crate::fault::{Cause, Fault};
+use crate::marker_atom::Atom as MarkerAtom;
+use crate::marker_reader::tree_of;
+use crate::marker_token::is_too_deep;
+use crate::name::Name;
+use lists::{Faithful, Seq};
+use std::alloc::{AllocError, Global};
+use std::marker::Model;
+
+/// A condition on an environment (PEP 508, "Environment Markers"). In a clause it is its tree.
+#[cycle(marker)]
+#[derive(Drop)]
+pub struct Marker {
+    node: Node,
+}
+
+/// What a marker, or a part of one, consists of.
+#[cycle(marker)]
+#[derive(Drop)]
+enum Node {
+    Atom(MarkerAtom),
+    /// The members joined by `and`.
+    All(Vec<Marker>),
+    /// The members joined by `or`.
+    Any(Vec<Marker>),
+}
+
+impl Model for Marker {
+    ghost use Rattle.markers.specs.MarkerCode.{tree_code};
+    ghost use Rattle.markers.specs.MarkerTree.{Tree, tree_size};
+
+    ghost Value = { Tree };
+
+    ghost coded = { tree_code };
+
+    ghost use Rattle.markers.specs.MarkerView.{tree_of_node};
+
+    ghost view = { λ m. tree_of_node m.node };
+
+    ghost size = { tree_size };
+
+    ghost use Rattle.markers.specs.MarkerFalls.{depth_le-tree_size};
+
+    ghost size_decreases = { λ m h. depth_le-tree_size m.node };
+}
+
+impl Marker {
+    pub(crate) fn atom(atom: MarkerAtom) -> Marker
+        ensures { result ≡ atom_tree atom }
+    {
+        Marker {
+            node: Node::Atom(atom),
+        }
+    }
+
+    /// The members joined by `and`.
+    pub(crate) fn all(members: Seq<Marker>) -> Marker
+        ensures { result ≡ all_of (trees_of members) }
+    {
+        Marker {
+            node: Node::All(members.into_vec()),
+        }
+    }
+
+    /// The members joined by `or`.
+    pub(crate) fn any(members: Seq<Marker>) -> Marker
+        ensures { result ≡ any_of (trees_of members) }
+    {
+        Marker {
+            node: Node::Any(members.into_vec()),
+        }
+    }
+
+    /// Reads a marker, as `parse` does; the fault is its cause alone.
+    #[tactic(auto, unfolding(crate::specs::Marker::marker_of))]
+    pub fn read(alloc: Global, text: &str) -> Result<Marker, Cause>
+        ensures { Answers OutOfMemory (marker_of text.now) result }
+    {
+        if is_too_deep(text.as_bytes()) {
+            return Err(Cause::MarkerTooDeep);
+        }
+        tree_of(alloc, text.as_bytes())
+    }
+
+    /// Reads a marker (PEP 508, "Environment Markers").
+    ///
+    /// `MarkerTooDeep` where more than 64 parentheses are open at some place outside quotes, else
+    /// `BadMarker` where the text isn't in the grammar.
+    pub fn parse(alloc: Global, text: &str) -> Result<Marker, Fault>
+        ensures { Answers memory_fault (one_line (marker_of text.now)) result }
+    {
+        match Marker::read(alloc, text) {
+            Ok(marker) => Ok(marker),
+            Err(cause) => Err(Fault::at(1, cause)),
+        }
+    }
+
+    /// Whether the marker holds in an environment, with an extra or none. It takes no memory, and
+    /// goes no deeper than the parentheses nest.
+    #[cycle(holds)]
+    pub fn holds(&self, environment: &Environment, extra: Option<&Name>) -> bool
+        ensures { result ≡ holds self.now environment.now (option_copied extra.entry) }
+    {
+        match &self.node {
+            Node::Atom(atom) => atom.holds(environment, extra),
+            Node::All(members) => all_hold(members.as_slice(), environment, extra),
+            Node::Any(members) => any_holds(members.as_slice(), environment, extra),
+        }
+    }
+}
+
+#[cycle(holds)]
+fn all_hold(members: &[Marker], environment: &Environment, extra: Option<&Name>) -> bool
+    ensures { result ≡ all_hold (trees_of members.now) environment.now (option_copied extra.entry) }
+{
+    for member in members {
+        if !member.holds(environment, extra) {
+            return false;
+        }
+    }
+    true
+}
+
+#[cycle(holds)]
+fn any_holds(members: &[Marker], environment: &Environment, extra: Option<&Name>) -> bool
+    ensures { result ≡ any_holds (trees_of members.now) environment.now (option_copied extra.entry) }
+{
+    for member in members {
+        if member.holds(environment, extra) {
+            return true;
+        }
+    }
+    false
+}
+
+/// A copy of a marker. It goes no deeper than the parentheses nest.
+#[cycle(copy)]
+fn copy(marker: &Marker) -> Result<Marker, AllocError>
+    ensures { IfOk result (λ copy. copy ≡ marker.now) }
+{
+    let node = match &marker.node {
+        Node::Atom(atom) => Node::Atom(atom.clone()?),
+        Node::All(members) => Node::All(copy_members(members)?),
+        Node::Any(members) => Node::Any(copy_members(members)?),
+    };
+    Ok(Marker { node })
+}
+
+#[cycle(copy)]
+fn copy_members(members: &Vec<Marker>) -> Result<Vec<Marker>, AllocError>
+    ensures { IfOk result (λ copies. copies.items ≡ members.now.items) }
+{
+    let mut copies = Vec::with_capacity(*members.allocator(), members.len())?;
+    for member in members {
+        copies.push(copy(member)?)?;
+    }
+    Ok(copies)
+}
+
+impl Clone for Marker {
+    ghost is_clone = { λ m n. n ≡ m };
+
+    fn clone(&self) -> Result<Marker, AllocError> {
+        copy(self)
+    }
+}
+
+impl Faithful for Marker {
+    ghost clone_is_source = { λ x y h. h };
+}

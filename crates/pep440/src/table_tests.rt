@@ -1,0 +1,78 @@
+// What packaging answers, on the texts of the printed table.
+
+use crate::tests::{canonical_of, fault_of};
+use crate::version_table::{ACCEPTED, READ, REFUSED};
+use crate::{Fault, SpecifierSet, Version};
+use std::test::Fail;
+
+// The versions of the table's texts, in their order.
+fn versions(rt: &HostRuntime) -> Result<Vec<Version>, Fault> {
+    let mut versions = Vec::new(rt.alloc());
+    for (text, _, _) in READ.iter() {
+        versions.push(Version::parse(rt.alloc(), text)?)?;
+    }
+    Ok(versions)
+}
+
+// Whether `version`, of this rank, stands to each of the versions as their ranks do.
+fn is_in_order(version: &Version, rank: usize, versions: &[Version]) -> bool {
+    for (other, (_, _, other_rank)) in versions.iter().zip(READ.iter()) {
+        if version.cmp(other) != rank.cmp(other_rank)
+            || (version == other) != (rank == *other_rank)
+        {
+            return false;
+        }
+    }
+    true
+}
+
+// Whether `set` matches the versions that have a `1` at their rank, and not those that have a `0`.
+fn is_matched_as(set: &SpecifierSet, marks: &str, versions: &[Version]) -> bool {
+    for (version, (_, _, rank)) in versions.iter().zip(READ.iter()) {
+        let agrees = match marks.as_bytes().get(*rank) {
+            Some(b'1') => set.matches(version),
+            Some(b'0') => !set.matches(version),
+            Some(b'-') => true,
+            _ => false,
+        };
+        if !agrees {
+            return false;
+        }
+    }
+    true
+}
+
+#[test]
+fn reads_the_table(rt: HostRuntime) -> Result<(), Fail> {
+    for (text, canonical, _) in READ.iter() {
+        assert_eq!(rt; canonical_of(&rt, text)?.as_str(), *canonical);
+    }
+    Ok(())
+}
+
+#[test]
+fn refuses_the_table(rt: HostRuntime) {
+    for text in REFUSED.iter() {
+        assert_eq!(rt; fault_of(&rt, text), Some(Fault::BadVersion), "{text}");
+    }
+}
+
+#[test]
+fn orders_the_table(rt: HostRuntime) -> Result<(), Fail> {
+    let versions = versions(&rt)?;
+    for (version, (text, _, rank)) in versions.iter().zip(READ.iter()) {
+        assert!(rt; is_in_order(version, *rank, versions.as_slice()), "{text}");
+    }
+    Ok(())
+}
+
+#[test]
+fn matches_the_table(rt: HostRuntime) -> Result<(), Fail> {
+    let versions = versions(&rt)?;
+    for row in ACCEPTED.iter() {
+        let (marks, text) = row.split_once(' ').ok_or("a row with no space")?;
+        let set = SpecifierSet::parse(rt.alloc(), text)?;
+        assert!(rt; is_matched_as(&set, marks, versions.as_slice()), "{text}");
+    }
+    Ok(())
+}
