@@ -12,11 +12,20 @@ use std::marker::Model;
 
 /// A requirements file and the lock that belongs to it in an environment. In a clause it is the list of
 /// its lines, the texts of the environment, and the list of its locked names with their versions.
-#[derive(Drop)]
 pub struct State {
     lines: ReqFile,
     environment: Environment,
     lock: BTreeMap<Name, Version>,
+}
+
+impl Drop for State {
+    fn drop(self) {
+        let State {
+            lines: _,
+            environment: _,
+            lock: _,
+        } = self;
+    }
 }
 
 impl Model for State {

@@ -16,9 +16,14 @@ use std::alloc::{AllocError, Global};
 use std::marker::Model;
 
 /// A requirements file and its lock, with their history.
-#[derive(Drop)]
 pub struct Session {
     history: WholeHistory,
+}
+
+impl Drop for Session {
+    fn drop(self) {
+        let Session { history: _ } = self;
+    }
 }
 
 impl Model for Session {

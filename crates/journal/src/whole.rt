@@ -9,10 +9,18 @@ use std::alloc::{AllocError, Global};
 use std::marker::Model;
 
 /// A history that keeps each state whole.
-#[derive(Drop)]
 pub struct WholeHistory {
     states: Vec<State>,
     cursor: usize,
+}
+
+impl Drop for WholeHistory {
+    fn drop(self) {
+        let WholeHistory {
+            states: _,
+            cursor: _,
+        } = self;
+    }
 }
 
 impl Model for WholeHistory {

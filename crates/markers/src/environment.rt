@@ -39,9 +39,15 @@ const VARIABLES: [Variable; 11] = [
 
 /// The environment that a lock is made for: a text for each variable (PEP 508, "Environment
 /// Markers"). In a clause it is the list of its texts, in the order of the variables.
-#[derive(Debug, Drop)]
+#[derive(Debug)]
 pub struct Environment {
     values: Seq<Value>,
+}
+
+impl Drop for Environment {
+    fn drop(self) {
+        let Environment { values: _ } = self;
+    }
 }
 
 impl Model for Environment {

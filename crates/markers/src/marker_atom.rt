@@ -47,13 +47,24 @@ pub(crate) enum Operator {
 
 /// Two operands with an operator between them, and what the quoted ones read as. In a clause it is
 /// the operands and the operator alone.
-#[derive(Drop)]
 pub(crate) struct CachedRelation {
     left: Operand,
     operator: Operator,
     right: Operand,
     version: Option<Version>,
     clauses: Option<SpecifierSet>,
+}
+
+impl Drop for CachedRelation {
+    fn drop(self) {
+        let CachedRelation {
+            left: _,
+            operator: _,
+            right: _,
+            version: _,
+            clauses: _,
+        } = self;
+    }
 }
 
 impl Model for CachedRelation {

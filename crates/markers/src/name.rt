@@ -14,9 +14,15 @@ use std::marker::Model;
 
 /// The name of a project or an extra, in its normal form (PEP 503, "Normalized Names"; PEP 685).
 /// In a clause it is the bytes of that form, by which names are compared, ordered and hashed.
-#[derive(PartialEq, Eq, PartialOrd, Ord, Hash, Debug, Drop)]
+#[derive(PartialEq, Eq, PartialOrd, Ord, Hash, Debug)]
 pub struct Name {
     normal: Text,
+}
+
+impl Drop for Name {
+    fn drop(self) {
+        let Name { normal: _ } = self;
+    }
 }
 
 impl Model for Name {

@@ -72,10 +72,18 @@ impl Clone for Readings {
 }
 
 /// The value of a variable, and all that it reads as. In a clause it is its text.
-#[derive(Drop)]
 pub(crate) struct Value {
     text: Text,
     readings: Readings,
+}
+
+impl Drop for Value {
+    fn drop(self) {
+        let Value {
+            text: _,
+            readings: _,
+        } = self;
+    }
 }
 
 impl Model for Value {

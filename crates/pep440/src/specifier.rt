@@ -31,10 +31,19 @@ pub enum Operator {
 }
 
 /// One clause of a set: an operator and its version.
-#[derive(Debug, Drop)]
+#[derive(Debug)]
 pub struct Clause {
     pub operator: Operator,
     pub version: Version,
+}
+
+impl Drop for Clause {
+    fn drop(self) {
+        let Clause {
+            operator: _,
+            version: _,
+        } = self;
+    }
 }
 
 impl Clone for Clause {
@@ -54,9 +63,14 @@ impl Faithful for Clause {
 }
 
 /// A set of clauses, all of which have to hold. In a clause it is their list.
-#[derive(Drop)]
 pub struct SpecifierSet {
     pub(crate) clauses: Seq<Clause>,
+}
+
+impl Drop for SpecifierSet {
+    fn drop(self) {
+        let SpecifierSet { clauses: _ } = self;
+    }
 }
 
 impl Model for SpecifierSet {

@@ -13,7 +13,6 @@ use std::alloc::{AllocError, Global};
 use std::marker::Model;
 
 /// A version (PEP 440, "Version scheme"). In a clause it is the record of its parts.
-#[derive(Drop)]
 pub struct Version {
     pub(crate) epoch: u64,
     pub(crate) release: Seq<u64>,
@@ -21,6 +20,19 @@ pub struct Version {
     pub(crate) post: Option<u64>,
     pub(crate) dev: Option<u64>,
     pub(crate) local: Seq<LocalPart>,
+}
+
+impl Drop for Version {
+    fn drop(self) {
+        let Version {
+            epoch: _,
+            release: _,
+            pre: _,
+            post: _,
+            dev: _,
+            local: _,
+        } = self;
+    }
 }
 
 impl Model for Version {

@@ -15,9 +15,14 @@ use std::marker::Model;
 use std::str;
 
 /// A requirements file. In a clause it is the list of its lines, each with its ending.
-#[derive(Drop)]
 pub struct ReqFile {
     lines: Seq<Line>,
+}
+
+impl Drop for ReqFile {
+    fn drop(self) {
+        let ReqFile { lines: _ } = self;
+    }
 }
 
 impl Model for ReqFile {

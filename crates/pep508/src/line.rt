@@ -17,10 +17,18 @@ use std::marker::Model;
 
 /// A line with its ending, if it has one: blank, a comment, or a requirement. In a clause it is its
 /// bytes, which tell the requirement.
-#[derive(Drop)]
 pub struct Line {
     text: Text,
     requirement: Option<Requirement>,
+}
+
+impl Drop for Line {
+    fn drop(self) {
+        let Line {
+            text: _,
+            requirement: _,
+        } = self;
+    }
 }
 
 impl Model for Line {

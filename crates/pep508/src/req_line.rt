@@ -22,10 +22,18 @@ use std::marker::Model;
 
 /// A line with its ending, cut into eleven slices that are lent from it: blank, a comment, or a
 /// requirement. In a clause it is these slices.
-#[derive(Drop)]
 pub struct ReqLine<'a> {
     slices: Slices<'a>,
     requirement: Option<Requirement>,
+}
+
+impl Drop for ReqLine<'_> {
+    fn drop(self) {
+        let ReqLine {
+            slices: _,
+            requirement: _,
+        } = self;
+    }
 }
 
 impl<'a> Model for ReqLine<'a> {

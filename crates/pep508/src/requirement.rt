@@ -19,12 +19,22 @@ use std::marker::Model;
 
 /// What a line or a release asks for: a project by its name, extras of it, specifiers that its
 /// version has to match, and a marker that says where it counts (PEP 508, "Grammar").
-#[derive(Drop)]
 pub struct Requirement {
     name: Name,
     extras: Seq<Name>,
     specifiers: SpecifierSet,
     marker: Option<Marker>,
+}
+
+impl Drop for Requirement {
+    fn drop(self) {
+        let Requirement {
+            name: _,
+            extras: _,
+            specifiers: _,
+            marker: _,
+        } = self;
+    }
 }
 
 impl Model for Requirement {

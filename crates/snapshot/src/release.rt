@@ -9,9 +9,15 @@ use std::cmp::Ordering;
 use std::marker::Model;
 
 /// A release that a lock may choose.
-#[derive(Debug, Drop, PartialEq, Eq)]
+#[derive(Debug, PartialEq, Eq)]
 pub struct Release {
     version: Version,
+}
+
+impl Drop for Release {
+    fn drop(self) {
+        let Release { version: _ } = self;
+    }
 }
 
 impl Release {

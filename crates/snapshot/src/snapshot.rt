@@ -21,10 +21,18 @@ use std::marker::Model;
 
 /// The index: packages, each with its name and the releases of it that a lock may choose, newest
 /// first. In a clause it is its packages, in the order in which the JSON text lists them.
-#[derive(Drop)]
 pub struct Snapshot {
     packages: Seq<Package>,
     places: BTreeMap<String, usize>,
+}
+
+impl Drop for Snapshot {
+    fn drop(self) {
+        let Snapshot {
+            packages: _,
+            places: _,
+        } = self;
+    }
 }
 
 impl Model for Snapshot {
