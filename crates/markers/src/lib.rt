@@ -3,8 +3,6 @@
 
 mod comparison;
 mod environment;
-#[cfg(test)]
-mod environment_tests;
 mod fault;
 pub mod laws;
 mod marker;
@@ -13,12 +11,8 @@ mod marker_group;
 pub mod marker_laws;
 mod marker_reader;
 mod marker_stack;
-#[cfg(test)]
-mod marker_tests;
 mod marker_token;
 mod name;
-#[cfg(test)]
-mod tests;
 mod value;
 mod variable;
 

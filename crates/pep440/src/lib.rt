@@ -11,14 +11,8 @@ mod reading;
 mod sets;
 mod spans;
 mod specifier;
-#[cfg(test)]
-mod table_tests;
-#[cfg(test)]
-mod tests;
 mod text;
 mod version;
-#[cfg(test)]
-mod version_table;
 mod words;
 
 pub use crate::fault::Fault;

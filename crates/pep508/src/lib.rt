@@ -10,8 +10,6 @@ mod req_line;
 mod requirement;
 mod slices;
 mod specifier_text;
-#[cfg(test)]
-mod tests;
 
 pub use crate::file::ReqFile;
 pub use crate::line::Line;

@@ -1,6 +1,6 @@
 // Worked values, and each call that allocates with ample memory.
 
-use crate::{Clause, Fault, LocalPart, Operator, Pre, SpecifierSet, Version};
+use pep440::{Fault, Operator, Pre, SpecifierSet, Version};
 use std::cmp::Ordering;
 use std::hash::{DefaultHasher, Hash, Hasher};
 use std::test::Fail;

@@ -1,6 +1,6 @@
-// Texts from the standards, and each call that allocates once.
+// Names from the standards.
 
-use crate::Name;
+use markers::Name;
 use std::test::Fail;
 
 #[test]

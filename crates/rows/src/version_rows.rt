@@ -1,11 +1,11 @@
 // What packaging answers, on the texts of the printed table.
 
-use crate::tests::{canonical_of, fault_of};
 use crate::version_table::{ACCEPTED, READ, REFUSED};
-use crate::{Fault, SpecifierSet, Version};
+use crate::versions::{canonical_of, fault_of};
+use pep440::{Fault, SpecifierSet, Version};
 use std::test::Fail;
 
-// The versions of the table's texts, in their order.
+/// The versions of the table's texts, in their order.
 fn versions(rt: &HostRuntime) -> Result<Vec<Version>, Fault> {
     let mut versions = Vec::new(rt.alloc());
     for (text, _, _) in READ.iter() {
@@ -14,7 +14,7 @@ fn versions(rt: &HostRuntime) -> Result<Vec<Version>, Fault> {
     Ok(versions)
 }
 
-// Whether `version`, of this rank, stands to each of the versions as their ranks do.
+/// Whether `version`, of this rank, stands to each of the versions as their ranks do.
 fn is_in_order(version: &Version, rank: usize, versions: &[Version]) -> bool {
     for (other, (_, _, other_rank)) in versions.iter().zip(READ.iter()) {
         if version.cmp(other) != rank.cmp(other_rank)
@@ -26,16 +26,20 @@ fn is_in_order(version: &Version, rank: usize, versions: &[Version]) -> bool {
     true
 }
 
-// Whether `set` matches the versions that have a `1` at their rank, and not those that have a `0`.
+/// Whether a mark says so: `1` where it holds, `0` where it doesn't; `-` leaves it open.
+pub(crate) fn is_marked(mark: Option<&u8>, holds: bool) -> bool {
+    match mark {
+        Some(b'1') => holds,
+        Some(b'0') => !holds,
+        Some(b'-') => true,
+        _ => false,
+    }
+}
+
+/// Whether `set` matches each of the versions as the mark at its rank says.
 fn is_matched_as(set: &SpecifierSet, marks: &str, versions: &[Version]) -> bool {
     for (version, (_, _, rank)) in versions.iter().zip(READ.iter()) {
-        let agrees = match marks.as_bytes().get(*rank) {
-            Some(b'1') => set.matches(version),
-            Some(b'0') => !set.matches(version),
-            Some(b'-') => true,
-            _ => false,
-        };
-        if !agrees {
+        if !is_marked(marks.as_bytes().get(*rank), set.matches(version)) {
             return false;
         }
     }

@@ -1,7 +1,6 @@
-// Environments and comparisons: texts from the standard, and each call that allocates once.
+// Environments: texts from the standard, and each call that allocates once.
 
-use crate::comparison::{Comparison, Left, Right, compare, read_clauses, read_version};
-use crate::{Cause, Environment, Fault, Variable};
+use markers::{Cause, Environment, Fault, Variable};
 use std::alloc::{AllocError, Global};
 use std::test::Fail;
 
@@ -198,56 +197,4 @@ fn other_bytes_are_no_environment(rt: HostRuntime) {
     }
     let first = Cause::BadEnvironment(Some(Variable::ImplementationName));
     assert!(rt; is_refused_as(rt.alloc(), b"{}", first));
-}
-
-/// What `compare` answers for two texts.
-fn compared(
-    alloc: Global,
-    left: &str,
-    comparison: Comparison,
-    right: &str,
-) -> Result<bool, AllocError> {
-    let left = String::from_str(alloc, left)?;
-    let right = String::from_str(alloc, right)?;
-    let read_left = read_version(alloc, left.as_str())?;
-    let read_right = read_clauses(alloc, comparison, right.as_str())?;
-    let version = read_left.as_ref();
-    let clauses = read_right.as_ref();
-    Ok(compare(
-        comparison,
-        Left {
-            text: left.as_str(),
-            version,
-        },
-        Right {
-            text: right.as_str(),
-            clauses,
-        },
-    ))
-}
-
-#[test]
-fn texts_compare_as_versions_where_both_read(rt: HostRuntime) -> Result<(), Fail> {
-    let rows = [
-        ("3.10", Comparison::AtMost, "3.12", true),
-        ("3.9", Comparison::Below, "3.10", true),
-        ("3.10", Comparison::AtLeast, "3.9", true),
-        ("3.12.3", Comparison::Above, "3.12.3", false),
-        ("3.12", Comparison::Equal, "3.12.0", true),
-        ("3.12", Comparison::NotEqual, "3.12.0", false),
-        ("3.12.3", Comparison::Equal, "3.12.*", true),
-        ("3.12.3", Comparison::Compatible, "3.11", true),
-        ("3.12.3", Comparison::Compatible, "abc", false),
-        ("6.1.0-13-amd64", Comparison::AtLeast, "6", true),
-        ("posix", Comparison::Below, "q", true),
-        ("abc", Comparison::Compatible, "abc", false),
-        ("1", Comparison::Below, "=1", true),
-        ("1", Comparison::Equal, "=1", false),
-        ("2", Comparison::Above, "1,<3", true),
-    ];
-    for (left, comparison, right, holds) in rows.iter() {
-        let answer = compared(rt.alloc(), left, *comparison, right)?;
-        assert_eq!(rt; answer, *holds, "{left} and {right}");
-    }
-    Ok(())
 }

@@ -1,8 +1,8 @@
 // Texts from the standards and from reqlock's rules, and each call that allocates once.
 
-use crate::{Cause, Fault, Line, ReqFile, ReqLine, Requirement, SpecifierText};
 use lists::Text;
 use pep440::{Fault as SpecifierFault, Version};
+use pep508::{Cause, Fault, Line, ReqFile, ReqLine, Requirement, SpecifierText};
 use std::alloc::{AllocError, Global};
 use std::test::Fail;
 

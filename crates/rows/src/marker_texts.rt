@@ -1,11 +1,9 @@
 // Markers under the example environment, and each call that allocates once.
 
-use crate::{Cause, Environment, Fault, Marker, Name};
+use crate::requirement_table::ENVIRONMENT;
+use markers::{Cause, Environment, Fault, Marker, Name};
 use std::alloc::{AllocError, Global};
 use std::test::Fail;
-
-const EXAMPLE: &str =
-    "{\"implementation_name\": \"cpython\", \"implementation_version\": \"3.12.3\", \"os_name\": \"posix\", \"platform_machine\": \"x86_64\", \"platform_python_implementation\": \"CPython\", \"platform_release\": \"6.1.0-13-amd64\", \"platform_system\": \"Linux\", \"platform_version\": \"#1 SMP Debian 6.1.55-1\", \"python_full_version\": \"3.12.3\", \"python_version\": \"3.12\", \"sys_platform\": \"linux\"}";
 
 /// A text many times.
 fn many(alloc: Global, text: &str, count: usize) -> Result<String, AllocError> {
@@ -26,7 +24,7 @@ fn nested(alloc: Global, depth: usize) -> Result<String, AllocError> {
 
 /// Whether a copy of the marker that a text is holds under the example, with an extra or none.
 fn held(alloc: Global, text: &str, extra: Option<&Name>) -> Result<bool, Fail> {
-    let environment = Environment::read(alloc, EXAMPLE.as_bytes())?;
+    let environment = Environment::read(alloc, ENVIRONMENT.as_bytes())?;
     let marker = Marker::parse(alloc, text)?.clone()?;
     Ok(marker.holds(&environment, extra))
 }
@@ -71,6 +69,19 @@ fn markers_hold_as_said(rt: HostRuntime) -> Result<(), Fail> {
         ("\"2\" < \"=1\"", false),
         ("\"1\" == \"=1\"", false),
         ("\"1\" == \"1,\"", false),
+        ("'3.10' <= '3.12'", true),
+        ("'3.9' < '3.10'", true),
+        ("'3.10' >= '3.9'", true),
+        ("'3.12.3' > '3.12.3'", false),
+        ("'3.12' == '3.12.0'", true),
+        ("'3.12' != '3.12.0'", false),
+        ("'3.12.3' == '3.12.*'", true),
+        ("'3.12.3' ~= '3.11'", true),
+        ("'3.12.3' ~= 'abc'", false),
+        ("'6.1.0-13-amd64' >= '6'", true),
+        ("'posix' < 'q'", true),
+        ("'abc' ~= 'abc'", false),
+        ("'2' > '1,<3'", true),
         ("os_name == 'it\"s'", false),
         (
             " os_name==\"posix\"and(os_name==\"nt\"or os_name==\"posix\") ",
