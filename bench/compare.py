@@ -1,64 +1,88 @@
 #!/usr/bin/env python3
-"""Runs reqlock and the peer in turn on the same data, three times each, and prints the best times and their ratio.
+"""Runs reqlock and a peer in turn on the same data, three times each, and prints the best times and their ratio.
 
-compare.py PROGRAM VERSION_PROGRAM FOLDER
+compare.py PROGRAM VERSION_PROGRAM INDEX_PROGRAM FOLDER
+
+The memory beside each time is the most that a run held at once.
 """
+import filecmp
 import os
 import subprocess
 import sys
 import time
 
-program, version_program, folder = sys.argv[1:]
+program, version_program, index_program, folder = sys.argv[1:]
 here = os.path.dirname(os.path.abspath(__file__))
 peer = [sys.executable, f"{here}/peer.py"]
+environment = f"{here}/../examples/web/environment.json"
 empty = f"{folder}/empty"
 os.makedirs(empty)
 open(f"{empty}/requirements.txt", "w").close()
 
 
-def run(command, source):
-    with open(source, "rb") as file:
+def run(command, source, output):
+    """The seconds that the command took, and its peak memory in MB. This program keeps no output in memory, since on
+    Linux a peak counts what the process held that started the command."""
+    with open(source, "rb") as file, open(output, "wb") as out:
         start = time.perf_counter()
-        done = subprocess.run(command, stdin=file, stdout=subprocess.PIPE, check=True)
-        return time.perf_counter() - start, done.stdout
+        process = subprocess.Popen(command, stdin=file, stdout=out)
+        _, status, usage = os.wait4(process.pid, 0)
+        seconds = time.perf_counter() - start
+    process.returncode = os.waitstatus_to_exitcode(status)
+    if process.returncode != 0:
+        sys.exit(f"bench: status {process.returncode} of {' '.join(command)}")
+    return seconds, usage.ru_maxrss * 1024 / 10**6
 
 
-def compare(what, ours, theirs, source, same):
-    best, other = [], []
+def printed_seconds(output):
+    with open(output) as file:
+        return int(file.read()) / 1000
+
+
+def compare(what, ours, theirs, source=os.devnull, same=True, prints_time=False, other="peer"):
+    """Where `same` is set, both must print the same. Where `prints_time` is, a run's time is the milliseconds that it
+    prints, in place of those of the whole process."""
+    sides = {"reqlock": ours, other: theirs}
+    outputs = {name: f"{folder}/output-of-{name}" for name in sides}
+    runs = {name: [] for name in sides}
     for _ in range(3):
-        seconds, text = run(ours, source)
-        seconds_too, text_too = run(theirs, source)
-        if same and text != text_too:
+        for name, command in sides.items():
+            seconds, memory = run(command, source, outputs[name])
+            runs[name].append((printed_seconds(outputs[name]) if prints_time else seconds, memory))
+        if same and not filecmp.cmp(*outputs.values(), shallow=False):
             sys.exit(f"bench: {what}: the answers differ")
-        best.append(seconds)
-        other.append(seconds_too)
-    a, b = min(best), min(other)
-    print(f"{what}: reqlock {a:.2f} s, peer {b:.2f} s, ratio {a / b:.3f}")
+    times = {name: min(seconds for seconds, _ in runs[name]) for name in sides}
+    memories = {name: max(memory for _, memory in runs[name]) for name in sides}
+    texts = [f"{name} {times[name]:.2f} s {memories[name]:.0f} MB" for name in sides]
+    print(f"{what}: {', '.join(texts)}, ratio {times['reqlock'] / times[other]:.3f}", flush=True)
 
 
 index = f"{folder}/index.json"
-environment = f"{here}/../examples/web/environment.json"
+whole = f"{folder}/whole.json"
+long = f"{folder}/long"
+compare(
+    "index of 100,000 whole releases (50 MB), read",
+    [index_program, "index", whole],
+    [index_program, "value", whole],
+    same=False,
+    prints_time=True,
+    other="serde_json",
+)
 compare(
     "index of 51,250 releases, read",
     [program, "--dir", empty, "--index", index, "--env", environment, "try"],
     [*peer, "index", index],
-    os.devnull,
-    False,
 )
 compare(
     "1,000 additions and undos, 2,000 lines",
     [program, "--dir", folder, "--index", index, "--env", environment, "try"],
     [*peer, "try", folder],
     f"{folder}/commands.txt",
-    True,
 )
-long = f"{folder}/long"
 compare(
     "requirements file of a million lines, read",
     [program, "--dir", long, "--index", f"{long}/index.json", "--env", environment, "try"],
     [*peer, "read", long, environment],
-    os.devnull,
-    True,
 )
 for what, word in ("comparisons", "compare"), ("matches", "match"):
     compare(
@@ -66,5 +90,4 @@ for what, word in ("comparisons", "compare"), ("matches", "match"):
         [version_program, word],
         [sys.executable, f"{here}/version_peer.py", word],
         f"{folder}/versions.txt",
-        True,
     )

@@ -4,7 +4,8 @@
 The index has 2,000 packages of 25 releases each, the file a line for each package, and the commands are 1,000 pairs of
 an addition and an undo. There are 1,000 versions and 1,000 sets. The folder `long` has a requirements file of a million
 lines, none of which asks for anything: comments, blank lines and requirements whose marker doesn't hold. So its index
-has no packages, and reading is nearly all there is to do. The same seed gives the same bytes.
+has no packages, and reading is nearly all there is to do. `whole.json` is an index of 50 MB, whose 100,000 releases
+have all that a release may have. The same seed gives the same bytes.
 """
 import json
 import os
@@ -16,6 +17,7 @@ RELEASES = 25
 PAIRS = 1_000
 SPARE = 50
 VERSIONS = 1_000
+WHOLE_PACKAGES = 4_000
 LINES = 1_000_000
 WORDS = "pinned until the next release of this one is out see the notes below and ask before it moves".split()
 # None of these holds on Linux with CPython 3 and no extra.
@@ -29,21 +31,30 @@ INACTIVE = [
 ]
 
 
+def file(package, name, size, sha256):
+    return {"name": name, "url": f"https://files.example/{package}/{name}", "size": size, "sha256": sha256}
+
+
 def release(name, version):
-    file = f"{name}-{version}-py3-none-any.whl"
     return {
         "version": version,
         "requires_python": None,
         "requires_dist": [],
         "yanked": False,
-        "files": [
-            {
-                "name": file,
-                "url": f"https://files.example/{name}/{file}",
-                "size": 1000,
-                "sha256": "0" * 64,
-            }
-        ],
+        "files": [file(name, f"{name}-{version}-py3-none-any.whl", 1000, "0" * 64)],
+    }
+
+
+def whole_release(rng, name, version):
+    """A release with all its parts, some 500 bytes of JSON: a wheel, in half of them an sdist too, and dependencies."""
+    endings = ["-py3-none-any.whl", ".tar.gz"][: rng.randrange(1, 3)]
+    names = [f"{name.replace('-', '_')}-{version}{ending}" for ending in endings]
+    return {
+        "version": version,
+        "requires_python": rng.choice([None, ">=3.8", ">=3.7,<4", ">=2.7,!=3.0.*,!=3.1.*"]),
+        "requires_dist": [dependency(rng) for _ in range(rng.randrange(4))],
+        "yanked": rng.randrange(50) == 0,
+        "files": [file(name, n, rng.randrange(1, 10**7), f"{rng.getrandbits(256):064x}") for n in names],
     }
 
 
@@ -86,19 +97,27 @@ def comment(rng):
     return "# " + " ".join(rng.choices(WORDS, k=rng.randrange(1, 9)))
 
 
-def inactive(rng):
-    """A requirement that asks for nothing, for its marker doesn't hold."""
+def requirement(rng):
     text = f"{rng.choice(['Package', 'package'])}{rng.choice('-_.')}{rng.randrange(PACKAGES):05}"
     text += rng.choice(["", "", "", "[tests]", "[docs,Tests]", " [ a.b , c ]"])
     specifiers = ",".join(clause(rng) for _ in range(rng.randrange(3)))
-    text += f" ({specifiers})" if specifiers and rng.randrange(8) == 0 else specifiers
-    return f"{text}{rng.choice(['; ', ' ; ', ';'])}{rng.choice(INACTIVE)}" + rng.choice(["", "", f"  {comment(rng)}"])
+    return text + (f" ({specifiers})" if specifiers and rng.randrange(8) == 0 else specifiers)
+
+
+def with_marker(rng, text):
+    """The requirement with a marker that doesn't hold, so that it asks for nothing."""
+    return f"{text}{rng.choice(['; ', ' ; ', ';'])}{rng.choice(INACTIVE)}"
+
+
+def dependency(rng):
+    text = requirement(rng)
+    return with_marker(rng, text) if rng.randrange(3) == 0 else text
 
 
 def idle_line(rng):
     kind = rng.randrange(10)
     if kind < 2:
-        return inactive(rng)
+        return with_marker(rng, requirement(rng)) + rng.choice(["", "", f"  {comment(rng)}"])
     return rng.choice(["", "", " ", "\t"]) if kind < 5 else rng.choice(["", "", "  "]) + comment(rng)
 
 
@@ -123,6 +142,10 @@ def main():
             out.write(f"version {version(rng)}\n")
         for _ in range(VERSIONS):
             out.write(f"set {','.join(clause(rng) for _ in range(rng.randrange(1, 4)))}\n")
+    names = [f"package-{n:05}" for n in range(WHOLE_PACKAGES)]
+    packages = [{"name": n, "releases": [whole_release(rng, n, v) for v in versions(rng)]} for n in names]
+    with open(f"{folder}/whole.json", "w") as out:
+        json.dump({"snapshot": 1, "packages": packages}, out)
     os.makedirs(f"{folder}/long", exist_ok=True)
     with open(f"{folder}/long/index.json", "w") as out:
         json.dump({"snapshot": 1, "packages": []}, out)

@@ -9,7 +9,6 @@ use Rattle.std.specs.Borrow.{Bor}
 use Rattle.std.specs.Option.{option_copied, option_to_list}
 use Rattle.std.specs.BTreeMap.{BTreeMap, IsOrdered, Updates, is_at}
 use Rattle.std.specs.Cmp.Lexicographic.{nat_list_eq_equiv, slice_cmp}
-use Rattle.std.specs.List.{list_all}
 use Rattle.std.specs.List.Sorted.{IsStrictlySortedBy}
 use Rattle.std.specs.Map.{lookup}
 use Rattle.std.specs.Ordering.{nat_cmp}
@@ -18,8 +17,8 @@ use Rattle.pep440.specs.Version.{Parts}
 use Rattle.markers.specs.Environment.{Texts}
 use Rattle.pep508.specs.Requirement.{Wanted}
 use Rattle.snapshot.specs.Packages.{Index, releases_of}
-use Rattle.snapshot.specs.declared.release.Release.{Release}
-use Rattle.edits.specs.Choice.{HasNoLock, IsLock, all_let, asked_in, choice, is_named, lets, locked_at, requirements}
+use Rattle.snapshot.specs.Release.{Release}
+use Rattle.edits.specs.Choice.{HasNoLock, IsLock, all_let, asked_in, choice, is_named, is_plain, lets, locked_at, requirements}
 
 or-false : (b : Bool) → b || false ≡ b
 or-false true = refl
@@ -72,13 +71,13 @@ all_let-off (w ∷ rs) name v off = elim (cases_Bool (bytes_eq name w.name)) [
 choice-off : (rs : List Wanted) (w : Wanted) (name : List ℕ) (index : Index) → bytes_eq name w.name ≡ false
     → choice (rs ++ w ∷ []) index name ≡ choice rs index name
 choice-off rs w name index off = ap (option_map (λ r. r.version)) (find-alike _ _ (releases_of name index.packages)
-    (λ r. all_let-push rs w name r.version ∙ rw (lets-off name r.version w off) (and-true (all_let rs name r.version))))
+    (λ r. ap (λ (b : Bool). is_plain r && b) (all_let-push rs w name r.version ∙ rw (lets-off name r.version w off) (and-true (all_let rs name r.version)))))
 
 -- behind requirements that aren't on a name the others choose for themselves
 choice-alone : (rs more : List Wanted) (name : List ℕ) (index : Index) → is_named rs name ≡ false
     → choice (rs ++ more) index name ≡ choice more index name
 choice-alone rs more name index off = ap (option_map (λ r. r.version)) (find-alike _ _ (releases_of name index.packages)
-    (λ r. list_all-append _ rs more ∙ rw (all_let-off rs name r.version off) refl))
+    (λ r. ap (λ (b : Bool). is_plain r && b) (list_all-append _ rs more ∙ rw (all_let-off rs name r.version off) refl)))
 
 -- a requirement that isn't on a name leaves what is locked there
 locked_at-off : (rs : List Wanted) (w : Wanted) (name : List ℕ) (index : Index) → bytes_eq name w.name ≡ false
@@ -98,12 +97,16 @@ and-first : (a b : Bool) → (a && b) ≡ true → a ≡ true
 and-first true b e = refl
 and-first false b e = e
 
+and-rest : (a b c : Bool) → (b ≡ true → c ≡ true) → (a && b) ≡ true → (a && c) ≡ true
+and-rest true b c f e = f e
+and-rest false b c f e = e
+
 -- requirements of which some name can't be locked are so with more
 HasNoLock-more : (rs more : List Wanted) (index : Index) → HasNoLock rs index → HasNoLock (rs ++ more) index
 HasNoLock-more rs more index h =
     let named : is_named (rs ++ more) h.0 ≡ true = list_any-append _ rs more ∙ rw h.1 refl in
-    let stronger : (r : Release) → all_let (rs ++ more) h.0 r.version ≡ true → all_let rs h.0 r.version ≡ true = λ r all.
-    and-first _ _ (sym (list_all-append (λ w. lets h.0 r.version w) rs more) ∙ all) in
+    let stronger : (r : Release) → (is_plain r && all_let (rs ++ more) h.0 r.version) ≡ true → (is_plain r && all_let rs h.0 r.version) ≡ true = λ r both.
+    and-rest (is_plain r) _ _ (λ all. and-first _ _ (sym (list_all-append (λ w. lets h.0 r.version w) rs more) ∙ all)) both in
     let none = find-none _ _ (releases_of h.0 index.packages) stronger (none-inside (λ (r : Release). r.version) _ h.2) in
     (h.0, named, ap (option_map (λ r. r.version)) none)
 

@@ -1,6 +1,6 @@
 -- Which versions are locked. So far a release has no dependencies, so each name is chosen by itself. All of it is
 -- reqlock's own rule.
-use Rattle.std.specs.Prelude.{◌≡◌, ℕ, ◌||◌, not, Bool, List, [], ◌∷◌, ◌++◌, Option, Some, None, find, option_map, IsSome, Result, Ok, Err, false, true, if◌then◌else◌}
+use Rattle.std.specs.Prelude.{◌≡◌, ℕ, ◌==◌, ◌&&◌, ◌||◌, not, Bool, List, [], ◌∷◌, ◌++◌, Option, Some, None, find, option_map, is_some, length, IsSome, Result, Ok, Err, false, true, if◌then◌else◌}
 use Rattle.std.specs.Cmp.Lexicographic.{slice_cmp}
 use Rattle.std.specs.List.{list_all, list_any}
 use Rattle.std.specs.List.Sorted.{IsStrictlySortedBy}
@@ -9,12 +9,12 @@ use Rattle.std.specs.Option.{option_to_list}
 use Rattle.std.specs.Ordering.{nat_cmp}
 use Rattle.std.specs.Str.{bytes_eq}
 use Rattle.pep440.specs.Matching.{matches}
-use Rattle.pep440.specs.Version.{Parts}
+use Rattle.pep440.specs.Version.{Parts, is_pre}
 use Rattle.pep508.specs.Requirement.{Wanted, is_active, requirement_of}
 use Rattle.markers.specs.Environment.{Texts}
 use Rattle.markers.specs.declared.fault.Cause.{Cause}
 use Rattle.snapshot.specs.Packages.{Index, releases_of}
-use Rattle.snapshot.specs.declared.release.Release.{Release}
+use Rattle.snapshot.specs.Release.{Release}
 
 -- what was read, where it is a requirement
 abbrev pub asked : Result (Option Wanted) Cause → Option Wanted
@@ -56,9 +56,14 @@ is_named wanted name = list_any (λ w. bytes_eq name w.name) wanted
 abbrev pub all_let : List Wanted → List ℕ → Parts → Bool
 all_let wanted name version = list_all (λ w. lets name version w) wanted
 
--- the first of the releases, which are newest first, that all requirements on the name match
+-- whether a release can be locked so far: one that asks nothing of Python, depends on nothing, and is neither yanked nor a
+-- pre-release
+abbrev pub is_plain : Release → Bool
+is_plain r = not r.yanked && not (is_some r.requires_python) && (length r.dependencies == 0) && not (is_pre r.version)
+
+-- the first of the releases, which are newest first, that can be locked and that all requirements on the name match
 abbrev pub newest : List Wanted → List ℕ → List Release → Option Parts
-newest wanted name releases = option_map (λ r. r.version) (find (λ r. all_let wanted name r.version) releases)
+newest wanted name releases = option_map (λ r. r.version) (find (λ r. is_plain r && all_let wanted name r.version) releases)
 
 -- the version of the name that the requirements lock
 abbrev pub choice : List Wanted → Index → List ℕ → Option Parts

@@ -2,7 +2,7 @@
 
 ghost use Rattle.std.specs.Prelude.{◌≡◌, ◌<◌, ◌+◌, ◌⊎◌, [], Some, IfOk, IfErr, OnOk, length, slice_index_or, take};
 ghost use Rattle.std.specs.Option.{option_copied, option_to_list};
-ghost use Rattle.edits.specs.Choice.{HasNoLock, IsLock, all_let, asked_in, choice, is_on, newest, requirements, wanted_of};
+ghost use Rattle.edits.specs.Choice.{HasNoLock, IsLock, all_let, asked_in, choice, is_on, is_plain, newest, requirements, wanted_of};
 
 use crate::refusal::Refusal;
 use pep440::Version;
@@ -58,7 +58,18 @@ fn all_let(environment: &Environment, lines: &[Line], name: &Name, version: &Ver
     true
 }
 
-/// The first of the releases, which are newest first, that all active lines on the name match.
+/// Whether a release can be locked so far.
+fn is_plain(release: &Release) -> bool
+    ensures { result ≡ is_plain release.now }
+{
+    !release.yanked()
+        && release.requires_python().is_none()
+        && release.dependencies().is_empty()
+        && !release.version().is_pre()
+}
+
+/// The first of the releases, which are newest first, that can be locked and that all active lines on the
+/// name match.
 fn newest<'a>(
     environment: &Environment,
     lines: &[Line],
@@ -69,7 +80,7 @@ fn newest<'a>(
         ≡ newest (requirements environment.now lines.now) name.now releases.now }
 {
     for release in releases {
-        if all_let(environment, lines, name, release.version()) {
+        if is_plain(release) && all_let(environment, lines, name, release.version()) {
             return Some(release.version());
         }
     }

@@ -1,15 +1,20 @@
 // The first states and edits of small files, each call that allocates once.
 
-use crate::{Edit, Environment, Name, Refusal, ReqFile, Snapshot, State, edit, init};
+use crate::{Edit, Environment, Name, Refusal, ReqFile, SavedFile, Snapshot, State, edit, init};
 use lists::Text;
 use std::alloc::Global;
 use std::test::Fail;
 
 /// An index with these releases of `a`, `b-b` and `c`.
 const INDEX: &str = r#"{"snapshot":1,"packages":[
-    {"name":"a","releases":[{"version":"1"},{"version":"2"}]},
-    {"name":"b-b","releases":[{"version":"1"}]},
-    {"name":"c","releases":[{"version":"1"},{"version":"2"}]}]}"#;
+    {"name":"a","releases":[{"version":"1","files":[{"name":"a-1-py3-none-any.whl","url":"https://files.example/a-1-py3-none-any.whl","size":1000,
+        "sha256":"0000000000000000000000000000000000000000000000000000000000000000"}]},{"version":"2","files":[{"name":"a-2-py3-none-any.whl","url":"https://files.example/a-2-py3-none-any.whl","size":1000,
+        "sha256":"0000000000000000000000000000000000000000000000000000000000000000"}]}]},
+    {"name":"b-b","releases":[{"version":"1","files":[{"name":"b_b-1-py3-none-any.whl","url":"https://files.example/b_b-1-py3-none-any.whl","size":1000,
+        "sha256":"0000000000000000000000000000000000000000000000000000000000000000"}]}]},
+    {"name":"c","releases":[{"version":"1","files":[{"name":"c-1-py3-none-any.whl","url":"https://files.example/c-1-py3-none-any.whl","size":1000,
+        "sha256":"0000000000000000000000000000000000000000000000000000000000000000"}]},{"version":"2","files":[{"name":"c-2-py3-none-any.whl","url":"https://files.example/c-2-py3-none-any.whl","size":1000,
+        "sha256":"0000000000000000000000000000000000000000000000000000000000000000"}]}]}]}"#;
 
 /// The environment of the tests, one with Linux.
 const ENVIRONMENT: &str = r##"{"implementation_name":"cpython","implementation_version":"3.12.3",
@@ -116,6 +121,47 @@ fn an_addition_is_refused_for_its_first_reason(rt: HostRuntime) -> Result<(), Fa
             Ok(_) => assert!(rt; false, "{text:?}"),
             Err(refusal) => assert!(rt; refusal == reason, "{text:?}"),
         }
+    }
+    Ok(())
+}
+
+/// Whether a refusal is printed as this text.
+fn is_printed_as(alloc: Global, refusal: &Refusal, text: &str) -> bool {
+    match format!(in alloc; "{refusal}") {
+        Ok(printed) => printed.as_str() == text,
+        Err(_) => false,
+    }
+}
+
+#[test]
+fn refusals_are_printed(rt: HostRuntime) -> Result<(), Fail> {
+    let name = Text::copy_of(rt.alloc(), "a-b")?;
+    for (refusal, text) in [
+        (Refusal::BadText, "the text does not read"),
+        (Refusal::AlreadyPresent(3), "line 3 has this name"),
+        (Refusal::NotPresent, "no line has this name"),
+        (Refusal::Ambiguous(2), "2 lines have this name"),
+        (Refusal::NotLocked(name), "a-b is not locked"),
+        (Refusal::NoSolution, "no versions meet all requirements"),
+        (Refusal::NothingChanges, "nothing would change"),
+        (Refusal::OutOfMemory, "out of memory"),
+        (Refusal::NothingToUndo, "there is nothing to undo"),
+        (Refusal::NothingToRedo, "there is nothing to redo"),
+        (
+            Refusal::FilesDisagree(SavedFile::Requirements),
+            "the requirements file is not the one that was saved",
+        ),
+        (
+            Refusal::FilesDisagree(SavedFile::Lock),
+            "the lock is not the one that was saved",
+        ),
+        (
+            Refusal::JournalBroken(1),
+            "the journal does not read at line 1",
+        ),
+        (Refusal::BadCommand, "this is no command"),
+    ] {
+        assert!(rt; is_printed_as(rt.alloc(), &refusal, text), "{text}");
     }
     Ok(())
 }

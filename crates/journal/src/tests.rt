@@ -7,8 +7,11 @@ use std::alloc::Global;
 use std::test::Fail;
 
 const INDEX: &str = r#"{"snapshot":1,"packages":[
-    {"name":"a","releases":[{"version":"1"},{"version":"2"}]},
-    {"name":"b","releases":[{"version":"1"}]}]}"#;
+    {"name":"a","releases":[{"version":"1","files":[{"name":"a-1-py3-none-any.whl","url":"https://files.example/a-1-py3-none-any.whl","size":1000,
+        "sha256":"0000000000000000000000000000000000000000000000000000000000000000"}]},{"version":"2","files":[{"name":"a-2-py3-none-any.whl","url":"https://files.example/a-2-py3-none-any.whl","size":1000,
+        "sha256":"0000000000000000000000000000000000000000000000000000000000000000"}]}]},
+    {"name":"b","releases":[{"version":"1","files":[{"name":"b-1-py3-none-any.whl","url":"https://files.example/b-1-py3-none-any.whl","size":1000,
+        "sha256":"0000000000000000000000000000000000000000000000000000000000000000"}]}]}]}"#;
 
 // The environment of the tests, one with Linux.
 const ENVIRONMENT: &str = r##"{"implementation_name":"cpython","implementation_version":"3.12.3",

@@ -56,6 +56,15 @@ impl Model for Marker {
     ghost size_decreases = { λ m h. depth_le-tree_size m.node };
 }
 
+/// The items, with no more room than they need: most lists have one member.
+fn fitted(members: Seq<Marker>) -> Vec<Marker>
+    ensures { result.items ≡ members }
+{
+    let mut items = members.into_vec();
+    items.shrink_to_fit();
+    items
+}
+
 impl Marker {
     pub(crate) fn atom(atom: MarkerAtom) -> Marker
         ensures { result ≡ atom_tree atom }
@@ -70,7 +79,7 @@ impl Marker {
         ensures { result ≡ all_of (trees_of members) }
     {
         Marker {
-            node: Node::All(members.into_vec()),
+            node: Node::All(fitted(members)),
         }
     }
 
@@ -79,7 +88,7 @@ impl Marker {
         ensures { result ≡ any_of (trees_of members) }
     {
         Marker {
-            node: Node::Any(members.into_vec()),
+            node: Node::Any(fitted(members)),
         }
     }
 

@@ -5,7 +5,7 @@ ghost use Rattle.std.specs.List.{list_all};
 ghost use Rattle.pep440.specs.Text.{is_blank};
 ghost use Rattle.pep440.specs.Canonical.{canonical};
 ghost use Rattle.pep440.specs.Grammar.{IsVersionText, Spells};
-ghost use Rattle.pep440.specs.Reading.{bare_parts};
+ghost use Rattle.pep440.specs.Reading.{bare_parts, version_of};
 ghost use Rattle.pep440.specs.SetGrammar.{IsClause, begins_operator, is_set_byte};
 ghost use Rattle.pep440.specs.Sets.{clause_of, set_of};
 ghost use Rattle.pep440.specs.Version.{IsVersion, Parts, fits};
@@ -25,6 +25,11 @@ pub fn a_bare_text_reads_as_its_parts()
 /// The canonical text of a version spells that version, trailing zeros too.
 pub fn a_canonical_text_spells_its_version()
     ensures { (v : Parts) → IsVersion v → Spells (canonical v) v }
+{}
+
+/// The canonical text of a version is read as that version.
+pub fn a_canonical_text_is_read()
+    ensures { (v : Parts) → IsVersion v → version_of (canonical v) ≡ Ok v }
 {}
 
 /// A piece of a set reads as a clause exactly where it is one and its numbers fit, whatever its place.

@@ -6,12 +6,21 @@ use std::test::Fail;
 use std::{env, fs, process};
 
 // Indexes with releases of these names.
-const A_C: &str = r#"{"snapshot":1,"packages":[{"name":"a","releases":[{"version":"1"}]},
-    {"name":"c","releases":[{"version":"1"},{"version":"2"}]}]}"#;
+const A_C: &str =
+    r#"{"snapshot":1,"packages":[{"name":"a","releases":[{"version":"1","files":[{"name":"a-1-py3-none-any.whl","url":"https://files.example/a-1-py3-none-any.whl","size":1000,
+        "sha256":"0000000000000000000000000000000000000000000000000000000000000000"}]}]},
+    {"name":"c","releases":[{"version":"1","files":[{"name":"c-1-py3-none-any.whl","url":"https://files.example/c-1-py3-none-any.whl","size":1000,
+        "sha256":"0000000000000000000000000000000000000000000000000000000000000000"}]},{"version":"2","files":[{"name":"c-2-py3-none-any.whl","url":"https://files.example/c-2-py3-none-any.whl","size":1000,
+        "sha256":"0000000000000000000000000000000000000000000000000000000000000000"}]}]}]}"#;
 
-const A_B_C: &str = r#"{"snapshot":1,"packages":[{"name":"a","releases":[{"version":"1"}]},
-    {"name":"b-b","releases":[{"version":"1"}]},{"name":"b","releases":[{"version":"1"}]},
-    {"name":"c","releases":[{"version":"1"}]}]}"#;
+const A_B_C: &str =
+    r#"{"snapshot":1,"packages":[{"name":"a","releases":[{"version":"1","files":[{"name":"a-1-py3-none-any.whl","url":"https://files.example/a-1-py3-none-any.whl","size":1000,
+        "sha256":"0000000000000000000000000000000000000000000000000000000000000000"}]}]},
+    {"name":"b-b","releases":[{"version":"1","files":[{"name":"b_b-1-py3-none-any.whl","url":"https://files.example/b_b-1-py3-none-any.whl","size":1000,
+        "sha256":"0000000000000000000000000000000000000000000000000000000000000000"}]}]},{"name":"b","releases":[{"version":"1","files":[{"name":"b-1-py3-none-any.whl","url":"https://files.example/b-1-py3-none-any.whl","size":1000,
+        "sha256":"0000000000000000000000000000000000000000000000000000000000000000"}]}]},
+    {"name":"c","releases":[{"version":"1","files":[{"name":"c-1-py3-none-any.whl","url":"https://files.example/c-1-py3-none-any.whl","size":1000,
+        "sha256":"0000000000000000000000000000000000000000000000000000000000000000"}]}]}]}"#;
 
 // How the program ended, and what it wrote.
 #[derive(Drop)]

@@ -1,7 +1,8 @@
 // Markers under the example environment, and each call that allocates once.
 
 use crate::requirement_table::ENVIRONMENT;
-use markers::{Cause, Environment, Fault, Marker, Name};
+use markers::{Cause, Environment, Fault, Marker, Name, Variable};
+use pep440::Fault as SpecifierFault;
 use std::alloc::{AllocError, Global};
 use std::test::Fail;
 
@@ -221,13 +222,43 @@ fn many_atoms_are_no_burden(rt: HostRuntime) -> Result<(), Fail> {
 
 #[test]
 fn faults_are_printed(rt: HostRuntime) -> Result<(), Fail> {
-    let fault = Fault {
-        line: 1,
-        cause: Cause::MarkerTooDeep,
-    };
-    assert_eq!(rt;
-        format!(in rt.alloc(); "{fault}")?.as_str(),
-        "line 1: a marker has more than 64 open parentheses"
-    );
+    let rows = [
+        (Cause::BadName, "this is no name"),
+        (Cause::BadMarker, "this is no marker"),
+        (
+            Cause::MarkerTooDeep,
+            "a marker has more than 64 open parentheses",
+        ),
+        (Cause::UrlRequirement, "a URL is not supported"),
+        (Cause::OptionLine, "an option line is not supported"),
+        (Cause::Continuation, "a line may not end in a backslash"),
+        (
+            Cause::OddCharacter,
+            "a control character stands in the line",
+        ),
+        (Cause::NotUtf8, "the file is no UTF-8"),
+        (
+            Cause::BadEnvironment(None),
+            "the environment is no JSON object",
+        ),
+        (
+            Cause::BadEnvironment(Some(Variable::OsName)),
+            "the environment has no lawful os_name",
+        ),
+        (
+            Cause::Specifier(SpecifierFault::BadClause(2)),
+            "clause 2 is no version specifier",
+        ),
+        (Cause::OutOfMemory, "out of memory"),
+    ];
+    for (cause, text) in rows.iter() {
+        let fault = Fault {
+            line: 1,
+            cause: *cause,
+        };
+        let printed = format!(in rt.alloc(); "{fault}")?;
+        let wanted = format!(in rt.alloc(); "line 1: {text}")?;
+        assert_eq!(rt; printed.as_str(), wanted.as_str());
+    }
     Ok(())
 }

@@ -1,13 +1,15 @@
 -- Items put one after another into a list that is in order.
-use Rattle.std.proofs.Common.{◌≡◌, Bool, true, false, cond, List, [], ◌∷◌, Option, Some, None, Ordering, Less, Equal, Greater, find, fold, refl, ap, ◌∙◌}
+use Rattle.std.proofs.Common.{◌≡◌, Bool, true, false, cond, List, [], ◌∷◌, ℕ, Result, Ok, Err, Option, Some, None, Ordering, Less, Equal, Greater, find, fold, refl, ap, ◌∙◌}
 use Rattle.std.specs.BTreeSet.{insert_key}
 use Rattle.std.specs.Cmp.{IsTotalOrder, alike_right}
 use Rattle.std.specs.List.{AllByRecursion, filter_map}
 use Rattle.std.specs.List.Sorted.{IsStrictlySortedBy}
 use Rattle.std.specs.Ordering.{is_eq, match_ordering, ordering_reverse}
-use Rattle.snapshot.specs.declared.release.Release.{Release}
+use Rattle.std.specs.Result.{result_ok}
+use Rattle.snapshot.specs.declared.skipped.SkipCause.{SkipCause}
+use Rattle.snapshot.specs.Release.{Release}
 use Rattle.snapshot.specs.OrderLaws.{newer_total}
-use Rattle.snapshot.specs.Releases.{newer_cmp, newest_first, with_release}
+use Rattle.snapshot.specs.Releases.{Gathered, gather_release, newer_cmp, nothing, with_release}
 
 above_by : {K : Type 0} (o : Ordering) (R : K → K → Ordering) (x k y : K) (ys more : List K) → R x k ≡ Less → AllByRecursion (λ z. R x z ≡ Less) (y ∷ ys) → AllByRecursion (λ z. R x z ≡ Less) more
     → AllByRecursion (λ z. R x z ≡ Less) (match_ordering o (k ∷ y ∷ ys) (y ∷ ys) (y ∷ more))
@@ -38,15 +40,20 @@ unfolding IsStrictlySortedBy
 sorted-insert total [] k s = (tt, tt)
 sorted-insert {R = R} total (x ∷ xs) k s = sorted_by total (R k x) x k xs refl s (sorted-insert total xs k s.1)
 
-sorted-gathered : (so_far : List Release) (listed : List (Option Release)) → IsStrictlySortedBy newer_cmp so_far → IsStrictlySortedBy newer_cmp (fold with_release so_far listed)
+sorted-gathered : (so_far : List Release) (listed : List (Result Release SkipCause)) → IsStrictlySortedBy newer_cmp so_far → IsStrictlySortedBy newer_cmp (fold with_release so_far listed)
 sorted-gathered so_far [] s = s
-sorted-gathered so_far (None ∷ listed) s = sorted-gathered so_far listed s
-sorted-gathered so_far (Some r ∷ listed) s = sorted-gathered (insert_key newer_cmp so_far r) listed (sorted-insert newer_total so_far r s)
+sorted-gathered so_far (Err cause ∷ listed) s = sorted-gathered so_far listed s
+sorted-gathered so_far (Ok r ∷ listed) s = sorted-gathered (insert_key newer_cmp so_far r) listed (sorted-insert newer_total so_far r s)
+
+-- the releases that were gathered are those that were put into their places
+releases-gathered : (name : List ℕ) (g : Gathered) (listed : List (Result Release SkipCause)) → (fold (gather_release name) g listed).releases ≡ fold with_release g.releases listed
+releases-gathered name g [] = refl
+releases-gathered name g (r ∷ listed) = releases-gathered name (gather_release name g r) listed
 
 -- the newest release is first
-pub newest_first-sorted : (listed : List (Option Release)) → IsStrictlySortedBy newer_cmp (newest_first listed)
+pub gathered-sorted : (name : List ℕ) (listed : List (Result Release SkipCause)) → IsStrictlySortedBy newer_cmp (fold (gather_release name) nothing listed).releases
 unfolding IsStrictlySortedBy
-newest_first-sorted listed = sorted-gathered [] listed tt
+gathered-sorted name listed = rw (releases-gathered name nothing listed) (sorted-gathered [] listed tt)
 
 -- ---- the first of equal items stays
 
@@ -102,17 +109,17 @@ front_found : {X : Type 0} (b : Bool) (x : X) (later : Option X) → or_else (co
 front_found true x later = refl
 front_found false x later = refl
 
-find-gathered : (r : Release) (so_far : List Release) (listed : List (Option Release)) → IsStrictlySortedBy newer_cmp so_far
-    → find (λ s. is_eq (newer_cmp r s)) (fold with_release so_far listed) ≡ or_else (find (λ s. is_eq (newer_cmp r s)) so_far) (find (λ s. is_eq (newer_cmp r s)) (filter_map (λ o. o) listed))
+find-gathered : (r : Release) (so_far : List Release) (listed : List (Result Release SkipCause)) → IsStrictlySortedBy newer_cmp so_far
+    → find (λ s. is_eq (newer_cmp r s)) (fold with_release so_far listed) ≡ or_else (find (λ s. is_eq (newer_cmp r s)) so_far) (find (λ s. is_eq (newer_cmp r s)) (filter_map (λ o. result_ok o) listed))
 find-gathered r so_far [] s = or_else-none (find (λ s. is_eq (newer_cmp r s)) so_far)
-find-gathered r so_far (None ∷ listed) s = find-gathered r so_far listed s
-find-gathered r so_far (Some x ∷ listed) s =
+find-gathered r so_far (Err cause ∷ listed) s = find-gathered r so_far listed s
+find-gathered r so_far (Ok x ∷ listed) s =
     find-gathered r (insert_key newer_cmp so_far x) listed (sorted-insert newer_total so_far x s)
-    ∙ ap (λ (o : Option Release). or_else o (find (λ s. is_eq (newer_cmp r s)) (filter_map (λ o. o) listed))) (find-insert newer_total r so_far x s)
+    ∙ ap (λ (o : Option Release). or_else o (find (λ s. is_eq (newer_cmp r s)) (filter_map (λ o. result_ok o) listed))) (find-insert newer_total r so_far x s)
     ∙ or_else-assoc (find (λ s. is_eq (newer_cmp r s)) so_far) _ _
     ∙ ap (or_else (find (λ s. is_eq (newer_cmp r s)) so_far)) (front_found (is_eq (newer_cmp r x)) x _)
 
 -- of equal releases the first that is listed stays
-pub newest_first-first : (r : Release) (listed : List (Option Release)) → find (λ s. is_eq (newer_cmp r s)) (newest_first listed) ≡ find (λ s. is_eq (newer_cmp r s)) (filter_map (λ o. o) listed)
+pub gathered-first : (name : List ℕ) (r : Release) (listed : List (Result Release SkipCause)) → find (λ s. is_eq (newer_cmp r s)) (fold (gather_release name) nothing listed).releases ≡ find (λ s. is_eq (newer_cmp r s)) (filter_map (λ o. result_ok o) listed)
 unfolding IsStrictlySortedBy
-newest_first-first r listed = find-gathered r [] listed tt
+gathered-first name r listed = rw (releases-gathered name nothing listed) (find-gathered r [] listed tt)

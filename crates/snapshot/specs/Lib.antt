@@ -1,6 +1,10 @@
 pub mod Shape
+pub mod Files
+pub mod Chosen
+pub mod Release
 pub mod Releases
 pub mod Packages
 pub mod Listed
 pub mod Places
 pub mod OrderLaws
+pub mod Gathering

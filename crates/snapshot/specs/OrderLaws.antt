@@ -1,7 +1,12 @@
--- The law of the order of releases.
+-- The laws of the orders of releases and of files.
 use Rattle.std.specs.Cmp.{IsTotalOrder, back_total, on_total}
+use Rattle.std.specs.Cmp.Lexicographic.{nat_list_cmp_total}
 use Rattle.pep440.specs.OrderLaws.{version_total}
+use Rattle.snapshot.specs.Files.{name_cmp}
 use Rattle.snapshot.specs.Releases.{newer_cmp}
 
 pub newer_total : IsTotalOrder newer_cmp
 newer_total = on_total (λ r. r.version) (back_total version_total)
+
+pub name_total : IsTotalOrder name_cmp
+name_total = on_total (λ f. f.name) nat_list_cmp_total

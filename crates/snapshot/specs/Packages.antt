@@ -1,22 +1,28 @@
 -- The packages of an index (reqlock's own format of an index).
-use Rattle.std.specs.Prelude.{ℕ, ◌==◌, List, [], ◌∷◌, ◌++◌, Bool, codes, ⊤, Option, Some, None, option_and_then, find, Result, Ok, Err, if◌then◌else◌}
+use Rattle.std.specs.Prelude.{ℕ, ◌==◌, List, [], ◌∷◌, ◌++◌, Bool, codes, map, flat_map, ⊤, Option, Some, None, option_and_then, find, Result, Ok, Err, if◌then◌else◌}
 use Rattle.std.specs.List.{list_any}
 use Rattle.std.specs.Option.{option_map_or}
 use Rattle.std.specs.Str.{bytes_eq, is_utf8}
-use Rattle.serde_json.specs.Data.{Data}
+use Rattle.serde_json.specs.Data.{Data, Items}
 use Rattle.serde_json.specs.Find.{as_array, as_number, as_str, as_u64}
-use Rattle.serde_json.specs.Read.{read}
+use Rattle.serde_json.specs.Read.{read as read_json}
+use Rattle.sha2.specs.Sha256.{sha256}
 use Rattle.markers.specs.Names.{is_name, normal_of}
 use Rattle.snapshot.specs.declared.fault.Fault.{Fault}
 use Rattle.snapshot.specs.declared.fault.Fault.TheVariants.{NotJson, DuplicatePackage}
 use Rattle.snapshot.specs.declared.package.Package.{Package}
-use Rattle.snapshot.specs.declared.release.Release.{Release}
-use Rattle.snapshot.specs.Shape.{◌>>=◌, below, each_at, field, key_path, object_of, required}
+use Rattle.snapshot.specs.declared.package.ReadPackage.{ReadPackage}
+use Rattle.snapshot.specs.declared.package.ReadPackages.{ReadPackages}
+use Rattle.snapshot.specs.declared.skipped.Skipped.{Skipped}
+use Rattle.snapshot.specs.Release.{Release}
+use Rattle.snapshot.specs.Shape.{◌>>=◌, below, each_from, field, key_path, object_of, required}
 use Rattle.snapshot.specs.Releases.{releases_in}
 
--- what an index holds
+-- what an index holds: its packages, the releases that are left out, and the SHA-256 digest of its bytes
 pub record Index : Type 0 where
   pub packages : List Package
+  pub skipped : List Skipped
+  pub digest : List ℕ
 
 -- the normal form of a text that is a name (PEP 503, "Normalized Names")
 abbrev pub name_in : List ℕ → Option (List ℕ)
@@ -26,26 +32,36 @@ name_in text = if is_name text then Some (normal_of text) else None
 abbrev pub as_name : Data → Option (List ℕ)
 as_name d = option_and_then name_in (as_str d)
 
--- a package: its name and its releases
-unfoldable pub package_of : Data → Result Package Fault
+-- a package: its name, its releases, and those that are left out
+unfoldable pub package_of : Data → Result ReadPackage Fault
 package_of d = do
   _ ← object_of d
   name ← field (required as_name) (codes "name") d
   listed ← field (required as_array) (codes "releases") d
-  releases ← below (key_path (codes "releases")) (releases_in listed)
-  Ok (record { name = name; releases = releases })
+  read ← below (key_path (codes "releases")) (releases_in name listed)
+  Ok (record { kept = record { name = name; releases = read.releases }; skipped = read.skipped })
 
 -- the version of the format, which is 1
 abbrev pub as_one : Data → Option ⊤
 as_one d = option_and_then (λ n. if n == 1 then Some tt else None) (option_and_then as_u64 (as_number d))
 
+-- packages with what is left out of them
+abbrev pub together : List ReadPackage → ReadPackages
+together read = record { packages = map (λ r. r.kept) read; skipped = flat_map (λ r. r.skipped) read }
+
+-- the packages that an array lists
+unfoldable pub packages_in : Items → Result ReadPackages Fault
+packages_in ds = do
+  read ← each_from package_of 0 ds
+  Ok (together read)
+
 -- the packages, in the order of the index
-unfoldable pub packages_of : Data → Result (List Package) Fault
+unfoldable pub packages_of : Data → Result ReadPackages Fault
 packages_of d = do
   _ ← object_of d
   _ ← field (required as_one) (codes "snapshot") d
   packages ← field (required as_array) (codes "packages") d
-  each_at package_of (codes "packages") packages
+  below (key_path (codes "packages")) (packages_in packages)
 
 -- whether a package has the name
 abbrev pub is_named : List ℕ → Package → Bool
@@ -56,14 +72,10 @@ abbrev pub repeated_from : List Package → List Package → Option (List ℕ)
 repeated_from earlier [] = None
 repeated_from earlier (p ∷ ps) = if list_any (is_named p.name) earlier then Some p.name else repeated_from (earlier ++ p ∷ []) ps
 
--- an index of packages no two of which have one name
-abbrev pub index_unless : List Package → Option (List ℕ) → Result Index Fault
-index_unless packages None = Ok (record { packages = packages })
-index_unless packages (Some name) = Err (DuplicatePackage name)
-
--- the index of these packages, or the first name that stands twice
-abbrev pub index_of : List Package → Result Index Fault
-index_of packages = index_unless packages (repeated_from [] packages)
+-- packages none of which has an earlier one's name
+abbrev pub unless_repeated : Option (List ℕ) → Result ⊤ Fault
+unless_repeated None = Ok tt
+unless_repeated (Some name) = Err (DuplicatePackage name)
 
 -- a JSON value that was read
 abbrev pub unless_json : Option Data → Result Data Fault
@@ -72,14 +84,15 @@ unless_json (Some d) = Ok d
 
 -- the JSON value of the bytes, which have to be UTF-8
 unfoldable pub json_of : List ℕ → Result Data Fault
-json_of bytes = if is_utf8 bytes then unless_json (read bytes) else Err NotJson
+json_of bytes = if is_utf8 bytes then unless_json (read_json bytes) else Err NotJson
 
 -- the index that the bytes hold, or why they hold none
 unfoldable pub snapshot_of : List ℕ → Result Index Fault
 snapshot_of bytes = do
   d ← json_of bytes
-  packages ← packages_of d
-  index_of packages
+  read ← packages_of d
+  _ ← unless_repeated (repeated_from [] read.packages)
+  Ok (record { packages = read.packages; skipped = read.skipped; digest = sha256 bytes })
 
 -- the releases of the package of that name, none where there is no such package
 abbrev pub releases_of : List ℕ → List Package → List Release

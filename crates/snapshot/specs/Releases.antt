@@ -1,17 +1,28 @@
 -- The releases of a package (reqlock's own format of an index).
-use Rattle.std.specs.Prelude.{ℕ, ◌==◌, ◌&&◌, ◌||◌, Bool, false, not, List, [], length, codes, fold, Option, Some, None, Result, Ok, Err, if◌then◌else◌}
+use Rattle.std.specs.Prelude.{ℕ, suc, ◌+◌, ◌==◌, ◌||◌, Bool, true, false, List, [], ◌∷◌, ◌++◌, codes, fold, Option, Some, None, Result, Ok, Err, if◌then◌else◌}
 use Rattle.std.specs.BTreeSet.{insert_key}
-use Rattle.std.specs.List.{list_all}
+use Rattle.std.specs.List.{list_all, list_any}
 use Rattle.std.specs.Ordering.{is_eq}
 use Rattle.std.specs.declared.cmp.Ordering.{Ordering}
 use Rattle.serde_json.specs.Data.{Data, Items, no_items}
 use Rattle.serde_json.specs.Find.{as_array, as_bool, as_str}
+use Rattle.markers.specs.declared.fault.Cause.{Cause}
 use Rattle.pep440.specs.Order.{version_cmp}
 use Rattle.pep440.specs.Reading.{version_of}
-use Rattle.pep440.specs.Version.{Parts, is_pre}
+use Rattle.pep440.specs.Sets.{set_of}
+use Rattle.pep440.specs.Version.{Parts}
 use Rattle.pep440.specs.declared.fault.Fault.{Fault as VersionFault}
+use Rattle.pep440.specs.declared.specifier.Clause.{Clause}
+use Rattle.pep508.specs.Requirement.{Wanted, requirement_text}
 use Rattle.snapshot.specs.declared.fault.Fault.{Fault}
-use Rattle.snapshot.specs.declared.release.Release.{Release}
+use Rattle.snapshot.specs.declared.file.ReleaseFile.{ReleaseFile}
+use Rattle.snapshot.specs.declared.python.RequiresPython.{RequiresPython}
+use Rattle.snapshot.specs.declared.releases.ReadReleases.{ReadReleases}
+use Rattle.snapshot.specs.declared.skipped.SkipCause.{SkipCause}
+use Rattle.snapshot.specs.declared.skipped.SkipCause.TheVariants as causes
+use Rattle.snapshot.specs.declared.skipped.Skipped.{Skipped}
+use Rattle.snapshot.specs.Files.{file_of, sdist_of, wheels_of}
+use Rattle.snapshot.specs.Release.{Release}
 use Rattle.snapshot.specs.Shape.{◌>>=◌, each_at, each_from, field, object_of, optional, or_absent, required, text_of}
 
 -- a release as the index lists it; a text that is absent or null is empty
@@ -20,6 +31,7 @@ pub record Listed : Type 0 where
   pub requires_python : List ℕ
   pub requires_dist : List (List ℕ)
   pub yanked : Bool
+  pub files : List ReleaseFile
 
 -- the keys of a release, in the order in which their shapes are tested
 unfoldable pub listed_of : Data → Result Listed Fault
@@ -30,27 +42,61 @@ listed_of d = do
   dependencies ← field (optional no_items as_array) (codes "requires_dist") d
   requires_dist ← each_at text_of (codes "requires_dist") dependencies
   yanked ← field (or_absent false as_bool) (codes "yanked") d
-  Ok (record { version = version; requires_python = requires_python; requires_dist = requires_dist; yanked = yanked })
+  listed ← field (required as_array) (codes "files") d
+  files ← each_at file_of (codes "files") listed
+  Ok (record { version = version; requires_python = requires_python; requires_dist = requires_dist; yanked = yanked; files = files })
+
+-- a version that was read
+abbrev pub versioned : Result Parts VersionFault → Result Parts SkipCause
+versioned (Ok v) = Ok v
+versioned (Err fault) = Err (causes.Version fault)
 
 -- spaces and tabs alone
 abbrev pub is_blank : List ℕ → Bool
 is_blank text = list_all (λ b. (b == 32) || (b == 9)) text
 
--- a release can be used that runs on every Python, depends on nothing, and is neither yanked nor a pre-release (reqlock's own rule so far)
-abbrev pub is_plain : Listed → Parts → Bool
-is_plain r v = not r.yanked && (length r.requires_dist == 0) && is_blank r.requires_python && not (is_pre v)
+-- the text with the set that was read of it
+abbrev pub python_with : List ℕ → Result (List Clause) VersionFault → Result (Option RequiresPython) SkipCause
+python_with text (Ok clauses) = Ok (Some (record { text = text; set = clauses }))
+python_with text (Err fault) = Err (causes.RequiresPython fault)
 
--- the release of the version that was read, where it can be used
-abbrev pub usable_as : Listed → Result Parts VersionFault → Option Release
-usable_as r (Ok v) = if is_plain r v then Some (record { version = v }) else None
-usable_as r (Err fault) = None
+-- what a text asks of Python: nothing, where it is empty or blank
+abbrev pub python_of : List ℕ → Result (Option RequiresPython) SkipCause
+python_of text = if is_blank text then Ok None else python_with text (set_of text)
 
--- the release, where it can be used
-abbrev pub usable : Listed → Option Release
-usable r = usable_as r (version_of r.version)
+-- the requirement that was read at this place
+abbrev pub required_at : ℕ → Result Wanted Cause → Result Wanted SkipCause
+required_at place (Ok wanted) = Ok wanted
+required_at place (Err cause) = Err (causes.Requirement place cause)
 
--- the release that a value lists, where it can be used
-unfoldable pub release_of : Data → Result (Option Release) Fault
+-- the requirements that texts are, the first of them at this place
+unfoldable pub requirements_from : ℕ → List (List ℕ) → Result (List Wanted) SkipCause
+requirements_from place [] = Ok []
+requirements_from place (text ∷ texts) = do
+  first ← required_at place (requirement_text text)
+  others ← requirements_from (suc place) texts
+  Ok (first ∷ others)
+
+-- whether there is a file to install from
+abbrev pub has_file : Option ReleaseFile → List ReleaseFile → Bool
+has_file (Some sdist) wheels = true
+has_file None (wheel ∷ wheels) = true
+has_file None [] = false
+
+-- a release that has a file
+abbrev pub with_file : Release → Result Release SkipCause
+with_file r = if has_file r.sdist r.wheels then Ok r else Err causes.NoFile
+
+-- the release, or the first cause for which it can't be used
+unfoldable pub usable : Listed → Result Release SkipCause
+usable r = do
+  version ← versioned (version_of r.version)
+  requires_python ← python_of r.requires_python
+  dependencies ← requirements_from 0 r.requires_dist
+  with_file (record { version = version; requires_python = requires_python; dependencies = dependencies; yanked = r.yanked; sdist = sdist_of r.files; wheels = wheels_of r.files })
+
+-- the release that a value lists, or why it can't be used
+unfoldable pub release_of : Data → Result (Result Release SkipCause) Fault
 release_of d = do
   r ← listed_of d
   Ok (usable r)
@@ -63,17 +109,43 @@ newer_cmp r s = version_cmp s.version r.version
 abbrev pub has_version_of : Release → Release → Bool
 has_version_of r s = is_eq (newer_cmp r s)
 
+-- the releases of an array up to a place: those that are kept, newest first, and those that are left out, as they are listed
+pub record Gathered : Type 0 where
+  pub place : ℕ
+  pub releases : List Release
+  pub skipped : List Skipped
+
+abbrev pub nothing : Gathered
+nothing = record { place = 0; releases = []; skipped = [] }
+
+-- the release at this place, left out
+abbrev pub left_out : List ℕ → ℕ → SkipCause → List Skipped
+left_out name place cause = record { name = name; place = place; cause = cause } ∷ []
+
 -- the releases with one more at its place, unless one of an equal version is there
-abbrev pub with_release : List Release → Option Release → List Release
-with_release releases None = releases
-with_release releases (Some r) = insert_key newer_cmp releases r
+abbrev pub with_release : List Release → Result Release SkipCause → List Release
+with_release releases (Ok r) = insert_key newer_cmp releases r
+with_release releases (Err cause) = releases
 
--- the releases that can be used, newest first; of equal versions the first that is listed
-abbrev pub newest_first : List (Option Release) → List Release
-newest_first listed = fold with_release [] listed
+-- what is left out at this place, where these releases are kept before it
+abbrev pub skipped_at : List ℕ → ℕ → List Release → Result Release SkipCause → List Skipped
+skipped_at name place kept (Ok r) = if list_any (has_version_of r) kept then left_out name place causes.Duplicate else []
+skipped_at name place kept (Err cause) = left_out name place cause
 
--- the releases that can be used among those that an array lists, newest first
-unfoldable pub releases_in : Items → Result (List Release) Fault
-releases_in ds = do
+-- one more release of the package
+abbrev pub gather_release : List ℕ → Gathered → Result Release SkipCause → Gathered
+gather_release name g r = record {
+  place = g.place + 1;
+  releases = with_release g.releases r;
+  skipped = g.skipped ++ skipped_at name g.place g.releases r;
+}
+
+-- what was gathered
+abbrev pub kept : Gathered → ReadReleases
+kept g = record { releases = g.releases; skipped = g.skipped }
+
+-- the releases of a package that an array lists
+unfoldable pub releases_in : List ℕ → Items → Result ReadReleases Fault
+releases_in name ds = do
   listed ← each_from release_of 0 ds
-  Ok (newest_first listed)
+  Ok (kept (fold (gather_release name) nothing listed))

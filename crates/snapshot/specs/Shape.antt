@@ -7,7 +7,7 @@ use Rattle.snapshot.specs.declared.fault.Fault.TheVariants.{NotJson, Shape, Dupl
 
 infixl 10 ◌>>=◌
 -- the next step, unless this one has a fault
-abbrev pub ◌>>=◌ : {A B : Type 0} → Result A Fault → (A → Result B Fault) → Result B Fault
+abbrev pub ◌>>=◌ : {A B E : Type 0} → Result A E → (A → Result B E) → Result B E
 (Ok x) >>= f = f x
 (Err e) >>= f = Err e
 

@@ -1,17 +1,28 @@
 //! The index: the releases that a lock may choose from, read from a JSON snapshot.
 #![tactic(auto)]
 
+mod chosen;
 mod fault;
+mod file;
+mod files;
+mod form;
 pub mod laws;
+mod listed;
 mod package;
 mod packages;
+mod python;
 mod release;
 mod releases;
 mod shape;
+mod skipped;
 mod snapshot;
 #[cfg(test)]
 mod tests;
+mod usable;
 
 pub use crate::fault::Fault;
+pub use crate::file::ReleaseFile;
+pub use crate::python::RequiresPython;
 pub use crate::release::Release;
+pub use crate::skipped::{SkipCause, Skipped};
 pub use crate::snapshot::Snapshot;

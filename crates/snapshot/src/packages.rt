@@ -2,13 +2,14 @@
 
 ghost use Rattle.std.specs.Prelude.{codes};
 ghost use Rattle.serde_json.specs.View.{items_view, view};
-ghost use Rattle.snapshot.specs.Packages.{as_name, as_one, package_of, packages_of};
-ghost use Rattle.snapshot.specs.Shape.{Gives, below, each_from, field, place_path, required};
+ghost use Rattle.snapshot.specs.Packages.{as_name, as_one, package_of, packages_in, packages_of};
+ghost use Rattle.snapshot.specs.Shape.{Gives, below, field, place_path, required};
 
 use crate::fault::Fault;
-use crate::package::Package;
-use crate::releases::releases_of;
+use crate::package::{Package, ReadPackage, ReadPackages};
+use crate::releases::{ReadReleases, releases_of};
 use crate::shape::{array_at, below_key, below_place, check_object, misshapen, text_at};
+use lists::Seq;
 use pep508::{Cause, Name};
 use serde_json::Value;
 use std::alloc::Global;
@@ -29,33 +30,43 @@ fn name_of(alloc: Global, object: &Value) -> Result<Name, Fault>
 
 /// The package that a value lists.
 #[tactic(auto, unfolding(crate::specs::Packages::package_of))]
-fn package_of(alloc: Global, value: &Value) -> Result<Package, Fault>
+fn package_of(alloc: Global, value: &Value) -> Result<ReadPackage, Fault>
     ensures { Gives (λ p. p) (package_of (view value.now)) result }
 {
     check_object(alloc, value)?;
     let name = name_of(alloc, value)?;
     let listed = array_at(alloc, value, "releases")?;
-    let releases = below_key(alloc, "releases", releases_of(alloc, listed))?;
-    Ok(Package { name, releases })
+    let ReadReleases { releases, skipped } = below_key(
+        alloc,
+        "releases",
+        releases_of(alloc, &name, listed),
+    )?;
+    let kept = Package { name, releases };
+    Ok(ReadPackage { kept, skipped })
 }
 
 /// The package that the value at `place` lists.
-fn package_at_place(alloc: Global, place: usize, value: &Value) -> Result<Package, Fault>
+fn package_at_place(alloc: Global, place: usize, value: &Value) -> Result<ReadPackage, Fault>
     ensures { Gives (λ p. p) (below (place_path place) (package_of (view value.now))) result }
 {
     below_place(alloc, place, package_of(alloc, value))
 }
 
 /// The packages that the values list.
-fn listed_packages(alloc: Global, values: &[Value]) -> Result<Vec<Package>, Fault>
-    ensures { Gives (λ packages. packages.items) (each_from package_of 0 (items_view values.now)) result }
+fn listed_packages(alloc: Global, values: &[Value]) -> Result<ReadPackages, Fault>
+    ensures { Gives (λ p. p) (packages_in (items_view values.now)) result }
 {
     let mut packages = Vec::new(alloc);
+    let mut all_skipped = Vec::new(alloc);
     for place in 0..values.len() {
-        let package = package_at_place(alloc, place, &values[place])?;
-        packages.push(package)?;
+        let ReadPackage { kept, skipped } = package_at_place(alloc, place, &values[place])?;
+        packages.push(kept)?;
+        all_skipped.append(&mut skipped.into_vec())?;
     }
-    Ok(packages)
+    Ok(ReadPackages {
+        packages: Seq::from_vec(packages),
+        skipped: Seq::from_vec(all_skipped),
+    })
 }
 
 /// Asks for version 1 of the format.
@@ -70,8 +81,8 @@ fn check_format(alloc: Global, index: &Value) -> Result<(), Fault>
 
 /// The packages of an index, in its order.
 #[tactic(auto, unfolding(crate::specs::Packages::packages_of))]
-pub(crate) fn packages_of(alloc: Global, index: &Value) -> Result<Vec<Package>, Fault>
-    ensures { Gives (λ packages. packages.items) (packages_of (view index.now)) result }
+pub(crate) fn packages_of(alloc: Global, index: &Value) -> Result<ReadPackages, Fault>
+    ensures { Gives (λ p. p) (packages_of (view index.now)) result }
 {
     check_object(alloc, index)?;
     check_format(alloc, index)?;

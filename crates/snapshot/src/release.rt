@@ -2,29 +2,85 @@
 
 ghost use Rattle.std.specs.Prelude.{◌≡◌, refl};
 ghost use Rattle.std.specs.Cmp.{eq_by_cmp_equiv, partial_equiv_from_equiv, partial_order_from_total};
+ghost use Rattle.std.specs.Option.{option_copied};
 ghost use Rattle.std.specs.Ordering.{as_partial_cmp, eq_by_cmp};
 
+use crate::chosen::Chosen;
+use crate::file::ReleaseFile;
+use crate::python::RequiresPython;
+use lists::Seq;
 use pep440::Version;
+use pep508::Requirement;
 use std::cmp::Ordering;
 use std::marker::Model;
 
-/// A release that a lock may choose.
-#[derive(Debug, PartialEq, Eq)]
+/// A release that can be used.
 pub struct Release {
     version: Version,
+    requires_python: Option<RequiresPython>,
+    dependencies: Seq<Requirement>,
+    yanked: bool,
+    sdist: Option<ReleaseFile>,
+    wheels: Seq<ReleaseFile>,
 }
 
 impl Drop for Release {
     fn drop(self) {
-        let Release { version: _ } = self;
+        let Release {
+            version: _,
+            requires_python: _,
+            dependencies: _,
+            yanked: _,
+            sdist: _,
+            wheels: _,
+        } = self;
     }
 }
 
+impl Model for Release {
+    ghost use Rattle.std.specs.Coded.{codes};
+    ghost use Rattle.markers.specs.MarkerCode.{tree_code};
+    ghost use Rattle.snapshot.specs.Release.{Release};
+
+    ghost Value = { Release };
+
+    ghost coded = { Prim.hlevel (codes, tree_code) };
+
+    ghost view = { λ r. record {
+      version = r.version;
+      requires_python = r.requires_python;
+      dependencies = r.dependencies;
+      yanked = r.yanked;
+      sdist = r.sdist;
+      wheels = r.wheels;
+    } };
+}
+
 impl Release {
-    pub(crate) fn new(version: Version) -> Release
-        ensures { result.version ≡ version }
+    pub(crate) fn new(
+        version: Version,
+        requires_python: Option<RequiresPython>,
+        dependencies: Seq<Requirement>,
+        yanked: bool,
+        files: Chosen,
+    ) -> Release
+        ensures { result ≡ record {
+          version = version;
+          requires_python = requires_python;
+          dependencies = dependencies;
+          yanked = yanked;
+          sdist = files.sdist;
+          wheels = files.wheels;
+        } }
     {
-        Release { version }
+        Release {
+            version,
+            requires_python,
+            dependencies,
+            yanked,
+            sdist: files.sdist,
+            wheels: files.wheels,
+        }
     }
 
     pub fn version(&self) -> &Version
@@ -32,15 +88,41 @@ impl Release {
     {
         &self.version
     }
-}
 
-/// A release as the index lists it, its texts lent by the JSON value.
-#[derive(Drop)]
-pub(crate) struct Listed<'v> {
-    pub(crate) version: &'v str,
-    pub(crate) requires_python: &'v str,
-    pub(crate) requires_dist: Vec<&'v str>,
-    pub(crate) yanked: bool,
+    /// The Python versions that it asks for; none where it asks for none.
+    pub fn requires_python(&self) -> Option<&RequiresPython>
+        ensures { option_copied result ≡ self.now.requires_python }
+    {
+        self.requires_python.as_ref()
+    }
+
+    /// What it depends on, in the order in which the index lists it.
+    pub fn dependencies(&self) -> &[Requirement]
+        ensures { result.now ≡ self.now.dependencies }
+    {
+        self.dependencies.as_slice()
+    }
+
+    /// Whether it was taken back (PEP 592).
+    pub fn yanked(&self) -> bool
+        ensures { result ≡ self.now.yanked }
+    {
+        self.yanked
+    }
+
+    /// The source distribution, if there is one.
+    pub fn sdist(&self) -> Option<&ReleaseFile>
+        ensures { option_copied result ≡ self.now.sdist }
+    {
+        self.sdist.as_ref()
+    }
+
+    /// The wheels by name, in the order of bytes; no two have one name.
+    pub fn wheels(&self) -> &[ReleaseFile]
+        ensures { result.now ≡ self.now.wheels }
+    {
+        self.wheels.as_slice()
+    }
 }
 
 /// A release in the order of a package's releases, in which the newest is first.
@@ -50,9 +132,13 @@ pub(crate) struct Newest {
 }
 
 impl Model for Newest {
-    ghost use Rattle.snapshot.specs.declared.release.Release.{Release};
+    ghost use Rattle.std.specs.Coded.{codes};
+    ghost use Rattle.markers.specs.MarkerCode.{tree_code};
+    ghost use Rattle.snapshot.specs.Release.{Release};
 
     ghost Value = { Release };
+
+    ghost coded = { Prim.hlevel (codes, tree_code) };
 
     ghost view = { λ n. n.release };
 }
@@ -116,6 +202,6 @@ impl Ord for Newest {
     ghost matches_eq = { λ a b. refl };
 
     fn cmp(&self, other: &Newest) -> Ordering {
-        other.release.version.cmp(&self.release.version)
+        other.release.version().cmp(self.release.version())
     }
 }

@@ -3,26 +3,31 @@
 ghost use Rattle.std.specs.Prelude.{◌≡◌, ◌⊎◌, Err, IfErr, IfOk, None, []};
 ghost use Rattle.lists.specs.Answers.{Answers};
 ghost use Rattle.serde_json.specs.View.{view};
-ghost use Rattle.snapshot.specs.Packages.{index_of, json_of, releases_of, repeated_from, snapshot_of};
+ghost use Rattle.snapshot.specs.Packages.{json_of, releases_of, repeated_from, snapshot_of, unless_repeated};
 ghost use Rattle.snapshot.specs.Places.{ArePlaces};
 ghost use Rattle.snapshot.specs.Shape.{Gives};
 ghost use Rattle.snapshot.specs.declared.fault.Fault.TheVariants.{OutOfMemory};
 
 use crate::fault::Fault;
-use crate::package::Package;
+use crate::package::{Package, ReadPackages};
 use crate::packages::packages_of;
 use crate::release::Release;
+use crate::skipped::Skipped;
 use lists::Seq;
 use pep508::Name;
 use serde_json::Value;
+use sha2::{Digest, Sha256};
 use std::alloc::Global;
 use std::collections::BTreeMap;
 use std::marker::Model;
 
-/// The index: packages, each with its name and the releases of it that a lock may choose, newest
-/// first. In a clause it is its packages, in the order in which the JSON text lists them.
+/// The index: packages, each with its name and the releases of it that can be used, newest
+/// first. In a clause it is its packages and the releases that are left out, in the order in which the
+/// JSON text lists them, and the digest of its bytes.
 pub struct Snapshot {
     packages: Seq<Package>,
+    skipped: Seq<Skipped>,
+    digest: [u8; 32],
     places: BTreeMap<String, usize>,
 }
 
@@ -30,18 +35,24 @@ impl Drop for Snapshot {
     fn drop(self) {
         let Snapshot {
             packages: _,
+            skipped: _,
+            digest: _,
             places: _,
         } = self;
     }
 }
 
 impl Model for Snapshot {
+    ghost use Rattle.std.specs.Coded.{codes};
+    ghost use Rattle.markers.specs.MarkerCode.{tree_code};
     ghost use Rattle.snapshot.specs.Packages.{Index};
     ghost use Rattle.snapshot.specs.Places.{ArePlaces};
 
     ghost Value = { Index };
 
-    ghost view = { λ s. record { packages = s.packages } };
+    ghost coded = { Prim.hlevel (codes, tree_code) };
+
+    ghost view = { λ s. record { packages = s.packages; skipped = s.skipped; digest = s.digest } };
 
     ghost invariant = { λ s. ArePlaces s.places s.packages };
 }
@@ -66,7 +77,7 @@ fn json_of(alloc: Global, bytes: &[u8]) -> Result<Value, Fault>
 fn places_of(alloc: Global, packages: &[Package]) -> Result<BTreeMap<String, usize>, Fault>
     ensures distinct { IfOk result (λ _. repeated_from [] packages.now ≡ None) }
     ensures places { IfOk result (λ places. ArePlaces places packages.now) }
-    ensures err { IfErr result (λ e. (e ≡ OutOfMemory) ⊎ (index_of packages.now ≡ Err e)) }
+    ensures err { IfErr result (λ e. (e ≡ OutOfMemory) ⊎ (unless_repeated (repeated_from [] packages.now) ≡ Err e)) }
 {
     let mut places = BTreeMap::new(alloc);
     for place in 0..packages.len() {
@@ -90,15 +101,18 @@ impl Snapshot {
         ensures { Answers OutOfMemory (snapshot_of bytes.now) result }
     {
         let value = json_of(alloc, bytes)?;
-        let packages = packages_of(alloc, &value)?;
-        let places = places_of(alloc, packages.as_slice())?;
+        let read = packages_of(alloc, &value)?;
+        let places = places_of(alloc, read.packages.as_slice())?;
+        let ReadPackages { packages, skipped } = read;
         Ok(Snapshot {
-            packages: Seq::from_vec(packages),
+            packages,
+            skipped,
+            digest: Sha256::digest(bytes),
             places,
         })
     }
 
-    /// The releases of a package that a lock may choose, newest first; none where the index has
+    /// The releases of a package that can be used, newest first; none where the index has
     /// no package of that name.
     pub fn releases(&self, name: &Name) -> &[Release]
         ensures { result.now ≡ releases_of name.now self.now.packages }
@@ -107,5 +121,19 @@ impl Snapshot {
             Some(place) => self.packages.as_slice()[*place].releases.as_slice(),
             None => &[],
         }
+    }
+
+    /// The releases that are left out, in the order of the index.
+    pub fn skipped(&self) -> &[Skipped]
+        ensures { result.now ≡ self.now.skipped }
+    {
+        self.skipped.as_slice()
+    }
+
+    /// The SHA-256 digest of the bytes that were read.
+    pub fn digest(&self) -> [u8; 32]
+        ensures { result ≡ self.now.digest }
+    {
+        self.digest
     }
 }

@@ -17,5 +17,5 @@ returns-in_err-lock_name-clause-err c =
     let p = err_from_is_err_and c.from_residual.result c.from_residual.ensures.1 in
     rw (p.1, p.2) (elim c.in_err-lock_name.ensures.err [
       | inl memory ↦ inl memory
-      | inr none ↦ inr (none.0, HasNoLock-whole _ _ _ _ none.1)
+      | inr none ↦ inr (none.0, HasNoLock-whole _ _ _ c.args.snapshot.now none.1)
     ])

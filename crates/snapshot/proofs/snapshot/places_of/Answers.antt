@@ -1,10 +1,11 @@
 use Rattle.std.proofs.Common.{◌≡◌, ◌∙◌, sym, ap, refl, true, false, take, inr, List, ℕ, Result, Err}
+use Rattle.std.specs.Bool.{⊤}
 use Rattle.std.proofs.lemmas.List.{take_all}
 use Rattle.std.proofs.Math.ListN.{drop_of_length-le}
 use Rattle.snapshot.specs.declared.fault.Fault.{Fault}
 use Rattle.snapshot.specs.declared.fault.Fault.TheVariants.{DuplicatePackage}
 use Rattle.snapshot.specs.declared.package.Package.{Package}
-use Rattle.snapshot.specs.Packages.{Index, index_unless}
+use Rattle.snapshot.specs.Packages.{unless_repeated}
 use Rattle.snapshot.proofs.PlaceFacts.{ArePlaces-inserted, names-before, repeated-more, repeated-here}
 use Rattle.snapshot.proofs.snapshot.places_of.Goals as goal
 
@@ -18,7 +19,7 @@ returns-then-contains_key-clause-err c =
     let some = names-before c.loop-place.places (take c.loop-place.place c.args.packages.now) p c.normal.result.now c.contains_key.result true c.loop-place.invariant.places named c.contains_key.ensures c.if-contains_key.true in
     let here = repeated-here c.args.packages.now c.loop-place.place p c.loop-place-test.true c.index-packages-place.is some in
     let copied : p.name ≡ c.in_ok-clone.field-0 = ap (λ (q : Package). q.name) c.index-packages-place.is ∙ sym c.in_ok-clone.ensures.cases in
-    inr (ap (index_unless c.args.packages.now) (sym c.loop-place.invariant.distinct ∙ here) ∙ ap (λ (name : List ℕ). let r : Result Index Fault = Err (DuplicatePackage name) in r) copied)
+    inr (ap unless_repeated (sym c.loop-place.invariant.distinct ∙ here) ∙ ap (λ (name : List ℕ). let r : Result ⊤ Fault = Err (DuplicatePackage name) in r) copied)
 
 pub loop-place-preserved : goal.loop-place-preserved
 loop-place-preserved c =

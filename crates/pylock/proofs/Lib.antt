@@ -1,0 +1,9 @@
+pub mod OrderFacts
+pub mod TableFacts
+pub mod PackageFacts
+pub mod WriteFacts
+pub mod FormFacts
+pub mod ReadFacts
+pub mod BackFacts
+pub mod DepthFacts
+pub mod TextFacts

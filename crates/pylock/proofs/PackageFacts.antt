@@ -1,0 +1,60 @@
+-- What holds of the parts of an entry.
+use Rattle.std.proofs.Common.{◌≡◌, ◌^◌, ◌&&◌, true, false, Bool, List, [], ◌∷◌, Option, Some, None, option_to_list, nat_lt, refl, codes, length, map, not, ◌==◌, ◌||◌, is_some}
+use Rattle.std.proofs.lemmas.Bool.{and_parts}
+use Rattle.std.specs.List.{list_all}
+use Rattle.std.specs.Option.{option_map_or}
+use Rattle.pylock.specs.declared.file.FileEntry.{FileEntry}
+use Rattle.pylock.specs.Files.{has_ending, is_digest, is_file, is_sdist, is_wheel}
+use Rattle.pylock.specs.Order.{rises}
+use Rattle.pylock.specs.Packages.{Package, are_dependencies, are_wheels, is_normal, is_package, is_python}
+
+pub all_pass : {X : Type 0} (xs : List X) → list_all (λ _. true) xs ≡ true
+all_pass [] = refl
+all_pass (x ∷ xs) = all_pass xs
+
+-- the parts of an entry, one by one
+pub record Parts (p : Package) : Type 0 where
+  pub name : is_normal p.name ≡ true
+  pub python : option_map_or is_python p.requires_python true ≡ true
+  pub dependencies : are_dependencies p.name p.dependencies ≡ true
+  pub sdist : option_map_or is_sdist p.sdist true ≡ true
+  pub wheels : are_wheels p.wheels ≡ true
+  pub file : (is_some p.sdist || not (length p.wheels == 0)) ≡ true
+
+split : (a b c d e f : Bool) → (a && b && c && d && e && f) ≡ true → (a ≡ true) × (b ≡ true) × (c ≡ true) × (d ≡ true) × (e ≡ true) × (f ≡ true)
+split true true true true true true h = (refl, refl, refl, refl, refl, refl)
+split true true true true true false h = absurd cc
+split true true true true false f h = absurd cc
+split true true true false e f h = absurd cc
+split true true false d e f h = absurd cc
+split true false c d e f h = absurd cc
+split false b c d e f h = absurd cc
+
+pub parts : (p : Package) → is_package p ≡ true → Parts p
+parts p h =
+    let s = split (is_normal p.name) (option_map_or is_python p.requires_python true) (are_dependencies p.name p.dependencies) (option_map_or is_sdist p.sdist true) (are_wheels p.wheels) (is_some p.sdist || not (length p.wheels == 0)) h in
+    record { name = s.0; python = s.1; dependencies = s.2; sdist = s.3; wheels = s.4; file = s.5 }
+
+abbrev pub fits : FileEntry → Bool
+fits f = nat_lt f.size (2 ^ 63)
+
+wheel_fits : (f : FileEntry) → is_wheel f ≡ true → fits f ≡ true
+wheel_fits f h = (and_parts (fits f) (is_digest f.sha256) (and_parts (has_ending (codes ".whl") f.name) (is_file f) h).1).0
+
+sdist_fits : (f : FileEntry) → is_sdist f ≡ true → fits f ≡ true
+sdist_fits f h = (and_parts (fits f) (is_digest f.sha256) (and_parts (has_ending (codes ".tar.gz") f.name || has_ending (codes ".zip") f.name) (is_file f) h).1).0
+
+all_fit : (fs : List FileEntry) → list_all is_wheel fs ≡ true → list_all fits fs ≡ true
+all_fit [] h = refl
+all_fit (f ∷ fs) h = let h2 = and_parts (is_wheel f) (list_all is_wheel fs) h in rw (wheel_fits f h2.0) (all_fit fs h2.1)
+
+-- the sizes of the files of an entry fit
+pub wheels_fit : (p : Package) → is_package p ≡ true → list_all fits p.wheels ≡ true
+wheels_fit p h = all_fit p.wheels (and_parts (rises (map (λ f. f.name) p.wheels)) (list_all is_wheel p.wheels) (parts p h).wheels).1
+
+optional_fits : (o : Option FileEntry) → option_map_or is_sdist o true ≡ true → list_all fits (option_to_list o) ≡ true
+optional_fits None h = refl
+optional_fits (Some f) h = rw (sdist_fits f h) refl
+
+pub sdist_fit : (p : Package) → is_package p ≡ true → list_all fits (option_to_list p.sdist) ≡ true
+sdist_fit p h = optional_fits p.sdist (parts p h).sdist

@@ -1,0 +1,78 @@
+-- TOML values of a wanted form.
+use Rattle.std.specs.Prelude.{◌≡◌, ◌⊎◌, ℕ, List, [], ◌∷◌, Option, Some, None, is_some, option_and_then, ℤ, pos, negsuc, Result, Ok, Err, if◌then◌else◌}
+use Rattle.std.specs.Option.{option_map_or}
+use Rattle.std.specs.Str.{bytes_eq}
+use Rattle.toml.specs.Data.{Data, Items, no_items, item, Members, no_members, member, as_array, as_integer, as_str, as_table, get_member}
+use Rattle.pylock.specs.declared.fault.Flaw.{Flaw}
+use Rattle.pylock.specs.declared.fault.Flaw.TheVariants.{OtherForm, OutOfMemory}
+
+infixl 10 ◌>>=◌
+-- the next step, unless this one has a fault
+abbrev pub ◌>>=◌ : {A B E : Type 0} → Result A E → (A → Result B E) → Result B E
+(Ok x) >>= f = f x
+(Err e) >>= f = Err e
+
+-- what a call answers, seen by view, is what is expected, unless it found no memory
+abbrev pub Gives : {X Y : Type 0} → (X → Y) → Result Y Flaw → Result X Flaw → Type 0
+Gives view expected (Ok x) = expected ≡ Ok (view x)
+Gives view expected (Err e) = (e ≡ OutOfMemory) ⊎ (expected ≡ Err e)
+
+-- what is there
+abbrev pub found : {A : Type 0} → Option A → Result A Flaw
+found None = Err OtherForm
+found (Some x) = Ok x
+
+-- the known keys behind this one
+unfoldable pub after : List ℕ → List (List ℕ) → Option (List (List ℕ))
+after key [] = None
+after key (k ∷ ks) = if bytes_eq k key then Some ks else after key ks
+
+-- the first key that isn't known; the known keys and those of a table stand in the order of their bytes
+unfoldable pub unknown_in : List (List ℕ) → Members → Option (List ℕ)
+unknown_in known no_members = None
+unknown_in known (member key d ms) = option_map_or (λ rest. unknown_in rest ms) (after key known) (Some key)
+
+-- the members, where each key is known
+abbrev pub all_known : List (List ℕ) → Members → Option Members
+all_known known ms = if is_some (unknown_in known ms) then None else Some ms
+
+-- a table of known keys alone
+abbrev pub table_with : List (List ℕ) → Data → Result Members Flaw
+table_with known d = found (option_and_then (all_known known) (as_table d))
+
+-- a text
+abbrev pub text_of : Data → Result (List ℕ) Flaw
+text_of d = found (as_str d)
+
+-- the text at a key
+abbrev pub text_at : List ℕ → Members → Result (List ℕ) Flaw
+text_at key ms = found (option_and_then as_str (get_member key ms))
+
+-- a number that isn't negative
+abbrev pub natural : ℤ → Option ℕ
+natural (pos n) = Some n
+natural (negsuc n) = None
+
+-- the number at a key
+abbrev pub size_at : List ℕ → Members → Result ℕ Flaw
+size_at key ms = found (option_and_then natural (option_and_then as_integer (get_member key ms)))
+
+-- what may be absent
+abbrev pub optionally : {A : Type 0} → (Data → Result A Flaw) → Option Data → Result (Option A) Flaw
+optionally form None = Ok None
+optionally form (Some d) = form d >>= λ x. Ok (Some x)
+
+-- each item of an array
+unfoldable pub each : {A : Type 0} → (Data → Result A Flaw) → Items → Result (List A) Flaw
+each form no_items = Ok []
+each form (item d ds) = form d >>= λ x. each form ds >>= λ xs. Ok (x ∷ xs)
+
+-- an array of one item at least
+abbrev pub not_empty : Items → Option Items
+not_empty no_items = None
+not_empty (item d ds) = Some (item d ds)
+
+-- the items of a list that is absent where it is empty
+abbrev pub some_each : {A : Type 0} → (Data → Result A Flaw) → Option Data → Result (List A) Flaw
+some_each form None = Ok []
+some_each form (Some d) = found (option_and_then not_empty (as_array d)) >>= λ ds. each form ds

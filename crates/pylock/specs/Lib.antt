@@ -1,0 +1,8 @@
+pub mod Order
+pub mod Files
+pub mod Packages
+pub mod Locks
+pub mod Tables
+pub mod Writing
+pub mod Forms
+pub mod Reading

@@ -1,0 +1,22 @@
+//! The lock file `pylock.toml` (PEP 751): typed locks, and the TOML table of each.
+#![tactic(auto)]
+
+mod checks;
+mod entry;
+mod fault;
+mod file;
+mod forms;
+mod from_table;
+mod lock;
+mod order;
+mod reading;
+mod table;
+#[cfg(test)]
+mod tests;
+mod text;
+mod writing;
+
+pub use crate::entry::Entry;
+pub use crate::fault::Fault;
+pub use crate::file::FileEntry;
+pub use crate::lock::Lock;

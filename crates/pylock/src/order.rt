@@ -1,0 +1,35 @@
+// Lists in the order of their names.
+
+ghost use Rattle.std.specs.Prelude.{◌≡◌, List, ℕ, map};
+ghost use Rattle.pylock.specs.Order.{rises};
+
+use pep508::Name;
+
+/// What has a text by which it is put in order.
+pub(crate) trait Named {
+    ghost named: { Self → List ℕ };
+
+    fn text(&self) -> &str
+        ensures { result.now ≡ named self.now };
+}
+
+impl Named for Name {
+    ghost named = { λ n. n };
+
+    fn text(&self) -> &str {
+        self.normal()
+    }
+}
+
+/// Whether each item comes before the next one, by the bytes of their texts.
+pub(crate) fn rises<T: Named>(items: &[T]) -> bool
+    ensures { result ≡ rises (map T.named items.now) }
+{
+    for place in 1..items.len() {
+        let before = items[place - 1].text();
+        if !before.cmp(&items[place].text()).is_lt() {
+            return false;
+        }
+    }
+    true
+}

@@ -1,0 +1,177 @@
+// The TOML table of a lock.
+
+ghost use Rattle.std.specs.Prelude.{◌≡◌, ◌^◌, ◌∷◌, [], IfOk, Ok, nat_lt, string_bytes, true};
+ghost use Rattle.pep440.specs.Canonical.{canonical};
+ghost use Rattle.toml.specs.Data.{string};
+ghost use Rattle.toml.specs.View.{table_view, view};
+ghost use Rattle.pylock.specs.Reading.{lock_in};
+ghost use Rattle.pylock.specs.Tables.{array_of, dependency_data, file_data, package_data, table_of, tool_data};
+
+use crate::entry::Entry;
+use crate::file::FileEntry;
+use crate::lock::Lock;
+use crate::writing::{
+    Written, array_value, only_key, put, put_some, some_array, some_value, text_value,
+};
+use lists::Text;
+use pep440::Version;
+use pep440::laws::a_canonical_text_is_read;
+use pep508::Name;
+use std::alloc::{AllocError, Global};
+use toml::{Table, Value};
+
+impl Written for Text {
+    ghost form = { string };
+
+    ghost fits = { λ _. true };
+
+    fn to_value(&self, alloc: Global) -> Result<Value, AllocError> {
+        text_value(alloc, self.as_str())
+    }
+}
+
+impl Written for Name {
+    ghost form = { dependency_data };
+
+    ghost fits = { λ _. true };
+
+    #[tactic(auto, unfolding(crate::specs::Tables::dependency_data))]
+    fn to_value(&self, alloc: Global) -> Result<Value, AllocError> {
+        let name = text_value(alloc, self.normal())?;
+        only_key(alloc, "name", name)
+    }
+}
+
+impl Written for FileEntry {
+    ghost form = { file_data };
+
+    ghost fits = { λ f. nat_lt f.size (2 ^ 63) };
+
+    #[tactic(auto, unfolding(crate::specs::Tables::file_data))]
+    fn to_value(&self, alloc: Global) -> Result<Value, AllocError> {
+        let mut table = Table::new(alloc);
+        let sha256 = text_value(alloc, self.sha256.as_str())?;
+        put(
+            alloc,
+            &mut table,
+            "hashes",
+            only_key(alloc, "sha256", sha256)?,
+        )?;
+        put(
+            alloc,
+            &mut table,
+            "name",
+            text_value(alloc, self.name.as_str())?,
+        )?;
+        put(alloc, &mut table, "size", Value::Integer(self.size as i64))?;
+        put(
+            alloc,
+            &mut table,
+            "url",
+            text_value(alloc, self.url.as_str())?,
+        )?;
+        Ok(Value::Table(table))
+    }
+}
+
+impl Written for Entry {
+    ghost form = { package_data };
+
+    ghost fits = { λ _. true };
+
+    #[tactic(auto, unfolding(crate::specs::Tables::package_data))]
+    fn to_value(&self, alloc: Global) -> Result<Value, AllocError> {
+        self.is_lawful();
+        let mut table = Table::new(alloc);
+        let dependencies = some_array(alloc, self.dependencies())?;
+        put_some(alloc, &mut table, "dependencies", dependencies)?;
+        put(
+            alloc,
+            &mut table,
+            "name",
+            text_value(alloc, self.name().normal())?,
+        )?;
+        let requires_python = some_value(alloc, self.requires_python())?;
+        put_some(alloc, &mut table, "requires-python", requires_python)?;
+        put_some(alloc, &mut table, "sdist", some_value(alloc, self.sdist())?)?;
+        let version = canonical_text(alloc, self.version())?;
+        put(alloc, &mut table, "version", Value::String(version))?;
+        put_some(
+            alloc,
+            &mut table,
+            "wheels",
+            some_array(alloc, self.wheels())?,
+        )?;
+        Ok(Value::Table(table))
+    }
+}
+
+/// The canonical text of a version.
+fn canonical_text(alloc: Global, version: &Version) -> Result<String, AllocError>
+    ensures { IfOk result (λ text. string_bytes text ≡ canonical version.now) }
+{
+    match version.canonical(alloc) {
+        Ok(text) => Ok(text),
+        Err(_) => Err(AllocError),
+    }
+}
+
+/// The table of the tool's own keys.
+#[tactic(auto, unfolding(crate::specs::Tables::tool_data))]
+fn tool_value(alloc: Global, snapshot: [u8; 32]) -> Result<Value, AllocError>
+    ensures { IfOk result (λ v. view v ≡ tool_data snapshot) }
+{
+    let digest = Value::String(hex::encode(alloc, snapshot)?);
+    only_key(alloc, "reqlock", only_key(alloc, "snapshot", digest)?)
+}
+
+/// The array of one text.
+fn environments_value(alloc: Global, environment: &str) -> Result<Value, AllocError>
+    ensures { IfOk result (λ v. view v ≡ array_of string (environment.now ∷ [])) }
+{
+    let mut values = Vec::new(alloc);
+    values.push(text_value(alloc, environment)?)?;
+    Ok(Value::Array(values))
+}
+
+/// The table of a lock, key by key.
+fn table_of(alloc: Global, lock: &Lock) -> Result<Table, AllocError>
+    ensures { IfOk result (λ t. table_view t ≡ table_of lock.now) }
+{
+    let mut table = Table::new(alloc);
+    put(
+        alloc,
+        &mut table,
+        "created-by",
+        text_value(alloc, "reqlock")?,
+    )?;
+    let environments = environments_value(alloc, lock.environment())?;
+    put(alloc, &mut table, "environments", environments)?;
+    put(alloc, &mut table, "lock-version", text_value(alloc, "1.0")?)?;
+    put(
+        alloc,
+        &mut table,
+        "packages",
+        array_value(alloc, lock.entries())?,
+    )?;
+    put(
+        alloc,
+        &mut table,
+        "tool",
+        tool_value(alloc, lock.snapshot())?,
+    )?;
+    Ok(table)
+}
+
+impl Lock {
+    /// The TOML table of the lock (PEP 751). It is read back as this lock.
+    pub fn to_table(&self, alloc: Global) -> Result<Table, AllocError>
+        ensures table { IfOk result (λ t. table_view t ≡ table_of self.now) }
+        ensures reads_back { IfOk result (λ t. lock_in (table_view t) ≡ Ok self.now) }
+    {
+        self.is_lawful();
+        a_canonical_text_is_read();
+        let table = table_of(alloc, self)?;
+        Ok(table)
+    }
+}

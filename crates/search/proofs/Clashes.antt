@@ -1,0 +1,140 @@
+-- What a clash, or no clash, says of the choices.
+use Rattle.std.proofs.Common.{ℕ, zero, suc, ◌<◌, ◌≤◌, ◌+◌, length, take, get_or, arith, add-one, List, [], ◌∷◌, ◌≡◌, ◌⊎◌, inl, inr, Contains, refl, sym, ◌∙◌, ap, subst, Some, None, Option, Bool, true, false, not, ◌||◌}
+use Rattle.std.specs.List.{list_any}
+use Rattle.search.proofs.Lists.{Contains-here, Contains-there, Contains-cons_cases, Contains-nil, take-whole}
+use Rattle.search.proofs.Theory.{clash-line, clash-dependency}
+use Rattle.search.specs.Rules.{Rules, IsLawful}
+use Rattle.search.specs.Solutions.{Needed, by_line, by_dependency, version_in, Pin}
+use Rattle.search.specs.Search.{IsRefuted, IsComplete, AllFit, AreNeeded, NoneFree, clash_at, clash_in, node_clash_at, node_clash, any_clash}
+
+or-true : (a b : Bool) → (a || b) ≡ true → (a ≡ true) ⊎ (b ≡ true)
+or-true true b h = inl refl
+or-true false b h = inr h
+
+or-false : (a b : Bool) → (a || b) ≡ false → (a ≡ false) × (b ≡ false)
+or-false true b h = absurd (cc)
+or-false false b h = (refl, h)
+
+not-true : (b : Bool) → not b ≡ true → b ≡ false
+not-true true h = absurd (cc)
+not-true false h = refl
+
+not-false : (b : Bool) → not b ≡ false → b ≡ true
+not-false true h = refl
+not-false false h = absurd (cc)
+
+any-true : {X : Type 0} (p : X → Bool) (xs : List X) → list_any p xs ≡ true → (x : X) × Contains xs x × (p x ≡ true)
+any-true p [] h = absurd (cc)
+any-true p (x ∷ xs) h = elim (or-true (p x) (list_any p xs) h) [
+  | inl a ↦ (x, Contains-here x xs, a)
+  | inr b ↦ let k : (y : _) × Contains xs y × (p y ≡ true) = any-true p xs b in (k.0, Contains-there x xs k.0 k.1, k.2)
+]
+
+any-false : {X : Type 0} (p : X → Bool) (xs : List X) (x : X) → list_any p xs ≡ false → Contains xs x → p x ≡ false
+any-false p [] x h i = absurd (Contains-nil x i)
+any-false p (y ∷ xs) x h i =
+    let k : (p y ≡ false) × (list_any p xs ≡ false) = or-false (p y) (list_any p xs) h in
+    elim (Contains-cons_cases y xs x i) [ inl e ↦ subst (λ z. p z ≡ false) e k.0 | inr r ↦ any-false p xs x k.1 r ]
+
+clash_at-true : (rules : Rules ℕ ℕ ℕ ℕ) (r : ℕ) (o : Option ℕ) → clash_at rules r o ≡ true → (w : ℕ) × (o ≡ Some w) × (rules.admits r w ≡ false)
+clash_at-true rules r None h = absurd (cc)
+clash_at-true rules r (Some w) h = (w, refl, not-true (rules.admits r w) h)
+
+node_clash_at-true : (rules : Rules ℕ ℕ ℕ ℕ) (chosen : ℕ → Option ℕ) (node : ℕ) (o : Option ℕ) → node_clash_at rules chosen node o ≡ true → (v : ℕ) × (o ≡ Some v) × (list_any (clash_in rules chosen) (rules.wants node v) ≡ true)
+node_clash_at-true rules chosen node None h = absurd (cc)
+node_clash_at-true rules chosen node (Some v) h = (v, refl, h)
+
+line-refuted : (rules : Rules ℕ ℕ ℕ ℕ) (taken : List (Pin ℕ ℕ)) → list_any (clash_in rules (version_in rules.compare taken)) rules.lines ≡ true → IsRefuted rules taken
+line-refuted rules taken h =
+    let chosen : ℕ → Option ℕ = version_in rules.compare taken in
+    let r : (r : ℕ) × Contains rules.lines r × (clash_in rules chosen r ≡ true) = any-true (clash_in rules chosen) rules.lines h in
+    let w : (w : ℕ) × (chosen (rules.name r.0) ≡ Some w) × (rules.admits r.0 w ≡ false) = clash_at-true rules r.0 (chosen (rules.name r.0)) r.2 in
+    clash-line rules taken r.0 w.0 r.1 w.1 w.2
+
+node-refuted : (rules : Rules ℕ ℕ ℕ ℕ) (taken : List (Pin ℕ ℕ)) (nodes : List ℕ) → AreNeeded rules (version_in rules.compare taken) nodes → list_any (node_clash rules (version_in rules.compare taken)) nodes ≡ true → IsRefuted rules taken
+node-refuted rules taken nodes a h =
+    let chosen : ℕ → Option ℕ = version_in rules.compare taken in
+    let n : (n : ℕ) × Contains nodes n × (node_clash rules chosen n ≡ true) = any-true (node_clash rules chosen) nodes h in
+    let v : (v : ℕ) × (chosen (rules.on n.0) ≡ Some v) × (list_any (clash_in rules chosen) (rules.wants n.0 v) ≡ true) = node_clash_at-true rules chosen n.0 (chosen (rules.on n.0)) n.2 in
+    let r : (r : ℕ) × Contains (rules.wants n.0 v.0) r × (clash_in rules chosen r ≡ true) = any-true (clash_in rules chosen) (rules.wants n.0 v.0) v.2 in
+    let w : (w : ℕ) × (chosen (rules.name r.0) ≡ Some w) × (rules.admits r.0 w ≡ false) = clash_at-true rules r.0 (chosen (rules.name r.0)) r.2 in
+    clash-dependency rules taken n.0 v.0 r.0 w.0 (a.sound n.0 n.1) v.1 r.1 w.1 w.2
+
+-- where something clashes, no solution has what is taken
+pub clash-refuted : (rules : Rules ℕ ℕ ℕ ℕ) (taken : List (Pin ℕ ℕ)) (nodes : List ℕ) → AreNeeded rules (version_in rules.compare taken) nodes → any_clash rules (version_in rules.compare taken) nodes ≡ true → IsRefuted rules taken
+clash-refuted rules taken nodes a h = elim (or-true (list_any (clash_in rules (version_in rules.compare taken)) rules.lines) (list_any (node_clash rules (version_in rules.compare taken)) nodes) h) [
+  | inl b ↦ line-refuted rules taken b
+  | inr b ↦ node-refuted rules taken nodes a b
+]
+
+clash_at-false : (rules : Rules ℕ ℕ ℕ ℕ) (r : ℕ) (o : Option ℕ) (w : ℕ) → clash_at rules r o ≡ false → o ≡ Some w → rules.admits r w ≡ true
+clash_at-false rules r None w h e = absurd (cc)
+clash_at-false rules r (Some v) w h e = let k : v ≡ w = cc in subst (λ x. rules.admits r x ≡ true) k (not-false (rules.admits r v) h)
+
+node_clash_at-false : (rules : Rules ℕ ℕ ℕ ℕ) (chosen : ℕ → Option ℕ) (node : ℕ) (o : Option ℕ) (v : ℕ) → node_clash_at rules chosen node o ≡ false → o ≡ Some v → list_any (clash_in rules chosen) (rules.wants node v) ≡ false
+node_clash_at-false rules chosen node None v h e = absurd (cc)
+node_clash_at-false rules chosen node (Some u) v h e = let k : u ≡ v = cc in subst (λ x. list_any (clash_in rules chosen) (rules.wants node x) ≡ false) k h
+
+-- where nothing does, all that counts is met as far as it is taken
+pub clash-fits : (rules : Rules ℕ ℕ ℕ ℕ) (chosen : ℕ → Option ℕ) (nodes : List ℕ) → AreNeeded rules chosen nodes → any_clash rules chosen nodes ≡ false → AllFit rules chosen
+clash-fits rules chosen nodes a h =
+    let k : (list_any (clash_in rules chosen) rules.lines ≡ false) × (list_any (node_clash rules chosen) nodes ≡ false) = or-false (list_any (clash_in rules chosen) rules.lines) (list_any (node_clash rules chosen) nodes) h in
+    record {
+      lines = λ r i w e. clash_at-false rules r (chosen (rules.name r)) w (any-false (clash_in rules chosen) rules.lines r k.0 i) e;
+      dependencies = λ node v r n at i w e.
+          let none : list_any (clash_in rules chosen) (rules.wants node v) ≡ false = node_clash_at-false rules chosen node (chosen (rules.on node)) v (any-false (node_clash rules chosen) nodes node k.1 (a.whole node n)) at in
+          clash_at-false rules r (chosen (rules.name r)) w (any-false (clash_in rules chosen) (rules.wants node v) r none i) e;
+    }
+
+option_not_none : (o : Option ℕ) → (o ≡ None → ⊥) → (w : ℕ) × (o ≡ Some w)
+option_not_none None h = absurd (h refl)
+option_not_none (Some w) h = (w, refl)
+
+-- where nothing clashes and no needed name is left, all is met
+pub fits-complete : (rules : Rules ℕ ℕ ℕ ℕ) → IsLawful rules → (chosen : ℕ → Option ℕ) (nodes : List ℕ) → AreNeeded rules chosen nodes → AllFit rules chosen → NoneFree rules chosen nodes → IsComplete rules chosen
+fits-complete rules law chosen nodes a f none = record {
+  lines_met = λ r i.
+      let own : (x : ℕ) × Contains (rules.nodes r) x = law.some r in
+      let n : Needed rules chosen own.0 = by_line r own.0 i own.1 in
+      let w : (w : ℕ) × (chosen (rules.on own.0) ≡ Some w) = option_not_none (chosen (rules.on own.0)) (none own.0 (a.whole own.0 n)) in
+      let at : chosen (rules.name r) ≡ Some w.0 = sym (ap chosen (law.own r own.0 own.1)) ∙ w.1 in
+      (w.0, at, f.lines r i w.0 at);
+  dependencies_met = λ node v r k e i.
+      let own : (x : ℕ) × Contains (rules.nodes r) x = law.some r in
+      let n : Needed rules chosen own.0 = by_dependency node v r own.0 k e i own.1 in
+      let w : (w : ℕ) × (chosen (rules.on own.0) ≡ Some w) = option_not_none (chosen (rules.on own.0)) (none own.0 (a.whole own.0 n)) in
+      let at : chosen (rules.name r) ≡ Some w.0 = sym (ap chosen (law.own r own.0 own.1)) ∙ w.1 in
+      (w.0, at, f.dependencies node v r k e i w.0 at);
+}
+
+-- ---- a loop that looks for a clash
+
+or-of-false : (a b : Bool) → a ≡ false → b ≡ false → (a || b) ≡ false
+or-of-false true b h k = absurd (cc)
+or-of-false false b h k = k
+
+or-of-true : (a b : Bool) → b ≡ true → (a || b) ≡ true
+or-of-true true b h = refl
+or-of-true false b h = h
+
+none-taken : (p : ℕ → Bool) (xs : List ℕ) → list_any p (take 0 xs) ≡ false
+none-taken p [] = refl
+none-taken p (x ∷ xs) = refl
+
+any-step : (p : ℕ → Bool) (xs : List ℕ) (i : ℕ) → i < length xs → list_any p (take i xs) ≡ false → p (get_or xs i 0) ≡ false → list_any p (take (suc i) xs) ≡ false
+any-step p [] i l h k = absurd (omega arith)
+any-step p (x ∷ xs) zero l h k = or-of-false (p x) (list_any p (take 0 xs)) k (none-taken p xs)
+any-step p (x ∷ xs) (suc i) l h k =
+    let both : (p x ≡ false) × (list_any p (take i xs) ≡ false) = or-false (p x) (list_any p (take i xs)) h in
+    or-of-false (p x) (list_any p (take (suc i) xs)) both.0 (any-step p xs i (omega arith) both.1 k)
+
+pub any-more : (p : ℕ → Bool) (xs : List ℕ) (i : ℕ) → i < length xs → list_any p (take i xs) ≡ false → p (get_or xs i 0) ≡ false → list_any p (take (i + 1) xs) ≡ false
+any-more p xs i l h k = rw add-one (any-step p xs i l h k)
+
+pub any-found : (p : ℕ → Bool) (xs : List ℕ) (i : ℕ) → i < length xs → p (get_or xs i 0) ≡ true → list_any p xs ≡ true
+any-found p [] i l k = absurd (omega arith)
+any-found p (x ∷ xs) zero l k = subst (λ b. (b || list_any p xs) ≡ true) (sym k) refl
+any-found p (x ∷ xs) (suc i) l k = or-of-true (p x) (list_any p xs) (any-found p xs i (omega arith) k)
+
+pub any-none : (p : ℕ → Bool) (xs : List ℕ) (i : ℕ) → length xs ≤ i → list_any p (take i xs) ≡ false → list_any p xs ≡ false
+any-none p xs i l h = subst (λ ys. list_any p ys ≡ false) (take-whole xs i l) h

@@ -1,0 +1,15 @@
+pub mod Lists
+pub mod Theory
+pub mod Unique
+pub mod Ranges
+pub mod Counts
+pub mod Marks
+pub mod Nodes
+pub mod Clashes
+pub mod Least
+pub mod Stack
+pub mod Work
+pub mod Steps
+pub mod TakenFacts
+pub mod PictureFacts
+pub mod PictureLaw

@@ -1,0 +1,16 @@
+use Rattle.std.proofs.Common.{◌≡◌, ◌≤◌, ◌-◌, length}
+use Rattle.search.specs.Nodes.{IsClosing}
+use Rattle.search.specs.Search.{taken_at}
+use Rattle.search.specs.Table.{rules_of}
+use Rattle.search.proofs.needed.needed_nodes.Given as goal
+
+abbrev pub invariant-loop-at : goal.invariant-loop-at
+invariant-loop-at l = record {
+  closing : IsClosing (rules_of l.table) (taken_at l.taken) l.nodes.members l.at;
+  within : l.at ≤ length l.nodes.members;
+  room : l.nodes.room ≡ length l.table.nodes;
+}
+
+-- the nodes that have not been followed, at most
+abbrev pub decreases-loop-at : goal.decreases-loop-at
+decreases-loop-at l = l.nodes.room - l.at

@@ -1,0 +1,41 @@
+use Rattle.std.proofs.Common.{ℕ, Option, List, ◌<◌, ◌≡◌, [], sym, ◌∙◌, subst, length}
+use Rattle.std.specs.Ordering.{nat_cmp}
+use Rattle.search.proofs.Stack.{search-best}
+use Rattle.search.proofs.Work.{work_of, work-push, work-forward, frames-known, table-lawful}
+use Rattle.search.specs.declared.parts.Frame.{Frame}
+use Rattle.search.specs.declared.parts.Step.TheVariants.{Complete, Entered, Refuted}
+use Rattle.search.specs.Table.{rules_of, place_in}
+use Rattle.search.specs.Solutions.{IsBest, version_in}
+use Rattle.search.specs.Search.{pins_of, IsSearch}
+use Rattle.search.specs.Steps.{IsStep, AreKnown}
+use Rattle.search.proofs.search.best.Goals as goal
+
+pub choices_of-requires : goal.choices_of-requires
+choices_of-requires c =
+    let t = c.args.table.now in let old = c.search.frames.items in let new = c.advance.new.frames.items in
+    let step : IsStep t old new Complete = subst (λ s. IsStep t old new s) c.in-Complete.is c.in_ok-advance.ensures in
+    subst (λ (fs : List Frame). AreKnown (length t.candidates) fs) (sym (c.as_slice.ensures.value ∙ step.0)) (frames-known t old c.search.invariant)
+
+pub returns-in-Complete-clause-best : goal.returns-in-Complete-clause-best
+returns-in-Complete-clause-best c =
+    let t = c.args.table.now in let old = c.search.frames.items in let new = c.advance.new.frames.items in
+    let step : IsStep t old new Complete = subst (λ s. IsStep t old new s) c.in-Complete.is c.in_ok-advance.ensures in
+    let same : (n : ℕ) → place_in c.in_ok-choices-in-Complete.choices n ≡ version_in nat_cmp (pins_of old) n =
+    subst (λ (fs : List Frame). (n : ℕ) → place_in c.in_ok-choices-in-Complete.choices n ≡ version_in nat_cmp (pins_of fs) n) (c.as_slice.ensures.value ∙ step.0) c.in_ok-choices-in-Complete.ensures.same in
+    let path : version_in nat_cmp (pins_of old) ≡ place_in c.in_ok-choices-in-Complete.choices = λ i n. sym (same n) i in
+    subst (λ (s : ℕ → Option ℕ). IsBest (rules_of t) s) path (search-best (rules_of t) (table-lawful t c.name_count.ensures.known) old c.search.invariant step.1)
+
+pub search-smaller-in-Entered : goal.search-smaller-in-Entered
+search-smaller-in-Entered c =
+    let t = c.args.table.now in let old = c.search.frames.items in let new = c.advance.new.frames.items in
+    let step : IsStep t old new Entered = subst (λ s. IsStep t old new s) c.in-Entered.is c.in_ok-advance.ensures in
+    work-push t c.name_count.ensures.known old new step.0 step.1 step.2
+
+pub search-smaller : goal.search-smaller
+search-smaller c =
+    let t = c.args.table.now in let old = c.search.frames.items in let new = c.advance.new.frames.items in
+    let step : IsStep t old new Refuted = subst (λ s. IsStep t old new s) c.in-Refuted.is c.in_ok-advance.ensures in
+    subst (λ xs. work_of t c.retreat.new.frames.items < work_of t xs) step.0
+    (work-forward t c.name_count.ensures.known new c.retreat.new.frames.items (c.in_ok-retreat-in-Refuted.ensures.forward c.if-not-branch.false)
+    (subst (λ xs. IsSearch (rules_of t) [] xs) (sym step.0) c.search.invariant)
+    (c.in_ok-retreat-in-Refuted.ensures.search c.if-not-branch.false))

@@ -1,0 +1,47 @@
+// What a table is made of, and what a search finds.
+
+use lists::Seq;
+
+/// What a line or a dependency asks for.
+#[derive(Debug)]
+pub struct Requirement {
+    /// The node of its name without an extra.
+    pub node: usize,
+    /// The nodes of its name with the extras that it asks for.
+    pub more: Seq<usize>,
+    /// For each place of a release of its name, whether it admits the release.
+    pub admits: Seq<bool>,
+}
+
+impl Drop for Requirement {
+    fn drop(self) {
+        let Requirement {
+            node: _,
+            more: _,
+            admits: _,
+        } = self;
+    }
+}
+
+/// A name, and the place of the release that is chosen for it.
+#[derive(Debug, Clone, Copy)]
+pub struct Choice {
+    pub name: usize,
+    pub place: usize,
+}
+
+/// A choice of a search, and the place of its release among the name's candidates.
+#[derive(Debug, Clone, Copy)]
+pub struct Frame {
+    pub name: usize,
+    pub place: usize,
+    pub turn: usize,
+}
+
+/// What a step of a search finds.
+#[derive(Debug, Drop)]
+pub enum Step {
+    Complete,
+    Entered,
+    Refuted,
+}

@@ -1,0 +1,60 @@
+-- Files that are gone through one after the other.
+use Rattle.std.proofs.Common.{◌≡◌, cond, List, [], ◌∷◌, Option, Some, None, find, fold, refl, ap, ◌∙◌}
+use Rattle.std.specs.Prelude.{filter}
+use Rattle.std.specs.BTreeSet.{insert_key}
+use Rattle.std.specs.Option.{option_or}
+use Rattle.snapshot.specs.Chosen.{Sorted, no_files, with_file, with_form}
+use Rattle.snapshot.specs.Files.{form_of, is_tar_gz, is_wheel, is_zip, name_cmp, sdist_of, wheels_of}
+use Rattle.snapshot.specs.declared.file.ReleaseFile.{ReleaseFile}
+use Rattle.snapshot.specs.declared.form.Form.{Form}
+use Rattle.snapshot.specs.declared.form.Form.TheVariants.{Wheel, TarGz, Zip, Other}
+
+or-none : {X : Type 0} (o : Option X) → o ≡ option_or o None
+or-none (Some x) = refl
+or-none None = refl
+
+or-some : {X : Type 0} (o : Option X) (x : X) (later : Option X) → option_or (option_or o (Some x)) later ≡ option_or o (Some x)
+or-some (Some y) x later = refl
+or-some None x later = refl
+
+wheels_by : (o : Form) (s : Sorted) (f : ReleaseFile) (fs rest : List ReleaseFile) → ((t : Sorted) → (fold with_file t fs).wheels ≡ fold (insert_key name_cmp) t.wheels rest)
+    → (fold with_file (with_form s f o) fs).wheels ≡ fold (insert_key name_cmp) s.wheels (cond (is_wheel o) (f ∷ rest) rest)
+wheels_by Wheel s f fs rest all = all (with_form s f Wheel)
+wheels_by TarGz s f fs rest all = all (with_form s f TarGz)
+wheels_by Zip s f fs rest all = all (with_form s f Zip)
+wheels_by Other s f fs rest all = all s
+
+wheels_from : (fs : List ReleaseFile) (s : Sorted) → (fold with_file s fs).wheels ≡ fold (insert_key name_cmp) s.wheels (filter (λ f. is_wheel (form_of f.name)) fs)
+wheels_from [] s = refl
+wheels_from (f ∷ fs) s = wheels_by (form_of f.name) s f fs (filter (λ f. is_wheel (form_of f.name)) fs) (wheels_from fs)
+
+tar_gz_by : (o : Form) (s : Sorted) (f : ReleaseFile) (fs : List ReleaseFile) (later : Option ReleaseFile) → ((t : Sorted) → (fold with_file t fs).tar_gz ≡ option_or t.tar_gz later)
+    → (fold with_file (with_form s f o) fs).tar_gz ≡ option_or s.tar_gz (cond (is_tar_gz o) (Some f) later)
+tar_gz_by Wheel s f fs later all = all (with_form s f Wheel)
+tar_gz_by TarGz s f fs later all = all (with_form s f TarGz) ∙ or-some s.tar_gz f later
+tar_gz_by Zip s f fs later all = all (with_form s f Zip)
+tar_gz_by Other s f fs later all = all s
+
+tar_gz_from : (fs : List ReleaseFile) (s : Sorted) → (fold with_file s fs).tar_gz ≡ option_or s.tar_gz (find (λ f. is_tar_gz (form_of f.name)) fs)
+tar_gz_from [] s = or-none s.tar_gz
+tar_gz_from (f ∷ fs) s = tar_gz_by (form_of f.name) s f fs (find (λ f. is_tar_gz (form_of f.name)) fs) (tar_gz_from fs)
+
+zip_by : (o : Form) (s : Sorted) (f : ReleaseFile) (fs : List ReleaseFile) (later : Option ReleaseFile) → ((t : Sorted) → (fold with_file t fs).zip ≡ option_or t.zip later)
+    → (fold with_file (with_form s f o) fs).zip ≡ option_or s.zip (cond (is_zip o) (Some f) later)
+zip_by Wheel s f fs later all = all (with_form s f Wheel)
+zip_by TarGz s f fs later all = all (with_form s f TarGz)
+zip_by Zip s f fs later all = all (with_form s f Zip) ∙ or-some s.zip f later
+zip_by Other s f fs later all = all s
+
+zip_from : (fs : List ReleaseFile) (s : Sorted) → (fold with_file s fs).zip ≡ option_or s.zip (find (λ f. is_zip (form_of f.name)) fs)
+zip_from [] s = or-none s.zip
+zip_from (f ∷ fs) s = zip_by (form_of f.name) s f fs (find (λ f. is_zip (form_of f.name)) fs) (zip_from fs)
+
+-- the wheels of files that were gone through
+pub wheels_gathered : (fs : List ReleaseFile) (s : Sorted) → s ≡ fold with_file no_files fs → s.wheels ≡ wheels_of fs
+wheels_gathered fs s is = ap (λ (t : Sorted). t.wheels) is ∙ wheels_from fs no_files
+
+-- their source distribution
+pub sdist_gathered : (fs : List ReleaseFile) (s : Sorted) → s ≡ fold with_file no_files fs → option_or s.tar_gz s.zip ≡ sdist_of fs
+sdist_gathered fs s is = ap (λ (t : Sorted). option_or t.tar_gz t.zip) is ∙ ap (λ (o : Option ReleaseFile). option_or o (fold with_file no_files fs).zip) (tar_gz_from fs no_files)
+    ∙ ap (option_or (find (λ f. is_tar_gz (form_of f.name)) fs)) (zip_from fs no_files)

@@ -1,0 +1,64 @@
+-- One more release of a package.
+use Rattle.std.proofs.Common.{◌≡◌, ℕ, ◌+◌, Bool, true, false, cond, not, List, [], ◌++◌, Result, Ok, Err, fold, sym, ap, ◌∙◌, refl, true≢false, ◌⊎◌, inl, inr}
+use Rattle.std.proofs.lemmas.List.{append-nil}
+use Rattle.std.specs.BTreeSet.{insert_key}
+use Rattle.std.specs.List.{list_any}
+use Rattle.serde_json.specs.Data.{Items}
+use Rattle.snapshot.specs.declared.fault.Fault.{Fault}
+use Rattle.snapshot.specs.declared.fault.Fault.TheVariants.{OutOfMemory}
+use Rattle.snapshot.specs.declared.releases.ReadReleases.{ReadReleases}
+use Rattle.snapshot.specs.Release.{Release}
+use Rattle.snapshot.specs.Shape.{◌>>=◌, each_from}
+use Rattle.snapshot.proofs.Loops.{gather}
+use Rattle.snapshot.proofs.UsableFacts.{ok-inside}
+use Rattle.snapshot.specs.Releases.{Gathered, gather_release, has_version_of, kept, left_out, newer_cmp, nothing, release_of, releases_in}
+use Rattle.snapshot.specs.declared.skipped.SkipCause.TheVariants.{Duplicate}
+use Rattle.snapshot.specs.declared.skipped.SkipCause.{SkipCause}
+use Rattle.snapshot.specs.declared.skipped.Skipped.{Skipped}
+
+new_by : (b added : Bool) → added ≡ not b → added ≡ true → b ≡ false
+new_by true added is new = absurd (true≢false (sym new ∙ is))
+new_by false added is new = refl
+
+old_by : (b added : Bool) → added ≡ not b → added ≡ false → b ≡ true
+old_by true added is old = refl
+old_by false added is old = absurd (true≢false (sym is ∙ old))
+
+-- a release that is put into its place
+pub release_kept : (name : List ℕ) (place : ℕ) (keys more : List Release) (skipped : List Skipped) (r : Release) (added : Bool) → more ≡ insert_key newer_cmp keys r → added ≡ not (list_any (has_version_of r) keys) → added ≡ true
+    → record { place = place + 1; releases = more; skipped = skipped } ≡ gather_release name (record { place = place; releases = keys; skipped = skipped }) (Ok r)
+release_kept name place keys more skipped r added put is new =
+    let none : list_any (has_version_of r) keys ≡ false = new_by (list_any (has_version_of r) keys) added is new in
+    let same : skipped ≡ skipped ++ cond (list_any (has_version_of r) keys) (left_out name place Duplicate) [] = rw none (sym (append-nil skipped)) in
+    λ i. record { place = place + 1; releases = put i; skipped = same i }
+
+-- a release of a version that is there
+pub release_repeated : (name : List ℕ) (place : ℕ) (keys more : List Release) (skipped all : List Skipped) (r : Release) (added : Bool) → more ≡ insert_key newer_cmp keys r → added ≡ not (list_any (has_version_of r) keys) → added ≡ false
+    → all ≡ skipped ++ left_out name place Duplicate → record { place = place + 1; releases = more; skipped = all } ≡ gather_release name (record { place = place; releases = keys; skipped = skipped }) (Ok r)
+release_repeated name place keys more skipped all r added put is old left =
+    let some : list_any (has_version_of r) keys ≡ true = old_by (list_any (has_version_of r) keys) added is old in
+    let same : all ≡ skipped ++ cond (list_any (has_version_of r) keys) (left_out name place Duplicate) [] = rw some left in
+    λ i. record { place = place + 1; releases = put i; skipped = same i }
+
+-- a release that can't be used
+pub release_left : (name : List ℕ) (place : ℕ) (keys : List Release) (skipped all : List Skipped) (cause : SkipCause) → all ≡ skipped ++ left_out name place cause
+    → record { place = place + 1; releases = keys; skipped = all } ≡ gather_release name (record { place = place; releases = keys; skipped = skipped }) (Err cause)
+release_left name place keys skipped all cause left = λ i. record { place = place + 1; releases = keys; skipped = left i }
+
+kept_by : (name : List ℕ) (read : Result (List (Result Release SkipCause)) Fault) (g : Gathered) → gather (gather_release name) nothing read ≡ Ok g → (read >>= λ listed. Ok (kept (fold (gather_release name) nothing listed))) ≡ Ok (kept g)
+kept_by name (Ok listed) g is = ap (λ (h : Gathered). let r : Result ReadReleases Fault = Ok (kept h) in r) (ok-inside _ _ is)
+kept_by name (Err e) g is = absurd cc
+
+-- what is gathered of all that an array lists
+pub kept_gathered : (name : List ℕ) (ds : Items) (g : Gathered) → gather (gather_release name) nothing (each_from release_of 0 ds) ≡ Ok g → releases_in name ds ≡ Ok (kept g)
+unfolding releases_in
+kept_gathered name ds g is = kept_by name (each_from release_of 0 ds) g is
+
+fault_by : (name : List ℕ) (read : Result (List (Result Release SkipCause)) Fault) (e : Fault) → gather (gather_release name) nothing read ≡ Err e → (read >>= λ listed. Ok (kept (fold (gather_release name) nothing listed))) ≡ Err e
+fault_by name (Ok listed) e is = absurd cc
+fault_by name (Err d) e is = cc
+
+pub kept_refused : (name : List ℕ) (ds : Items) (e : Fault) → (e ≡ OutOfMemory) ⊎ (gather (gather_release name) nothing (each_from release_of 0 ds) ≡ Err e) → (e ≡ OutOfMemory) ⊎ (releases_in name ds ≡ Err e)
+unfolding releases_in
+kept_refused name ds e (inl memory) = inl memory
+kept_refused name ds e (inr is) = inr (fault_by name (each_from release_of 0 ds) e is)

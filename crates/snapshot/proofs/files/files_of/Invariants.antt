@@ -1,0 +1,9 @@
+use Rattle.std.proofs.Common.{◌≡◌, drop}
+use Rattle.serde_json.specs.View.{items_view}
+use Rattle.snapshot.specs.Files.{file_of}
+use Rattle.snapshot.specs.Shape.{each_from}
+use Rattle.snapshot.proofs.Loops.{gather, push}
+use Rattle.snapshot.proofs.files.files_of.Given as goal
+
+abbrev pub invariant-loop-place : goal.invariant-loop-place
+invariant-loop-place l = gather push l.files.items (each_from file_of l.place (items_view (drop l.place l.values))) ≡ each_from file_of 0 (items_view l.values)

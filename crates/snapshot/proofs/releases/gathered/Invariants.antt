@@ -1,0 +1,10 @@
+use Rattle.std.proofs.Common.{◌≡◌, drop}
+use Rattle.serde_json.specs.View.{items_view}
+use Rattle.snapshot.specs.Gathering.{gathered_view}
+use Rattle.snapshot.specs.Releases.{gather_release, nothing, release_of}
+use Rattle.snapshot.specs.Shape.{each_from}
+use Rattle.snapshot.proofs.Loops.{gather}
+use Rattle.snapshot.proofs.releases.gathered.Given as goal
+
+abbrev pub invariant-loop-place : goal.invariant-loop-place
+invariant-loop-place l = gather (gather_release l.name) (gathered_view l.place l.gathering) (each_from release_of l.place (items_view (drop l.place l.values))) ≡ gather (gather_release l.name) nothing (each_from release_of 0 (items_view l.values))

@@ -1,0 +1,178 @@
+// Which files of a release are wheels, and which is its source distribution.
+
+ghost use Rattle.std.specs.Prelude.{◌≡◌, refl, IfOk, IsOkUnless, Ok, OnOk, fold};
+ghost use Rattle.std.specs.Cmp.{eq_by_cmp_equiv, partial_equiv_from_equiv, partial_order_from_total};
+ghost use Rattle.std.specs.Ordering.{as_partial_cmp, eq_by_cmp};
+ghost use Rattle.snapshot.specs.Chosen.{no_files, sorted_view, with_file};
+ghost use Rattle.snapshot.specs.Files.{sdist_of, wheels_of};
+ghost use Rattle.snapshot.specs.declared.fault.Fault.TheVariants.{OutOfMemory};
+
+use crate::fault::Fault;
+use crate::file::ReleaseFile;
+use crate::form::{Form, form_of};
+use lists::Seq;
+use std::alloc::{AllocError, Global};
+use std::cmp::Ordering;
+use std::collections::BTreeSet;
+use std::marker::Model;
+
+/// The wheels of a release by name, and its source distribution.
+#[derive(Drop)]
+pub(crate) struct Chosen {
+    pub(crate) sdist: Option<ReleaseFile>,
+    pub(crate) wheels: Seq<ReleaseFile>,
+}
+
+/// The files of a release that were gone through: the wheels in their order, and the first of each form
+/// of a source distribution.
+#[derive(Drop)]
+pub(crate) struct Sorted {
+    wheels: BTreeSet<ByName>,
+    tar_gz: Option<ReleaseFile>,
+    zip: Option<ReleaseFile>,
+}
+
+/// Puts one more file to those before it.
+fn add(sorted: &mut Sorted, file: ReleaseFile) -> Result<(), Fault>
+    ensures kept { OnOk result (sorted_view sorted.new ≡ with_file (sorted_view sorted.old) file) }
+    ensures memory { IsOkUnless result OutOfMemory }
+{
+    match form_of(file.name()) {
+        Form::Wheel => {
+            sorted.wheels.insert(ByName::new(file))?;
+        }
+        Form::TarGz => {
+            if sorted.tar_gz.is_none() {
+                sorted.tar_gz = Some(file);
+            }
+        }
+        Form::Zip => {
+            if sorted.zip.is_none() {
+                sorted.zip = Some(file);
+            }
+        }
+        Form::Other => {}
+    }
+    Ok(())
+}
+
+/// The files, gone through one after the other.
+fn sort_files(alloc: Global, files: Vec<ReleaseFile>) -> Result<Sorted, Fault>
+    ensures all { IfOk result (λ s. sorted_view s ≡ fold with_file no_files files.items) }
+    ensures memory { IsOkUnless result OutOfMemory }
+{
+    let mut sorted = Sorted {
+        wheels: BTreeSet::new(alloc),
+        tar_gz: None,
+        zip: None,
+    };
+    for file in files {
+        add(&mut sorted, file)?;
+    }
+    Ok(sorted)
+}
+
+/// The files in their order.
+fn in_order(alloc: Global, wheels: BTreeSet<ByName>) -> Result<Seq<ReleaseFile>, AllocError>
+    ensures { IfOk result (λ files. files ≡ wheels.keys) }
+{
+    let mut files = Vec::new(alloc);
+    for file in wheels {
+        files.push(file.into_file())?;
+    }
+    Ok(Seq::from_vec(files))
+}
+
+/// The wheels and the source distribution among the files of a release.
+pub(crate) fn choose(alloc: Global, files: Vec<ReleaseFile>) -> Result<Chosen, Fault>
+    ensures wheels { IfOk result (λ chosen. chosen.wheels ≡ wheels_of files.items) }
+    ensures sdist { IfOk result (λ chosen. chosen.sdist ≡ sdist_of files.items) }
+    ensures memory { IsOkUnless result OutOfMemory }
+{
+    let Sorted {
+        wheels,
+        tar_gz,
+        zip,
+    } = sort_files(alloc, files)?;
+    let wheels = in_order(alloc, wheels)?;
+    let sdist = tar_gz.or(zip);
+    Ok(Chosen { sdist, wheels })
+}
+
+/// A wheel in the order of the wheels of a release, which goes by name.
+#[derive(Drop)]
+pub(crate) struct ByName {
+    file: ReleaseFile,
+}
+
+impl Model for ByName {
+    ghost use Rattle.snapshot.specs.declared.file.ReleaseFile.{ReleaseFile};
+
+    ghost Value = { ReleaseFile };
+
+    ghost view = { λ n. n.file };
+}
+
+impl ByName {
+    pub(crate) fn new(file: ReleaseFile) -> ByName
+        ensures { result ≡ file }
+    {
+        ByName { file }
+    }
+
+    pub(crate) fn into_file(self) -> ReleaseFile
+        ensures { result ≡ self }
+    {
+        self.file
+    }
+}
+
+impl PartialEq for ByName {
+    ghost use Rattle.snapshot.specs.Files.{name_cmp};
+    ghost use Rattle.snapshot.specs.OrderLaws.{name_total};
+
+    ghost eq = { eq_by_cmp name_cmp };
+
+    ghost laws = { partial_equiv_from_equiv (eq_by_cmp_equiv name_total) };
+
+    fn eq(&self, other: &ByName) -> bool {
+        self.cmp(other).is_eq()
+    }
+}
+
+impl Eq for ByName {
+    ghost use Rattle.snapshot.specs.OrderLaws.{name_total};
+
+    ghost laws = { eq_by_cmp_equiv name_total };
+}
+
+impl PartialOrd for ByName {
+    ghost use Rattle.snapshot.specs.Files.{name_cmp};
+    ghost use Rattle.snapshot.specs.OrderLaws.{name_total};
+
+    ghost partial_cmp = { as_partial_cmp name_cmp };
+
+    ghost laws = { partial_order_from_total name_total };
+
+    fn partial_cmp(&self, other: &ByName) -> Option<Ordering> {
+        Some(self.cmp(other))
+    }
+}
+
+impl Ord for ByName {
+    ghost use Rattle.snapshot.specs.Files.{name_cmp};
+    ghost use Rattle.snapshot.specs.OrderLaws.{name_total};
+
+    ghost cmp = { name_cmp };
+
+    ghost total = { name_total };
+
+    ghost matches_partial_cmp = { λ a b. refl };
+
+    ghost matches_eq = { λ a b. refl };
+
+    fn cmp(&self, other: &ByName) -> Ordering {
+        let name = self.file.name().as_bytes();
+        name.cmp(other.file.name().as_bytes())
+    }
+}

@@ -1,0 +1,67 @@
+// Releases that are left out.
+
+ghost use Rattle.std.specs.Prelude.{◌≡◌};
+
+use pep440::Fault as VersionFault;
+use pep508::{Cause, Name};
+
+/// Why a release is left out; of several causes the first of these.
+#[derive(Clone, Copy, Debug, PartialEq, Eq)]
+pub enum SkipCause {
+    /// Its version is refused.
+    Version(VersionFault),
+    /// The Python versions that it asks for are no set of specifiers.
+    RequiresPython(VersionFault),
+    /// The requirement at this place of `requires_dist`, counted from 0, is refused.
+    Requirement(usize, Cause),
+    /// It has neither a wheel nor a source distribution.
+    NoFile,
+    /// An earlier release of the package has an equal version, and is not left out.
+    Duplicate,
+}
+
+/// A release that is left out.
+pub struct Skipped {
+    name: Name,
+    place: usize,
+    cause: SkipCause,
+}
+
+impl Drop for Skipped {
+    fn drop(self) {
+        let Skipped {
+            name: _,
+            place: _,
+            cause: _,
+        } = self;
+    }
+}
+
+impl Skipped {
+    pub(crate) fn new(name: Name, place: usize, cause: SkipCause) -> Skipped
+        ensures { result ≡ record { name = name; place = place; cause = cause } }
+    {
+        Skipped { name, place, cause }
+    }
+
+    /// The package whose release it is.
+    pub fn package(&self) -> &Name
+        ensures { result.now ≡ self.now.name }
+    {
+        &self.name
+    }
+
+    /// The place of the release in the package's array, counted from 0.
+    pub fn place(&self) -> usize
+        ensures { result ≡ self.now.place }
+    {
+        self.place
+    }
+
+    /// Why it is left out.
+    pub fn cause(&self) -> SkipCause
+        ensures { result ≡ self.now.cause }
+    {
+        self.cause
+    }
+}

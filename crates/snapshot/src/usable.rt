@@ -1,0 +1,127 @@
+// Which listed releases can be used.
+
+ghost use Rattle.std.specs.Prelude.{◌≡◌, Ok, map};
+ghost use Rattle.pep440.specs.Reading.{version_of};
+ghost use Rattle.pep508.specs.Requirement.{requirement_text};
+ghost use Rattle.snapshot.specs.Listed.{listed_view};
+ghost use Rattle.snapshot.specs.Releases.{has_file, is_blank, python_of, required_at, requirements_from, usable, versioned};
+ghost use Rattle.snapshot.specs.Shape.{Gives};
+
+use crate::chosen::{Chosen, choose};
+use crate::fault::Fault;
+use crate::listed::Listed;
+use crate::python::RequiresPython;
+use crate::release::Release;
+use crate::skipped::SkipCause;
+use lists::{Seq, Text};
+use pep440::{Fault as VersionFault, SpecifierSet, Version};
+use pep508::{Cause, Requirement};
+use std::alloc::Global;
+
+/// The version that a text is.
+fn version_of(alloc: Global, text: &str) -> Result<Result<Version, SkipCause>, Fault>
+    ensures { Gives (λ v. v) (Ok (versioned (version_of text.now))) result }
+{
+    match Version::parse(alloc, text) {
+        Ok(version) => Ok(Ok(version)),
+        Err(VersionFault::OutOfMemory) => Err(Fault::OutOfMemory),
+        Err(fault) => Ok(Err(SkipCause::Version(fault))),
+    }
+}
+
+/// Whether the text is spaces and tabs alone.
+fn is_blank(text: &str) -> bool
+    ensures { result ≡ is_blank text.now }
+{
+    text.as_bytes()
+        .iter()
+        .all(|byte| *byte == b' ' || *byte == b'\t')
+}
+
+/// What a text asks of Python: nothing, where it is empty or blank.
+fn python_of(alloc: Global, text: &str) -> Result<Result<Option<RequiresPython>, SkipCause>, Fault>
+    ensures { Gives (λ p. p) (Ok (python_of text.now)) result }
+{
+    if is_blank(text) {
+        return Ok(Ok(None));
+    }
+    match SpecifierSet::parse(alloc, text) {
+        Ok(set) => {
+            let text = Text::copy_of(alloc, text)?;
+            Ok(Ok(Some(RequiresPython::new(text, set))))
+        }
+        Err(VersionFault::OutOfMemory) => Err(Fault::OutOfMemory),
+        Err(fault) => Ok(Err(SkipCause::RequiresPython(fault))),
+    }
+}
+
+/// The requirement that the text at `place` is.
+fn requirement_at(
+    alloc: Global,
+    place: usize,
+    text: &str,
+) -> Result<Result<Requirement, SkipCause>, Fault>
+    ensures { Gives (λ r. r) (Ok (required_at place (requirement_text text.now))) result }
+{
+    match Requirement::read(alloc, text) {
+        Ok(requirement) => Ok(Ok(requirement)),
+        Err(Cause::OutOfMemory) => Err(Fault::OutOfMemory),
+        Err(cause) => Ok(Err(SkipCause::Requirement(place, cause))),
+    }
+}
+
+/// The requirements that the texts are.
+fn requirements_of(
+    alloc: Global,
+    texts: &[&str],
+) -> Result<Result<Seq<Requirement>, SkipCause>, Fault>
+    ensures { Gives (λ d. d) (Ok (requirements_from 0 (map (λ text. text.now) texts.now))) result }
+{
+    let mut requirements = Seq::new(alloc);
+    for place in 0..texts.len() {
+        let text = &texts[place];
+        match requirement_at(alloc, place, text)? {
+            Ok(requirement) => requirements.push(requirement)?,
+            Err(cause) => return Ok(Err(cause)),
+        }
+    }
+    Ok(Ok(requirements))
+}
+
+/// Whether there is a file to install from.
+fn has_file(files: &Chosen) -> bool
+    ensures { result ≡ has_file files.now.sdist files.now.wheels }
+{
+    files.sdist.is_some() || !files.wheels.is_empty()
+}
+
+/// The release, or the first cause for which it can't be used.
+#[tactic(auto, unfolding(crate::specs::Releases::usable))]
+pub(crate) fn usable(alloc: Global, listed: Listed<'_>) -> Result<Result<Release, SkipCause>, Fault>
+    ensures { Gives (λ r. r) (Ok (usable (listed_view listed.entry))) result }
+{
+    let Listed {
+        version,
+        requires_python,
+        requires_dist,
+        yanked,
+        files,
+    } = listed;
+    let version = match version_of(alloc, version)? {
+        Ok(version) => version,
+        Err(cause) => return Ok(Err(cause)),
+    };
+    let requires_python = match python_of(alloc, requires_python)? {
+        Ok(python) => python,
+        Err(cause) => return Ok(Err(cause)),
+    };
+    let dependencies = match requirements_of(alloc, requires_dist.as_slice())? {
+        Ok(dependencies) => dependencies,
+        Err(cause) => return Ok(Err(cause)),
+    };
+    let files = choose(alloc, files)?;
+    if !has_file(&files) {
+        return Ok(Err(SkipCause::NoFile));
+    }
+    Ok(Ok(Release::new(version, requires_python, dependencies, yanked, files)))
+}

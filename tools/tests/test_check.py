@@ -1,0 +1,61 @@
+"""Tests of ./check with an rt and a python3 that only print, so that neither the gate nor these tests run in it."""
+
+import os
+import shutil
+import subprocess
+import tempfile
+import unittest
+from pathlib import Path
+
+CHECK = Path(__file__).resolve().parent.parent.parent / "check"
+
+
+class Check(unittest.TestCase):
+    def setUp(self):
+        folder = tempfile.TemporaryDirectory()
+        self.addCleanup(folder.cleanup)
+        self.folder = Path(folder.name)
+        for name in "bash", "dirname", "mktemp", "rm", "tail", "tee":
+            os.symlink(shutil.which(name), self.folder / name)
+
+    def check(self, **programs):
+        """The status, the lines of standard output and the standard error of ./check with these programs on the PATH:
+        each has the text that it prints and its status."""
+        for name, (text, status) in programs.items():
+            path = self.folder / name
+            path.write_text(f"#!{self.folder}/bash\nprintf '%b' '{text}'\nexit {status}\n", encoding="utf-8")
+            path.chmod(0o755)
+        variables = {"PATH": str(self.folder)}
+        done = subprocess.run([CHECK], env=variables, capture_output=True, encoding="utf-8", check=False)
+        return done.returncode, done.stdout.splitlines(), done.stderr
+
+    def test_keeps_all_output_and_adds_the_counts(self):
+        status, lines, _ = self.check(rt=("a\\n20 passed, 0 failed\\n", 0), python3=("b\\n3 passed, 0 failed\\n", 0))
+        self.assertEqual(lines, ["a", "20 passed, 0 failed", "b", "3 passed, 0 failed", "23 passed, 0 failed"])
+        self.assertEqual(status, 0)
+
+    def test_fails_where_either_fails(self):
+        good, bad = ("1 passed, 0 failed\\n", 0), ("2 passed, 3 failed\\n", 1)
+        self.assertEqual(self.check(rt=bad, python3=good)[:2], (1, [bad[0][:-2], good[0][:-2], "3 passed, 3 failed"]))
+        self.assertEqual(self.check(rt=good, python3=bad)[:2], (1, [good[0][:-2], bad[0][:-2], "3 passed, 3 failed"]))
+
+    def test_counts_a_failure_where_a_run_ends_otherwise(self):
+        good = "1 passed, 0 failed\\n"
+        status, lines, _ = self.check(rt=("killed\\n", 137), python3=(good, 0))
+        self.assertEqual((status, lines[-1]), (1, "1 passed, 1 failed"))
+        status, lines, _ = self.check(rt=(good, 0), python3=(good, 1))
+        self.assertEqual((status, lines[-1]), (1, "2 passed, 1 failed"))
+        status, lines, _ = self.check(rt=(good, 0), python3=("", 0))
+        self.assertEqual((status, lines[-1]), (1, "1 passed, 1 failed"))
+
+    def test_stops_where_a_program_is_missing(self):
+        status, lines, errors = self.check()
+        self.assertEqual((status, lines, errors.count("\n")), (1, [], 1))
+        self.assertIn("rt, the command of the Rattle toolchain, is not on the PATH", errors)
+        status, lines, errors = self.check(rt=("1 passed, 0 failed\\n", 0))
+        self.assertEqual((status, lines, errors.count("\n")), (1, [], 1))
+        self.assertIn("python3 is not on the PATH", errors)
+
+
+if __name__ == "__main__":
+    unittest.main()
