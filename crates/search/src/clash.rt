@@ -9,7 +9,7 @@ ghost use Rattle.search.specs.Table.{rules_of, admits_at};
 use crate::needed::place_of;
 use crate::table::Table;
 
-// Whether a requirement doesn't admit the release that its name has.
+/// Whether a requirement doesn't admit the release that its name has.
 fn does_clash(table: &Table, taken: &[Option<usize>], requirement: usize) -> bool
     requires { requirement < length table.now.requirements }
     ensures { result ≡ clash_in (rules_of table.now) (taken_at taken.now) requirement }
@@ -20,7 +20,7 @@ fn does_clash(table: &Table, taken: &[Option<usize>], requirement: usize) -> boo
     }
 }
 
-// Whether one of the requirements clashes.
+/// Whether one of the requirements clashes.
 fn do_any_clash(table: &Table, taken: &[Option<usize>], asked: &[usize]) -> bool
     requires { EachBelow (length table.now.requirements) asked.now }
     ensures { result ≡ list_any (clash_in (rules_of table.now) (taken_at taken.now)) asked.now }
@@ -33,7 +33,7 @@ fn do_any_clash(table: &Table, taken: &[Option<usize>], asked: &[usize]) -> bool
     false
 }
 
-// Whether something that counts at a node clashes.
+/// Whether something that counts at a node clashes.
 fn does_node_clash(table: &Table, taken: &[Option<usize>], node: usize) -> bool
     requires { node < length table.now.nodes }
     ensures { result ≡ node_clash (rules_of table.now) (taken_at taken.now) node }
@@ -44,7 +44,7 @@ fn does_node_clash(table: &Table, taken: &[Option<usize>], node: usize) -> bool
     }
 }
 
-// Whether something that counts at one of the nodes clashes.
+/// Whether something that counts at one of the nodes clashes.
 fn do_nodes_clash(table: &Table, taken: &[Option<usize>], nodes: &[usize]) -> bool
     requires { EachBelow (length table.now.nodes) nodes.now }
     ensures { result ≡ list_any (node_clash (rules_of table.now) (taken_at taken.now)) nodes.now }
@@ -68,7 +68,7 @@ pub fn does_anything_clash(table: &Table, taken: &[Option<usize>], nodes: &[usiz
     do_nodes_clash(table, taken, nodes)
 }
 
-// The lesser of a name and what was found so far.
+/// The lesser of a name and what was found so far.
 fn lesser(found: Option<usize>, name: usize) -> usize
     ensures { MatchOption found (result ≡ name) (λ other. result ≡ (if nat_lt name other then name else other)) }
 {

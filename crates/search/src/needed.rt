@@ -21,7 +21,7 @@ pub fn place_of(taken: &[Option<usize>], name: usize) -> Option<usize>
     }
 }
 
-// Adds the nodes that a requirement needs.
+/// Adds the nodes that a requirement needs.
 fn add_nodes(table: &Table, nodes: &mut NodeSet, requirement: usize) -> Result<(), AllocError>
     requires known { requirement < length table.now.requirements }
     requires room { nodes.old.room ≡ length table.now.nodes }
@@ -33,7 +33,7 @@ fn add_nodes(table: &Table, nodes: &mut NodeSet, requirement: usize) -> Result<(
     Ok(())
 }
 
-// Adds the nodes that requirements need.
+/// Adds the nodes that requirements need.
 fn add_asked(table: &Table, nodes: &mut NodeSet, asked: &[usize]) -> Result<(), AllocError>
     requires known { EachBelow (length table.now.requirements) asked.now }
     requires room { nodes.old.room ≡ length table.now.nodes }
@@ -45,7 +45,7 @@ fn add_asked(table: &Table, nodes: &mut NodeSet, asked: &[usize]) -> Result<(), 
     Ok(())
 }
 
-// Adds the nodes that a node leads to.
+/// Adds the nodes that a node leads to.
 fn follow(
     table: &Table,
     taken: &[Option<usize>],

@@ -15,7 +15,7 @@ use crate::taken::{choices_of, taken_of};
 use lists::Seq;
 use std::alloc::{AllocError, Global};
 
-// Takes a name with the candidate of a turn, if it has one.
+/// Takes a name with the candidate of a turn, if it has one.
 fn try_turn(
     table: &Table,
     frames: &mut Vec<Frame>,
@@ -33,7 +33,7 @@ fn try_turn(
     Ok(true)
 }
 
-// Takes the name of a frame with its next candidate, if it has one.
+/// Takes the name of a frame with its next candidate, if it has one.
 fn try_next(table: &Table, frames: &mut Vec<Frame>, last: Frame) -> Result<bool, AllocError>
     ensures { IfOk result (λ found. IsTried table.now last.name (last.turn + 1) frames.old.items frames.new.items found) }
 {
@@ -44,7 +44,7 @@ fn try_next(table: &Table, frames: &mut Vec<Frame>, last: Frame) -> Result<bool,
     try_turn(table, frames, last.name, last.turn + 1)
 }
 
-// Drops refuted choices, and moves on to the next candidate of the last name that has one.
+/// Drops refuted choices, and moves on to the next candidate of the last name that has one.
 fn retreat(table: &Table, frames: &mut Vec<Frame>) -> Result<bool, AllocError>
     requires known { in_range table.now ≡ true }
     requires search { IsSearch (rules_of table.now) [] frames.old.items }
@@ -61,7 +61,7 @@ fn retreat(table: &Table, frames: &mut Vec<Frame>) -> Result<bool, AllocError>
     Ok(false)
 }
 
-// One step onward.
+/// One step onward.
 fn advance(alloc: Global, table: &Table, frames: &mut Vec<Frame>) -> Result<Step, AllocError>
     requires known { in_range table.now ≡ true }
     requires search { IsSearch (rules_of table.now) [] frames.old.items }

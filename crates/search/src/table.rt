@@ -43,28 +43,28 @@ impl Drop for Table {
     }
 }
 
-// Whether each of the numbers is less than the bound.
+/// Whether each of the numbers is less than the bound.
 fn are_below(bound: usize, numbers: &[usize]) -> bool
     ensures { result ≡ all_below bound numbers.now }
 {
     numbers.iter().all(|n| *n < bound)
 }
 
-// Whether a node is in range, and on this name.
+/// Whether a node is in range, and on this name.
 fn is_node_on(nodes: &[usize], name: usize, node: usize) -> bool
     ensures { result ≡ is_on nodes.now name node }
 {
     node < nodes.len() && nodes[node] == name
 }
 
-// Whether nodes are in range, and on this name.
+/// Whether nodes are in range, and on this name.
 fn are_nodes_on(nodes: &[usize], name: usize, asked: &[usize]) -> bool
     ensures { result ≡ list_all (is_on nodes.now name) asked.now }
 {
     asked.iter().all(|node| is_node_on(nodes, name, *node))
 }
 
-// Whether a requirement's nodes are in range, and all on one name.
+/// Whether a requirement's nodes are in range, and all on one name.
 fn is_requirement_in_range(nodes: &[usize], requirement: &Requirement) -> bool
     ensures { result ≡ requirement_in_range nodes.now requirement.now }
 {
@@ -72,7 +72,7 @@ fn is_requirement_in_range(nodes: &[usize], requirement: &Requirement) -> bool
         && are_nodes_on(nodes, nodes[requirement.node], requirement.more.as_slice())
 }
 
-// Whether the nodes of all requirements are in range.
+/// Whether the nodes of all requirements are in range.
 fn are_requirements_in_range(nodes: &[usize], requirements: &[Requirement]) -> bool
     ensures { result ≡ list_all (requirement_in_range nodes.now) requirements.now }
 {
@@ -81,7 +81,7 @@ fn are_requirements_in_range(nodes: &[usize], requirements: &[Requirement]) -> b
         .all(|requirement| is_requirement_in_range(nodes, requirement))
 }
 
-// Whether what one node wants is in range.
+/// Whether what one node wants is in range.
 fn is_want_in_range(bound: usize, releases: &[Seq<usize>]) -> bool
     ensures { result ≡ list_all (all_below bound) releases.now }
 {
@@ -90,7 +90,7 @@ fn is_want_in_range(bound: usize, releases: &[Seq<usize>]) -> bool
         .all(|requirements| are_below(bound, requirements.as_slice()))
 }
 
-// Whether what the nodes want is in range.
+/// Whether what the nodes want is in range.
 fn are_wants_in_range(bound: usize, wants: &[Seq<Seq<usize>>]) -> bool
     ensures { result ≡ list_all (list_all (all_below bound)) wants.now }
 {

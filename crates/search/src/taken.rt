@@ -13,7 +13,7 @@ use crate::table::Table;
 use lists::Seq;
 use std::alloc::{AllocError, Global};
 
-// Takes the choice of a frame, unless its name is taken.
+/// Takes the choice of a frame, unless its name is taken.
 fn take_frame(taken: &mut Vec<Option<usize>>, frame: Frame)
     requires { frame.name < length taken.old.items }
     ensures { TakesFirst taken.old.items taken.new.items frame }
@@ -39,7 +39,7 @@ pub fn taken_of(
     Ok(taken)
 }
 
-// What is taken, as choices in the order of their names.
+/// What is taken, as choices in the order of their names.
 fn choices_taken(alloc: Global, taken: &[Option<usize>]) -> Result<Seq<Choice>, AllocError>
     ensures same { IfOk result (λ choices. (n : ℕ) → place_in choices n ≡ taken_at taken.now n) }
     ensures ascending { IfOk result (λ choices. IsAscending choices) }
