@@ -60,14 +60,10 @@ def compare(what, ours, theirs, source=os.devnull, same=True, prints_time=False,
 index = f"{folder}/index.json"
 whole = f"{folder}/whole.json"
 long = f"{folder}/long"
-compare(
-    "index of 100,000 whole releases (50 MB), read",
-    [index_program, "index", whole],
-    [index_program, "value", whole],
-    same=False,
-    prints_time=True,
-    other="serde_json",
-)
+making = [index_program, "index", whole], [index_program, "value", whole]
+what = "index of 100,000 whole releases (50 MB)"
+compare(f"{what}, made of its bytes", *making, same=False, prints_time=True, other="serde_json")
+compare(f"{what}, read, made and dropped", *making, same=False, other="serde_json")
 compare(
     "index of 51,250 releases, read",
     [program, "--dir", empty, "--index", index, "--env", environment, "try"],

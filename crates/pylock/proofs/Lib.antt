@@ -7,3 +7,5 @@ pub mod ReadFacts
 pub mod BackFacts
 pub mod DepthFacts
 pub mod TextFacts
+pub mod KeyFacts
+pub mod ExactFacts

@@ -28,12 +28,15 @@ abbrev pub only_key : List ℕ → Data → Data
 only_key key d = table (member key d no_members)
 
 -- a file (PEP 751, "packages.wheels", "packages.sdist")
-unfoldable pub file_data : FileEntry → Data
-file_data f = table (
+abbrev pub file_table : FileEntry → Members
+file_table f =
     member (codes "hashes") (only_key (codes "sha256") (string f.sha256)) (
     member (codes "name") (string f.name) (
     member (codes "size") (integer (pos f.size)) (
-    member (codes "url") (string f.url) no_members))))
+    member (codes "url") (string f.url) no_members)))
+
+unfoldable pub file_data : FileEntry → Data
+file_data f = table (file_table f)
 
 -- the name of a package that another needs (PEP 751, "packages.dependencies")
 unfoldable pub dependency_data : List ℕ → Data

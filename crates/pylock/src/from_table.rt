@@ -7,6 +7,7 @@ ghost use Rattle.toml.specs.View.{items_view, table_view, view};
 ghost use Rattle.pylock.specs.Forms.{Gives, found, unknown_in};
 ghost use Rattle.pylock.specs.Locks.{are_entries};
 ghost use Rattle.pylock.specs.Reading.{at_key, creator_in, digest_in, entries_in, environment_in, fault_at, format_of, if_known, in_order, lock_in, lock_keys, only_text, tool_in};
+ghost use Rattle.pylock.specs.Tables.{table_of};
 ghost use Rattle.pylock.specs.declared.fault.Fault.TheVariants as faults;
 
 use crate::entry::Entry;
@@ -152,21 +153,30 @@ fn check_keys(alloc: Global, table: &Table) -> Result<(), Fault>
     }
 }
 
+/// The lock whose table this is, or the first fault.
+#[tactic(auto, unfolding(crate::specs::Reading::lock_in))]
+fn lock_in(alloc: Global, table: &Table) -> Result<Lock, Fault>
+    ensures { Answers faults.OutOfMemory (lock_in (table_view table.now)) result }
+{
+    check_format(alloc, table)?;
+    let environment = at_key(alloc, "environments", environment_at(alloc, table))?;
+    at_key(alloc, "created-by", creator_at(table))?;
+    let entries = at_key(alloc, "packages", entries_at(alloc, table))?;
+    let snapshot = at_key(alloc, "tool", snapshot_at(alloc, table))?;
+    check_keys(alloc, table)?;
+    Ok(Lock::in_order(environment, snapshot, entries))
+}
+
 impl Lock {
     /// The lock whose table this is. Keys of the whole table are tested in the order `lock-version`,
     /// `environments`, `created-by`, `packages`, `tool`, and then come those that have no place
     /// there. `VersionUnsupported` where `lock-version` is another text than `1.0`; else `Shape`
     /// with the first key that is missing or whose value has another form, inside too.
-    #[tactic(auto, unfolding(crate::specs::Reading::lock_in))]
     pub fn from_table(alloc: Global, table: &Table) -> Result<Lock, Fault>
         ensures answers { Answers faults.OutOfMemory (lock_in (table_view table.now)) result }
+        ensures exact { IfOk result (λ l. table_view table.now ≡ table_of l) }
     {
-        check_format(alloc, table)?;
-        let environment = at_key(alloc, "environments", environment_at(alloc, table))?;
-        at_key(alloc, "created-by", creator_at(table))?;
-        let entries = at_key(alloc, "packages", entries_at(alloc, table))?;
-        let snapshot = at_key(alloc, "tool", snapshot_at(alloc, table))?;
-        check_keys(alloc, table)?;
-        Ok(Lock::in_order(environment, snapshot, entries))
+        let lock = lock_in(alloc, table)?;
+        Ok(lock)
     }
 }

@@ -7,6 +7,7 @@ mod fault;
 mod file;
 mod forms;
 mod from_table;
+pub mod laws;
 mod lock;
 mod order;
 mod reading;

@@ -1,13 +1,13 @@
 -- A best solution of a table stands for the best solution.
-use Rattle.std.proofs.Common.{ℕ, List, [], ◌∷◌, ◌++◌, ◌≡◌, ◌≢◌, ◌<◌, ◌≤◌, ◌⊎◌, inl, inr, Contains, length, map, refl, sym, ◌∙◌, ap, subst, arith, Some, None, Option, Bool, true, false, cond, Ordering, Greater, append_assoc}
+use Rattle.std.proofs.Common.{ℕ, List, [], ◌∷◌, ◌++◌, ◌≡◌, ◌≢◌, ◌<◌, ◌≤◌, ◌⊎◌, inl, inr, Contains, length, map, refl, sym, ◌∙◌, ap, subst, arith, Some, None, Option, Bool, true, false, cond, Greater, append_assoc}
 use Rattle.std.specs.Ordering.{nat_cmp, is_eq}
 use Rattle.std.proofs.lemmas.List.Elements.{Contains-append_left}
 use Rattle.search.proofs.Least.{nat-order}
-use Rattle.search.proofs.Lists.{Contains-here, Contains-there, Contains-cons_cases, Contains-nil, Contains-map}
+use Rattle.search.proofs.Lists.{map-append, Contains-here, Contains-there, Contains-cons_cases, Contains-nil, Contains-map}
 use Rattle.search.proofs.PictureFacts.{image, image-some, image-none, IsAlike, AreNamed, IsStoodFor, candidate-known, needed-up, needed-down, solution-up, solution-down}
 use Rattle.search.proofs.Ranges.{name-known}
 use Rattle.search.proofs.TakenFacts.{IsListed, listed, listed-all, split-nat}
-use Rattle.search.proofs.Theory.{option_cases, some-inj, is_eq-same, is_eq-self, Has-front}
+use Rattle.search.proofs.Theory.{pin-member, option_cases, some-inj, is_eq-same, is_eq-self, Has-front}
 use Rattle.search.specs.declared.parts.Choice.{Choice}
 use Rattle.search.specs.Picture.{Picture, IsPicture, pin_pictured, pictured}
 use Rattle.search.specs.Rules.{Rules, IsOrder}
@@ -32,17 +32,6 @@ version-up {N} {X} {V} t picture rules h (p ∷ ps) k n l =
     (cond-image (is_eq (nat_cmp p.name n)) (picture.version n) (picture.version p.name) p.version _ (version_in nat_cmp ps n)
     (λ e. ap (λ m. picture.version m p.version) (is_eq-same nat_cmp nat-order p.name n e))
     (version-up t picture rules h ps (λ q i. k q (Contains-there p ps q i)) n l))
-
-cond-member : {V : Type 0} (b : Bool) (v w : V) (x : Option V) → cond b (Some v) x ≡ Some w → (b ≡ true) ⊎ (x ≡ Some w)
-cond-member true v w x e = inl refl
-cond-member false v w x e = inr e
-
-pin-member : {N V : Type 0} (compare : N → N → Ordering) → IsOrder compare → (ps : List (Pin N V)) (n : N) (v : V) → version_in compare ps n ≡ Some v → (p : Pin N V) × Contains ps p × (p.name ≡ n)
-pin-member compare order [] n v e = absurd (cc)
-pin-member {N} {V} compare order (p ∷ ps) n v e = elim (cond-member (is_eq (compare p.name n)) p.version v (version_in compare ps n) e) [
-  | inl b ↦ (p, Contains-here p ps, is_eq-same compare order p.name n b)
-  | inr r ↦ let k : (q : Pin N V) × Contains ps q × (q.name ≡ n) = pin-member compare order ps n v r in (k.0, Contains-there p ps k.0 k.1, k.2)
-]
 
 cond-some : (b : Bool) (v : ℕ) (x : Option ℕ) → ((b ≡ true → ⊥) → (w : ℕ) × (x ≡ Some w)) → (w : ℕ) × (cond b (Some v) x ≡ Some w)
 cond-some true v x h = (v, refl)
@@ -132,10 +121,6 @@ next-up t picture rules known h taken n a next =
             (subst (λ c. c ≢ Greater) (sym (h.order n o l j)) (next.least o (x.0, x.3, refl) none));
       },
     )
-
-map-append : {A B : Type 0} (f : A → B) (xs ys : List A) → map f (xs ++ ys) ≡ map f xs ++ map f ys
-map-append f [] ys = refl
-map-append f (x ∷ xs) ys = ap (λ zs. f x ∷ zs) (map-append f xs ys)
 
 walk-up : {N X V R : Type 0} (t : Parts) (picture : Picture N X V R) (rules : Rules N X V R) → in_range t ≡ true → IsPicture t picture rules → (s : ℕ → Option ℕ) → ((n p : ℕ) → s n ≡ Some p → Contains (candidates_of t n) p) → (before ps : List (Pin ℕ ℕ)) → Has (rules_of t) s (before ++ ps) → IsWalk (rules_of t) before ps → IsWalk rules (map (pin_pictured picture) before) (map (pin_pictured picture) ps)
 walk-up t picture rules known h s released before [] had walk = tt

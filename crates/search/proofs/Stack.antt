@@ -1,10 +1,9 @@
 -- What a search learns of solutions, as its frames come and go.
-use Rattle.std.proofs.Common.{ℕ, suc, List, [], ◌∷◌, ◌++◌, ◌≡◌, ◌≢◌, ◌≤◌, ◌⊎◌, inl, inr, Contains, length, take, drop, refl, sym, ◌∙◌, ap, subst, Some, None, Option, Bool, true, false, cond, Ordering, append_assoc, append-nil}
-use Rattle.std.specs.Ordering.{is_eq}
+use Rattle.std.proofs.Common.{ℕ, suc, List, [], ◌∷◌, ◌++◌, ◌≡◌, ◌≢◌, ◌≤◌, ◌⊎◌, inl, inr, Contains, length, take, drop, refl, sym, ◌∙◌, ap, subst, Some, None, Option, append_assoc, append-nil}
 use Rattle.search.proofs.Lists.{Contains-take_suc, take-whole, nat_cases, split_at, get_or-any}
-use Rattle.search.proofs.Theory.{is_eq-same, version_in-last, Has-front, Has-push, Needed-more, next-in_solution, complete-same}
+use Rattle.search.proofs.Theory.{version_in-cons_cases, version_in-last, Has-front, Has-push, Needed-more, next-in_solution, complete-same}
 use Rattle.search.specs.declared.parts.Frame.{Frame}
-use Rattle.search.specs.Rules.{Rules, IsOrder, IsLawful}
+use Rattle.search.specs.Rules.{Rules, IsLawful}
 use Rattle.search.specs.Solutions.{Pin, IsNeededName, Solution, version_in, IsNext, IsWalk, Has, ComesFirst, IsBetter, IsBest}
 use Rattle.search.specs.Search.{pin_at, pins_of, Refutes, IsFrame, IsSearch, IsRefuted, IsComplete}
 
@@ -83,16 +82,6 @@ search-compare rules law s t before (f ∷ fs) sol walk search has had =
         first = first-candidate rules law before f t w.0 search.0 sol had w.1 other;
       })
     ]
-
-cond_some : (b : Bool) (v w : ℕ) (x : Option ℕ) → cond b (Some v) x ≡ Some w → ((b ≡ true) × (v ≡ w)) ⊎ (x ≡ Some w)
-cond_some true v w x e = inl (refl, cc)
-cond_some false v w x e = inr e
-
-pub version_in-cons_cases : (compare : ℕ → ℕ → Ordering) (order : IsOrder compare) (c : Pin ℕ ℕ) (cs : List (Pin ℕ ℕ)) (n : ℕ) (w : ℕ) → version_in compare (c ∷ cs) n ≡ Some w → ((c.name ≡ n) × (c.version ≡ w)) ⊎ (version_in compare cs n ≡ Some w)
-version_in-cons_cases compare order c cs n w e = elim (cond_some (is_eq (compare c.name n)) c.version w (version_in compare cs n) e) [
-  | inl a ↦ inl (is_eq-same compare order c.name n a.0, a.1)
-  | inr b ↦ inr b
-]
 
 search-released : (rules : Rules ℕ ℕ ℕ ℕ) (law : IsLawful rules) (before : List (Pin ℕ ℕ)) (fs : List Frame) → IsSearch rules before fs → (n : ℕ) (v : ℕ) → version_in rules.compare (pins_of fs) n ≡ Some v → Contains (rules.candidates n) v
 search-released rules law before [] h n v e = absurd (cc)

@@ -5,10 +5,10 @@ use Rattle.std.proofs.lemmas.List.Elements.{Contains-push_cases}
 use Rattle.std.specs.Ordering.{nat_cmp, is_eq}
 use Rattle.search.proofs.Counts.{nat_less}
 use Rattle.search.proofs.Least.{nat-order}
-use Rattle.search.proofs.Lists.{Contains-nil, Contains-here, Contains-there, nat_cases}
+use Rattle.search.proofs.Lists.{Contains-map, map-append, Contains-nil, Contains-here, Contains-there, nat_cases}
 use Rattle.search.proofs.Nodes.{take-more}
-use Rattle.search.proofs.Stack.{pins_of-push, version_in-cons_cases}
-use Rattle.search.proofs.Theory.{is_eq-same, option_cases, version_in-append_some, version_in-append_none, version_in-last}
+use Rattle.search.proofs.Stack.{pins_of-push}
+use Rattle.search.proofs.Theory.{pin-member, is_eq-same, option_cases, version_in-append_some, version_in-append_none, version_in-last}
 use Rattle.search.specs.declared.parts.Choice.{Choice}
 use Rattle.search.specs.declared.parts.Frame.{Frame}
 use Rattle.search.specs.Search.{pin_at, pins_of, taken_at}
@@ -59,11 +59,10 @@ pub record IsListed (chosen : ℕ → Option ℕ) (bound : ℕ) (cs : List Choic
   pub ascending : IsAscending cs
 
 place_in-member : (cs : List Choice) (n v : ℕ) → place_in cs n ≡ Some v → (c : Choice) × Contains cs c × (c.name ≡ n)
-place_in-member [] n v e = absurd (cc)
-place_in-member (c ∷ cs) n v e = elim (version_in-cons_cases nat_cmp nat-order (pin_of c) (map pin_of cs) n v e) [
-  | inl a ↦ (c, Contains-here c cs, a.0)
-  | inr b ↦ let k : (d : Choice) × Contains cs d × (d.name ≡ n) = place_in-member cs n v b in (k.0, Contains-there c cs k.0 k.1, k.2)
-]
+place_in-member cs n v e =
+    let p : (p : Pin ℕ ℕ) × Contains (map pin_of cs) p × (p.name ≡ n) = pin-member nat_cmp nat-order (map pin_of cs) n v e in
+    let c : (c : Choice) × Contains cs c × (pin_of c ≡ p.0) = Contains-map pin_of cs p.0 p.1 in
+    (c.0, c.1, ap (λ (x : Pin ℕ ℕ). x.name) c.2 ∙ p.2)
 
 beyond : (chosen : ℕ → Option ℕ) (bound : ℕ) (cs : List Choice) (n : ℕ) → IsListed chosen bound cs → bound ≤ n → place_in cs n ≡ None
 beyond chosen bound cs n h l = elim (option_cases (place_in cs n)) [
@@ -92,10 +91,6 @@ listed-none chosen bound cs h e = record {
   ascending = h.ascending;
 }
 
-map-push : (cs : List Choice) (c : Choice) → map pin_of (cs ++ c ∷ []) ≡ map pin_of cs ++ pin_of c ∷ []
-map-push [] c = refl
-map-push (d ∷ cs) c = ap (λ ps. pin_of d ∷ ps) (map-push cs c)
-
 ascending-push : (cs : List Choice) (c : Choice) → IsAscending cs → ((d : Choice) → Contains cs d → d.name < c.name) → IsAscending (cs ++ c ∷ [])
 ascending-push [] c h k = (λ d i. absurd (Contains-nil d i), tt)
 ascending-push (b ∷ cs) c h k = (
@@ -112,9 +107,9 @@ listed-push chosen bound place cs h e =
         | inr f ↦ subst (λ (x : Choice). x.name < bound + 1) f (omega arith)
       ];
       same = λ n l. elim (nat_less bound n (omega arith)) [
-        | inl low ↦ ap (λ ps. version_in nat_cmp ps n) (map-push cs c) ∙ version_in-other (map pin_of cs) (pin_of c) n (λ f. omega arith) ∙ h.same n low
+        | inl low ↦ ap (λ ps. version_in nat_cmp ps n) (map-append pin_of cs (c ∷ [])) ∙ version_in-other (map pin_of cs) (pin_of c) n (λ f. omega arith) ∙ h.same n low
         | inr at ↦ subst (λ m. place_in (cs ++ c ∷ []) m ≡ chosen m) at
-            (ap (λ ps. version_in nat_cmp ps bound) (map-push cs c) ∙ version_in-last nat_cmp nat-order (map pin_of cs) (pin_of c) (beyond chosen bound cs bound h (omega arith)) ∙ sym e)
+            (ap (λ ps. version_in nat_cmp ps bound) (map-append pin_of cs (c ∷ [])) ∙ version_in-last nat_cmp nat-order (map pin_of cs) (pin_of c) (beyond chosen bound cs bound h (omega arith)) ∙ sym e)
       ];
       ascending = ascending-push cs c h.ascending (λ d i. h.below d i);
     }

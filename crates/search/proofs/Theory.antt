@@ -3,6 +3,7 @@ use Rattle.std.proofs.Common.{List, [], ◌∷◌, ◌++◌, ◌≡◌, ◌⊎�
 use Rattle.std.specs.Ordering.{is_eq}
 use Rattle.std.specs.Cmp.{Equal-is}
 use Rattle.std.proofs.lemmas.Cmp.{tied_itself}
+use Rattle.search.proofs.Lists.{Contains-here, Contains-there}
 use Rattle.search.specs.Rules.{Rules, IsOrder, IsLawful}
 use Rattle.search.specs.Solutions.{Pin, Needed, by_line, by_dependency, IsNeededName, IsMet, Solution, version_in, IsNext, Has}
 use Rattle.search.specs.Search.{IsRefuted, IsComplete}
@@ -49,6 +50,24 @@ version_in-push_cases compare order xs c n w e = elim (option_cases (version_in 
       let k : (is_eq (compare c.name n) ≡ true) × (c.version ≡ w) = cond_push (is_eq (compare c.name n)) c.version w (sym (version_in-append_none compare xs (c ∷ []) n none) ∙ e) in
       inr (is_eq-same compare order c.name n k.0, k.1)
   | inr some ↦ inl (some.1 ∙ sym (version_in-append_some compare xs (c ∷ []) n some.0 some.1) ∙ e)
+]
+
+cond_some : {V : Type 0} (b : Bool) (v w : V) (x : Option V) → cond b (Some v) x ≡ Some w → ((b ≡ true) × (v ≡ w)) ⊎ (x ≡ Some w)
+cond_some true v w x e = inl (refl, cc)
+cond_some false v w x e = inr e
+
+pub version_in-cons_cases : {N V : Type 0} (compare : N → N → Ordering) → IsOrder compare → (c : Pin N V) (cs : List (Pin N V)) (n : N) (w : V) → version_in compare (c ∷ cs) n ≡ Some w → ((c.name ≡ n) × (c.version ≡ w)) ⊎ (version_in compare cs n ≡ Some w)
+version_in-cons_cases compare order c cs n w e = elim (cond_some (is_eq (compare c.name n)) c.version w (version_in compare cs n) e) [
+  | inl a ↦ inl (is_eq-same compare order c.name n a.0, a.1)
+  | inr b ↦ inr b
+]
+
+-- a name that has a version has a pin
+pub pin-member : {N V : Type 0} (compare : N → N → Ordering) → IsOrder compare → (ps : List (Pin N V)) (n : N) (v : V) → version_in compare ps n ≡ Some v → (p : Pin N V) × Contains ps p × (p.name ≡ n)
+pin-member compare order [] n v e = absurd (cc)
+pin-member {N} {V} compare order (p ∷ ps) n v e = elim (version_in-cons_cases compare order p ps n v e) [
+  | inl a ↦ (p, Contains-here p ps, a.0)
+  | inr b ↦ let k : (q : Pin N V) × Contains ps q × (q.name ≡ n) = pin-member compare order ps n v b in (k.0, Contains-there p ps k.0 k.1, k.2)
 ]
 
 pub Has-front : {N X V R : Type 0} (rules : Rules N X V R) (s : N → Option V) (xs ys : List (Pin N V)) → Has rules s (xs ++ ys) → Has rules s xs

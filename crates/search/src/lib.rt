@@ -1,4 +1,9 @@
 //! The best solution of a table of numbers, and what that is over any rules.
+//!
+//! `specs/Rules` and `specs/Solutions` say what a solution of rules is and which one is the best,
+//! whatever a name, a node, a version or a requirement is made of. A `Table` holds rules as
+//! numbers, and `best` searches it. `specs/Picture` says when the numbers of a table stand for
+//! other rules; `laws` carries the best solution over to those.
 #![tactic(auto)]
 
 mod clash;
