@@ -6,3 +6,4 @@ pub mod UsableFacts
 pub mod SortedFacts
 pub mod PackageFacts
 pub mod GatherFacts
+pub mod FallFacts

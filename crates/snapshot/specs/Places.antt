@@ -1,11 +1,17 @@
--- Where each package stands.
+-- What an index that was read keeps: where each package stands, and that releases fall.
 use Rattle.std.specs.Prelude.{◌≡◌, ℕ, List, String}
 use Rattle.std.specs.BTreeMap.{BTreeMap, get_by_text}
-use Rattle.std.specs.List.{position_from}
+use Rattle.std.specs.List.{AllByRecursion, position_from}
+use Rattle.std.specs.List.Sorted.{IsStrictlySortedBy}
 use Rattle.std.specs.declared.alloc.Global.{Global}
 use Rattle.snapshot.specs.declared.package.Package.{Package}
 use Rattle.snapshot.specs.Packages.{is_named}
+use Rattle.snapshot.specs.Releases.{newer_cmp}
 
 -- the map has the place of the first package of each name
 abbrev pub ArePlaces : BTreeMap (String Global) ℕ → List Package → Type 0
 ArePlaces places packages = (name : List ℕ) → get_by_text places name ≡ position_from (is_named name) 0 packages
+
+-- each package's releases fall by version: no two have equal versions
+abbrev pub AllFall : List Package → Type 0
+AllFall packages = AllByRecursion (λ p. IsStrictlySortedBy newer_cmp p.releases) packages

@@ -1,9 +1,11 @@
 // Reading the releases of a package.
 
-ghost use Rattle.std.specs.Prelude.{◌≡◌, ◌+◌, ◌++◌, IfOk, IsOkUnless, Ok, OnOk};
+ghost use Rattle.std.specs.Prelude.{◌≡◌, ◌+◌, ◌++◌, IfOk, IsOkUnless, Ok, OnOk, not};
+ghost use Rattle.std.specs.BTreeSet.{insert_key};
+ghost use Rattle.std.specs.List.{list_any};
 ghost use Rattle.serde_json.specs.View.{items_view, view};
 ghost use Rattle.snapshot.specs.Gathering.{gathered_view, kept_view};
-ghost use Rattle.snapshot.specs.Releases.{gather_release, left_out, release_of, releases_in};
+ghost use Rattle.snapshot.specs.Releases.{gather_release, has_version_of, left_out, newer_cmp, release_of, releases_in};
 ghost use Rattle.snapshot.specs.Shape.{Gives, below, place_path};
 ghost use Rattle.snapshot.specs.declared.fault.Fault.TheVariants.{OutOfMemory};
 
@@ -53,6 +55,15 @@ fn release_at_place(
     below_place(alloc, place, release_of(alloc, value))
 }
 
+/// Puts the release into its place, unless one of an equal version is there, and says whether it did.
+fn put(newest: &mut BTreeSet<Newest>, release: Release) -> Result<bool, Fault>
+    ensures is_new { IfOk result (λ new. new ≡ not (list_any (has_version_of release) newest.old.keys)) }
+    ensures keys { OnOk result (newest.new.keys ≡ insert_key newer_cmp newest.old.keys release) }
+    ensures memory { IsOkUnless result OutOfMemory }
+{
+    Ok(newest.insert(Newest::new(release))?)
+}
+
 /// Leaves the release at `place` out.
 fn leave_out(
     skipped: &mut Vec<Skipped>,
@@ -82,7 +93,7 @@ fn add(
 {
     match release {
         Ok(release) => {
-            if !gathering.newest.insert(Newest::new(release))? {
+            if !put(&mut gathering.newest, release)? {
                 leave_out(&mut gathering.skipped, name, place, SkipCause::Duplicate)?;
             }
         }

@@ -1,10 +1,12 @@
 // The index.
 
 ghost use Rattle.std.specs.Prelude.{◌≡◌, ◌⊎◌, Err, IfErr, IfOk, None, []};
+ghost use Rattle.std.specs.List.Sorted.{IsStrictlySortedBy};
 ghost use Rattle.lists.specs.Answers.{Answers};
 ghost use Rattle.serde_json.specs.View.{view};
 ghost use Rattle.snapshot.specs.Packages.{json_of, releases_of, repeated_from, snapshot_of, unless_repeated};
 ghost use Rattle.snapshot.specs.Places.{ArePlaces};
+ghost use Rattle.snapshot.specs.Releases.{newer_cmp};
 ghost use Rattle.snapshot.specs.Shape.{Gives};
 ghost use Rattle.snapshot.specs.declared.fault.Fault.TheVariants.{OutOfMemory};
 
@@ -46,7 +48,7 @@ impl Model for Snapshot {
     ghost use Rattle.std.specs.Coded.{codes};
     ghost use Rattle.markers.specs.MarkerCode.{tree_code};
     ghost use Rattle.snapshot.specs.Packages.{Index};
-    ghost use Rattle.snapshot.specs.Places.{ArePlaces};
+    ghost use Rattle.snapshot.specs.Places.{AllFall, ArePlaces};
 
     ghost Value = { Index };
 
@@ -54,7 +56,7 @@ impl Model for Snapshot {
 
     ghost view = { λ s. record { packages = s.packages; skipped = s.skipped; digest = s.digest } };
 
-    ghost invariant = { λ s. ArePlaces s.places s.packages };
+    ghost invariant = { λ s. record { places : ArePlaces s.places s.packages; fall : AllFall s.packages } };
 }
 
 /// The JSON value of the bytes.
@@ -112,10 +114,11 @@ impl Snapshot {
         })
     }
 
-    /// The releases of a package that can be used, newest first; none where the index has
+    /// The releases of a package that can be used, newest first, no two of equal versions; none where the index has
     /// no package of that name.
     pub fn releases(&self, name: &Name) -> &[Release]
-        ensures { result.now ≡ releases_of name.now self.now.packages }
+        ensures listed { result.now ≡ releases_of name.now self.now.packages }
+        ensures fall { IsStrictlySortedBy newer_cmp result.now }
     {
         match self.places.get(name.normal()) {
             Some(place) => self.packages.as_slice()[*place].releases.as_slice(),

@@ -1,0 +1,8 @@
+use Rattle.snapshot.specs.Places.{ArePlaces}
+use Rattle.snapshot.proofs.FallFacts.{packages-fall}
+use Rattle.snapshot.proofs.snapshot.Snapshot.read.Goals as goal
+
+pub invariant_of-result : goal.invariant_of-result
+invariant_of-result c =
+    let places : ArePlaces c.in_ok-places.places c.in_ok-read.read.packages = rw c.as_slice.ensures at c.in_ok-places.ensures.places in
+    record { places = places; fall = packages-fall _ c.in_ok-read.read c.in_ok-read.ensures }
