@@ -1,5 +1,9 @@
 // The files that the program reads.
 
+ghost use Rattle.std.specs.Prelude.{◌≡◌};
+ghost use Rattle.reqlock.specs.InputWords.{word_of};
+ghost use Rattle.reqlock.specs.declared.input_files.InputFault.TheVariants.{OutOfMemory};
+
 use pep440::Fault as SpecifierFault;
 use pep508::{Cause, Environment, Fault as LineFault, ReqFile};
 use snapshot::{Fault as IndexFault, Snapshot};
@@ -40,6 +44,8 @@ pub enum InputFault {
 }
 
 impl From<AllocError> for InputFault {
+    ghost from_gives = { λ _ fault. fault ≡ OutOfMemory };
+
     fn from(_error: AllocError) -> InputFault {
         InputFault::OutOfMemory
     }
@@ -75,7 +81,9 @@ fn write_cause<W: fmt::Write>(f: &mut fmt::Formatter<W>, cause: Cause) -> fmt::R
 
 /// The word of a cause: its name in lower case with a hyphen before each inner capital. That of a
 /// specifier is the word of its own fault.
-pub fn cause_word(cause: Cause) -> &'static str {
+pub fn cause_word(cause: Cause) -> &'static str
+    ensures { result.now ≡ word_of cause }
+{
     match cause {
         Cause::BadName => "bad-name",
         Cause::BadMarker => "bad-marker",

@@ -1,5 +1,9 @@
 // The program around a batch: what it reads, what it writes and its status.
 
+ghost use Rattle.std.specs.Prelude.{◌≡◌};
+ghost use Rattle.reqlock.specs.declared.batch.BatchFault.TheVariants as batches;
+ghost use Rattle.reqlock.specs.declared.program.Stop.TheVariants.{Fault};
+
 use crate::batch::{BatchFault, batch, write_all};
 use crate::counted::Counted;
 use crate::input_files::{
@@ -39,12 +43,16 @@ enum Stop {
 }
 
 impl From<AllocError> for Stop {
+    ghost from_gives = { λ _ stop. stop ≡ Fault batches.OutOfMemory };
+
     fn from(_error: AllocError) -> Stop {
         Stop::Fault(BatchFault::OutOfMemory)
     }
 }
 
 impl From<BatchFault> for Stop {
+    ghost from_gives = { λ fault stop. stop ≡ Fault fault };
+
     fn from(fault: BatchFault) -> Stop {
         Stop::Fault(fault)
     }

@@ -1,4 +1,4 @@
-use Rattle.std.proofs.Common.{◌∙◌, Some, ap, sym, codes, map, refl}
+use Rattle.std.proofs.Common.{◌∙◌, Some, ap, sym, codes, map}
 use Rattle.std.specs.Prelude.{option_map, unwrap_or}
 use Rattle.reqlock.proofs.Requests.{given_is, named_is, now_or, is_some_at, is_try}
 use Rattle.reqlock.proofs.request.request.Goals as goal
