@@ -1,6 +1,7 @@
 mod EnvironmentFacts
 mod LawFacts
 mod MarkerFacts
+mod NormalFacts
 mod OwnFacts
 mod ReadFacts
 mod SelfFacts

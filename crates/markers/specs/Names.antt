@@ -2,6 +2,7 @@
 use Rattle.std.specs.Prelude.{ℕ, ◌-◌, ◌==◌, ◌&&◌, ◌||◌, Bool, false, List, [], ◌∷◌, ◌++◌, length, slice_index, nat_lt, Result, Ok, Err, if◌then◌else◌}
 use Rattle.std.specs.Char.{is_ascii_alphanumeric, to_ascii_lowercase}
 use Rattle.std.specs.List.{list_all}
+use Rattle.std.specs.Str.{bytes_eq}
 use Rattle.markers.specs.declared.fault.Cause.{Cause}
 use Rattle.markers.specs.declared.fault.Cause.TheVariants.{BadName}
 
@@ -32,6 +33,10 @@ normal_byte b rest =
 unfoldable pub normal_of : List ℕ → List ℕ
 normal_of [] = []
 normal_of (b ∷ rest) = normal_byte b rest ++ normal_of rest
+
+-- a name in its normal form
+abbrev pub is_normal : List ℕ → Bool
+is_normal name = is_name name && bytes_eq (normal_of name) name
 
 -- the name that a text is, in its normal form
 abbrev pub name_of : List ℕ → Result (List ℕ) Cause

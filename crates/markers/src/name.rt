@@ -5,7 +5,7 @@ ghost use Rattle.std.specs.Prelude.{◌≡◌, ◌++◌, IfOk, OnOk, true, strin
 ghost use Rattle.std.specs.List.{list_all};
 ghost use Rattle.markers.specs.Faults.{memory_fault, one_line};
 ghost use Rattle.markers.specs.declared.fault.Cause.TheVariants.{OutOfMemory};
-ghost use Rattle.markers.specs.Names.{is_name, is_name_byte, is_separator, name_of, normal_byte, normal_of, starts_separated};
+ghost use Rattle.markers.specs.Names.{is_name, is_name_byte, is_normal, is_separator, name_of, normal_byte, normal_of, starts_separated};
 
 use crate::fault::{Cause, Fault};
 use lists::{Faithful, Text};
@@ -26,11 +26,14 @@ impl Drop for Name {
 }
 
 impl Model for Name {
-    ghost use Rattle.std.specs.Prelude.{List, ℕ};
+    ghost use Rattle.std.specs.Prelude.{◌≡◌, List, true, ℕ};
+    ghost use Rattle.markers.specs.Names.{is_normal};
 
     ghost Value = { List ℕ };
 
     ghost view = { λ n. n.normal };
+
+    ghost invariant = { λ n. is_normal n.normal ≡ true };
 
     ghost inverse = { λ n. record { normal = n } };
 }
@@ -134,6 +137,13 @@ impl Name {
         ensures { result.now ≡ self.now }
     {
         self.normal.as_str()
+    }
+
+    /// What holds of every name: it is in its normal form.
+    pub fn is_lawful(&self)
+        ensures { is_normal self.now ≡ true }
+    {
+        let _normal = &self.normal;
     }
 }
 

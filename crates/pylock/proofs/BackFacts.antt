@@ -15,7 +15,8 @@ use Rattle.pylock.specs.declared.file.FileEntry.{FileEntry}
 use Rattle.pylock.specs.declared.fault.Flaw.{Flaw}
 use Rattle.pylock.specs.Forms.{after, each, optionally, some_each, text_of, unknown_in}
 use Rattle.pylock.specs.Locks.{IsLock, Locked, are_entries}
-use Rattle.pylock.specs.Packages.{IsPackage, Package, is_normal, is_other}
+use Rattle.markers.specs.Names.{is_normal}
+use Rattle.pylock.specs.Packages.{IsPackage, Package, is_other}
 use Rattle.pylock.specs.Reading.{digest_in, dependency_in, entries_in, environment_in, file_in, lock_in, package_in, package_keys, tool_in}
 use Rattle.pylock.specs.Tables.{array_of, dependency_data, file_data, optional, package_data, some_array, table_of, tool_data}
 use Rattle.pylock.proofs.PackageFacts.{parts}

@@ -17,7 +17,8 @@ use Rattle.pep440.specs.Reading.{version_of}
 use Rattle.pep440.specs.Version.{Parts}
 use Rattle.pep440.specs.declared.fault.Fault.{Fault as VersionFault}
 use Rattle.pylock.specs.Locks.{Locked, are_entries}
-use Rattle.pylock.specs.Packages.{Package, entry_of, is_normal, is_package}
+use Rattle.markers.specs.Names.{is_normal}
+use Rattle.pylock.specs.Packages.{Package, entry_of, is_package}
 use Rattle.pylock.specs.Reading.{at_key, creator_in, dependency_in, digest_in, entries_in, environment_in, file_in, format_of, if_canonical, if_known, if_lower, in_order, lock_in, lock_keys, normal_in, only_text, package_in, package_keys, tool_in, version_in}
 use Rattle.pylock.specs.Tables.{array_of, dependency_data, file_data, file_table, only_key, optional, package_data, package_table, some_array, table_of, tool_data}
 use Rattle.pylock.proofs.KeyFacts.{AreDistinct, at_keys, is_at_keys}

@@ -6,7 +6,8 @@ use Rattle.std.specs.Option.{option_map_or}
 use Rattle.pylock.specs.declared.file.FileEntry.{FileEntry}
 use Rattle.pylock.specs.Files.{has_ending, is_digest, is_file, is_sdist, is_wheel}
 use Rattle.pylock.specs.Order.{rises}
-use Rattle.pylock.specs.Packages.{Package, are_dependencies, are_wheels, is_normal, is_package, is_python}
+use Rattle.markers.specs.Names.{is_normal}
+use Rattle.pylock.specs.Packages.{Package, are_dependencies, are_wheels, is_package, is_python}
 
 pub all_pass : {X : Type 0} (xs : List X) → list_all (λ _. true) xs ≡ true
 all_pass [] = refl

@@ -6,7 +6,7 @@ use Rattle.std.specs.Str.{bytes_eq}
 use Rattle.pep440.specs.Sets.{set_of}
 use Rattle.pep440.specs.Text.{is_blank}
 use Rattle.pep440.specs.Version.{IsVersion, Parts}
-use Rattle.markers.specs.Names.{is_name, normal_of}
+use Rattle.markers.specs.Names.{is_normal}
 use Rattle.pylock.specs.declared.file.FileEntry.{FileEntry}
 use Rattle.pylock.specs.Files.{is_sdist, is_wheel}
 use Rattle.pylock.specs.Order.{rises}
@@ -19,10 +19,6 @@ pub record Package : Type 0 where
   pub dependencies : List (List ℕ)
   pub sdist : Option FileEntry
   pub wheels : List FileEntry
-
--- a name in its normal form (PEP 503, "Normalized Names")
-abbrev pub is_normal : List ℕ → Bool
-is_normal name = is_name name && bytes_eq (normal_of name) name
 
 -- a set of specifiers that isn't spaces and tabs alone (PEP 440, "Version specifiers")
 abbrev pub is_python : List ℕ → Bool

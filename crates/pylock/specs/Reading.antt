@@ -7,6 +7,7 @@ use Rattle.pep440.specs.Canonical.{canonical}
 use Rattle.pep440.specs.Reading.{version_of}
 use Rattle.pep440.specs.Version.{Parts}
 use Rattle.pep440.specs.declared.fault.Fault.{Fault as VersionFault}
+use Rattle.markers.specs.Names.{is_normal}
 use Rattle.toml.specs.Data.{Data, Items, no_items, item, Members, as_array, as_str, get_member}
 use Rattle.toml.specs.Parse.{parse_document}
 use Rattle.pylock.specs.declared.fault.Fault.{Fault}
@@ -16,7 +17,7 @@ use Rattle.pylock.specs.declared.fault.Flaw.TheVariants.{OtherForm, OutOfMemory}
 use Rattle.pylock.specs.declared.file.FileEntry.{FileEntry}
 use Rattle.pylock.specs.Forms.{◌>>=◌, each, found, optionally, size_at, some_each, table_with, text_at, text_of, unknown_in}
 use Rattle.pylock.specs.Locks.{Locked, are_entries}
-use Rattle.pylock.specs.Packages.{Package, entry_of, is_normal}
+use Rattle.pylock.specs.Packages.{Package, entry_of}
 
 -- a file
 unfoldable pub file_in : Data → Result FileEntry Flaw

@@ -5,25 +5,14 @@ ghost use Rattle.std.specs.List.{list_all};
 ghost use Rattle.std.specs.Option.{option_map_or};
 ghost use Rattle.pep440.specs.Text.{is_blank};
 ghost use Rattle.pylock.specs.Files.{is_sdist, is_wheel};
-ghost use Rattle.pylock.specs.Packages.{are_dependencies, are_wheels, is_normal, is_other, is_python};
+ghost use Rattle.pylock.specs.Packages.{are_dependencies, are_wheels, is_other, is_python};
 
 use crate::file::{self, FileEntry};
 use crate::order::rises;
 use lists::Text;
 use pep440::{Fault, SpecifierSet};
-use pep508::{Cause, Name};
+use pep508::Name;
 use std::alloc::{AllocError, Global};
-
-/// Whether the name is in its normal form.
-pub(crate) fn is_normal(alloc: Global, name: &Name) -> Result<bool, AllocError>
-    ensures { IfOk result (λ b. b ≡ is_normal name.now) }
-{
-    match Name::read(alloc, name.normal()) {
-        Ok(read) => Ok(read.normal() == name.normal()),
-        Err(Cause::OutOfMemory) => Err(AllocError),
-        Err(_) => Ok(false),
-    }
-}
 
 /// Whether the text is spaces and tabs alone.
 fn are_blank(text: &str) -> bool
@@ -59,35 +48,25 @@ pub(crate) fn may_be_python(alloc: Global, text: &Option<Text>) -> Result<bool, 
 }
 
 /// Whether the name is that of another package.
-fn is_other(alloc: Global, own: &Name, name: &Name) -> Result<bool, AllocError>
-    ensures { IfOk result (λ b. b ≡ is_other own.now name.now) }
+fn is_other(own: &Name, name: &Name) -> bool
+    ensures { result ≡ is_other own.now name.now }
 {
-    let is_normal = is_normal(alloc, name)?;
-    Ok(is_normal && name.normal() != own.normal())
+    name.is_lawful();
+    name.normal() != own.normal()
 }
 
 /// Whether each name is that of another package.
-fn are_others(alloc: Global, own: &Name, names: &[Name]) -> Result<bool, AllocError>
-    ensures { IfOk result (λ b. b ≡ list_all (is_other own.now) names.now) }
+fn are_others(own: &Name, names: &[Name]) -> bool
+    ensures { result ≡ list_all (is_other own.now) names.now }
 {
-    for place in 0..names.len() {
-        if !is_other(alloc, own, &names[place])? {
-            return Ok(false);
-        }
-    }
-    Ok(true)
+    names.iter().all(|name| is_other(own, name))
 }
 
 /// Whether the names are the dependencies of a package.
-pub(crate) fn are_dependencies(
-    alloc: Global,
-    own: &Name,
-    names: &[Name],
-) -> Result<bool, AllocError>
-    ensures { IfOk result (λ b. b ≡ are_dependencies own.now names.now) }
+pub(crate) fn are_dependencies(own: &Name, names: &[Name]) -> bool
+    ensures { result ≡ are_dependencies own.now names.now }
 {
-    let are_others = are_others(alloc, own, names)?;
-    Ok(rises(names) && are_others)
+    rises(names) && are_others(own, names)
 }
 
 /// Whether the file, where there is one, is a source distribution.

@@ -93,14 +93,14 @@ impl Entry {
           wheels = wheels;
         })) }
     {
+        name.is_lawful();
         version.is_lawful();
-        let is_normal = checks::is_normal(alloc, &name)?;
         let is_python = checks::may_be_python(alloc, &requires_python)?;
-        let are_dependencies = checks::are_dependencies(alloc, &name, dependencies.as_slice())?;
+        let are_dependencies = checks::are_dependencies(&name, dependencies.as_slice());
         let is_sdist = checks::may_be_sdist(&sdist);
         let are_wheels = checks::are_wheels(wheels.as_slice());
         let has_file = sdist.is_some() || !wheels.is_empty();
-        if is_normal && is_python && are_dependencies && is_sdist && are_wheels && has_file {
+        if is_python && are_dependencies && is_sdist && are_wheels && has_file {
             return Ok(Some(Entry {
                 name,
                 version,

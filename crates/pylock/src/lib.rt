@@ -11,6 +11,8 @@ pub mod laws;
 mod lock;
 mod order;
 mod reading;
+#[cfg(test)]
+mod shape_tests;
 mod table;
 #[cfg(test)]
 mod tests;

@@ -5,5 +5,6 @@ pub mod FileFacts
 pub mod UsableFacts
 pub mod SortedFacts
 pub mod PackageFacts
+pub mod NameFacts
 pub mod GatherFacts
 pub mod FallFacts
