@@ -1,3 +1,6 @@
 pub mod Additions
-pub mod Choosing
+pub mod Gathering
+pub mod LockFacts
+pub mod Members
+pub mod NamesInOrder
 pub mod WorkedRows

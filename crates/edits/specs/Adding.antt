@@ -3,7 +3,7 @@ use Rattle.std.specs.Prelude.{ℕ, ◌+◌, ◌==◌, List, [], ◌∷◌, ◌++
 use Rattle.std.specs.List.{list_any}
 use Rattle.pep508.specs.Parts.{ended, ending_of}
 use Rattle.pep508.specs.Requirement.{Wanted}
-use Rattle.edits.specs.Choice.{is_on, wanted_of}
+use Rattle.edits.specs.Asking.{is_on, wanted_of}
 
 -- what a text asks for that is to be a line: it has no LF and reads as a requirement
 abbrev pub asked_by : List ℕ → Option Wanted

@@ -1,4 +1,7 @@
+pub mod Asking
 pub mod Adding
-pub mod Choice
 pub mod Content
+pub mod Locking
+pub mod Dependencies
+pub mod Entries
 pub mod Edits

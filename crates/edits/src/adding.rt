@@ -3,13 +3,22 @@
 ghost use Rattle.std.specs.Prelude.{◌≡◌, ◌==◌, IfOk, MatchOption, None};
 ghost use Rattle.std.specs.List.{list_any};
 ghost use Rattle.pep508.specs.Parts.{IsEnding};
-ghost use Rattle.edits.specs.Choice.{wanted_of};
+ghost use Rattle.edits.specs.Asking.{is_on, wanted_of};
 ghost use Rattle.edits.specs.Adding.{asked_by, line_number, lines_after, usual_ending};
 
-use crate::choice::is_on;
 use lists::{Seq, Text};
 use pep508::{Cause, Line, Name, ReqFile};
 use std::alloc::{AllocError, Global};
+
+/// Whether the line is on the name.
+fn is_on(line: &Line, name: &Name) -> bool
+    ensures { result ≡ is_on name.now (wanted_of line.now) }
+{
+    match line.requirement() {
+        Some(requirement) => name.normal() == requirement.name().normal(),
+        None => false,
+    }
+}
 
 /// Whether an LF is among the bytes.
 fn has_line_feed(bytes: &[u8]) -> bool

@@ -2,8 +2,10 @@
 #![tactic(auto)]
 
 mod adding;
-mod choice;
+mod dependencies;
 mod editing;
+mod locked;
+mod locking;
 mod refusal;
 mod request;
 mod state;
@@ -11,8 +13,10 @@ mod state;
 mod tests;
 
 pub use crate::editing::{edit, init};
+pub use crate::locked::Locked;
 pub use crate::refusal::{Refusal, SavedFile};
 pub use crate::request::{Edit, Edited};
 pub use crate::state::State;
 pub use pep508::{Cause, Environment, Fault, Line, Name, ReqFile, Requirement};
+pub use resolve::{Plain, Resolver};
 pub use snapshot::{Release, Snapshot};

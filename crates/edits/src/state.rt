@@ -1,21 +1,26 @@
 // States.
 
-ghost use Rattle.std.specs.Prelude.{◌≡◌};
-ghost use Rattle.std.specs.Map.{lookup};
+ghost use Rattle.std.specs.Prelude.{◌≡◌, IfOk};
 ghost use Rattle.std.specs.Option.{option_copied};
-ghost use Rattle.std.specs.Str.{bytes_eq};
+ghost use Rattle.edits.specs.Locking.{versions_of};
+ghost use Rattle.resolve.specs.Resolves.{version_in};
 
+use crate::locked::Locked;
+use lists::Seq;
 use pep440::Version;
 use pep508::{Environment, Name, ReqFile};
+use std::alloc::AllocError;
 use std::collections::BTreeMap;
 use std::marker::Model;
 
 /// A requirements file and the lock that belongs to it in an environment. In a clause it is the list of
-/// its lines, the texts of the environment, and the list of its locked names with their versions.
+/// its lines, the texts of the environment, the digest of the index and the list of what is locked.
 pub struct State {
     lines: ReqFile,
     environment: Environment,
-    lock: BTreeMap<Name, Version>,
+    digest: [u8; 32],
+    lock: Seq<Locked>,
+    versions: BTreeMap<Name, Version>,
 }
 
 impl Drop for State {
@@ -23,33 +28,44 @@ impl Drop for State {
         let State {
             lines: _,
             environment: _,
+            digest: _,
             lock: _,
+            versions: _,
         } = self;
     }
 }
 
 impl Model for State {
+    ghost use Rattle.std.specs.Prelude.{◌≡◌};
     ghost use Rattle.edits.specs.Content.{Content};
+    ghost use Rattle.edits.specs.Locking.{versions_of};
 
     ghost Value = { Content };
 
-    ghost view = { λ s. record { lines = s.lines; environment = s.environment; lock = s.lock.entries } };
+    ghost view = { λ s. record { lines = s.lines; environment = s.environment; digest = s.digest; lock = s.lock } };
+
+    ghost invariant = { λ s. s.versions.entries ≡ versions_of s.lock };
 }
 
 impl State {
-    /// The state of these lines, this environment and this lock.
+    /// The state of these parts. The versions are those of the lock.
     pub(crate) fn new(
         lines: ReqFile,
         environment: Environment,
-        lock: BTreeMap<Name, Version>,
+        digest: [u8; 32],
+        lock: Seq<Locked>,
+        versions: BTreeMap<Name, Version>,
     ) -> State
+        requires versions { versions.entries ≡ versions_of lock }
         ensures { result
-            ≡ record { lines = lines; environment = environment; lock = lock.entries } }
+            ≡ record { lines = lines; environment = environment; digest = digest; lock = lock } }
     {
         State {
             lines,
             environment,
+            digest,
             lock,
+            versions,
         }
     }
 
@@ -67,10 +83,31 @@ impl State {
         &self.environment
     }
 
+    /// The SHA-256 digest of the index that the lock was made from.
+    pub fn digest(&self) -> [u8; 32]
+        ensures { result ≡ self.now.digest }
+    {
+        self.digest
+    }
+
+    /// What is locked, in the order of the names' bytes.
+    pub fn lock(&self) -> &[Locked]
+        ensures { result.now ≡ self.now.lock }
+    {
+        self.lock.as_slice()
+    }
+
     /// The locked version of the name.
     pub fn locked(&self, name: &Name) -> Option<&Version>
-        ensures { option_copied result ≡ lookup (bytes_eq name.now) self.now.lock }
+        ensures { option_copied result ≡ version_in (versions_of self.now.lock) name.now }
     {
-        self.lock.get(name)
+        self.versions.get(name)
+    }
+
+    /// The locked versions by their names, to be kept by a later lock.
+    pub(crate) fn kept(&self) -> Result<BTreeMap<Name, Version>, AllocError>
+        ensures { IfOk result (λ kept. kept.entries ≡ versions_of self.now.lock) }
+    {
+        self.versions.clone()
     }
 }

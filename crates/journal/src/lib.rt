@@ -1,6 +1,7 @@
 //! The history of a requirements file and its lock: edits, undo and redo over whole states.
 //!
 //! A history is seen as the list of its states and a cursor, and each command is one step of it.
+//! Each lock in it is the best solution of its lines, by whatever resolver it was found.
 #![tactic(auto)]
 
 mod commands;
@@ -20,3 +21,4 @@ pub use crate::laws::{
 pub use crate::running::{apply, run};
 pub use crate::session::Session;
 pub use crate::whole::WholeHistory;
+pub use edits::{Plain, Resolver};

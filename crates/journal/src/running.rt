@@ -6,25 +6,36 @@ ghost use Rattle.journal.specs.Steps.{Step, Run};
 
 use crate::commands::{Command, Reply};
 use crate::history::History;
-use edits::{Edit, Refusal, Snapshot};
+use edits::{Edit, Refusal, Resolver, Snapshot};
 use lists::Seq;
 use std::alloc::{AllocError, Global};
 
-/// Applies one command.
-pub fn apply<H: History>(alloc: Global, history: &mut H, command: &Command<'_>) -> Reply
+/// Applies one command. The lock of an edited state is the best solution, whatever the resolver.
+pub fn apply<H: History, R: Resolver>(
+    alloc: Global,
+    history: &mut H,
+    command: &Command<'_>,
+    resolver: &R,
+) -> Reply
     ensures step { Step (H.past history.old) (asked_of command.now) result (H.past history.new) }
 {
     match command {
-        Command::Edit(edit, snapshot) => apply_edit(alloc, history, edit, snapshot),
+        Command::Edit(edit, snapshot) => apply_edit(alloc, history, edit, snapshot, resolver),
         Command::Undo => apply_undo(history),
         Command::Redo => apply_redo(history),
     }
 }
 
-fn apply_edit<H: History>(alloc: Global, history: &mut H, edit: &Edit, snapshot: &Snapshot) -> Reply
+fn apply_edit<H: History, R: Resolver>(
+    alloc: Global,
+    history: &mut H,
+    edit: &Edit,
+    snapshot: &Snapshot,
+    resolver: &R,
+) -> Reply
     ensures step { Step (H.past history.old) (Editing edit.now snapshot.now) result (H.past history.new) }
 {
-    match edits::edit(alloc, history.state(), edit, snapshot) {
+    match edits::edit(alloc, history.state(), edit, snapshot, resolver) {
         Ok(edited) => match history.push(edited) {
             Ok(()) => Reply::Done(history.cursor()),
             Err(AllocError) => Reply::Refused(Refusal::OutOfMemory),
@@ -52,19 +63,21 @@ fn apply_redo<H: History>(history: &mut H) -> Reply
     }
 }
 
-/// Applies the commands in turn and gives their replies. The room for the replies is taken
-/// first, and where that is refused no command is applied.
-pub fn run<H: History>(
+/// Applies the commands in turn and gives their replies. The lock of each edited state is the best
+/// solution, whatever the resolver. The room for the replies is taken first, and where that is
+/// refused no command is applied.
+pub fn run<H: History, R: Resolver>(
     alloc: Global,
     history: &mut H,
     commands: &[Command<'_>],
+    resolver: &R,
 ) -> Result<Seq<Reply>, AllocError>
     ensures run { IfOk result (λ replies. Run (H.past history.old) (map asked_of commands.now) replies (H.past history.new)) }
     ensures kept { OnErr result (H.past history.new ≡ H.past history.old) }
 {
     let mut replies = Vec::with_capacity(alloc, commands.len())?;
     for command in commands {
-        let reply = apply(alloc, history, command);
+        let reply = apply(alloc, history, command, resolver);
         replies.push_reserved(reply);
     }
     Ok(Seq::from_vec(replies))

@@ -1,6 +1,6 @@
 // A history of a small file, each call that allocates once.
 
-use crate::{Command, History, Reply, Session, WholeHistory};
+use crate::{Command, History, Plain, Reply, Session, WholeHistory};
 use edits::{Edit, Environment, Refusal, ReqFile, Snapshot};
 use lists::Text;
 use std::alloc::Global;
@@ -23,7 +23,7 @@ const ENVIRONMENT: &str = r##"{"implementation_name":"cpython","implementation_v
 fn begin(alloc: Global, text: &str, snapshot: &Snapshot) -> Result<Session, Fail> {
     let lines = ReqFile::read(alloc, text.as_bytes())?;
     let environment = Environment::read(alloc, ENVIRONMENT.as_bytes())?;
-    Ok(Session::init(alloc, lines, environment, snapshot)?)
+    Ok(Session::init(alloc, lines, environment, snapshot, &Plain)?)
 }
 
 #[test]
@@ -39,7 +39,7 @@ fn a_run_is_answered_in_turn(rt: HostRuntime) -> Result<(), Fail> {
         Command::Undo,
         Command::Redo,
     ];
-    let replies = session.run(alloc, &commands)?;
+    let replies = session.run(alloc, &commands, &Plain)?;
     let expected = [
         Reply::Refused(Refusal::NothingToUndo),
         Reply::Done(1),
@@ -63,10 +63,10 @@ fn an_edit_after_an_undo_cuts_what_was_undone(rt: HostRuntime) -> Result<(), Fai
     let mut session = begin(alloc, "", &snapshot)?;
     for text in ["a<2", "b"] {
         let addition = Command::Edit(Edit::Add(Text::copy_of(alloc, text)?), &snapshot);
-        assert!(rt; session.apply(alloc, &addition) == Reply::Done(1));
-        assert!(rt; session.apply(alloc, &Command::Undo) == Reply::Done(0));
+        assert!(rt; session.apply(alloc, &addition, &Plain) == Reply::Done(1));
+        assert!(rt; session.apply(alloc, &Command::Undo, &Plain) == Reply::Done(0));
     }
-    assert!(rt; session.apply(alloc, &Command::Redo) == Reply::Done(1));
+    assert!(rt; session.apply(alloc, &Command::Redo, &Plain) == Reply::Done(1));
     assert_eq!(rt; session.cursor(), 1);
     assert_eq!(rt; session.state().lines().bytes(alloc)?.as_str(), "b\n");
     Ok(())
@@ -78,7 +78,7 @@ fn a_history_begins_with_its_state(rt: HostRuntime) -> Result<(), Fail> {
     let snapshot = Snapshot::read(alloc, INDEX.as_bytes())?;
     let lines = ReqFile::read(alloc, "a\n".as_bytes())?;
     let environment = Environment::read(alloc, ENVIRONMENT.as_bytes())?;
-    let state = edits::init(alloc, lines, environment, &snapshot)?;
+    let state = edits::init(alloc, lines, environment, &snapshot, &Plain)?;
     let history = WholeHistory::new(alloc, state)?;
     assert_eq!(rt; history.cursor(), 0);
     assert_eq!(rt; history.steps(), 0);

@@ -1,6 +1,7 @@
 pub mod CommandLine
 pub mod CommandWords
 pub mod Faults
+pub mod Inputs
 pub mod InputWords
 pub mod Replies
 pub mod Requests

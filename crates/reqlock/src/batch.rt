@@ -15,9 +15,12 @@ use crate::reply_text::ReplyText;
 use crate::sink::Sink;
 use crate::source::Source;
 use edits::Refusal;
-use journal::{Command, Reply, Session};
+use journal::{Command, Plain, Reply, Session};
 use snapshot::Snapshot;
 use std::alloc::{AllocError, Global};
+
+/// What finds each lock.
+pub(crate) const RESOLVER: Plain = Plain;
 
 // How many bytes one read asks for.
 const PIECE: usize = 8192;
@@ -244,9 +247,9 @@ fn reply_to(alloc: Global, item: Item, session: &mut Session, snapshot: &Snapsho
     ensures step { StepOf snapshot.now session.old item result session.new }
 {
     match item {
-        Item::Edit(edit) => session.apply(alloc, &Command::Edit(edit, snapshot)),
-        Item::Undo => session.apply(alloc, &Command::Undo),
-        Item::Redo => session.apply(alloc, &Command::Redo),
+        Item::Edit(edit) => session.apply(alloc, &Command::Edit(edit, snapshot), &RESOLVER),
+        Item::Undo => session.apply(alloc, &Command::Undo, &RESOLVER),
+        Item::Redo => session.apply(alloc, &Command::Redo, &RESOLVER),
         Item::BadCommand => Reply::Refused(Refusal::BadCommand),
     }
 }

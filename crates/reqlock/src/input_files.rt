@@ -1,6 +1,8 @@
 // The files that the program reads.
 
 ghost use Rattle.std.specs.Prelude.{◌≡◌};
+ghost use Rattle.lists.specs.Answers.{Answers};
+ghost use Rattle.reqlock.specs.Inputs.{environment_in, index_in, requirements_in};
 ghost use Rattle.reqlock.specs.InputWords.{word_of};
 ghost use Rattle.reqlock.specs.declared.input_files.InputFault.TheVariants.{OutOfMemory};
 
@@ -130,7 +132,9 @@ pub fn read_bytes<R: Files + AllocGlobal>(rt: &R, path: &str) -> Result<Vec<u8>,
 }
 
 /// The requirements file that these bytes are.
-pub fn read_requirements(alloc: Global, bytes: &[u8]) -> Result<ReqFile, InputFault> {
+pub fn read_requirements(alloc: Global, bytes: &[u8]) -> Result<ReqFile, InputFault>
+    ensures { Answers InputFault.OutOfMemory (requirements_in bytes.now) result }
+{
     match ReqFile::read(alloc, bytes) {
         Ok(file) => Ok(file),
         Err(fault) if fault.cause == Cause::OutOfMemory => Err(InputFault::OutOfMemory),
@@ -139,7 +143,9 @@ pub fn read_requirements(alloc: Global, bytes: &[u8]) -> Result<ReqFile, InputFa
 }
 
 /// The index that these bytes are.
-pub fn read_index(alloc: Global, bytes: &[u8]) -> Result<Snapshot, InputFault> {
+pub fn read_index(alloc: Global, bytes: &[u8]) -> Result<Snapshot, InputFault>
+    ensures { Answers InputFault.OutOfMemory (index_in bytes.now) result }
+{
     match Snapshot::read(alloc, bytes) {
         Ok(snapshot) => Ok(snapshot),
         Err(IndexFault::OutOfMemory) => Err(InputFault::OutOfMemory),
@@ -148,7 +154,9 @@ pub fn read_index(alloc: Global, bytes: &[u8]) -> Result<Snapshot, InputFault> {
 }
 
 /// The environment that these bytes are.
-pub fn read_environment(alloc: Global, bytes: &[u8]) -> Result<Environment, InputFault> {
+pub fn read_environment(alloc: Global, bytes: &[u8]) -> Result<Environment, InputFault>
+    ensures { Answers InputFault.OutOfMemory (environment_in bytes.now) result }
+{
     match Environment::read(alloc, bytes) {
         Ok(environment) => Ok(environment),
         Err(fault) if fault.cause == Cause::OutOfMemory => Err(InputFault::OutOfMemory),

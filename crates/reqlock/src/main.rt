@@ -11,6 +11,8 @@ mod program;
 mod program_tests;
 mod reply_text;
 mod request;
+#[cfg(test)]
+mod resolving_tests;
 mod sink;
 mod source;
 #[cfg(test)]

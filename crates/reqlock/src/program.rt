@@ -4,7 +4,7 @@ ghost use Rattle.std.specs.Prelude.{◌≡◌};
 ghost use Rattle.reqlock.specs.declared.batch.BatchFault.TheVariants as batches;
 ghost use Rattle.reqlock.specs.declared.program.Stop.TheVariants.{Fault};
 
-use crate::batch::{BatchFault, batch, write_all};
+use crate::batch::{BatchFault, RESOLVER, batch, write_all};
 use crate::counted::Counted;
 use crate::input_files::{
     InputFault, InputFile, read_bytes, read_environment, read_index, read_requirements,
@@ -166,7 +166,7 @@ fn begin(
     environment: Environment,
     snapshot: &Snapshot,
 ) -> Result<Session, Stop> {
-    match Session::init(alloc, lines, environment, snapshot) {
+    match Session::init(alloc, lines, environment, snapshot, &RESOLVER) {
         Ok(session) => Ok(session),
         Err(Refusal::OutOfMemory) => Err(Stop::Fault(BatchFault::OutOfMemory)),
         Err(refusal) => Err(Stop::Refused(refusal)),

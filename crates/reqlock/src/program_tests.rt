@@ -24,10 +24,10 @@ const A_B_C: &str =
 
 // How the program ended, and what it wrote.
 #[derive(Drop)]
-struct Outcome {
-    status: Status,
-    output: Vec<u8>,
-    errors: Vec<u8>,
+pub struct Outcome {
+    pub status: Status,
+    pub output: Vec<u8>,
+    pub errors: Vec<u8>,
 }
 
 fn run_program(rt: &HostRuntime, words: &[&str], input: &[u8]) -> Result<Outcome, Fail> {
@@ -69,7 +69,7 @@ fn folder(rt: &HostRuntime, name: &str, requirements: &[u8], index: &[u8]) -> Re
 }
 
 // What `try` answers to this input over a folder with these files.
-fn tried(
+pub fn tried(
     rt: &HostRuntime,
     name: &str,
     requirements: &[u8],

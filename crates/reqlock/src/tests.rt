@@ -9,7 +9,7 @@ use crate::request::{NeededOption, RequestFault, Subcommand, request};
 use crate::sink::Sink;
 use crate::source::Source;
 use edits::{Edit, Environment, Refusal, ReqFile, SavedFile, Snapshot};
-use journal::{Reply, Session};
+use journal::{Plain, Reply, Session};
 use lists::Text;
 use std::alloc::Global;
 use std::io;
@@ -179,7 +179,7 @@ fn session(rt: &impl Abort, alloc: Global, snapshot: &Snapshot) -> Session {
     let lines = ReqFile::read(alloc, b"".as_slice()).expect(rt, "an empty file");
     let environment = Environment::read(alloc, ENVIRONMENT.as_bytes());
     let environment = environment.expect(rt, "an environment");
-    Session::init(alloc, lines, environment, snapshot).expect(rt, "a session")
+    Session::init(alloc, lines, environment, snapshot, &Plain).expect(rt, "a session")
 }
 
 #[test]

@@ -1,0 +1,63 @@
+-- The names that packages need, node by node and package by package.
+use Rattle.std.proofs.Common.{◌≡◌, ◌++◌, ℕ, Bool, false, List, [], ◌∷◌, Some, None, Option, Less, map, append_assoc, refl, sym, ap, ◌∙◌, inl, inr}
+use Rattle.std.proofs.lemmas.Bool.{cases_Bool}
+use Rattle.std.proofs.lemmas.Map.Text.{is_eq-slice_cmp}
+use Rattle.std.proofs.lemmas.Slice.Eq.{bytes_eq-Decides}
+use Rattle.std.proofs.lemmas.Map.Keys.{sorted_head}
+use Rattle.std.specs.BTreeMap.{BTreeMap, Updates, UpdatesBy, get, is_at}
+use Rattle.std.specs.BTreeSet.{BTreeSet}
+use Rattle.std.specs.Cmp.Lexicographic.{nat_list_eq_equiv, slice_cmp}
+use Rattle.std.specs.List.{AllByRecursion}
+use Rattle.std.specs.List.Sorted.{IsStrictlySortedBy}
+use Rattle.std.specs.Map.{keys_of, lookup}
+use Rattle.std.specs.Ordering.{is_eq, nat_cmp}
+use Rattle.std.specs.Str.{bytes_eq}
+use Rattle.pep440.specs.Version.{Parts}
+use Rattle.snapshot.specs.Release.{Release}
+use Rattle.resolve.specs.Given.{Given}
+use Rattle.resolve.specs.declared.node.Node.{Node}
+use Rattle.edits.specs.Dependencies.{names_at, names_in, names_wanted, release_chosen, with_names}
+use Rattle.edits.specs.Entries.{entry_of}
+use Rattle.edits.specs.declared.locked.Locked.{Locked}
+
+-- a look-up by bytes is the look-up of a map
+pub lookup-get : {X : Type 0} (name : List ℕ) (entries : List (List ℕ × X)) → lookup (bytes_eq name) entries ≡ lookup (is_at (slice_cmp nat_cmp name)) entries
+lookup-get {X} name entries = ap (λ (t : List ℕ → Bool). lookup {X = X} t entries) (λ i x. sym (is_eq-slice_cmp name x) i)
+
+-- the names of a node's package are taken out, and put back with those that its release needs there
+pub gathered-more : (given : Given) (chosen : List ℕ → Option Parts) (node : Node) (release : Release) (old rest new : BTreeMap (List ℕ) (BTreeSet (List ℕ))) (names more : BTreeSet (List ℕ))
+    → Some release ≡ release_chosen given chosen node.name → names_in old node.name ≡ names.keys
+    → UpdatesBy (slice_cmp nat_cmp) (slice_cmp nat_cmp node.name) old rest None
+    → more.keys ≡ with_names names.keys (names_wanted given.environment node release.dependencies)
+    → Updates (slice_cmp nat_cmp) rest new node.name (Some more)
+    → (own : List ℕ) → names_in new own ≡ with_names (names_in old own) (names_at given chosen own node)
+gathered-more given chosen node release old rest new names more picked taken out added put own =
+    let at : is_at (slice_cmp nat_cmp node.name) own ≡ bytes_eq own node.name = is_eq-slice_cmp node.name own ∙ nat_list_eq_equiv.symm node.name own in
+    elim (cases_Bool (bytes_eq own node.name)) [
+      | inl same ↦
+          let found : get (slice_cmp nat_cmp) new own ≡ Some more = put.0 own ∙ rw (at, same) refl in
+          let mine : names_in old own ≡ names.keys = ap (names_in old) ((bytes_eq-Decides own node.name).0 same) ∙ taken in
+          rw (found, mine, same, ← picked) added
+      | inr other ↦
+          let found : get (slice_cmp nat_cmp) new own ≡ get (slice_cmp nat_cmp) old own =
+          put.2 own (at ∙ other) ∙ out.2 own (at ∙ other) in
+          rw (found, other) refl
+    ]
+
+-- what is locked for names above one stays where the names of that one are taken out
+entries-rest : (given : Given) (name : List ℕ) (old new : BTreeMap (List ℕ) (BTreeSet (List ℕ))) (rest : List (List ℕ × Parts))
+    → UpdatesBy (slice_cmp nat_cmp) (slice_cmp nat_cmp name) old new None → AllByRecursion (λ y. slice_cmp nat_cmp name y ≡ Less) (keys_of rest)
+    → map (entry_of given (names_in new)) rest ≡ map (entry_of given (names_in old)) rest
+entries-rest given name old new [] out above = refl
+entries-rest given name old new (p ∷ rest) out above =
+    let apart : is_at (slice_cmp nat_cmp name) p.0 ≡ false = ap is_eq above.0 in
+    let kept : get (slice_cmp nat_cmp) new p.0 ≡ get (slice_cmp nat_cmp) old p.0 = out.2 p.0 apart in
+    rw (kept, entries-rest given name old new rest out above.1) refl
+
+-- one more entry is locked
+pub entries-more : (given : Given) (name : List ℕ) (version : Parts) (e : Locked) (items target : List Locked) (rest : List (List ℕ × Parts)) (old new : BTreeMap (List ℕ) (BTreeSet (List ℕ)))
+    → IsStrictlySortedBy (slice_cmp nat_cmp) (keys_of ((name, version) ∷ rest)) → UpdatesBy (slice_cmp nat_cmp) (slice_cmp nat_cmp name) old new None
+    → e ≡ entry_of given (names_in old) (name, version) → items ++ map (entry_of given (names_in old)) ((name, version) ∷ rest) ≡ target
+    → (items ++ e ∷ []) ++ map (entry_of given (names_in new)) rest ≡ target
+entries-more given name version e items target rest old new rising out is made =
+    rw (append_assoc, entries-rest given name old new rest out (sorted_head _ name (keys_of rest) rising), is) made

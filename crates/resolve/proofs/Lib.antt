@@ -1,0 +1,12 @@
+pub mod Falling
+pub mod Preferring
+pub mod Admitting
+pub mod Standing
+pub mod Growing
+pub mod Closing
+pub mod Gathered
+pub mod Picturing
+pub mod PictureOf
+pub mod InRange
+pub mod TableOf
+pub mod Solving

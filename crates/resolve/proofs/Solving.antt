@@ -1,0 +1,76 @@
+-- The versions that the choices of a table stand for.
+use Rattle.std.proofs.Common.{◌≡◌, ◌<◌, ◌∙◌, ℕ, zero, suc, List, [], ◌∷◌, Option, Some, Contains, cond, drop, length, get_or, refl, sym, ap, subst, arith}
+use Rattle.std.proofs.lemmas.Option.{get_or_from_slice_get, slice_get_read}
+use Rattle.std.specs.BTreeMap.{BTreeMap, Updates, is_at}
+use Rattle.std.specs.Cmp.{nat_cmp_total, tied_itself}
+use Rattle.std.specs.Cmp.Lexicographic.{slice_cmp}
+use Rattle.std.specs.Ordering.{is_eq, nat_cmp}
+use Rattle.pep440.specs.Version.{Parts as Version}
+use Rattle.pep508.specs.Requirement.{Wanted}
+use Rattle.search.specs.Picture.{pictured}
+use Rattle.search.specs.Solutions.{IsBest, version_in as version_in_pins}
+use Rattle.search.specs.Table.{IsAscending, Parts, place_in, rules_of as rules_of_table}
+use Rattle.search.specs.declared.parts.Choice.{Choice}
+use Rattle.snapshot.specs.Release.{Release}
+use Rattle.resolve.specs.Given.{Given, releases_on}
+use Rattle.resolve.specs.Pictured.{AreKnown, IsKnown, IsPictured, chosen, name_at, picture_of}
+use Rattle.resolve.specs.Places.{version_at}
+use Rattle.resolve.specs.Resolves.{version_in}
+use Rattle.resolve.specs.Rules.{rules_of}
+use Rattle.resolve.specs.declared.node.Node.{Node}
+use Rattle.resolve.proofs.Falling.{version_at-get}
+use Rattle.resolve.proofs.PictureOf.{within-member}
+use Rattle.resolve.proofs.Picturing.{nat_cmp-less}
+use Rattle.resolve.proofs.Preferring.{lookup-get}
+
+-- what the code puts at a name
+pub put-as : (given : Given) (names : List (List ℕ)) (choice : Choice) (name key : List ℕ) (rs : List Release) (release : Release) (v : Version) (old new : BTreeMap (List ℕ) Version) → IsKnown given names choice
+    → name ≡ get_or names choice.name name → rs ≡ releases_on given name → release ≡ get_or rs choice.place release → key ≡ name → v ≡ release.version
+    → Updates (slice_cmp nat_cmp) old new key (Some v) → Updates (slice_cmp nat_cmp) old new (name_at names choice.name) (Some (version_at (releases_on given (name_at names choice.name)) choice.place))
+put-as given names choice name key rs release v old new known named listed placed keyed versioned updates =
+    let is : name_at names choice.name ≡ name = get_or_from_slice_get names choice.name name [] (slice_get_read names (length names) choice.name name refl known.0 named) in
+    let own : releases_on given (name_at names choice.name) ≡ rs = ap (releases_on given) is ∙ sym listed in
+    let inside : choice.place < length rs = subst (λ (l : List Release). choice.place < length l) own known.1 in
+    let version : version_at (releases_on given (name_at names choice.name)) choice.place ≡ v = ap (λ l. version_at l choice.place) own ∙ version_at-get rs choice.place release (slice_get_read rs (length rs) choice.place release refl inside placed) ∙ sym versioned in
+    subst (λ w. Updates (slice_cmp nat_cmp) old new (name_at names choice.name) (Some w)) (sym version) (subst (λ k. Updates (slice_cmp nat_cmp) old new k (Some v)) (keyed ∙ sym is) updates)
+
+drop-at : {A : Type 0} (xs : List A) (n : ℕ) (x : A) → n < length xs → x ≡ get_or xs n x → drop n xs ≡ x ∷ drop (suc n) xs
+drop-at [] n x within is = absurd (omega arith)
+drop-at (y ∷ ys) zero x within is = ap (λ z. z ∷ ys) (sym is)
+drop-at (y ∷ ys) (suc n) x within is = drop-at ys n x (omega arith) is
+
+-- one choice more, in front of those that were put
+pub put-more : (given : Given) (names : List (List ℕ)) (choices : List Choice) (n : ℕ) (choice : Choice) (old new : BTreeMap (List ℕ) Version) → n < length choices → choice ≡ get_or choices n choice
+    → ((name : List ℕ) → version_in old.entries name ≡ chosen given names (drop (suc n) choices) name)
+    → Updates (slice_cmp nat_cmp) old new (name_at names choice.name) (Some (version_at (releases_on given (name_at names choice.name)) choice.place))
+    → (name : List ℕ) → version_in new.entries name ≡ chosen given names (drop n choices) name
+put-more given names choices n choice old new within is before updates name =
+    let key = name_at names choice.name in
+    let v = version_at (releases_on given key) choice.place in
+    lookup-get name new.entries ∙ updates.0 name ∙ ap (cond (is_at (slice_cmp nat_cmp key) name) (Some v)) (sym (lookup-get name old.entries) ∙ before name)
+    ∙ sym (ap (λ cs. chosen given names cs name) (drop-at choices n choice within is))
+
+-- of choices that ascend each is the first on its name
+ascending-place : (choices : List Choice) → IsAscending choices → (choice : Choice) → Contains choices choice → place_in choices choice.name ≡ Some choice.place
+ascending-place [] up choice h = absurd (omega arith)
+ascending-place (c ∷ cs) up choice (zero, _, is) = let e : c ≡ choice = is in
+    ap (λ o. cond (is_eq o) (Some c.place) (place_in cs choice.name)) (ap (λ (d : Choice). nat_cmp c.name d.name) (sym e) ∙ tied_itself nat_cmp_total c.name) ∙ ap (λ (d : Choice). Some d.place) e
+ascending-place (c ∷ cs) up choice (suc k, within, is) =
+    let there : Contains cs choice = (k, omega arith, is) in
+    ap (λ o. cond (is_eq o) (Some c.place) (place_in cs choice.name)) (nat_cmp-less c.name choice.name (up.0 choice there)) ∙ ascending-place cs up.1 choice there
+
+-- the choices of a solution are releases that are there
+pub best-known : (given : Given) (names : List (List ℕ)) (t : Parts) (choices : List Choice) → IsPictured given names t → IsBest (rules_of_table t) (place_in choices) → IsAscending choices → AreKnown given names choices
+best-known given names t choices is best up choice h =
+    let there = best.solution.released choice.name choice.place (ascending-place choices up choice h) in
+    (subst (λ n. choice.name < n) is.counted (within-member t.candidates choice.name choice.place there), is.within choice.name choice.place there)
+
+-- the best solution of the table stands for that of the problem
+pub best-same : (given : Given) (names : List (List ℕ)) (choices : List Choice) (nodes : List Node) (asked : List Wanted) (versions : List (List ℕ × Version)) → ((name : List ℕ) → version_in versions name ≡ chosen given names choices name)
+    → IsBest (rules_of given) (version_in_pins (slice_cmp nat_cmp) (pictured (picture_of given names nodes asked) choices)) → IsBest (rules_of given) (version_in versions)
+best-same given names choices nodes asked versions same best = subst (λ (s : List ℕ → Option Version). IsBest (rules_of given) s) (λ i name. sym (same name) i) best
+
+pub get_or-any : {A : Type 0} (xs : List A) (n : ℕ) (d e : A) → n < length xs → get_or xs n d ≡ get_or xs n e
+get_or-any [] n d e within = absurd (omega arith)
+get_or-any (x ∷ xs) zero d e within = refl
+get_or-any (x ∷ xs) (suc n) d e within = get_or-any xs n d e (omega arith)

@@ -1,0 +1,7 @@
+use Rattle.std.proofs.Common.{take}
+use Rattle.resolve.specs.Building.{AreEntries}
+use Rattle.resolve.specs.Standing.{AllStand}
+use Rattle.resolve.proofs.gathering.Gathering.ask_lines.Given as goal
+
+abbrev pub invariant-loop-wanted : goal.invariant-loop-wanted
+invariant-loop-wanted l = AreEntries l.question l.self × AllStand l.self.asked l.numbers.items (take l.wanted-index l.lines)

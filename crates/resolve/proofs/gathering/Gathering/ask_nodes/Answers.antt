@@ -1,0 +1,22 @@
+use Rattle.std.proofs.Common.{◌≡◌, ◌∙◌, ap, ◌<◌, ◌≤◌, ◌+◌, List, length, subst, sym, take, vec_len, arith}
+use Rattle.std.specs.List.{AllZip}
+use Rattle.resolve.specs.Building.{Gathered, IsWanted}
+use Rattle.resolve.specs.Standing.{Stands}
+use Rattle.resolve.specs.declared.node.Node.{Node}
+use Rattle.resolve.proofs.Gathered.{grown-then, wants-more}
+use Rattle.resolve.proofs.Standing.{length-longer}
+use Rattle.resolve.proofs.gathering.Gathering.ask_nodes.Goals as goal
+
+pub nodes-preserved : goal.nodes-preserved
+nodes-preserved c =
+    let count = vec_len c.nodes.wants in
+    let within : count < length c.nodes.self.nodes = subst (λ (ns : List Node). count < length ns) (c.as_slice.ensures ∙ ap (λ (g : Gathered). g.nodes) c.self.view_is) (subst (λ n. n < length c.as_slice.result.now) c.len.ensures c.nodes-test.true) in
+    let longer : length c.nodes.self.nodes ≤ length c.ask_node.new.self.nodes = length-longer c.nodes.self.nodes c.ask_node.new.self.nodes c.in_ok-rows.ensures.grown.nodes_more in
+    let pushed : vec_len c.push.new.self ≡ count + 1 = c.in_ok-push.ensures.len in (
+      c.in_ok-rows.ensures.entries,
+      grown-then c.args.self.now c.nodes.self c.ask_node.new.self c.nodes.invariant.1 c.in_ok-rows.ensures.grown,
+      omega arith,
+      subst (λ n. AllZip (IsWanted c.args.question.now c.ask_node.new.self.asked) c.push.new.self.items (take n c.ask_node.new.self.nodes)) (sym pushed)
+          (wants-more c.args.question.now c.nodes.self c.ask_node.new.self c.nodes.wants.items c.push.new.self.items c.in_ok-rows.rows count within c.in_ok-rows.ensures.grown c.nodes.invariant.3
+          (subst (λ n. (node : Node) → Stands c.nodes.self.nodes n node → IsWanted c.args.question.now c.ask_node.new.self.asked c.in_ok-rows.rows node) c.len-in-nodes.ensures c.in_ok-rows.ensures.rows) c.in_ok-push.ensures.items),
+    )

@@ -1,0 +1,8 @@
+use Rattle.std.proofs.Common.{filter, take, option_copied}
+use Rattle.resolve.specs.Building.{AreEntries, IsGrown}
+use Rattle.resolve.specs.Rules.{counts}
+use Rattle.resolve.specs.Standing.{AllStand}
+use Rattle.resolve.proofs.gathering.Gathering.ask_release.Given as goal
+
+abbrev pub invariant-loop-wanted : goal.invariant-loop-wanted
+invariant-loop-wanted l = AreEntries l.question l.self × IsGrown l.fn.self l.self × AllStand l.self.asked l.numbers.items (filter (counts l.question.environment (option_copied l.extra)) (take l.wanted-index l.dependencies))

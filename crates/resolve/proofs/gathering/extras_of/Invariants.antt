@@ -1,0 +1,7 @@
+use Rattle.std.proofs.Common.{map, take}
+use Rattle.resolve.specs.Rules.{with_extra}
+use Rattle.resolve.specs.Standing.{AllStand, IsLonger}
+use Rattle.resolve.proofs.gathering.extras_of.Given as goal
+
+abbrev pub invariant-loop-extra : goal.invariant-loop-extra
+invariant-loop-extra l = IsLonger l.fn.nodes l.nodes × AllStand l.nodes l.numbers.items (map (with_extra l.wanted.name) (take l.extra-index l.extras))

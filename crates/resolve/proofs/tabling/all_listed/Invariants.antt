@@ -1,0 +1,6 @@
+use Rattle.std.proofs.Common.{take}
+use Rattle.resolve.specs.Pictured.{AreListed}
+use Rattle.resolve.proofs.tabling.all_listed.Given as goal
+
+abbrev pub invariant-loop-name : goal.invariant-loop-name
+invariant-loop-name l = AreListed l.question l.rows.items (take l.name-index l.names)

@@ -1,0 +1,24 @@
+-- Lists of nodes that grow.
+use Rattle.std.specs.Prelude.{◌≡◌, ◌⊎◌, List, [], ◌++◌, Option, Some, None}
+use Rattle.std.specs.List.{Contains, flat_map}
+use Rattle.pep440.specs.Version.{Parts}
+use Rattle.pep508.specs.Requirement.{Wanted}
+use Rattle.resolve.specs.Given.{Given}
+use Rattle.resolve.specs.Rules.{nodes_of, wants}
+use Rattle.resolve.specs.declared.node.Node.{Node}
+
+-- new is old with nodes behind it that are wanted, and has all that are
+pub record Grows (old new wanted : List Node) : Type 0 where
+  pub more : List Node
+  pub extended : new ≡ old ++ more
+  pub added : (node : Node) → Contains wanted node → Contains new node
+  pub only : (node : Node) → Contains new node → Contains old node ⊎ Contains wanted node
+
+-- the nodes that requirements need
+abbrev pub nodes_asked : List Wanted → List Node
+nodes_asked requirements = flat_map nodes_of requirements
+
+-- the nodes that a node leads to, with this version of its name
+abbrev pub nodes_linked : Given → Node → Option Parts → List Node
+nodes_linked given node None = []
+nodes_linked given node (Some version) = nodes_asked (wants given node version)

@@ -1,0 +1,10 @@
+pub mod Given
+pub mod Admission
+pub mod Rules
+pub mod Places
+pub mod Standing
+pub mod NodeEquality
+pub mod Growing
+pub mod Building
+pub mod Pictured
+pub mod Resolves

@@ -1,0 +1,68 @@
+// The candidates of a name, by the places of its releases.
+
+ghost use Rattle.std.specs.Prelude.{◌≡◌, ◌<◌, IfOk, IfSome, length};
+ghost use Rattle.std.specs.List.{position};
+ghost use Rattle.std.specs.Option.{option_map, option_to_list};
+ghost use Rattle.resolve.specs.Admission.{has_version};
+ghost use Rattle.resolve.specs.Given.{releases_on};
+ghost use Rattle.resolve.specs.Places.{AreCandidates, version_at};
+ghost use Rattle.resolve.specs.Rules.{kept_version};
+
+use crate::question::Question;
+use crate::releases::has_version;
+use lists::Seq;
+use pep440::Version;
+use pep508::Name;
+use snapshot::Release;
+use std::alloc::{AllocError, Global};
+
+/// The place of the first release that has the version.
+fn place_of(releases: &[Release], version: &Version) -> Option<usize>
+    ensures { result ≡ position (has_version version.now) releases.now }
+{
+    releases
+        .iter()
+        .position(|release| has_version(version, release))
+}
+
+/// The place of the release that has the version kept for the name.
+fn kept_place(question: &Question<'_>, name: &Name) -> Option<usize>
+    ensures version { option_map (version_at (releases_on question.now name.now)) result ≡ kept_version question.now name.now }
+    ensures within { IfSome result (λ place. place < length (releases_on question.now name.now)) }
+{
+    match question.kept.get(name) {
+        None => None,
+        Some(version) => place_of(question.releases(name), version),
+    }
+}
+
+/// The place that is kept, if there is one, in a list with room for so many.
+fn first_place(alloc: Global, room: usize, kept: Option<usize>) -> Result<Vec<usize>, AllocError>
+    ensures { IfOk result (λ places. places.items ≡ option_to_list kept) }
+{
+    let mut places = Vec::with_capacity(alloc, room)?;
+    if let Some(place) = kept {
+        places.push(place)?;
+    }
+    Ok(places)
+}
+
+/// The places of a name's candidates, in the order in which they are preferred: the release that has the
+/// version kept for the name, and then the others from newest to oldest.
+pub(crate) fn candidates(
+    alloc: Global,
+    question: &Question<'_>,
+    name: &Name,
+) -> Result<Seq<usize>, AllocError>
+    ensures { IfOk result (AreCandidates question.now name.now) }
+{
+    let releases = question.releases(name);
+    let kept = kept_place(question, name);
+    let mut places = first_place(alloc, releases.len(), kept)?;
+    for place in 0..releases.len() {
+        if Some(place) != kept {
+            places.push(place)?;
+        }
+    }
+    Ok(Seq::from_vec(places))
+}

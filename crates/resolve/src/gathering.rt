@@ -1,0 +1,222 @@
+// Nodes and requirements, gathered for a table.
+
+ghost use Rattle.std.specs.Prelude.{◌≡◌, ◌<◌, [], length, map, IfOk};
+ghost use Rattle.std.specs.List.{AllZip};
+ghost use Rattle.std.specs.Option.{option_copied};
+ghost use Rattle.resolve.specs.Building.{AreEntries, AreWants, IsGrown, IsWanted};
+ghost use Rattle.resolve.specs.Rules.{wants_of, with_extra};
+ghost use Rattle.resolve.specs.Standing.{AllStand, IsLonger, Stands};
+
+use crate::admission::admissions;
+use crate::node::Node;
+use crate::nodes::Nodes;
+use crate::question::Question;
+use crate::releases::counts;
+use lists::Seq;
+use pep508::{Name, Requirement};
+use search::Requirement as Entry;
+use snapshot::Release;
+use std::alloc::{AllocError, Global};
+use std::marker::Model;
+
+/// The nodes and requirements that were met so far, and the table's entry of each requirement.
+pub(crate) struct Gathering<'q> {
+    nodes: Nodes,
+    asked: Vec<&'q Requirement>,
+    entries: Vec<Entry>,
+}
+
+impl<'q> Drop for Gathering<'q> {
+    fn drop(self) {
+        let Gathering {
+            nodes: _,
+            asked: _,
+            entries: _,
+        } = self;
+    }
+}
+
+impl<'q> Model for Gathering<'q> {
+    ghost use Rattle.std.specs.Coded.{codes};
+    ghost use Rattle.std.specs.Prelude.{map};
+    ghost use Rattle.markers.specs.MarkerCode.{tree_code};
+    ghost use Rattle.resolve.specs.Building.{Gathered};
+
+    ghost Value = { Gathered };
+
+    ghost coded = { Prim.hlevel (codes, tree_code) };
+
+    ghost view = { λ g. record { nodes = g.nodes; asked = map (λ wanted. wanted.now) g.asked.items; entries = g.entries.items } };
+}
+
+/// The numbers of the nodes of a requirement's extras.
+fn extras_of(
+    alloc: Global,
+    nodes: &mut Nodes,
+    wanted: &Requirement,
+) -> Result<Seq<usize>, AllocError>
+    ensures longer { IfOk result (λ _. IsLonger nodes.old nodes.new) }
+    ensures numbers { IfOk result (λ numbers. AllStand nodes.new numbers (map (with_extra wanted.now.name) wanted.now.extras)) }
+{
+    let extras = wanted.extras();
+    let mut numbers = Vec::with_capacity(alloc, extras.len())?;
+    for extra in extras {
+        let number = nodes.number_of(alloc, wanted.name(), Some(extra))?;
+        numbers.push(number)?;
+    }
+    Ok(Seq::from_vec(numbers))
+}
+
+impl<'q> Gathering<'q> {
+    pub(crate) fn new(alloc: Global) -> Gathering<'q>
+        ensures { result ≡ record { nodes = []; asked = []; entries = [] } }
+    {
+        Gathering {
+            nodes: Nodes::new(alloc),
+            asked: Vec::new(alloc),
+            entries: Vec::new(alloc),
+        }
+    }
+
+    /// The number of a requirement, which is put behind the others with its entry.
+    fn ask(
+        &mut self,
+        alloc: Global,
+        question: &Question<'_>,
+        wanted: &'q Requirement,
+    ) -> Result<usize, AllocError>
+        requires entries { AreEntries question.now self.old }
+        ensures entries { IfOk result (λ _. AreEntries question.now self.new) }
+        ensures grown { IfOk result (λ _. IsGrown self.old self.new) }
+        ensures number { IfOk result (λ number. Stands self.new.asked number wanted.now) }
+    {
+        let number = self.asked.len();
+        let node = self.nodes.number_of(alloc, wanted.name(), None)?;
+        let more = extras_of(alloc, &mut self.nodes, wanted)?;
+        let admits = admissions(alloc, question, wanted)?;
+        self.entries.push(Entry { node, more, admits })?;
+        self.asked.push(wanted)?;
+        Ok(number)
+    }
+
+    /// The numbers of what the active lines ask for.
+    pub(crate) fn ask_lines(
+        &mut self,
+        alloc: Global,
+        question: &'q Question<'_>,
+    ) -> Result<Seq<usize>, AllocError>
+        requires entries { AreEntries question.now self.old }
+        ensures entries { IfOk result (λ _. AreEntries question.now self.new) }
+        ensures numbers { IfOk result (λ numbers. AllStand self.new.asked numbers question.now.active) }
+    {
+        let lines = question.active.as_slice();
+        let mut numbers = Vec::with_capacity(alloc, lines.len())?;
+        for wanted in lines {
+            let number = self.ask(alloc, question, wanted)?;
+            numbers.push(number)?;
+        }
+        Ok(Seq::from_vec(numbers))
+    }
+
+    /// The numbers of the dependencies of a release that count with an extra or none.
+    fn ask_release(
+        &mut self,
+        alloc: Global,
+        question: &Question<'_>,
+        extra: Option<&Name>,
+        release: &'q Release,
+    ) -> Result<Seq<usize>, AllocError>
+        requires entries { AreEntries question.now self.old }
+        ensures entries { IfOk result (λ _. AreEntries question.now self.new) }
+        ensures grown { IfOk result (λ _. IsGrown self.old self.new) }
+        ensures numbers { IfOk result (λ numbers. AllStand self.new.asked numbers (wants_of question.now.environment (option_copied extra.entry) release.now)) }
+    {
+        let dependencies = release.dependencies();
+        let mut numbers = Vec::new(alloc);
+        for wanted in dependencies {
+            if counts(&question.environment, extra, wanted) {
+                let number = self.ask(alloc, question, wanted)?;
+                numbers.push(number)?;
+            }
+        }
+        numbers.shrink_to_fit();
+        Ok(Seq::from_vec(numbers))
+    }
+
+    /// For each release the numbers of its dependencies that count at a node.
+    fn ask_releases(
+        &mut self,
+        alloc: Global,
+        question: &Question<'_>,
+        node: &Node,
+        releases: &'q [Release],
+    ) -> Result<Seq<Seq<usize>>, AllocError>
+        requires entries { AreEntries question.now self.old }
+        ensures entries { IfOk result (λ _. AreEntries question.now self.new) }
+        ensures grown { IfOk result (λ _. IsGrown self.old self.new) }
+        ensures rows { IfOk result (λ rows. AreWants self.new.asked rows (map (wants_of question.now.environment node.now.extra) releases.now)) }
+    {
+        let mut rows = Vec::with_capacity(alloc, releases.len())?;
+        for release in releases {
+            let numbers = self.ask_release(alloc, question, node.extra.as_ref(), release)?;
+            rows.push(numbers)?;
+        }
+        Ok(Seq::from_vec(rows))
+    }
+
+    /// For each release of a node's name the numbers of its dependencies that count at the node.
+    fn ask_node(
+        &mut self,
+        alloc: Global,
+        question: &'q Question<'_>,
+        number: usize,
+    ) -> Result<Seq<Seq<usize>>, AllocError>
+        requires within { number < length self.old.nodes }
+        requires entries { AreEntries question.now self.old }
+        ensures entries { IfOk result (λ _. AreEntries question.now self.new) }
+        ensures grown { IfOk result (λ _. IsGrown self.old self.new) }
+        ensures rows { IfOk result (λ rows. (node : _) → Stands self.old.nodes number node → IsWanted question.now self.new.asked rows node) }
+    {
+        let node = self.nodes.as_slice()[number].clone()?;
+        let releases = question.releases(&node.name);
+        self.ask_releases(alloc, question, &node, releases)
+    }
+
+    /// Follows the nodes that are there, and those that come to them, to what is wanted at each.
+    pub(crate) fn ask_nodes(
+        &mut self,
+        alloc: Global,
+        question: &'q Question<'_>,
+    ) -> Result<Seq<Seq<Seq<usize>>>, AllocError>
+        requires entries { AreEntries question.now self.old }
+        ensures entries { IfOk result (λ _. AreEntries question.now self.new) }
+        ensures grown { IfOk result (λ _. IsGrown self.old self.new) }
+        ensures wants { IfOk result (λ wants. AllZip (IsWanted question.now self.new.asked) wants self.new.nodes) }
+    {
+        let mut wants = Vec::new(alloc);
+        'nodes: while wants.len() < self.nodes.as_slice().len() {
+            let rows = self.ask_node(alloc, question, wants.len())?;
+            wants.push(rows)?;
+        }
+        Ok(Seq::from_vec(wants))
+    }
+
+    /// The nodes.
+    pub(crate) fn nodes(&self) -> &[Node]
+        ensures { result.now ≡ self.now.nodes }
+    {
+        self.nodes.as_slice()
+    }
+
+    /// The entries of the requirements.
+    pub(crate) fn into_entries(self) -> Seq<Entry>
+        ensures { result ≡ self.entry.entries }
+    {
+        let Gathering {
+            nodes: _,
+            asked: _,
+            entries,
+        } = self;
+        Seq::from_vec(entries)
+    }
+}

@@ -1,0 +1,25 @@
+//! The problem of a lock, and what resolves it: the best solution, or that there is none.
+#![tactic(auto)]
+
+mod admission;
+mod answer;
+mod candidates;
+mod choice;
+mod gathering;
+mod names;
+mod needed;
+mod node;
+mod nodes;
+mod problem;
+mod question;
+mod releases;
+mod resolver;
+mod solution;
+mod tabling;
+
+pub use crate::answer::Answer;
+pub use crate::choice::Choice;
+pub use crate::node::Node;
+pub use crate::problem::Problem;
+pub use crate::resolver::{Plain, Resolver};
+pub use search::laws;

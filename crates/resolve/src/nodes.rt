@@ -1,0 +1,152 @@
+// Nodes and their numbers.
+
+ghost use Rattle.std.specs.Prelude.{◌≡◌, [], false, IfOk, IfSome};
+ghost use Rattle.std.specs.List.{slice_get};
+ghost use Rattle.std.specs.Option.{option_copied, option_map_or};
+ghost use Rattle.resolve.specs.NodeEquality.{is_asked, is_node};
+ghost use Rattle.resolve.specs.Standing.{IsLonger, IsWith, Stands};
+
+use crate::node::Node;
+use lists::Seq;
+use pep508::Name;
+use std::alloc::{AllocError, Global};
+use std::collections::BTreeMap;
+use std::marker::Model;
+
+/// A list of nodes, in which the number of a node is its place. The nodes of a name are found by the
+/// name; that a node is what was looked for is seen of the node itself.
+pub(crate) struct Nodes {
+    nodes: Vec<Node>,
+    by_name: BTreeMap<Name, Vec<usize>>,
+}
+
+impl Drop for Nodes {
+    fn drop(self) {
+        let Nodes {
+            nodes: _,
+            by_name: _,
+        } = self;
+    }
+}
+
+impl Model for Nodes {
+    ghost use Rattle.std.specs.Prelude.{List};
+    ghost use Rattle.resolve.specs.declared.node.Node.{Node};
+
+    ghost Value = { List Node };
+
+    ghost view = { λ n. n.nodes.items };
+}
+
+/// Whether the extra that may be there is the one that is asked for.
+fn is_asked(extra: Option<&Name>, asked: Option<&Name>) -> bool
+    ensures { result ≡ is_asked (option_copied extra.entry) (option_copied asked.entry) }
+{
+    match (extra, asked) {
+        (None, None) => true,
+        (Some(extra), Some(asked)) => extra.normal() == asked.normal(),
+        _ => false,
+    }
+}
+
+/// Whether a node is the one of this name with this extra or none.
+fn is_node(node: &Node, name: &Name, extra: Option<&Name>) -> bool
+    ensures { result ≡ is_node node.now name.now (option_copied extra.entry) }
+{
+    node.name.normal() == name.normal() && is_asked(node.extra.as_ref(), extra)
+}
+
+/// A copy of a name that may be there.
+fn copied(name: Option<&Name>) -> Result<Option<Name>, AllocError>
+    ensures { IfOk result (λ copy. copy ≡ option_copied name.entry) }
+{
+    match name {
+        Some(name) => Ok(Some(name.clone()?)),
+        None => Ok(None),
+    }
+}
+
+impl Nodes {
+    pub(crate) fn new(alloc: Global) -> Nodes
+        ensures { result ≡ [] }
+    {
+        Nodes {
+            nodes: Vec::new(alloc),
+            by_name: BTreeMap::new(alloc),
+        }
+    }
+
+    /// The nodes, in the order of their numbers.
+    pub(crate) fn into_seq(self) -> Seq<Node>
+        ensures { result ≡ self }
+    {
+        let Nodes { nodes, by_name: _ } = self;
+        Seq::from_vec(nodes)
+    }
+
+    pub(crate) fn as_slice(&self) -> &[Node]
+        ensures { result.now ≡ self.now }
+    {
+        self.nodes.as_slice()
+    }
+
+    /// Whether the node of this number is the one that is looked for.
+    fn is_at(&self, number: usize, name: &Name, extra: Option<&Name>) -> bool
+        ensures { result ≡ option_map_or (λ node. is_node node name.now (option_copied extra.entry)) (slice_get self.now number) false }
+    {
+        match self.nodes.get(number) {
+            Some(node) => is_node(node, name, extra),
+            None => false,
+        }
+    }
+
+    /// The number of a node that is there.
+    fn find(&self, name: &Name, extra: Option<&Name>) -> Option<usize>
+        ensures { IfSome result (λ number. Stands self.now number (record { name = name.now; extra = option_copied extra.entry })) }
+    {
+        for number in self.by_name.get(name)? {
+            if self.is_at(*number, name, extra) {
+                return Some(*number);
+            }
+        }
+        None
+    }
+
+    /// Lets a node be found by its name.
+    fn list_by_name(&mut self, alloc: Global, name: &Name, number: usize) -> Result<(), AllocError>
+        ensures { self.new ≡ self.old }
+    {
+        match self.by_name.get_mut(name) {
+            Some(numbers) => numbers.push(number)?,
+            None => {
+                let mut numbers = Vec::with_capacity(alloc, 1)?;
+                numbers.push_reserved(number);
+                self.by_name.insert(name.clone()?, numbers)?;
+            }
+        }
+        Ok(())
+    }
+
+    /// The number of a node, which is put behind the others where it isn't there.
+    pub(crate) fn number_of(
+        &mut self,
+        alloc: Global,
+        name: &Name,
+        extra: Option<&Name>,
+    ) -> Result<usize, AllocError>
+        ensures longer { IfOk result (λ _. IsLonger self.old self.new) }
+        ensures number { IfOk result (λ number. Stands self.new number (record { name = name.now; extra = option_copied extra.entry })) }
+        ensures only { IfOk result (λ _. IsWith (record { name = name.now; extra = option_copied extra.entry }) self.old self.new) }
+    {
+        if let Some(number) = self.find(name, extra) {
+            return Ok(number);
+        }
+        let number = self.nodes.len();
+        self.list_by_name(alloc, name, number)?;
+        self.nodes.push(Node {
+            name: name.clone()?,
+            extra: copied(extra)?,
+        })?;
+        Ok(number)
+    }
+}

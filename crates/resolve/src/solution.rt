@@ -1,0 +1,54 @@
+// The versions of a solution.
+
+ghost use Rattle.std.specs.Prelude.{◌≡◌, ℕ, List, Some, IfOk, OnOk};
+ghost use Rattle.std.specs.BTreeMap.{Updates};
+ghost use Rattle.std.specs.Cmp.Lexicographic.{slice_cmp};
+ghost use Rattle.std.specs.Ordering.{nat_cmp};
+ghost use Rattle.search.specs.Solutions.{version_in as version_of_pins};
+ghost use Rattle.resolve.specs.Given.{releases_on};
+ghost use Rattle.resolve.specs.Pictured.{AreKnown, IsKnown, chosen, name_at};
+ghost use Rattle.resolve.specs.Places.{version_at};
+ghost use Rattle.resolve.specs.Resolves.{version_in};
+
+use crate::question::Question;
+use pep440::Version;
+use pep508::Name;
+use search::Choice;
+use std::alloc::{AllocError, Global};
+use std::collections::BTreeMap;
+
+/// Puts the version that a choice stands for at its name.
+fn put(
+    question: &Question<'_>,
+    names: &[Name],
+    choice: Choice,
+    versions: &mut BTreeMap<Name, Version>,
+) -> Result<(), AllocError>
+    requires { IsKnown question.now names.now choice }
+    ensures { OnOk result (Updates (slice_cmp nat_cmp) versions.old versions.new (name_at names.now choice.name) (Some (version_at (releases_on question.now (name_at names.now choice.name)) choice.place))) }
+{
+    let name = &names[choice.name];
+    let releases = question.releases(name);
+    let version = releases[choice.place].version().clone()?;
+    versions.insert(name.clone()?, version)?;
+    Ok(())
+}
+
+/// The versions that choices stand for, by their names; of two on one name the first.
+pub(crate) fn versions_of(
+    alloc: Global,
+    question: &Question<'_>,
+    names: &[Name],
+    choices: &[Choice],
+) -> Result<BTreeMap<Name, Version>, AllocError>
+    requires { AreKnown question.now names.now choices.now }
+    ensures { IfOk result (λ versions. (name : List ℕ) → version_in versions.entries name ≡ chosen question.now names.now choices.now name) }
+{
+    let mut versions = BTreeMap::new(alloc);
+    let mut left = choices.len();
+    while left > 0 {
+        left -= 1;
+        put(question, names, choices[left], &mut versions)?;
+    }
+    Ok(versions)
+}

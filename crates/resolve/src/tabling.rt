@@ -1,0 +1,63 @@
+// The table of a problem.
+
+ghost use Rattle.std.specs.Prelude.{◌≡◌, IfOk};
+ghost use Rattle.std.specs.List.Sorted.{IsStrictlySortedBy};
+ghost use Rattle.snapshot.specs.Releases.{newer_cmp};
+ghost use Rattle.resolve.specs.Given.{releases_on};
+ghost use Rattle.resolve.specs.Pictured.{AreListed, IsListed, IsPictured};
+
+use crate::candidates::candidates;
+use crate::gathering::Gathering;
+use crate::names::{names_of, numbers_of};
+use crate::question::Question;
+use lists::Seq;
+use pep508::Name;
+use search::Table;
+use std::alloc::{AllocError, Global};
+
+/// The table of a problem, and the names that its numbers stand for.
+#[derive(Drop)]
+pub(crate) struct Tabled {
+    pub(crate) names: Seq<Name>,
+    pub(crate) table: Table,
+}
+
+/// The candidates of a name, whose releases fall by version.
+fn listed(alloc: Global, question: &Question<'_>, name: &Name) -> Result<Seq<usize>, AllocError>
+    ensures { IfOk result (λ places. IsListed question.now places name.now) }
+{
+    let _releases = question.releases(name);
+    candidates(alloc, question, name)
+}
+
+/// The candidates of each name.
+fn all_listed(
+    alloc: Global,
+    question: &Question<'_>,
+    names: &[Name],
+) -> Result<Seq<Seq<usize>>, AllocError>
+    ensures { IfOk result (λ rows. AreListed question.now rows names.now) }
+{
+    let mut rows = Vec::with_capacity(alloc, names.len())?;
+    for name in names {
+        rows.push(listed(alloc, question, name)?)?;
+    }
+    Ok(Seq::from_vec(rows))
+}
+
+/// The table of a problem.
+pub(crate) fn table_of(alloc: Global, question: &Question<'_>) -> Result<Tabled, AllocError>
+    ensures { IfOk result (λ tabled. IsPictured question.now tabled.names tabled.table) }
+{
+    let mut gathering = Gathering::new(alloc);
+    let lines = gathering.ask_lines(alloc, question)?;
+    let wants = gathering.ask_nodes(alloc, question)?;
+    let names = names_of(alloc, gathering.nodes())?;
+    let nodes = numbers_of(alloc, names.as_slice(), gathering.nodes())?;
+    let candidates = all_listed(alloc, question, names.as_slice())?;
+    let requirements = gathering.into_entries();
+    match Table::new(nodes, requirements, candidates, wants, lines) {
+        Some(table) => Ok(Tabled { names, table }),
+        None => unreachable!(),
+    }
+}
