@@ -5,12 +5,15 @@ The index has 2,000 packages of 25 releases each, the file a line for each packa
 an addition and an undo. There are 1,000 versions and 1,000 sets. The folder `long` has a requirements file of a million
 lines, none of which asks for anything: comments, blank lines and requirements whose marker doesn't hold. So its index
 has no packages, and reading is nearly all there is to do. `whole.json` is an index of 50 MB, whose 100,000 releases
-have all that a release may have. The same seed gives the same bytes.
+have all that a release may have. `lock-N.toml` is a lock of N packages. The folders `strayN` and `newestN` have a problem
+of N packages each for a resolver. The same seed gives the same bytes.
 """
 import json
 import os
 import random
 import sys
+
+from lock_peer import lock_text
 
 PACKAGES = 2_000
 RELEASES = 25
@@ -19,6 +22,11 @@ SPARE = 50
 VERSIONS = 1_000
 WHOLE_PACKAGES = 4_000
 LINES = 1_000_000
+LOCKED = [2_500, 5_000, 10_000]
+PROBLEMS = [50, 100, 200, 500]
+CHOICES = 20
+DEPENDENCIES = 5
+STRAYS = 0.05
 WORDS = "pinned until the next release of this one is out see the notes below and ask before it moves".split()
 # None of these holds on Linux with CPython 3 and no extra.
 INACTIVE = [
@@ -114,11 +122,94 @@ def dependency(rng):
     return with_marker(rng, text) if rng.randrange(3) == 0 else text
 
 
+def ascending(rng):
+    found = set()
+    while len(found) < CHOICES:
+        found.add((rng.randrange(4), rng.randrange(10), rng.randrange(5)))
+    return sorted(found)
+
+
+def dotted(version):
+    return ".".join(map(str, version))
+
+
+def range_with(rng, listed, place):
+    """A set that matches the version at a place of a list, and some others of it."""
+    kind = rng.randrange(4)
+    if kind == 0:
+        return f"!={dotted(rng.choice(listed[:place] + listed[place + 1:]))}"
+    if kind == 1:
+        same = [version for version in listed[: place + 1] if version[0] == listed[place][0]]
+        return f"~={dotted(rng.choice(same)[:2])}"
+    low = dotted(rng.choice(listed[: place + 1]))
+    high = rng.choice(listed[place + 1 :] + [(listed[-1][0] + 1, 0)])
+    return f">={low},<{dotted(high)}"
+
+
+def problem(rng, folder, count, strays):
+    """A problem of so many packages, each of which depends on the next ones. One version of each is a solution. The
+    range of a dependency has it, but for the share of strays among the releases outside the solution, whose range has
+    some other version. Without strays the newest versions are the solution."""
+    names = [f"package-{n:05}" for n in range(count)]
+    listed = [ascending(rng) for _ in names]
+    places = [rng.randrange(CHOICES) if strays else CHOICES - 1 for _ in names]
+    packages = []
+    for number, name in enumerate(names):
+        needed = range(number + 1, min(number + 1 + DEPENDENCIES, count))
+        releases = []
+        for place, version in enumerate(listed[number]):
+            found = release(name, dotted(version))
+            for other in needed:
+                stray = place != places[number] and rng.random() < strays
+                wanted = rng.randrange(CHOICES) if stray else places[other]
+                found["requires_dist"].append(names[other] + range_with(rng, listed[other], wanted))
+            releases.append(found)
+        packages.append({"name": name, "releases": releases})
+    os.makedirs(folder, exist_ok=True)
+    with open(f"{folder}/index.json", "w") as out:
+        json.dump({"snapshot": 1, "packages": packages}, out)
+    with open(f"{folder}/requirements.txt", "w") as out:
+        out.write(names[0] + range_with(rng, listed[0], places[0]) + "\n")
+
+
 def idle_line(rng):
     kind = rng.randrange(10)
     if kind < 2:
         return with_marker(rng, requirement(rng)) + rng.choice(["", "", f"  {comment(rng)}"])
     return rng.choice(["", "", " ", "\t"]) if kind < 5 else rng.choice(["", "", "  "]) + comment(rng)
+
+
+def locked_file(rng, package, ending):
+    name = f"{package['name'].replace('-', '_')}-{package['version']}{ending}"
+    sha256 = f"{rng.getrandbits(256):064x}"
+    url = f"https://files.example/{package['name']}/{name}"
+    return {"name": name, "url": url, "size": rng.randrange(1, 10**7), "hashes": {"sha256": sha256}}
+
+
+def locked_package(rng, names, name):
+    """A package of a lock with a wheel or two, in half of them an sdist too, and up to three dependencies."""
+    package = {"name": name, "version": f"1.{rng.randrange(20)}"}
+    if rng.randrange(4):
+        package["requires-python"] = rng.choice([">=3.8", ">=3.7,<4", ">=2.7,!=3.0.*,!=3.1.*"])
+    needed = sorted(set(rng.choices(names, k=rng.randrange(4))) - {name})
+    if needed:
+        package["dependencies"] = [{"name": other} for other in needed]
+    if rng.randrange(2):
+        package["sdist"] = locked_file(rng, package, ".tar.gz")
+    endings = ["-cp312-cp312-linux_x86_64.whl", "-py3-none-any.whl"][rng.randrange(2) :]
+    package["wheels"] = [locked_file(rng, package, ending) for ending in endings]
+    return package
+
+
+def lock(rng, size):
+    names = [f"package-{n:05}" for n in range(size)]
+    return {
+        "lock-version": "1.0",
+        "environments": ['os_name == "posix" and sys_platform == "linux"'],
+        "created-by": "reqlock",
+        "packages": [locked_package(rng, names, name) for name in names],
+        "tool": {"reqlock": {"snapshot": f"{rng.getrandbits(256):064x}"}},
+    }
 
 
 def main():
@@ -152,6 +243,13 @@ def main():
     with open(f"{folder}/long/requirements.txt", "w") as out:
         for _ in range(LINES):
             out.write(idle_line(rng) + "\n")
+    for size in LOCKED:
+        with open(f"{folder}/lock-{size}.toml", "w") as out:
+            out.write(lock_text(lock(rng, size)))
+    rng = random.Random(int(sys.argv[1]))
+    for count in PROBLEMS:
+        problem(rng, f"{folder}/stray{count}", count, STRAYS)
+    problem(rng, f"{folder}/newest{PROBLEMS[-1]}", PROBLEMS[-1], 0)
 
 
 main()
