@@ -1,28 +1,38 @@
 -- The names that packages need, node by node and package by package.
-use Rattle.std.proofs.Common.{◌≡◌, ◌++◌, ℕ, Bool, false, List, [], ◌∷◌, Some, None, Option, Less, map, append_assoc, refl, sym, ap, ◌∙◌, inl, inr}
+use Rattle.std.proofs.Common.{◌≡◌, ◌++◌, ℕ, Bool, true, false, List, [], ◌∷◌, Some, None, Option, Less, map, append_assoc, cond, refl, sym, ap, subst, ◌∙◌, inl, inr}
 use Rattle.std.proofs.lemmas.Bool.{cases_Bool}
 use Rattle.std.proofs.lemmas.Map.Text.{is_eq-slice_cmp}
 use Rattle.std.proofs.lemmas.Slice.Eq.{bytes_eq-Decides}
-use Rattle.std.proofs.lemmas.Map.Keys.{sorted_head}
+use Rattle.std.proofs.lemmas.Map.Keys.{IsDistinct-from_sorted, sorted_head}
+use Rattle.std.proofs.lemmas.Map.Views.{lookup-from_Contains}
 use Rattle.std.specs.BTreeMap.{BTreeMap, Updates, UpdatesBy, get, is_at}
 use Rattle.std.specs.BTreeSet.{BTreeSet}
 use Rattle.std.specs.Cmp.Lexicographic.{nat_list_eq_equiv, slice_cmp}
-use Rattle.std.specs.List.{AllByRecursion}
+use Rattle.std.specs.List.{AllByRecursion, Contains, IsDistinct}
 use Rattle.std.specs.List.Sorted.{IsStrictlySortedBy}
 use Rattle.std.specs.Map.{keys_of, lookup}
 use Rattle.std.specs.Ordering.{is_eq, nat_cmp}
 use Rattle.std.specs.Str.{bytes_eq}
 use Rattle.pep440.specs.Version.{Parts}
+use Rattle.pylock.specs.Packages.{Package}
 use Rattle.snapshot.specs.Release.{Release}
 use Rattle.resolve.specs.Given.{Given}
 use Rattle.resolve.specs.declared.node.Node.{Node}
-use Rattle.edits.specs.Dependencies.{names_at, names_in, names_wanted, release_chosen, with_names}
-use Rattle.edits.specs.Entries.{entry_of}
-use Rattle.edits.specs.declared.locked.Locked.{Locked}
+use Rattle.edits.specs.Dependencies.{names_at, names_in, names_of, names_wanted, release_chosen, with_names}
+use Rattle.edits.specs.Entries.{AreNeeds, entry_of}
+use Rattle.edits.proofs.Members.{Contains-nil}
 
 -- a look-up by bytes is the look-up of a map
 pub lookup-get : {X : Type 0} (name : List ℕ) (entries : List (List ℕ × X)) → lookup (bytes_eq name) entries ≡ lookup (is_at (slice_cmp nat_cmp name)) entries
 lookup-get {X} name entries = ap (λ (t : List ℕ → Bool). lookup {X = X} t entries) (λ i x. sym (is_eq-slice_cmp name x) i)
+
+-- a look-up finds each entry of a map
+pub lookup-there : {X : Type 0} (name : List ℕ) (value : X) (entries : List (List ℕ × X)) → IsStrictlySortedBy (slice_cmp nat_cmp) (keys_of entries) → Contains entries (name, value)
+    → lookup (bytes_eq name) entries ≡ Some value
+lookup-there {X} name value entries rising there =
+    let distinct = IsDistinct-from_sorted (slice_cmp nat_cmp) (keys_of entries) rising in
+    lookup-from_Contains nat_list_eq_equiv name value entries
+    (subst (λ (e : List ℕ → List ℕ → Bool). IsDistinct e (keys_of entries)) (λ i x y. is_eq-slice_cmp x y i) distinct) there
 
 -- the names of a node's package are taken out, and put back with those that its release needs there
 pub gathered-more : (given : Given) (chosen : List ℕ → Option Parts) (node : Node) (release : Release) (old rest new : BTreeMap (List ℕ) (BTreeSet (List ℕ))) (names more : BTreeSet (List ℕ))
@@ -55,9 +65,19 @@ entries-rest given name old new (p ∷ rest) out above =
     rw (kept, entries-rest given name old new rest out above.1) refl
 
 -- one more entry is locked
-pub entries-more : (given : Given) (name : List ℕ) (version : Parts) (e : Locked) (items target : List Locked) (rest : List (List ℕ × Parts)) (old new : BTreeMap (List ℕ) (BTreeSet (List ℕ)))
+pub entries-more : (given : Given) (name : List ℕ) (version : Parts) (e : Package) (items target : List Package) (rest : List (List ℕ × Parts)) (old new : BTreeMap (List ℕ) (BTreeSet (List ℕ)))
     → IsStrictlySortedBy (slice_cmp nat_cmp) (keys_of ((name, version) ∷ rest)) → UpdatesBy (slice_cmp nat_cmp) (slice_cmp nat_cmp name) old new None
     → e ≡ entry_of given (names_in old) (name, version) → items ++ map (entry_of given (names_in old)) ((name, version) ∷ rest) ≡ target
     → (items ++ e ∷ []) ++ map (entry_of given (names_in new)) rest ≡ target
 entries-more given name version e items target rest old new rising out is made =
     rw (append_assoc, entries-rest given name old new rest out (sorted_head _ name (keys_of rest) rising), is) made
+
+needs_by : (b : Bool) (own : List ℕ) (names : Option (BTreeSet (List ℕ))) → AreNeeds own (names_of names) → AreNeeds own (names_of (cond b None names))
+unfolding IsStrictlySortedBy
+needs_by true own names needs = record { rising = tt; others = λ name h. absurd (Contains-nil name h) }
+needs_by false own names needs = needs
+
+-- what names need stays so where the names of one are taken out
+pub needs-rest : (name : List ℕ) (old new : BTreeMap (List ℕ) (BTreeSet (List ℕ))) → UpdatesBy (slice_cmp nat_cmp) (slice_cmp nat_cmp name) old new None
+    → ((own : List ℕ) → AreNeeds own (names_in old own)) → (own : List ℕ) → AreNeeds own (names_in new own)
+needs-rest name old new out needs own = rw (out.0 own) (needs_by (is_at (slice_cmp nat_cmp name) own) own (get (slice_cmp nat_cmp) old own) (needs own))

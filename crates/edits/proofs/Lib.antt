@@ -1,6 +1,11 @@
 pub mod Additions
+pub mod EntriesByName
 pub mod Gathering
+pub mod LawfulFiles
+pub mod LawfulNames
 pub mod LockFacts
 pub mod Members
 pub mod NamesInOrder
+pub mod Released
+pub mod StateFacts
 pub mod WorkedRows

@@ -1,6 +1,7 @@
 -- The lock of a solution.
-use Rattle.std.proofs.Common.{◌≡◌, ◌≢◌, ℕ, Bool, true, false, not, ◌&&◌, List, [], ◌∷◌, Some, None, Option, Result, Ok, Err, IfOk, Contains, map, filter, refl, sym, ap, ◌∙◌, subst, inl, inr}
+use Rattle.std.proofs.Common.{◌≡◌, ◌≢◌, ℕ, Bool, true, false, not, ◌&&◌, List, [], ◌∷◌, ◌++◌, Some, None, Option, Result, Ok, Err, IfOk, Contains, map, filter, refl, sym, ap, subst, inl, inr}
 use Rattle.std.proofs.lemmas.Bool.{cases_Bool}
+use Rattle.std.proofs.lemmas.List.Elements.{Contains-append_cases}
 use Rattle.std.proofs.lemmas.Slice.Eq.{bytes_eq-Decides}
 use Rattle.std.specs.BTreeMap.{BTreeMap}
 use Rattle.std.specs.BTreeSet.{BTreeSet}
@@ -11,6 +12,9 @@ use Rattle.std.specs.Ordering.{nat_cmp}
 use Rattle.std.specs.Str.{bytes_eq}
 use Rattle.pep440.specs.Version.{Parts}
 use Rattle.pep508.specs.Requirement.{Wanted}
+use Rattle.pylock.specs.Locks.{Locked, lock_of}
+use Rattle.pylock.specs.Packages.{Package}
+use Rattle.markers.specs.Environment.{marker_text}
 use Rattle.search.specs.Solutions.{IsBest}
 use Rattle.snapshot.specs.Release.{Release}
 use Rattle.resolve.specs.Admission.{release_at}
@@ -20,10 +24,10 @@ use Rattle.resolve.specs.Rules.{counts, rules_of, wants}
 use Rattle.resolve.specs.declared.node.Node.{Node}
 use Rattle.edits.specs.Dependencies.{leads_away, names_at, names_in, names_needed, names_over, names_wanted, release_chosen, with_names}
 use Rattle.edits.specs.Edits.{IsLocked}
-use Rattle.edits.specs.Entries.{AreEntries, entry_of}
+use Rattle.edits.specs.Entries.{AreEntries, AreNeeds, HasRelease, entry_of}
 use Rattle.edits.specs.Locking.{IsDependency, IsEntry, versions_of}
-use Rattle.edits.specs.declared.locked.Locked.{Locked}
-use Rattle.edits.proofs.Members.{Contains-filter, Contains-filter_of, Contains-flat_map, Contains-flat_map_of, Contains-map, Contains-map_of, Contains-nil}
+use Rattle.edits.proofs.LawfulNames.{apart, differ, rises-from}
+use Rattle.edits.proofs.Members.{Contains-cons_cases, Contains-filter, Contains-filter_of, Contains-flat_map, Contains-flat_map_of, Contains-map, Contains-map_of, Contains-nil}
 use Rattle.edits.proofs.NamesInOrder.{from-names, put-names, sorted-names}
 
 and-both : (a b : Bool) → (a && b) ≡ true → (a ≡ true) × (b ≡ true)
@@ -33,16 +37,6 @@ and-both false b e = cc
 not-true : (b : Bool) → not b ≡ true → b ≡ false
 not-true true e = cc
 not-true false e = refl
-
--- other names have other bytes
-apart : (a b : List ℕ) → bytes_eq a b ≡ false → b ≢ a
-apart a b other same = cc (sym other ∙ (bytes_eq-Decides a b).1 (sym same))
-
-differ : (a b : List ℕ) → b ≢ a → not (bytes_eq a b) ≡ true
-differ a b other = elim (cases_Bool (bytes_eq a b)) [
-  | inl same ↦ absurd (other (sym ((bytes_eq-Decides a b).0 same)))
-  | inr apart ↦ rw apart refl
-]
 
 -- a name that a release needs at a node is that of a dependency which leads away
 wanted-from : (given : Given) (node : Node) (dependencies : List Wanted) (name : List ℕ) → Contains (names_wanted given.environment node dependencies) name
@@ -110,11 +104,27 @@ IsDependency-gathered given chosen nodes own name needed d =
     rw picked (wanted-at given d.node d.version d.wanted (release_at given d.node.name d.version) refl d.counts other) in
     Contains-flat_map_of (names_at given chosen own) nodes d.node name (needed.whole d.node d.needed) (rw same (rw d.named at there))
 
+-- what a package needs at nodes, put in order
+AreNeeds-from : (given : Given) (chosen : List ℕ → Option Parts) (nodes : List Node) (own : List ℕ) → AreNeeded given chosen nodes → AreNeeds own (with_names [] (names_over given chosen own nodes))
+AreNeeds-from given chosen nodes own needed = record {
+  rising = sorted-names (names_over given chosen own nodes);
+  others = λ name h. elim (from-names [] (names_over given chosen own nodes) name h) [
+    | inl none ↦ absurd (Contains-nil name none)
+    | inr there ↦ (IsDependency-from given chosen nodes own name needed there).other
+  ];
+}
+
+pub AreNeeds-gathered : (given : Given) (chosen : List ℕ → Option Parts) (nodes : List Node) (gathered : BTreeMap (List ℕ) (BTreeSet (List ℕ))) → AreNeeded given chosen nodes
+    → ((own : List ℕ) → names_in gathered own ≡ with_names [] (names_over given chosen own nodes)) → (own : List ℕ) → AreNeeds own (names_in gathered own)
+AreNeeds-gathered given chosen nodes gathered needed is own = rw (is own) (AreNeeds-from given chosen nodes own needed)
+
 -- what is locked for a name is its entry
 IsEntry-from : (given : Given) (chosen : List ℕ → Option Parts) (nodes : List Node) (gathered : BTreeMap (List ℕ) (BTreeSet (List ℕ))) → AreNeeded given chosen nodes
     → ((own : List ℕ) → names_in gathered own ≡ with_names [] (names_over given chosen own nodes)) → (p : List ℕ × Parts) → IsEntry given chosen (entry_of given (names_in gathered) p)
 IsEntry-from given chosen nodes gathered needed is p = record {
   python = refl;
+  sdist = refl;
+  wheels = refl;
   rising = rw (is p.0) (sorted-names (names_over given chosen p.0 nodes));
   dependencies = λ name. rw (is p.0) (
     (λ h. elim (from-names [] (names_over given chosen p.0 nodes) name h) [
@@ -134,30 +144,50 @@ names-entries given names [] = refl
 names-entries given names (p ∷ rest) = ap (λ (l : List (List ℕ)). p.0 ∷ l) (names-entries given names rest)
 
 AreEntries-from : (given : Given) (versions : List (List ℕ × Parts)) (nodes : List Node) (gathered : BTreeMap (List ℕ) (BTreeSet (List ℕ))) → IsStrictlySortedBy (slice_cmp nat_cmp) (keys_of versions)
+    → ((e : Package) → Contains (map (entry_of given (names_in gathered)) versions) e → HasRelease given e.name e.version)
     → AreNeeded given (version_in versions) nodes → ((own : List ℕ) → names_in gathered own ≡ with_names [] (names_over given (version_in versions) own nodes))
     → AreEntries given versions (map (entry_of given (names_in gathered)) versions)
-AreEntries-from given versions nodes gathered rising needed is = record {
+AreEntries-from given versions nodes gathered rising releases needed is = record {
   versions_are = versions_of-entries given (names_in gathered) versions;
   rising = rw (names-entries given (names_in gathered) versions) rising;
   entries = λ e h.
       let k = Contains-map (entry_of given (names_in gathered)) versions e h in
       subst (IsEntry given (version_in versions)) k.2 (IsEntry-from given (version_in versions) nodes gathered needed is k.0);
+  releases = releases;
 }
 
 -- the answer that goes over what was gathered
-pub AreEntries-answer : {E : Type 0} (given : Given) (versions : List (List ℕ × Parts)) (nodes : List Node) (gathered : BTreeMap (List ℕ) (BTreeSet (List ℕ))) (answer : Result (List Locked) E)
+pub AreEntries-answer : {E : Type 0} (given : Given) (versions : List (List ℕ × Parts)) (nodes : List Node) (gathered : BTreeMap (List ℕ) (BTreeSet (List ℕ))) (answer : Result (List Package) E)
     → IfOk answer (λ lock. lock ≡ map (entry_of given (names_in gathered)) versions) → IfOk answer (λ _. IsStrictlySortedBy (slice_cmp nat_cmp) (keys_of versions))
+    → IfOk answer (λ lock. (e : Package) → Contains lock e → HasRelease given e.name e.version)
     → AreNeeded given (version_in versions) nodes → ((own : List ℕ) → names_in gathered own ≡ with_names [] (names_over given (version_in versions) own nodes))
     → IfOk answer (λ lock. AreEntries given versions lock)
-AreEntries-answer given versions nodes gathered (Ok lock) made rising needed is = rw made (AreEntries-from given versions nodes gathered rising needed is)
-AreEntries-answer given versions nodes gathered (Err e) made rising needed is = tt
+AreEntries-answer given versions nodes gathered (Ok lock) made rising releases needed is =
+    rw made (AreEntries-from given versions nodes gathered rising (rw made at releases) needed is)
+AreEntries-answer given versions nodes gathered (Err e) made rising releases needed is = tt
+
+-- entries whose names rise make a lock
+pub lock-made : (environment snapshot : List ℕ) (lock : List Package) → IsStrictlySortedBy (slice_cmp nat_cmp) (map (λ e. e.name) lock)
+    → lock_of (record { environment = environment; snapshot = snapshot; entries = lock }) ≡ Some (record { environment = environment; snapshot = snapshot; entries = lock })
+lock-made environment snapshot lock rising = rw (rises-from (map (λ e. e.name) lock) rising) refl
+
+-- one more entry has its release
+pub releases-more : (given : Given) (items : List Package) (e : Package) → ((x : Package) → Contains items x → HasRelease given x.name x.version) → HasRelease given e.name e.version
+    → (x : Package) → Contains (items ++ e ∷ []) x → HasRelease given x.name x.version
+releases-more given items e before here x h = elim (Contains-append_cases items (e ∷ []) x h) [
+  | inl old ↦ before x old
+  | inr new ↦ elim (Contains-cons_cases e [] x new) [
+    | inl same ↦ subst (λ (y : Package). HasRelease given y.name y.version) same here
+    | inr none ↦ absurd (Contains-nil x none)
+  ]
+]
 
 -- the entries of the best solution are the lock
-pub IsLocked-from : (given : Given) (lines : List (List ℕ)) (versions : List (List ℕ × Parts)) (lock : List Locked) → IsBest (rules_of given) (version_in versions) → AreEntries given versions lock
-    → IsLocked given lines (record { lines = lines; environment = given.environment; digest = given.index.digest; lock = lock })
-IsLocked-from given lines versions lock best h = record {
+pub IsLocked-from : (given : Given) (lines : List (List ℕ)) (versions : List (List ℕ × Parts)) (lock : Locked) → IsBest (rules_of given) (version_in versions) → AreEntries given versions lock.entries
+    → lock.environment ≡ marker_text given.environment → lock.snapshot ≡ given.index.digest
+    → IsLocked given lines (record { lines = lines; environment = given.environment; lock = lock })
+IsLocked-from given lines versions lock best h environment snapshot = record {
   lines_are = refl;
   environment = refl;
-  digest = refl;
-  lock = record { rising = h.rising; best = rw h.versions_are best; entries = rw h.versions_are h.entries };
+  lock = record { environment = environment; snapshot = snapshot; rising = h.rising; best = rw h.versions_are best; entries = rw h.versions_are h.entries };
 }

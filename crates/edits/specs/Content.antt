@@ -1,12 +1,10 @@
 -- What a state holds.
 use Rattle.std.specs.Prelude.{ℕ, List}
 use Rattle.markers.specs.Environment.{Texts}
-use Rattle.edits.specs.declared.locked.Locked.{Locked}
+use Rattle.pylock.specs.Locks.{Locked}
 
--- the lines of the requirements file, each with its ending, the environment, the digest of the index, and the lock: what is
--- locked for each name
+-- the lines of the requirements file, each with its ending, the environment, and the lock, which has the digest of the index
 pub record Content : Type 0 where
   pub lines : List (List ℕ)
   pub environment : Texts
-  pub digest : List ℕ
-  pub lock : List Locked
+  pub lock : Locked

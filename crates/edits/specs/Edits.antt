@@ -9,7 +9,7 @@ use Rattle.resolve.specs.Given.{Given, requirements}
 use Rattle.resolve.specs.Rules.{rules_of}
 use Rattle.edits.specs.Adding.{asked_by, line_number, lines_after}
 use Rattle.edits.specs.Content.{Content}
-use Rattle.edits.specs.Locking.{IsLock, versions_of}
+use Rattle.edits.specs.Locking.{IsLockOf, versions_of}
 use Rattle.edits.specs.declared.request.Edit.{Edit}
 use Rattle.edits.specs.declared.request.Edit.TheVariants.{Add}
 use Rattle.edits.specs.declared.refusal.Refusal.{Refusal}
@@ -23,8 +23,7 @@ given_of lines environment index kept = record { active = requirements environme
 pub record IsLocked (given : Given) (lines : List (List ℕ)) (state : Content) : Type 0 where
   pub lines_are : state.lines ≡ lines
   pub environment : state.environment ≡ given.environment
-  pub digest : state.digest ≡ given.index.digest
-  pub lock : IsLock given state.lock
+  pub lock : IsLockOf given state.lock
 
 -- an answer to lines in an environment over an index, with the versions that are kept: the state of the lines with their
 -- lock, or that they have none
@@ -39,7 +38,7 @@ InitResult lines environment index answer = Locks lines environment index [] ans
 -- the answer to an added line on a name, given the number of the line that is on this name already, active or not
 abbrev pub AddsUnless : Content → List ℕ → Index → Option ℕ → Result Content Refusal → Type 0
 AddsUnless state text index (Some number) answer = answer ≡ Err (AlreadyPresent number)
-AddsUnless state text index None answer = Locks (lines_after state.lines text) state.environment index (versions_of state.lock) answer
+AddsUnless state text index None answer = Locks (lines_after state.lines text) state.environment index (versions_of state.lock.entries) answer
 
 -- the answer to an added text, given what it asks for
 abbrev pub Adds : Content → List ℕ → Index → Option Wanted → Result Content Refusal → Type 0

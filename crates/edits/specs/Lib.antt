@@ -4,4 +4,5 @@ pub mod Content
 pub mod Locking
 pub mod Dependencies
 pub mod Entries
+pub mod State
 pub mod Edits

@@ -1,29 +1,46 @@
--- The lock of a problem: its best solution, with what each package asks of Python and which packages it needs. All of it is
--- reqlock's own rule.
-use Rattle.std.specs.Prelude.{◌≡◌, ◌≢◌, ◌↔◌, ℕ, List, map, Option, Some, None, option_map}
+-- The lock of a problem: its best solution, with what each package asks of Python, which packages it needs, and its files.
+-- All of it is reqlock's own rule.
+use Rattle.std.specs.Prelude.{◌≡◌, ◌≢◌, ◌↔◌, ℕ, List, [], map, Option, Some, None, option_map}
 use Rattle.std.specs.Cmp.Lexicographic.{slice_cmp}
 use Rattle.std.specs.List.{Contains}
 use Rattle.std.specs.List.Sorted.{IsStrictlySortedBy}
+use Rattle.std.specs.Option.{option_and_then, option_map_or}
 use Rattle.std.specs.Ordering.{nat_cmp}
+use Rattle.markers.specs.Environment.{marker_text}
 use Rattle.pep440.specs.Version.{Parts}
 use Rattle.pep508.specs.Requirement.{Wanted}
+use Rattle.pylock.specs.Locks.{Locked}
+use Rattle.pylock.specs.Packages.{Package}
+use Rattle.pylock.specs.declared.file.FileEntry.{FileEntry}
 use Rattle.search.specs.Solutions.{IsBest, Needed}
 use Rattle.snapshot.specs.Release.{Release}
+use Rattle.snapshot.specs.declared.file.ReleaseFile.{ReleaseFile}
 use Rattle.resolve.specs.Admission.{release_at}
 use Rattle.resolve.specs.Given.{Given}
 use Rattle.resolve.specs.Resolves.{version_in}
 use Rattle.resolve.specs.Rules.{rules_of, wants}
 use Rattle.resolve.specs.declared.node.Node.{Node}
-use Rattle.edits.specs.declared.locked.Locked.{Locked}
 
 -- the names of a lock, each with its version: what a later lock keeps
-abbrev pub versions_of : List Locked → List (List ℕ × Parts)
-versions_of lock = map (λ e. (e.name, e.version)) lock
+abbrev pub versions_of : List Package → List (List ℕ × Parts)
+versions_of entries = map (λ e. (e.name, e.version)) entries
 
 -- what a release asks of Python, as the index has it
 abbrev pub python_text : Option Release → Option (List ℕ)
 python_text None = None
 python_text (Some release) = option_map (λ python. python.text) release.requires_python
+
+-- a file as a lock lists it
+abbrev pub listed : ReleaseFile → FileEntry
+listed f = record { name = f.name; url = f.url; size = f.size; sha256 = f.sha256 }
+
+-- the source distribution of a release
+abbrev pub sdist_of : Option Release → Option FileEntry
+sdist_of release = option_map listed (option_and_then (λ r. r.sdist) release)
+
+-- the wheels of a release
+abbrev pub wheels_of : Option Release → List FileEntry
+wheels_of release = option_map_or (λ r. map listed r.wheels) release []
 
 -- a dependency of a package, on another name, counts at a needed node of the package
 pub record IsDependency (given : Given) (chosen : List ℕ → Option Parts) (own name : List ℕ) : Type 0 where
@@ -37,14 +54,19 @@ pub record IsDependency (given : Given) (chosen : List ℕ → Option Parts) (ow
   pub counts : Contains (wants given node version) wanted
   pub named : wanted.name ≡ name
 
--- what is locked for a name: the names of its dependencies rise by their bytes
-pub record IsEntry (given : Given) (chosen : List ℕ → Option Parts) (e : Locked) : Type 0 where
+-- what is locked for a name: its release's text and files, and the names of its dependencies, which rise by their bytes
+pub record IsEntry (given : Given) (chosen : List ℕ → Option Parts) (e : Package) : Type 0 where
   pub python : e.requires_python ≡ python_text (release_at given e.name e.version)
+  pub sdist : e.sdist ≡ sdist_of (release_at given e.name e.version)
+  pub wheels : e.wheels ≡ wheels_of (release_at given e.name e.version)
   pub rising : IsStrictlySortedBy (slice_cmp nat_cmp) e.dependencies
   pub dependencies : (name : List ℕ) → Contains e.dependencies name ↔ IsDependency given chosen e.name name
 
--- the lock: names rise by their bytes, their versions are the best solution, and each entry is that of its release
-pub record IsLock (given : Given) (lock : List Locked) : Type 0 where
-  pub rising : IsStrictlySortedBy (slice_cmp nat_cmp) (map (λ e. e.name) lock)
-  pub best : IsBest (rules_of given) (version_in (versions_of lock))
-  pub entries : (e : Locked) → Contains lock e → IsEntry given (version_in (versions_of lock)) e
+-- the lock: it names its environment and its index; names rise by their bytes, their versions are the best solution, and each
+-- entry is that of its release
+pub record IsLockOf (given : Given) (lock : Locked) : Type 0 where
+  pub environment : lock.environment ≡ marker_text given.environment
+  pub snapshot : lock.snapshot ≡ given.index.digest
+  pub rising : IsStrictlySortedBy (slice_cmp nat_cmp) (map (λ e. e.name) lock.entries)
+  pub best : IsBest (rules_of given) (version_in (versions_of lock.entries))
+  pub entries : (e : Package) → Contains lock.entries e → IsEntry given (version_in (versions_of lock.entries)) e

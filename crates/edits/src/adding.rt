@@ -1,12 +1,13 @@
 // What an added line makes of the lines.
 
-ghost use Rattle.std.specs.Prelude.{◌≡◌, ◌==◌, IfOk, MatchOption, None};
+ghost use Rattle.std.specs.Prelude.{◌≡◌, ◌==◌, IfOk, MatchOption, None, false};
 ghost use Rattle.std.specs.List.{list_any};
 ghost use Rattle.pep508.specs.Parts.{IsEnding};
 ghost use Rattle.edits.specs.Asking.{is_on, wanted_of};
 ghost use Rattle.edits.specs.Adding.{asked_by, line_number, lines_after, usual_ending};
 
 use lists::{Seq, Text};
+use pep508::laws::{a_file_reads_as_lines, lines_may_get_one_more};
 use pep508::{Cause, Line, Name, ReqFile};
 use std::alloc::{AllocError, Global};
 
@@ -29,8 +30,10 @@ fn has_line_feed(bytes: &[u8]) -> bool
 
 /// The line that the text is, where it asks for something.
 pub(crate) fn asked_by(alloc: Global, text: &Text) -> Result<Option<Line>, AllocError>
-    ensures { IfOk result (λ found. MatchOption found (asked_by text.now ≡ None)
+    ensures asked { IfOk result (λ found. MatchOption found (asked_by text.now ≡ None)
         (λ line. (line ≡ text.now) × (asked_by text.now ≡ wanted_of line))) }
+    ensures one_line { IfOk result (λ found. MatchOption found Unit
+        (λ line. list_any (λ b. b == 10) line ≡ false)) }
 {
     if has_line_feed(text.as_str().as_bytes()) {
         return Ok(None);
@@ -68,7 +71,7 @@ fn usual_ending(lines: &[Line]) -> &'static str
 }
 
 /// The lines with one more as their last, each of them with an ending.
-pub(crate) fn lines_after(alloc: Global, lines: &[Line], line: Line) -> Result<ReqFile, AllocError>
+fn with_line(alloc: Global, lines: &[Line], line: Line) -> Result<Seq<Line>, AllocError>
     ensures { IfOk result (λ after. after ≡ lines_after lines.now line) }
 {
     let ending = usual_ending(lines);
@@ -80,5 +83,16 @@ pub(crate) fn lines_after(alloc: Global, lines: &[Line], line: Line) -> Result<R
         after.push(last.ended(ending)?)?;
     }
     after.push(line.ended(ending)?)?;
-    Ok(ReqFile::from_lines(Seq::from_vec(after)))
+    Ok(Seq::from_vec(after))
+}
+
+/// The file with one more line as its last, each of its lines with an ending.
+pub(crate) fn lines_after(alloc: Global, file: &ReqFile, line: Line) -> Result<ReqFile, AllocError>
+    requires { list_any (λ b. b == 10) line ≡ false }
+    ensures { IfOk result (λ after. after ≡ lines_after file.now line) }
+{
+    a_file_reads_as_lines();
+    lines_may_get_one_more();
+    file.is_lawful();
+    Ok(ReqFile::from_lines(with_line(alloc, file.lines(), line)?))
 }

@@ -10,6 +10,7 @@ use crate::request::{Edit, Edited};
 use crate::state::State;
 use lists::Text;
 use pep440::Version;
+use pep440::laws::equal_versions_match_alike;
 use pep508::{Environment, Name, ReqFile};
 use resolve::{Answer, Problem, Resolver};
 use snapshot::Snapshot;
@@ -29,11 +30,14 @@ fn with_lock<R: Resolver>(
     ensures err { IfErr result (λ refusal. (refusal ≡ Refusal.OutOfMemory)
         ⊎ Locks lines environment snapshot.now kept.entries (Err refusal)) }
 {
+    equal_versions_match_alike();
+    lines.is_lawful();
     let problem = Problem::new(alloc, &lines, &environment, snapshot, kept)?;
     match resolver.resolve(alloc, &problem)? {
         Answer::Solution(versions) => {
-            let lock = lock_of(alloc, &problem, &versions)?;
-            Ok(State::new(lines, environment, snapshot.digest(), lock, versions))
+            let lock = lock_of(alloc, &problem, &environment, snapshot, &versions)?;
+            lock.is_lawful();
+            Ok(State::new(lines, environment, lock, versions))
         }
         Answer::NoSolution => Err(Refusal::NoSolution),
     }
@@ -87,14 +91,13 @@ fn add<R: Resolver>(
     let Some(line) = asked_by(alloc, text)? else {
         return Err(Refusal::BadText);
     };
-    let lines = state.lines().lines();
     let Some(requirement) = line.requirement() else {
         return Err(Refusal::BadText);
     };
-    if let Some(number) = line_number(lines, requirement.name()) {
+    if let Some(number) = line_number(state.lines().lines(), requirement.name()) {
         return Err(Refusal::AlreadyPresent(number));
     }
-    let lines = lines_after(alloc, lines, line)?;
+    let lines = lines_after(alloc, state.lines(), line)?;
     let environment = state.environment().clone()?;
     let kept = state.kept()?;
     let state = with_lock(alloc, lines, environment, snapshot, kept, resolver)?;

@@ -4,7 +4,9 @@
 mod adding;
 mod dependencies;
 mod editing;
-mod locked;
+mod entry;
+#[cfg(test)]
+mod file_tests;
 mod locking;
 mod refusal;
 mod request;
@@ -13,10 +15,10 @@ mod state;
 mod tests;
 
 pub use crate::editing::{edit, init};
-pub use crate::locked::Locked;
 pub use crate::refusal::{Refusal, SavedFile};
 pub use crate::request::{Edit, Edited};
 pub use crate::state::State;
 pub use pep508::{Cause, Environment, Fault, Line, Name, ReqFile, Requirement};
+pub use pylock::{Entry, FileEntry, Lock};
 pub use resolve::{Plain, Resolver};
 pub use snapshot::{Release, Snapshot};

@@ -1,45 +1,41 @@
 // The lock of a solution.
 
-ghost use Rattle.std.specs.Prelude.{◌≡◌, IfOk, map};
+ghost use Rattle.std.specs.Prelude.{◌≡◌, ℕ, List, IfOk, IsSome, Some, map, true};
 ghost use Rattle.std.specs.Cmp.Lexicographic.{slice_cmp};
+ghost use Rattle.std.specs.List.{Contains, list_all};
 ghost use Rattle.std.specs.List.Sorted.{IsStrictlySortedBy};
 ghost use Rattle.std.specs.Map.{keys_of};
-ghost use Rattle.std.specs.Option.{option_copied};
 ghost use Rattle.std.specs.Ordering.{nat_cmp};
 ghost use Rattle.edits.specs.Dependencies.{names_in, names_of};
-ghost use Rattle.edits.specs.Entries.{AreEntries, entry_of};
-ghost use Rattle.edits.specs.Locking.{python_text};
+ghost use Rattle.edits.specs.Entries.{AreEntries, AreNeeds, HasRelease, entry_of};
+ghost use Rattle.markers.specs.Environment.{marker_text};
+ghost use Rattle.markers.specs.Names.{is_normal};
+ghost use Rattle.pep440.specs.Version.{Parts};
+ghost use Rattle.pylock.specs.Packages.{Package};
 ghost use Rattle.resolve.specs.Admission.{release_at};
+ghost use Rattle.resolve.specs.Resolves.{version_in};
+ghost use Rattle.resolve.specs.Rules.{rules_of};
+ghost use Rattle.search.specs.Solutions.{IsBest};
 
 use crate::dependencies::gather;
-use crate::locked::Locked;
-use lists::{Seq, Text};
+use crate::entry::entry;
+use lists::Seq;
 use pep440::Version;
-use pep508::Name;
+use pep508::{Environment, Name};
+use pylock::{Entry, Lock};
 use resolve::Problem;
-use snapshot::Release;
+use snapshot::Snapshot;
 use std::alloc::{AllocError, Global};
 use std::collections::{BTreeMap, BTreeSet};
 
-/// The text of what the release asks of Python, where there is one.
-fn python_text(alloc: Global, release: Option<&Release>) -> Result<Option<Text>, AllocError>
-    ensures { IfOk result (λ text. text ≡ python_text (option_copied release.entry)) }
-{
-    let Some(release) = release else {
-        return Ok(None);
-    };
-    match release.requires_python() {
-        Some(python) => Ok(Some(Text::copy_of(alloc, python.text())?)),
-        None => Ok(None),
-    }
-}
-
 /// The names in their order.
 fn in_order(alloc: Global, names: BTreeSet<Name>) -> Result<Seq<Name>, AllocError>
-    ensures { IfOk result (λ ordered. ordered ≡ names.keys) }
+    ensures names { IfOk result (λ ordered. ordered ≡ names.keys) }
+    ensures normal { IfOk result (λ ordered. list_all is_normal ordered ≡ true) }
 {
     let mut ordered = Vec::new(alloc);
     for name in names {
+        name.is_lawful();
         ordered.push(name)?;
     }
     Ok(Seq::from_vec(ordered))
@@ -47,7 +43,8 @@ fn in_order(alloc: Global, names: BTreeSet<Name>) -> Result<Seq<Name>, AllocErro
 
 /// The names of the set, none where there is no set.
 fn dependencies(alloc: Global, names: Option<BTreeSet<Name>>) -> Result<Seq<Name>, AllocError>
-    ensures { IfOk result (λ ordered. ordered ≡ names_of names) }
+    ensures names { IfOk result (λ ordered. ordered ≡ names_of names) }
+    ensures normal { IfOk result (λ ordered. list_all is_normal ordered ≡ true) }
 {
     match names {
         Some(names) => in_order(alloc, names),
@@ -55,38 +52,20 @@ fn dependencies(alloc: Global, names: Option<BTreeSet<Name>>) -> Result<Seq<Name
     }
 }
 
-/// What is locked for the name at the version, with these dependencies.
-fn entry(
-    alloc: Global,
-    problem: &Problem<'_>,
-    name: &Name,
-    version: &Version,
-    dependencies: Seq<Name>,
-) -> Result<Locked, AllocError>
-    ensures { IfOk result (λ locked. locked
-        ≡ record { name = name.now; version = version.now; requires_python = python_text (release_at problem.now name.now version.now); dependencies = dependencies }) }
-{
-    let requires_python = python_text(alloc, problem.release(name, version))?;
-    let name = name.clone()?;
-    let version = version.clone()?;
-    Ok(Locked {
-        name,
-        version,
-        requires_python,
-        dependencies,
-    })
-}
-
-/// What is locked for each name, given what each needs.
+/// The entry of each name, given what each needs.
 fn entries(
     alloc: Global,
     problem: &Problem<'_>,
     versions: &BTreeMap<Name, Version>,
     mut gathered: BTreeMap<Name, BTreeSet<Name>>,
-) -> Result<Seq<Locked>, AllocError>
+) -> Result<Seq<Entry>, AllocError>
+    requires released { (name : List ℕ) (version : Parts) → version_in versions.now.entries name ≡ Some version
+        → IsSome (release_at problem.now name version) }
+    requires needs { (own : List ℕ) → AreNeeds own (names_in gathered own) }
     ensures entries { IfOk result (λ lock. lock
         ≡ map (entry_of problem.now (names_in gathered)) versions.now.entries) }
     ensures rising { IfOk result (λ _. IsStrictlySortedBy (slice_cmp nat_cmp) (keys_of versions.now.entries)) }
+    ensures releases { IfOk result (λ lock. (e : Package) → Contains lock e → HasRelease problem.now e.name e.version) }
 {
     let mut lock = Vec::new(alloc);
     for (name, version) in versions {
@@ -96,15 +75,37 @@ fn entries(
     Ok(Seq::from_vec(lock))
 }
 
-/// What is locked for each name of a solution of the problem.
-pub(crate) fn lock_of(
+/// The entry of each name of a solution of the problem.
+fn entries_of(
     alloc: Global,
     problem: &Problem<'_>,
     versions: &BTreeMap<Name, Version>,
-) -> Result<Seq<Locked>, AllocError>
+) -> Result<Seq<Entry>, AllocError>
+    requires { IsBest (rules_of problem.now) (version_in versions.now.entries) }
     ensures { IfOk result (λ lock. AreEntries problem.now versions.now.entries lock) }
 {
     let nodes = problem.needed(alloc, versions)?;
     let gathered = gather(alloc, problem, versions, nodes.as_slice())?;
     entries(alloc, problem, versions, gathered)
+}
+
+/// The lock of a solution of the problem in the environment over the index.
+pub(crate) fn lock_of(
+    alloc: Global,
+    problem: &Problem<'_>,
+    environment: &Environment,
+    snapshot: &Snapshot,
+    versions: &BTreeMap<Name, Version>,
+) -> Result<Lock, AllocError>
+    requires { IsBest (rules_of problem.now) (version_in versions.now.entries) }
+    ensures entries { IfOk result (λ lock. AreEntries problem.now versions.now.entries lock.entries) }
+    ensures environment { IfOk result (λ lock. lock.environment ≡ marker_text environment.now) }
+    ensures snapshot { IfOk result (λ lock. lock.snapshot ≡ snapshot.now.digest) }
+{
+    let entries = entries_of(alloc, problem, versions)?;
+    let environment = environment.marker_text(alloc)?;
+    match Lock::new(environment, snapshot.digest(), entries) {
+        Some(lock) => Ok(lock),
+        None => unreachable!(),
+    }
 }

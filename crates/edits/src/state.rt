@@ -3,23 +3,22 @@
 ghost use Rattle.std.specs.Prelude.{◌≡◌, IfOk};
 ghost use Rattle.std.specs.Option.{option_copied};
 ghost use Rattle.edits.specs.Locking.{versions_of};
+ghost use Rattle.edits.specs.State.{IsState};
 ghost use Rattle.resolve.specs.Resolves.{version_in};
 
-use crate::locked::Locked;
-use lists::Seq;
 use pep440::Version;
 use pep508::{Environment, Name, ReqFile};
+use pylock::Lock;
 use std::alloc::AllocError;
 use std::collections::BTreeMap;
 use std::marker::Model;
 
 /// A requirements file and the lock that belongs to it in an environment. In a clause it is the list of
-/// its lines, the texts of the environment, the digest of the index and the list of what is locked.
+/// its lines, the texts of the environment and the lock.
 pub struct State {
     lines: ReqFile,
     environment: Environment,
-    digest: [u8; 32],
-    lock: Seq<Locked>,
+    lock: Lock,
     versions: BTreeMap<Name, Version>,
 }
 
@@ -28,7 +27,6 @@ impl Drop for State {
         let State {
             lines: _,
             environment: _,
-            digest: _,
             lock: _,
             versions: _,
         } = self;
@@ -36,15 +34,14 @@ impl Drop for State {
 }
 
 impl Model for State {
-    ghost use Rattle.std.specs.Prelude.{◌≡◌};
     ghost use Rattle.edits.specs.Content.{Content};
-    ghost use Rattle.edits.specs.Locking.{versions_of};
+    ghost use Rattle.edits.specs.State.{IsHeld};
 
     ghost Value = { Content };
 
-    ghost view = { λ s. record { lines = s.lines; environment = s.environment; digest = s.digest; lock = s.lock } };
+    ghost view = { λ s. record { lines = s.lines; environment = s.environment; lock = s.lock } };
 
-    ghost invariant = { λ s. s.versions.entries ≡ versions_of s.lock };
+    ghost invariant = { λ s. IsHeld (record { lines = s.lines; environment = s.environment; lock = s.lock }) s.versions.entries };
 }
 
 impl State {
@@ -52,18 +49,16 @@ impl State {
     pub(crate) fn new(
         lines: ReqFile,
         environment: Environment,
-        digest: [u8; 32],
-        lock: Seq<Locked>,
+        lock: Lock,
         versions: BTreeMap<Name, Version>,
     ) -> State
-        requires versions { versions.entries ≡ versions_of lock }
-        ensures { result
-            ≡ record { lines = lines; environment = environment; digest = digest; lock = lock } }
+        requires lawful { IsState (record { lines = lines; environment = environment; lock = lock }) }
+        requires versions { versions.entries ≡ versions_of lock.entries }
+        ensures { result ≡ record { lines = lines; environment = environment; lock = lock } }
     {
         State {
             lines,
             environment,
-            digest,
             lock,
             versions,
         }
@@ -83,31 +78,38 @@ impl State {
         &self.environment
     }
 
-    /// The SHA-256 digest of the index that the lock was made from.
-    pub fn digest(&self) -> [u8; 32]
-        ensures { result ≡ self.now.digest }
-    {
-        self.digest
-    }
-
-    /// What is locked, in the order of the names' bytes.
-    pub fn lock(&self) -> &[Locked]
+    /// The lock.
+    pub fn lock(&self) -> &Lock
         ensures { result.now ≡ self.now.lock }
     {
-        self.lock.as_slice()
+        &self.lock
+    }
+
+    /// The SHA-256 digest of the index that the lock was made from.
+    pub fn digest(&self) -> [u8; 32]
+        ensures { result ≡ self.now.lock.snapshot }
+    {
+        self.lock.snapshot()
     }
 
     /// The locked version of the name.
     pub fn locked(&self, name: &Name) -> Option<&Version>
-        ensures { option_copied result ≡ version_in (versions_of self.now.lock) name.now }
+        ensures { option_copied result ≡ version_in (versions_of self.now.lock.entries) name.now }
     {
         self.versions.get(name)
     }
 
     /// The locked versions by their names, to be kept by a later lock.
     pub(crate) fn kept(&self) -> Result<BTreeMap<Name, Version>, AllocError>
-        ensures { IfOk result (λ kept. kept.entries ≡ versions_of self.now.lock) }
+        ensures { IfOk result (λ kept. kept.entries ≡ versions_of self.now.lock.entries) }
     {
         self.versions.clone()
+    }
+
+    /// What holds of every state.
+    pub fn is_lawful(&self)
+        ensures { IsState self.now }
+    {
+        let _lines = &self.lines;
     }
 }

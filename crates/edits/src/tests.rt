@@ -1,8 +1,7 @@
 // Small files and indexes: what is locked, what is refused, and each call that allocates once.
 
 use crate::{
-    Edit, Environment, Locked, Name, Plain, Refusal, ReqFile, SavedFile, Snapshot, State, edit,
-    init,
+    Edit, Entry, Environment, Name, Plain, Refusal, ReqFile, SavedFile, Snapshot, State, edit, init,
 };
 use lists::Text;
 use std::alloc::{AllocError, Global};
@@ -94,7 +93,12 @@ fn index_of(alloc: Global, packages: &str) -> Result<Snapshot, Fail> {
     Ok(Snapshot::read(alloc, json.as_bytes())?)
 }
 
-fn begin(alloc: Global, lines: &str, index: &Snapshot) -> Result<Result<State, Refusal>, Fail> {
+/// What a history of the lines begins with.
+pub(crate) fn begin(
+    alloc: Global,
+    lines: &str,
+    index: &Snapshot,
+) -> Result<Result<State, Refusal>, Fail> {
     let lines = ReqFile::read(alloc, lines.as_bytes())?;
     let environment = Environment::read(alloc, ENVIRONMENT.as_bytes())?;
     Ok(init(alloc, lines, environment, index, &Plain))
@@ -117,22 +121,22 @@ fn add(
 /// Each name with its version, what is asked of Python, and behind a `>` each package that it needs.
 fn lock_text(alloc: Global, state: &State) -> Result<String, Fail> {
     let mut text = String::new(alloc);
-    for locked in state.lock() {
+    for entry in state.lock().entries() {
         text.push_str(if text.is_empty() { "" } else { " " })?;
-        text.push_str(locked.name.normal())?;
+        text.push_str(entry.name().normal())?;
         text.push_str("=")?;
-        text.push_str(locked.version.canonical(alloc)?.as_str())?;
-        write_needs(&mut text, locked)?;
+        text.push_str(entry.version().canonical(alloc)?.as_str())?;
+        write_needs(&mut text, entry)?;
     }
     Ok(text)
 }
 
-fn write_needs(text: &mut String, locked: &Locked) -> Result<(), AllocError> {
-    if let Some(python) = locked.requires_python.as_ref() {
+fn write_needs(text: &mut String, entry: &Entry) -> Result<(), AllocError> {
+    if let Some(python) = entry.requires_python().as_ref() {
         text.push_str("@")?;
         text.push_str(python.as_str())?;
     }
-    for name in locked.dependencies.as_slice() {
+    for name in entry.dependencies() {
         text.push_str(">")?;
         text.push_str(name.normal())?;
     }

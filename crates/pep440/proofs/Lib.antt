@@ -1,3 +1,4 @@
+pub mod AlikeFacts
 pub mod ByteFacts
 pub mod CanonicalFacts
 pub mod ClauseFacts

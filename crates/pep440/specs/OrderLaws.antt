@@ -31,16 +31,16 @@ version_total = then_total public_total (on_total (λ v. v.local) (lists_total p
 -- ---- what ties is fed alike
 
 -- a tie of two orders is a tie of the first, and of the second
-first_tie : (a b : Ordering) → is_eq (ordering_then a b) ≡ true → is_eq a ≡ true
+pub first_tie : (a b : Ordering) → is_eq (ordering_then a b) ≡ true → is_eq a ≡ true
 first_tie a b h = first_so (is_eq a) (is_eq b) (tied_then a b ∙ h)
 
-second_tie : (a b : Ordering) → is_eq (ordering_then a b) ≡ true → is_eq b ≡ true
+pub second_tie : (a b : Ordering) → is_eq (ordering_then a b) ≡ true → is_eq b ≡ true
 second_tie a b h = second_so (is_eq a) (is_eq b) (tied_then a b ∙ h)
 
-nat_tie : (m n : ℕ) → is_eq (nat_cmp m n) ≡ true → m ≡ n
+pub nat_tie : (m n : ℕ) → is_eq (nat_cmp m n) ≡ true → m ≡ n
 nat_tie m n h = (unsigned_Decides m n).0 (sym (unsigned_tied m n) ∙ h)
 
-list_tie : (xs ys : List ℕ) → is_eq (slice_cmp nat_cmp xs ys) ≡ true → xs ≡ ys
+pub list_tie : (xs ys : List ℕ) → is_eq (slice_cmp nat_cmp xs ys) ≡ true → xs ≡ ys
 list_tie xs ys h = same_text xs ys (sym (texts_ties xs ys ∙ h))
 
 rank_tie : (p q : ℕ × ℕ) → is_eq (rank_cmp p q) ≡ true → rank_writes p ≡ rank_writes q

@@ -2,9 +2,12 @@
 
 ghost use Rattle.std.specs.Prelude.{◌≡◌, ℕ, List, Ok, Some, true, ◌⊎◌, [], false, slice_index};
 ghost use Rattle.std.specs.List.{list_all};
+ghost use Rattle.std.specs.declared.cmp.Ordering.TheVariants.{Equal};
 ghost use Rattle.pep440.specs.Text.{is_blank};
 ghost use Rattle.pep440.specs.Canonical.{canonical};
 ghost use Rattle.pep440.specs.Grammar.{IsVersionText, Spells};
+ghost use Rattle.pep440.specs.Matching.{matches};
+ghost use Rattle.pep440.specs.Order.{version_cmp};
 ghost use Rattle.pep440.specs.Reading.{bare_parts, version_of};
 ghost use Rattle.pep440.specs.SetGrammar.{IsClause, begins_operator, is_set_byte};
 ghost use Rattle.pep440.specs.Sets.{clause_of, set_of};
@@ -47,4 +50,10 @@ pub fn a_set_has_its_bytes()
     ensures first { (text : List ℕ) (clauses : List Clause)
         → set_of text ≡ Ok clauses → is_blank (slice_index text 0) ≡ false
         → (text ≡ []) ⊎ (begins_operator (slice_index text 0) ≡ true) }
+{}
+
+/// Versions that are equal in their order match alike, also where they are spelled differently.
+pub fn equal_versions_match_alike()
+    ensures { (clauses : List Clause) (v w : Parts) → version_cmp v w ≡ Equal
+        → matches clauses v ≡ matches clauses w }
 {}

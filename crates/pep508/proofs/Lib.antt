@@ -3,6 +3,7 @@ pub mod Comments
 pub mod Endings
 pub mod Files
 pub mod FirstLine
+pub mod JoinedLines
 pub mod LineCut
 pub mod Names
 pub mod OddFacts

@@ -1,7 +1,7 @@
 -- Requirements, and what a line of a requirements file asks for.
 use Rattle.std.specs.Prelude.{◌≡◌, ℕ, ◌+◌, ◌-◌, ◌==◌, ◌||◌, Bool, true, false, List, [], ◌∷◌, drop, length, slice_index, is_ok, Option, Some, None, unwrap_or, Result, Ok, Err, if◌then◌else◌}
 use Rattle.std.specs.List.{list_all}
-use Rattle.std.specs.Str.{is_utf8}
+use Rattle.std.specs.Str.{IsUtf8, is_utf8}
 use Rattle.pep440.specs.Sets.{set_of}
 use Rattle.pep440.specs.Text.{pieces}
 use Rattle.pep440.specs.declared.specifier.Clause.{Clause}
@@ -121,6 +121,11 @@ wanted_by content =
 -- the requirement of a line, or why the line is refused
 unfoldable pub requirement_of : List ℕ → Result (Option Wanted) Cause
 requirement_of line = wanted_by (content_of line)
+
+-- a text that is a line: it is UTF-8, and not refused
+pub record IsLine (line : List ℕ) : Type 0 where
+  pub utf8 : IsUtf8 line
+  pub reads : is_ok (requirement_of line) ≡ true
 
 -- a line that is not refused
 abbrev pub checked : List ℕ → Result (Option Wanted) Cause → Result (List ℕ) Cause

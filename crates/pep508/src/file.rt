@@ -1,10 +1,11 @@
 // Requirements files.
 
 ghost use Rattle.lists.specs.Answers.{Answers};
-ghost use Rattle.std.specs.Prelude.{◌≡◌, IfOk};
-ghost use Rattle.std.specs.List.{concat};
+ghost use Rattle.std.specs.Prelude.{◌≡◌, IfOk, Ok};
+ghost use Rattle.std.specs.List.{AllByRecursion, concat};
 ghost use Rattle.markers.specs.Faults.{memory_fault};
-ghost use Rattle.pep508.specs.Requirement.{file_of, lines_read};
+ghost use Rattle.pep508.specs.Lines.{AreLines};
+ghost use Rattle.pep508.specs.Requirement.{IsLine, file_of, lines_read};
 
 use crate::line::Line;
 use crate::parts::split_line;
@@ -14,7 +15,8 @@ use std::alloc::{AllocError, Global};
 use std::marker::Model;
 use std::str;
 
-/// A requirements file. In a clause it is the list of its lines, each with its ending.
+/// A requirements file. In a clause it is the list of its lines, each with its ending; joined, they
+/// are cut into these lines again.
 pub struct ReqFile {
     lines: Seq<Line>,
 }
@@ -27,10 +29,13 @@ impl Drop for ReqFile {
 
 impl Model for ReqFile {
     ghost use Rattle.std.specs.Prelude.{List, ℕ};
+    ghost use Rattle.pep508.specs.Lines.{AreLines};
 
     ghost Value = { List (List ℕ) };
 
     ghost view = { λ f. f.lines };
+
+    ghost invariant = { λ f. AreLines f.lines };
 
     ghost inverse = { λ l. record { lines = l } };
 }
@@ -50,8 +55,9 @@ impl ReqFile {
         read_lines(alloc, text)
     }
 
-    /// The file of these lines.
+    /// The file of these lines, which are as a text is cut into them. It takes no memory.
     pub fn from_lines(lines: Seq<Line>) -> ReqFile
+        requires { AreLines lines }
         ensures { result ≡ lines }
     {
         ReqFile { lines }
@@ -72,6 +78,22 @@ impl ReqFile {
             bytes.push_str(line.text())?;
         }
         Ok(bytes)
+    }
+
+    /// What holds of every file: its bytes read as its lines.
+    pub fn is_lawful(&self)
+        ensures { file_of (concat self.now) ≡ Ok self.now }
+    {
+        are_lawful(self.lines.as_slice());
+    }
+}
+
+/// What holds of the lines: each of them is lawful.
+fn are_lawful(lines: &[Line])
+    ensures { AllByRecursion IsLine lines.now }
+{
+    for line in lines {
+        line.is_lawful();
     }
 }
 

@@ -4,7 +4,7 @@ ghost use Rattle.lists.specs.Answers.{Answers};
 ghost use Rattle.std.specs.Prelude.{◌≡◌, Ok, IfOk};
 ghost use Rattle.std.specs.Option.{option_copied};
 ghost use Rattle.pep508.specs.Parts.{IsEnding, ended, ending_of};
-ghost use Rattle.pep508.specs.Requirement.{checked_line, requirement_of, wanted_by};
+ghost use Rattle.pep508.specs.Requirement.{IsLine, checked_line, requirement_of, wanted_by};
 ghost use Rattle.markers.specs.declared.fault.Cause.TheVariants.{OutOfMemory};
 
 use crate::cuts::{cut_comment, trim_start};
@@ -109,6 +109,13 @@ impl Line {
         ensures { requirement_of self.now ≡ Ok (option_copied result) }
     {
         self.requirement.as_ref()
+    }
+
+    /// What holds of every line: it is UTF-8, and not refused.
+    pub fn is_lawful(&self)
+        ensures { IsLine self.now }
+    {
+        let _text = self.text.as_str();
     }
 }
 

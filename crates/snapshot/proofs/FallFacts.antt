@@ -1,11 +1,10 @@
 -- The releases of each package of an index fall.
-use Rattle.std.proofs.Common.{◌≡◌, ℕ, suc, Bool, true, false, cond, List, [], ◌∷◌, Option, Some, Result, Ok, Err, find, fold, refl, ap}
+use Rattle.std.proofs.Common.{◌≡◌, ℕ, suc, Bool, true, false, cond, List, [], ◌∷◌, Option, Some, Ok, find, fold, ap}
 use Rattle.std.specs.Prelude.{codes}
 use Rattle.std.specs.List.Sorted.{IsStrictlySortedBy}
 use Rattle.std.specs.Option.{option_map_or}
 use Rattle.serde_json.specs.Data.{Data, Items, no_items, item}
 use Rattle.serde_json.specs.Find.{as_array}
-use Rattle.snapshot.specs.declared.fault.Fault.{Fault}
 use Rattle.snapshot.specs.declared.package.Package.{Package}
 use Rattle.snapshot.specs.declared.package.ReadPackage.{ReadPackage}
 use Rattle.snapshot.specs.declared.package.ReadPackages.{ReadPackages}
@@ -13,23 +12,9 @@ use Rattle.snapshot.specs.declared.releases.ReadReleases.{ReadReleases}
 use Rattle.snapshot.specs.Packages.{as_name, as_one, is_named, package_of, packages_in, packages_of, releases_of, together}
 use Rattle.snapshot.specs.Places.{AllFall}
 use Rattle.snapshot.specs.Releases.{gather_release, newer_cmp, nothing, release_of, releases_in}
-use Rattle.snapshot.specs.Shape.{◌>>=◌, below, each_from, field, key_path, object_of, place_path, required}
+use Rattle.snapshot.specs.Shape.{below, each_from, field, key_path, object_of, place_path, required}
 use Rattle.snapshot.proofs.SortedFacts.{gathered-sorted}
-use Rattle.snapshot.proofs.UsableFacts.{ok-inside}
-
--- what was read first, where both were read
-record Both {A B : Type 0} (read : Result A Fault) (next : A → Result B Fault) (y : B) : Type 0 where
-  pub first : A
-  pub is : read ≡ Ok first
-  pub then : next first ≡ Ok y
-
-both : {A B : Type 0} (read : Result A Fault) (next : A → Result B Fault) (y : B) → (read >>= next) ≡ Ok y → Both read next y
-both (Ok x) next y e = record { first = x; is = refl; then = e }
-both (Err d) next y e = absurd cc
-
-inside : {A : Type 0} (path : List ℕ) (read : Result A Fault) (x : A) → below path read ≡ Ok x → read ≡ Ok x
-inside path (Ok y) x e = e
-inside path (Err d) x e = absurd cc
+use Rattle.snapshot.proofs.StepFacts.{both, inside, ok-inside}
 
 releases-fall : (name : List ℕ) (ds : Items) (r : ReadReleases) → releases_in name ds ≡ Ok r → IsStrictlySortedBy newer_cmp r.releases
 unfolding releases_in

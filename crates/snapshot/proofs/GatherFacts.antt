@@ -10,7 +10,7 @@ use Rattle.snapshot.specs.declared.releases.ReadReleases.{ReadReleases}
 use Rattle.snapshot.specs.Release.{Release}
 use Rattle.snapshot.specs.Shape.{◌>>=◌, each_from}
 use Rattle.snapshot.proofs.Loops.{gather}
-use Rattle.snapshot.proofs.UsableFacts.{ok-inside}
+use Rattle.snapshot.proofs.StepFacts.{ok-inside}
 use Rattle.snapshot.specs.Releases.{Gathered, gather_release, has_version_of, kept, left_out, newer_cmp, nothing, release_of, releases_in}
 use Rattle.snapshot.specs.declared.skipped.SkipCause.TheVariants.{Duplicate}
 use Rattle.snapshot.specs.declared.skipped.SkipCause.{SkipCause}

@@ -1,3 +1,5 @@
+pub mod StepFacts
+pub mod InsertFacts
 pub mod Loops
 pub mod PlaceFacts
 pub mod JsonFacts
@@ -8,3 +10,4 @@ pub mod PackageFacts
 pub mod NameFacts
 pub mod GatherFacts
 pub mod FallFacts
+pub mod LawFacts

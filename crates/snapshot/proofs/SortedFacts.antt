@@ -1,44 +1,16 @@
--- Items put one after another into a list that is in order.
+-- The releases of a package, put one after another into a list that is in order.
 use Rattle.std.proofs.Common.{◌≡◌, Bool, true, false, cond, List, [], ◌∷◌, ℕ, Result, Ok, Err, Option, Some, None, Ordering, Less, Equal, Greater, find, fold, refl, ap, ◌∙◌}
 use Rattle.std.specs.BTreeSet.{insert_key}
 use Rattle.std.specs.Cmp.{IsTotalOrder, alike_right}
 use Rattle.std.specs.List.{AllByRecursion, filter_map}
 use Rattle.std.specs.List.Sorted.{IsStrictlySortedBy}
-use Rattle.std.specs.Ordering.{is_eq, match_ordering, ordering_reverse}
+use Rattle.std.specs.Ordering.{is_eq, match_ordering}
 use Rattle.std.specs.Result.{result_ok}
 use Rattle.snapshot.specs.declared.skipped.SkipCause.{SkipCause}
 use Rattle.snapshot.specs.Release.{Release}
 use Rattle.snapshot.specs.OrderLaws.{newer_total}
 use Rattle.snapshot.specs.Releases.{Gathered, gather_release, newer_cmp, nothing, with_release}
-
-above_by : {K : Type 0} (o : Ordering) (R : K → K → Ordering) (x k y : K) (ys more : List K) → R x k ≡ Less → AllByRecursion (λ z. R x z ≡ Less) (y ∷ ys) → AllByRecursion (λ z. R x z ≡ Less) more
-    → AllByRecursion (λ z. R x z ≡ Less) (match_ordering o (k ∷ y ∷ ys) (y ∷ ys) (y ∷ more))
-above_by Less R x k y ys more lt all rest = (lt, all)
-above_by Equal R x k y ys more lt all rest = all
-above_by Greater R x k y ys more lt all rest = (all.0, rest)
-
--- x stays below each item
-above-insert : {K : Type 0} (R : K → K → Ordering) (x k : K) (ks : List K) → R x k ≡ Less → AllByRecursion (λ z. R x z ≡ Less) ks → AllByRecursion (λ z. R x z ≡ Less) (insert_key R ks k)
-above-insert R x k [] lt all = (lt, tt)
-above-insert R x k (y ∷ ys) lt all = above_by (R k y) R x k y ys (insert_key R ys k) lt all (above-insert R x k ys lt all.1)
-
--- what is below x is below each item that x is below
-above-trans : {K : Type 0} {R : K → K → Ordering} (total : IsTotalOrder R) (k x : K) (ks : List K) → R k x ≡ Less → AllByRecursion (λ z. R x z ≡ Less) ks → AllByRecursion (λ z. R k z ≡ Less) ks
-above-trans total k x [] lt all = tt
-above-trans total k x (y ∷ ys) lt all = (total.trans k x y lt all.0, above-trans total k x ys lt all.1)
-
-sorted_by : {K : Type 0} {R : K → K → Ordering} (total : IsTotalOrder R) (o : Ordering) (x k : K) (xs : List K) → R k x ≡ o → IsStrictlySortedBy R (x ∷ xs) → IsStrictlySortedBy R (insert_key R xs k)
-    → IsStrictlySortedBy R (match_ordering o (k ∷ x ∷ xs) (x ∷ xs) (x ∷ insert_key R xs k))
-unfolding IsStrictlySortedBy
-sorted_by total Less x k xs is s more = ((is, above-trans total k x xs is s.0), s)
-sorted_by total Equal x k xs is s more = s
-sorted_by {R = R} total Greater x k xs is s more = (above-insert R x k xs (total.antisymm x k ∙ ap ordering_reverse is) s.0, more)
-
--- the list stays in order
-sorted-insert : {K : Type 0} {R : K → K → Ordering} (total : IsTotalOrder R) (ks : List K) (k : K) → IsStrictlySortedBy R ks → IsStrictlySortedBy R (insert_key R ks k)
-unfolding IsStrictlySortedBy
-sorted-insert total [] k s = (tt, tt)
-sorted-insert {R = R} total (x ∷ xs) k s = sorted_by total (R k x) x k xs refl s (sorted-insert total xs k s.1)
+use Rattle.snapshot.proofs.InsertFacts.{above-trans, sorted-insert}
 
 sorted-gathered : (so_far : List Release) (listed : List (Result Release SkipCause)) → IsStrictlySortedBy newer_cmp so_far → IsStrictlySortedBy newer_cmp (fold with_release so_far listed)
 sorted-gathered so_far [] s = s

@@ -48,7 +48,3 @@ unfolding requirements_from
 texts_read now ts i front total le before =
     let none : with_front front (requirements_from i (map now (drop i ts))) ≡ Ok front = rw (drop_of_length-le ts le) (ap Ok (append-nil front)) in
     sym before ∙ none
-
--- what stands in two answers that are one
-pub ok-inside : {A E : Type 0} (x y : A) → ◌≡◌ {A = Result A E} (Ok x) (Ok y) → x ≡ y
-ok-inside x y e = cc

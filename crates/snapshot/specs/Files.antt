@@ -1,5 +1,5 @@
 -- The files of a release (reqlock's own format of an index).
-use Rattle.std.specs.Prelude.{ℕ, ◌==◌, ◌&&◌, Bool, true, false, List, [], length, codes, map, fold, filter, find, nat_eq, nat_le, Option, Some, None, option_and_then, Result, Ok, if◌then◌else◌}
+use Rattle.std.specs.Prelude.{ℕ, ◌==◌, ◌&&◌, Bool, true, false, List, [], ◌∷◌, length, codes, map, fold, filter, find, nat_eq, nat_le, Option, Some, None, option_and_then, Result, Ok, if◌then◌else◌}
 use Rattle.std.specs.BTreeSet.{insert_key}
 use Rattle.std.specs.Char.{is_ascii_hexdigit, to_ascii_lowercase}
 use Rattle.std.specs.Cmp.Lexicographic.{slice_cmp}
@@ -87,3 +87,9 @@ wheels_of files = fold (insert_key name_cmp) [] (filter (λ f. is_wheel (form_of
 -- the first file that is a `.tar.gz`, else the first that is a `.zip`
 abbrev pub sdist_of : List ReleaseFile → Option ReleaseFile
 sdist_of files = option_or (find (λ f. is_tar_gz (form_of f.name)) files) (find (λ f. is_zip (form_of f.name)) files)
+
+-- whether there is a file to install from
+abbrev pub has_file : Option ReleaseFile → List ReleaseFile → Bool
+has_file (Some sdist) wheels = true
+has_file None (wheel ∷ wheels) = true
+has_file None [] = false

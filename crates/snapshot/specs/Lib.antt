@@ -1,8 +1,10 @@
 pub mod Shape
 pub mod Files
+pub mod Python
 pub mod Chosen
 pub mod Release
 pub mod Releases
+pub mod Lawful
 pub mod Packages
 pub mod Listed
 pub mod Places

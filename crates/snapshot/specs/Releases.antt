@@ -1,7 +1,7 @@
 -- The releases of a package (reqlock's own format of an index).
-use Rattle.std.specs.Prelude.{ℕ, suc, ◌+◌, ◌==◌, ◌||◌, Bool, true, false, List, [], ◌∷◌, ◌++◌, codes, fold, Option, Some, None, Result, Ok, Err, if◌then◌else◌}
+use Rattle.std.specs.Prelude.{ℕ, suc, ◌+◌, Bool, false, List, [], ◌∷◌, ◌++◌, codes, fold, Result, Ok, Err, if◌then◌else◌}
 use Rattle.std.specs.BTreeSet.{insert_key}
-use Rattle.std.specs.List.{list_all, list_any}
+use Rattle.std.specs.List.{list_any}
 use Rattle.std.specs.Ordering.{is_eq}
 use Rattle.std.specs.declared.cmp.Ordering.{Ordering}
 use Rattle.serde_json.specs.Data.{Data, Items, no_items}
@@ -9,19 +9,17 @@ use Rattle.serde_json.specs.Find.{as_array, as_bool, as_str}
 use Rattle.markers.specs.declared.fault.Cause.{Cause}
 use Rattle.pep440.specs.Order.{version_cmp}
 use Rattle.pep440.specs.Reading.{version_of}
-use Rattle.pep440.specs.Sets.{set_of}
 use Rattle.pep440.specs.Version.{Parts}
 use Rattle.pep440.specs.declared.fault.Fault.{Fault as VersionFault}
-use Rattle.pep440.specs.declared.specifier.Clause.{Clause}
 use Rattle.pep508.specs.Requirement.{Wanted, requirement_text}
 use Rattle.snapshot.specs.declared.fault.Fault.{Fault}
 use Rattle.snapshot.specs.declared.file.ReleaseFile.{ReleaseFile}
-use Rattle.snapshot.specs.declared.python.RequiresPython.{RequiresPython}
 use Rattle.snapshot.specs.declared.releases.ReadReleases.{ReadReleases}
 use Rattle.snapshot.specs.declared.skipped.SkipCause.{SkipCause}
 use Rattle.snapshot.specs.declared.skipped.SkipCause.TheVariants as causes
 use Rattle.snapshot.specs.declared.skipped.Skipped.{Skipped}
-use Rattle.snapshot.specs.Files.{file_of, sdist_of, wheels_of}
+use Rattle.snapshot.specs.Files.{file_of, has_file, sdist_of, wheels_of}
+pub use Rattle.snapshot.specs.Python.{is_blank, python_of, python_with}
 use Rattle.snapshot.specs.Release.{Release}
 use Rattle.snapshot.specs.Shape.{◌>>=◌, each_at, each_from, field, object_of, optional, or_absent, required, text_of}
 
@@ -51,19 +49,6 @@ abbrev pub versioned : Result Parts VersionFault → Result Parts SkipCause
 versioned (Ok v) = Ok v
 versioned (Err fault) = Err (causes.Version fault)
 
--- spaces and tabs alone
-abbrev pub is_blank : List ℕ → Bool
-is_blank text = list_all (λ b. (b == 32) || (b == 9)) text
-
--- the text with the set that was read of it
-abbrev pub python_with : List ℕ → Result (List Clause) VersionFault → Result (Option RequiresPython) SkipCause
-python_with text (Ok clauses) = Ok (Some (record { text = text; set = clauses }))
-python_with text (Err fault) = Err (causes.RequiresPython fault)
-
--- what a text asks of Python: nothing, where it is empty or blank
-abbrev pub python_of : List ℕ → Result (Option RequiresPython) SkipCause
-python_of text = if is_blank text then Ok None else python_with text (set_of text)
-
 -- the requirement that was read at this place
 abbrev pub required_at : ℕ → Result Wanted Cause → Result Wanted SkipCause
 required_at place (Ok wanted) = Ok wanted
@@ -76,12 +61,6 @@ requirements_from place (text ∷ texts) = do
   first ← required_at place (requirement_text text)
   others ← requirements_from (suc place) texts
   Ok (first ∷ others)
-
--- whether there is a file to install from
-abbrev pub has_file : Option ReleaseFile → List ReleaseFile → Bool
-has_file (Some sdist) wheels = true
-has_file None (wheel ∷ wheels) = true
-has_file None [] = false
 
 -- a release that has a file
 abbrev pub with_file : Release → Result Release SkipCause

@@ -76,7 +76,7 @@ fn sort_files(alloc: Global, files: Vec<ReleaseFile>) -> Result<Sorted, Fault>
 fn in_order(alloc: Global, wheels: BTreeSet<ByName>) -> Result<Seq<ReleaseFile>, AllocError>
     ensures { IfOk result (λ files. files ≡ wheels.keys) }
 {
-    let mut files = Vec::new(alloc);
+    let mut files = Vec::with_capacity(alloc, wheels.len())?;
     for file in wheels {
         files.push(file.into_file())?;
     }

@@ -49,18 +49,6 @@ fn is_digest(text: &str) -> bool
     text.len() == 64 && are_digits(text)
 }
 
-/// Hexadecimal digits in lower case.
-fn lower_digits(alloc: Global, text: &[u8]) -> Result<Text, AllocError>
-    requires { list_all is_ascii_hexdigit text.now ≡ true }
-    ensures { IfOk result (λ lower. lower ≡ map to_ascii_lowercase text.now) }
-{
-    let mut lower = String::with_capacity(alloc, text.len())?;
-    for byte in text {
-        lower.push(char::from(byte.to_ascii_lowercase()))?;
-    }
-    Ok(Text::from_string(lower))
-}
-
 /// The SHA-256 digest of a file, in lower case.
 fn sha256_of(alloc: Global, object: &Value) -> Result<Text, Fault>
     ensures { Gives (λ digest. digest) (field (required as_digest) (codes "sha256") (view object.now)) result }
@@ -69,7 +57,7 @@ fn sha256_of(alloc: Global, object: &Value) -> Result<Text, Fault>
     if !is_digest(text) {
         return Err(misshapen(alloc, "sha256"));
     }
-    Ok(lower_digits(alloc, text.as_bytes())?)
+    Ok(Text::from_string(text.to_ascii_lowercase(alloc)?))
 }
 
 /// The file that a value lists.
@@ -97,7 +85,7 @@ fn file_at_place(alloc: Global, place: usize, value: &Value) -> Result<ReleaseFi
 pub(crate) fn files_of(alloc: Global, values: &[Value]) -> Result<Vec<ReleaseFile>, Fault>
     ensures { Gives (λ files. files.items) (each_from file_of 0 (items_view values.now)) result }
 {
-    let mut files = Vec::new(alloc);
+    let mut files = Vec::with_capacity(alloc, values.len())?;
     for place in 0..values.len() {
         let file = file_at_place(alloc, place, &values[place])?;
         files.push(file)?;

@@ -4,6 +4,7 @@ ghost use Rattle.std.specs.Prelude.{◌≡◌, refl};
 ghost use Rattle.std.specs.Cmp.{eq_by_cmp_equiv, partial_equiv_from_equiv, partial_order_from_total};
 ghost use Rattle.std.specs.Option.{option_copied};
 ghost use Rattle.std.specs.Ordering.{as_partial_cmp, eq_by_cmp};
+ghost use Rattle.snapshot.specs.Lawful.{IsRelease};
 
 use crate::chosen::Chosen;
 use crate::file::ReleaseFile;
@@ -40,6 +41,7 @@ impl Drop for Release {
 impl Model for Release {
     ghost use Rattle.std.specs.Coded.{codes};
     ghost use Rattle.markers.specs.MarkerCode.{tree_code};
+    ghost use Rattle.snapshot.specs.Lawful.{IsRelease};
     ghost use Rattle.snapshot.specs.Release.{Release};
 
     ghost Value = { Release };
@@ -54,6 +56,15 @@ impl Model for Release {
       sdist = r.sdist;
       wheels = r.wheels;
     } };
+
+    ghost invariant = { λ r. IsRelease (record {
+      version = r.version;
+      requires_python = r.requires_python;
+      dependencies = r.dependencies;
+      yanked = r.yanked;
+      sdist = r.sdist;
+      wheels = r.wheels;
+    }) };
 }
 
 impl Release {
@@ -64,6 +75,14 @@ impl Release {
         yanked: bool,
         files: Chosen,
     ) -> Release
+        requires { IsRelease (record {
+          version = version;
+          requires_python = requires_python;
+          dependencies = dependencies;
+          yanked = yanked;
+          sdist = files.sdist;
+          wheels = files.wheels;
+        }) }
         ensures { result ≡ record {
           version = version;
           requires_python = requires_python;
@@ -122,6 +141,13 @@ impl Release {
         ensures { result.now ≡ self.now.wheels }
     {
         self.wheels.as_slice()
+    }
+
+    /// What holds of every release that can be used.
+    pub fn is_lawful(&self)
+        ensures { IsRelease self.now }
+    {
+        let _yanked = &self.yanked;
     }
 }
 

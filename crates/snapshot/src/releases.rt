@@ -56,12 +56,12 @@ fn release_at_place(
 }
 
 /// Puts the release into its place, unless one of an equal version is there, and says whether it did.
-fn put(newest: &mut BTreeSet<Newest>, release: Release) -> Result<bool, Fault>
+fn put(newest: &mut BTreeSet<Newest>, release: Newest) -> Result<bool, Fault>
     ensures is_new { IfOk result (λ new. new ≡ not (list_any (has_version_of release) newest.old.keys)) }
     ensures keys { OnOk result (newest.new.keys ≡ insert_key newer_cmp newest.old.keys release) }
     ensures memory { IsOkUnless result OutOfMemory }
 {
-    Ok(newest.insert(Newest::new(release))?)
+    Ok(newest.insert(release)?)
 }
 
 /// Leaves the release at `place` out.
@@ -93,7 +93,7 @@ fn add(
 {
     match release {
         Ok(release) => {
-            if !put(&mut gathering.newest, release)? {
+            if !put(&mut gathering.newest, Newest::new(release))? {
                 leave_out(&mut gathering.skipped, name, place, SkipCause::Duplicate)?;
             }
         }
@@ -121,7 +121,7 @@ fn gathered(alloc: Global, name: &Name, values: &[Value]) -> Result<Gathering, F
 fn in_order(alloc: Global, newest: BTreeSet<Newest>) -> Result<Seq<Release>, AllocError>
     ensures { IfOk result (λ releases. releases ≡ newest.keys) }
 {
-    let mut releases = Vec::new(alloc);
+    let mut releases = Vec::with_capacity(alloc, newest.len())?;
     for release in newest {
         releases.push(release.into_release())?;
     }

@@ -165,7 +165,7 @@ fn text_at_place<'v>(alloc: Global, place: usize, value: &'v Value) -> Result<&'
 pub(crate) fn texts_of<'v>(alloc: Global, values: &'v [Value]) -> Result<Vec<&'v str>, Fault>
     ensures { Gives (λ texts. map (λ text. text.now) texts.items) (each_from text_of 0 (items_view values.now)) result }
 {
-    let mut texts = Vec::new(alloc);
+    let mut texts = Vec::with_capacity(alloc, values.len())?;
     for place in 0..values.len() {
         let text = text_at_place(alloc, place, &values[place])?;
         texts.push(text)?;

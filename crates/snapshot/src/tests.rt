@@ -1,6 +1,7 @@
 // Reading whole indexes: what no clause shows, that ample memory gives an answer.
 
 use crate::{Fault, SkipCause, Skipped, Snapshot};
+use lists::Text;
 use pep440::{Fault as VersionFault, Version};
 use pep508::{Cause, Name};
 use std::alloc::Global;
@@ -309,5 +310,28 @@ fn digests_the_bytes(rt: HostRuntime) -> Result<(), Fail> {
         0x03, 0x9a,
     ];
     assert_eq!(rt; snapshot.digest(), expected);
+    Ok(())
+}
+
+#[test]
+fn faults_are_printed(rt: HostRuntime) -> Result<(), Fail> {
+    let path = Text::copy_of(rt.alloc(), "/packages/0")?;
+    let name = Name::parse(rt.alloc(), "A.b")?;
+    let rows = [
+        (Fault::NotJson, "this is no JSON"),
+        (
+            Fault::Shape(path),
+            "the value at `/packages/0` has the wrong shape",
+        ),
+        (
+            Fault::DuplicatePackage(name),
+            "the package `a-b` stands twice",
+        ),
+        (Fault::OutOfMemory, "out of memory"),
+    ];
+    for (fault, text) in rows.iter() {
+        let printed = format!(in rt.alloc(); "{fault}")?;
+        assert_eq!(rt; printed.as_str(), *text);
+    }
     Ok(())
 }

@@ -1,10 +1,14 @@
 // Which listed releases can be used.
 
 ghost use Rattle.std.specs.Prelude.{◌≡◌, Ok, map};
+ghost use Rattle.std.specs.List.{AllByRecursion};
 ghost use Rattle.pep440.specs.Reading.{version_of};
 ghost use Rattle.pep508.specs.Requirement.{requirement_text};
+ghost use Rattle.snapshot.specs.Files.{has_file};
+ghost use Rattle.snapshot.specs.Lawful.{IsFile};
 ghost use Rattle.snapshot.specs.Listed.{listed_view};
-ghost use Rattle.snapshot.specs.Releases.{has_file, is_blank, python_of, required_at, requirements_from, usable, versioned};
+ghost use Rattle.snapshot.specs.Python.{is_blank, python_of};
+ghost use Rattle.snapshot.specs.Releases.{required_at, requirements_from, usable, versioned};
 ghost use Rattle.snapshot.specs.Shape.{Gives};
 
 use crate::chosen::{Chosen, choose};
@@ -77,7 +81,7 @@ fn requirements_of(
 ) -> Result<Result<Seq<Requirement>, SkipCause>, Fault>
     ensures { Gives (λ d. d) (Ok (requirements_from 0 (map (λ text. text.now) texts.now))) result }
 {
-    let mut requirements = Seq::new(alloc);
+    let mut requirements = Vec::with_capacity(alloc, texts.len())?;
     for place in 0..texts.len() {
         let text = &texts[place];
         match requirement_at(alloc, place, text)? {
@@ -85,7 +89,7 @@ fn requirements_of(
             Err(cause) => return Ok(Err(cause)),
         }
     }
-    Ok(Ok(requirements))
+    Ok(Ok(Seq::from_vec(requirements)))
 }
 
 /// Whether there is a file to install from.
@@ -98,6 +102,7 @@ fn has_file(files: &Chosen) -> bool
 /// The release, or the first cause for which it can't be used.
 #[tactic(auto, unfolding(crate::specs::Releases::usable))]
 pub(crate) fn usable(alloc: Global, listed: Listed<'_>) -> Result<Result<Release, SkipCause>, Fault>
+    requires { AllByRecursion IsFile listed.files.items }
     ensures { Gives (λ r. r) (Ok (usable (listed_view listed.entry))) result }
 {
     let Listed {

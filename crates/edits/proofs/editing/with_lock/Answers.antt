@@ -1,8 +1,24 @@
+use Rattle.std.proofs.Common.{refl}
+use Rattle.edits.specs.Edits.{given_of}
 use Rattle.edits.proofs.LockFacts.{IsLocked-from}
+use Rattle.edits.proofs.StateFacts.{IsState-from}
 use Rattle.edits.proofs.editing.with_lock.Goals as goal
+
+pub new-requires-in-Solution-clause-lawful : goal.new-requires-in-Solution-clause-lawful
+new-requires-in-Solution-clause-lawful g c =
+    let given = given_of c.args.lines c.args.environment c.args.snapshot.now c.args.kept.entries in
+    let problem = c.in_ok-problem.ensures in
+    let best = rw problem at (rw c.in-Solution.is at c.in_ok-versions.ensures) in
+    let made = c.in_ok-lock-in-Solution.ensures in
+    let entries = rw problem at made.entries in
+    let locked = IsLocked-from given c.args.lines c.in-Solution.versions.entries c.in_ok-lock-in-Solution.lock best entries made.environment made.snapshot in
+    IsState-from given c.args.lines _ locked refl c.is_lawful.ensures c.is_lawful-in-Solution.ensures entries.releases c.equal_versions_match_alike.ensures
 
 pub returns-in_ok-lock-in-Solution-clause-ok : goal.returns-in_ok-lock-in-Solution-clause-ok
 returns-in_ok-lock-in-Solution-clause-ok g c =
-    let best = rw c.in-Solution.is at c.in_ok-versions.ensures in
-    let locked = IsLocked-from c.in_ok-problem.problem c.args.lines c.in-Solution.versions.entries c.in_ok-lock-in-Solution.lock best c.in_ok-lock-in-Solution.ensures in
-    rw (c.new-in-Solution.ensures, c.digest.ensures) (rw c.in_ok-problem.ensures at locked)
+    let given = given_of c.args.lines c.args.environment c.args.snapshot.now c.args.kept.entries in
+    let problem = c.in_ok-problem.ensures in
+    let best = rw problem at (rw c.in-Solution.is at c.in_ok-versions.ensures) in
+    let made = c.in_ok-lock-in-Solution.ensures in
+    rw c.new-in-Solution.ensures
+    (IsLocked-from given c.args.lines c.in-Solution.versions.entries c.in_ok-lock-in-Solution.lock best (rw problem at made.entries) made.environment made.snapshot)

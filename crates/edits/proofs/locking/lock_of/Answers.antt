@@ -1,8 +1,16 @@
-use Rattle.edits.proofs.LockFacts.{AreEntries-answer}
+use Rattle.std.proofs.Common.{◌≡◌, ◌∙◌}
+use Rattle.edits.proofs.LockFacts.{lock-made}
 use Rattle.edits.proofs.locking.lock_of.Goals as goal
 
-pub returns : goal.returns
-returns c =
-    let gathered = rw c.as_slice.ensures at c.in_ok-gathered.ensures in
-    AreEntries-answer c.args.problem.now c.args.versions.now.entries c.in_ok-nodes.nodes c.in_ok-gathered.gathered c.entries.result
-    c.entries.ensures.entries c.entries.ensures.rising c.in_ok-nodes.ensures gathered
+pub unreachable-requires : goal.unreachable-requires
+unreachable-requires c =
+    let made = c.new.ensures ∙ lock-made c.in_ok-environment.environment c.digest.result c.in_ok-entries.entries c.in_ok-entries.ensures.rising in
+    let none = c.in-None.is in
+    cc
+
+pub returns-clause-entries : goal.returns-clause-entries
+returns-clause-entries c =
+    let made = c.new.ensures ∙ lock-made c.in_ok-environment.environment c.digest.result c.in_ok-entries.entries c.in_ok-entries.ensures.rising in
+    let some = c.in-Some.is in
+    let is : c.in-Some.lock ≡ record { environment = c.in_ok-environment.environment; snapshot = c.digest.result; entries = c.in_ok-entries.entries } = cc in
+    rw is c.in_ok-entries.ensures

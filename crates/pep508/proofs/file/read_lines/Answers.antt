@@ -1,9 +1,10 @@
-use Rattle.std.proofs.Common.{◌≡◌, ◌∷◌, ◌++◌, ◌+◌, ◌∙◌, ℕ, List, [], length, refl, ap, sym, inl, inr, append_assoc, append-nil, Ok}
+use Rattle.std.proofs.Common.{◌≡◌, ◌∷◌, ◌++◌, ◌+◌, ◌∙◌, ℕ, List, [], length, refl, ap, sym, inl, inr, append_assoc, Ok}
 use Rattle.std.proofs.lemmas.Bool.{eqb-true}
 use Rattle.std.proofs.lemmas.List.{nil_from_length, length_push}
 use Rattle.pep508.specs.Lines.{lines_of}
 use Rattle.pep508.specs.Requirement.{first_fault, unless, requirement_of}
-use Rattle.pep508.proofs.Files.{checked-Ok, checked-Err, first_fault-passed, first_fault-found, first_fault-nil, lines_of-nil}
+use Rattle.pep508.proofs.Files.{checked-Ok, checked-Err, first_fault-passed, first_fault-found, first_fault-nil, lines_of-done, lines_of-nil}
+use Rattle.pep508.proofs.JoinedLines.{AreLines-lines_of}
 use Rattle.pep508.proofs.file.read_lines.Goals as goal
 
 pub is_empty-requires-text-self : goal.is_empty-requires-text-self
@@ -30,10 +31,16 @@ loop-rest-preserved c =
       passed = rw (grown, length_push) (c.loop-rest.invariant.passed ∙ ap (first_fault n) c.split_line.ensures.cut ∙ first_fault-passed n _ _ read.0.0 read.0.1);
     }
 
+pub invariant_of-result : goal.invariant_of-result
+invariant_of-result c =
+    let empty : c.loop-rest.rest.now ≡ [] = nil_from_length _ (eqb-true _ _ (sym c.is_empty.ensures ∙ c.loop-rest-test.false)) in
+    let whole = lines_of-done c.args.text.now c.loop-rest.rest.now c.loop-rest.lines c.loop-rest.invariant.cut empty in
+    rw whole at (AreLines-lines_of c.args.text.now)
+
 pub returns : goal.returns
 returns c =
     let empty : c.loop-rest.rest.now ≡ [] = nil_from_length _ (eqb-true _ _ (sym c.is_empty.ensures ∙ c.loop-rest-test.false)) in
     let none : lines_of c.loop-rest.rest.now ≡ [] = ap lines_of empty ∙ lines_of-nil in
     let passed = c.loop-rest.invariant.passed ∙ ap (first_fault (length c.loop-rest.lines + 1)) none ∙ first_fault-nil _ in
-    let whole : lines_of c.args.text.now ≡ c.loop-rest.lines = c.loop-rest.invariant.cut ∙ ap (λ (r : List (List ℕ)). c.loop-rest.lines ++ r) none ∙ append-nil _ in
+    let whole = lines_of-done c.args.text.now c.loop-rest.rest.now c.loop-rest.lines c.loop-rest.invariant.cut empty in
     ap (unless (lines_of c.args.text.now)) passed ∙ ap (λ (ls : List (List ℕ)). Ok ls) whole

@@ -4,11 +4,11 @@ use Rattle.snapshot.proofs.Loops.{push, gather-push, goes_on, ends, is_done}
 use Rattle.snapshot.proofs.files.files_of.Goals as goal
 
 pub loop-place-init : goal.loop-place-init
-loop-place-init c = rw c.new-files.ensures.items (gather-push _)
+loop-place-init c = rw c.in_ok-files.ensures.items (gather-push _)
 
 pub returns-in_err-file : goal.returns-in_err-file
 returns-in_err-file c =
-    let p = err_from_is_err_and c.from_residual.result c.from_residual.ensures.1 in
+    let p = err_from_is_err_and c.from_residual-in_err-file.result c.from_residual-in_err-file.ensures.1 in
     rw (p.1, p.2) (ends push _ file_of c.args.values.now c.loop-place.place c.index-values-place.result c.in_err-file.field-0.0 _ c.loop-place-test.true c.index-values-place.is c.in_err-file.ensures c.loop-place.invariant)
 
 pub loop-place-preserved : goal.loop-place-preserved

@@ -1,0 +1,64 @@
+-- What holds of every state. All of it is reqlock's own rule.
+use Rattle.std.specs.Prelude.{◌≡◌, ℕ, Bool, true, false, List, Option, Some, None, Result, Ok, Err}
+use Rattle.std.specs.List.{Contains, concat}
+use Rattle.std.specs.Option.{option_map_or}
+use Rattle.markers.specs.Comparisons.{version_read}
+use Rattle.markers.specs.Environment.{Texts, marker_text, text_of}
+use Rattle.markers.specs.declared.variable.Variable.TheVariants.{PythonFullVersion}
+use Rattle.pep440.specs.Matching.{matches}
+use Rattle.pep440.specs.Sets.{set_of}
+use Rattle.pep440.specs.Version.{Parts}
+use Rattle.pep440.specs.declared.fault.Fault.{Fault}
+use Rattle.pep440.specs.declared.specifier.Clause.{Clause}
+use Rattle.pep508.specs.Requirement.{Wanted, file_of}
+use Rattle.pylock.specs.Locks.{IsLock}
+use Rattle.pylock.specs.Packages.{Package}
+use Rattle.resolve.specs.Given.{requirements}
+use Rattle.edits.specs.Content.{Content}
+use Rattle.edits.specs.Locking.{versions_of}
+
+-- whether a set that was read has a version that was read
+abbrev pub has_version : Result (List Clause) Fault → Option Parts → Bool
+has_version (Ok clauses) (Some version) = matches clauses version
+has_version (Ok clauses) None = false
+has_version (Err fault) version = false
+
+-- whether a text of specifiers has the full version of the environment's Python
+abbrev pub has_python : Texts → List ℕ → Bool
+has_python environment text = has_version (set_of text) (version_read (text_of environment PythonFullVersion))
+
+-- an entry meets a requirement: it is on its name, the clauses match its version, and it runs on the environment's Python
+pub record Meets (environment : Texts) (wanted : Wanted) (e : Package) : Type 0 where
+  pub named : e.name ≡ wanted.name
+  pub matched : matches wanted.clauses e.version ≡ true
+  pub runs : option_map_or (has_python environment) e.requires_python true ≡ true
+
+-- an entry of the name
+pub record IsAnEntry (entries : List Package) (name : List ℕ) : Type 0 where
+  pub entry : Package
+  pub there : Contains entries entry
+  pub named : entry.name ≡ name
+
+-- the names that active lines lead to, through names of dependencies
+pub data Reached (active : List Wanted) (entries : List Package) : List ℕ → Type 0 where
+  by_line : (wanted : Wanted) → Contains active wanted → Reached active entries wanted.name
+  by_entry : (e : Package) (name : List ℕ) → Contains entries e → Reached active entries e.name → Contains e.dependencies name → Reached active entries name
+
+-- an entry that meets a requirement
+abbrev pub IsMet : Texts → List Package → Wanted → Type 0
+IsMet environment entries wanted = (e : Package) × Contains entries e × Meets environment wanted e
+
+-- The lines joined read as these lines. The lock is one. Each active line is met by an entry, each name of a dependency is an
+-- entry's, and each entry is reached from an active line. The lock names the state's environment; its digest is the state's.
+pub record IsState (state : Content) : Type 0 where
+  pub lines : file_of (concat state.lines) ≡ Ok state.lines
+  pub lock : IsLock state.lock
+  pub met : (wanted : Wanted) → Contains (requirements state.environment state.lines) wanted → IsMet state.environment state.lock.entries wanted
+  pub closed : (e : Package) (name : List ℕ) → Contains state.lock.entries e → Contains e.dependencies name → IsAnEntry state.lock.entries name
+  pub reached : (e : Package) → Contains state.lock.entries e → Reached (requirements state.environment state.lines) state.lock.entries e.name
+  pub environment : state.lock.environment ≡ marker_text state.environment
+
+-- a state with the versions of its lock, by their names
+pub record IsHeld (state : Content) (versions : List (List ℕ × Parts)) : Type 0 where
+  pub lawful : IsState state
+  pub kept : versions ≡ versions_of state.lock.entries

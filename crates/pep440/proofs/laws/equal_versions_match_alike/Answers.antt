@@ -1,0 +1,5 @@
+use Rattle.pep440.proofs.AlikeFacts.{matches-alike}
+use Rattle.pep440.proofs.laws.equal_versions_match_alike.Goals as goal
+
+pub returns : goal.returns
+returns c = matches-alike

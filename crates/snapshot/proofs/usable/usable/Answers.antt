@@ -1,0 +1,12 @@
+use Rattle.std.proofs.Common.{◌≡◌, ◌∙◌, true, arith}
+use Rattle.snapshot.specs.Files.{has_file}
+use Rattle.snapshot.proofs.LawFacts.{release-lawful}
+use Rattle.snapshot.proofs.StepFacts.{ok-inside}
+use Rattle.snapshot.proofs.usable.usable.Goals as goal
+
+pub new-requires : goal.new-requires
+new-requires c =
+    let files = c.in_ok-files.files in
+    let python = ok-inside _ _ c.in_ok-python.ensures ∙ c.in-Ok-2.is in
+    let file : has_file files.sdist files.wheels ≡ true = grind arith in
+    release-lawful c.args.listed.requires_python.now c.args.listed.files.items _ c.requires python c.in_ok-files.ensures.sdist c.in_ok-files.ensures.wheels file
