@@ -167,9 +167,17 @@ AreEntries-answer given versions nodes gathered (Ok lock) made rising releases n
 AreEntries-answer given versions nodes gathered (Err e) made rising releases needed is = tt
 
 -- entries whose names rise make a lock
-pub lock-made : (environment snapshot : List ℕ) (lock : List Package) → IsStrictlySortedBy (slice_cmp nat_cmp) (map (λ e. e.name) lock)
-    → lock_of (record { environment = environment; snapshot = snapshot; entries = lock }) ≡ Some (record { environment = environment; snapshot = snapshot; entries = lock })
-lock-made environment snapshot lock rising = rw (rises-from (map (λ e. e.name) lock) rising) refl
+lock-made : (l : Locked) → IsStrictlySortedBy (slice_cmp nat_cmp) (map (λ e. e.name) l.entries) → lock_of l ≡ Some l
+lock-made l rising = rw (rises-from (map (λ e. e.name) l.entries) rising) refl
+
+pub lock-there : (l : Locked) (made : Option Locked) → made ≡ lock_of l → IsStrictlySortedBy (slice_cmp nat_cmp) (map (λ e. e.name) l.entries) → made ≡ None → ⊥
+lock-there l made is rising none = let some = lock-made l rising in cc
+
+pub lock-entries : (l m : Locked) (made : Option Locked) → made ≡ lock_of l → IsStrictlySortedBy (slice_cmp nat_cmp) (map (λ e. e.name) l.entries) → made ≡ Some m → m.entries ≡ l.entries
+lock-entries l m made is rising some =
+    let whole = lock-made l rising in
+    let same : m ≡ l = cc in
+    ap (λ (k : Locked). k.entries) same
 
 -- one more entry has its release
 pub releases-more : (given : Given) (items : List Package) (e : Package) → ((x : Package) → Contains items x → HasRelease given x.name x.version) → HasRelease given e.name e.version
