@@ -5,7 +5,7 @@ use Rattle.search.proofs.Lists.{Contains-here, Contains-there, Contains-cons_cas
 use Rattle.search.proofs.Theory.{clash-line, clash-dependency}
 use Rattle.search.specs.Rules.{Rules, IsLawful}
 use Rattle.search.specs.Solutions.{Needed, by_line, by_dependency, version_in, Pin}
-use Rattle.search.specs.Search.{IsRefuted, IsComplete, AllFit, AreNeeded, NoneFree, clash_at, clash_in, node_clash_at, node_clash, any_clash}
+use Rattle.search.specs.Search.{IsRefuted, IsComplete, AllFit, AreNeeded, AreAsked, NoneFree, clash_at, clash_in}
 
 or-true : (a b : Bool) → (a || b) ≡ true → (a ≡ true) ⊎ (b ≡ true)
 or-true true b h = inl refl
@@ -30,7 +30,7 @@ any-true p (x ∷ xs) h = elim (or-true (p x) (list_any p xs) h) [
   | inr b ↦ let k : (y : _) × Contains xs y × (p y ≡ true) = any-true p xs b in (k.0, Contains-there x xs k.0 k.1, k.2)
 ]
 
-any-false : {X : Type 0} (p : X → Bool) (xs : List X) (x : X) → list_any p xs ≡ false → Contains xs x → p x ≡ false
+pub any-false : {X : Type 0} (p : X → Bool) (xs : List X) (x : X) → list_any p xs ≡ false → Contains xs x → p x ≡ false
 any-false p [] x h i = absurd (Contains-nil x i)
 any-false p (y ∷ xs) x h i =
     let k : (p y ≡ false) × (list_any p xs ≡ false) = or-false (p y) (list_any p xs) h in
@@ -40,51 +40,27 @@ clash_at-true : (rules : Rules ℕ ℕ ℕ ℕ) (r : ℕ) (o : Option ℕ) → c
 clash_at-true rules r None h = absurd (cc)
 clash_at-true rules r (Some w) h = (w, refl, not-true (rules.admits r w) h)
 
-node_clash_at-true : (rules : Rules ℕ ℕ ℕ ℕ) (chosen : ℕ → Option ℕ) (node : ℕ) (o : Option ℕ) → node_clash_at rules chosen node o ≡ true → (v : ℕ) × (o ≡ Some v) × (list_any (clash_in rules chosen) (rules.wants node v) ≡ true)
-node_clash_at-true rules chosen node None h = absurd (cc)
-node_clash_at-true rules chosen node (Some v) h = (v, refl, h)
-
-line-refuted : (rules : Rules ℕ ℕ ℕ ℕ) (taken : List (Pin ℕ ℕ)) → list_any (clash_in rules (version_in rules.compare taken)) rules.lines ≡ true → IsRefuted rules taken
-line-refuted rules taken h =
+-- where something that is asked for clashes, no solution has what is taken
+pub asked-refuted : (rules : Rules ℕ ℕ ℕ ℕ) (taken : List (Pin ℕ ℕ)) (asked : List ℕ) → AreAsked rules (version_in rules.compare taken) asked → list_any (clash_in rules (version_in rules.compare taken)) asked ≡ true → IsRefuted rules taken
+asked-refuted rules taken asked a h =
     let chosen : ℕ → Option ℕ = version_in rules.compare taken in
-    let r : (r : ℕ) × Contains rules.lines r × (clash_in rules chosen r ≡ true) = any-true (clash_in rules chosen) rules.lines h in
+    let r : (r : ℕ) × Contains asked r × (clash_in rules chosen r ≡ true) = any-true (clash_in rules chosen) asked h in
     let w : (w : ℕ) × (chosen (rules.name r.0) ≡ Some w) × (rules.admits r.0 w ≡ false) = clash_at-true rules r.0 (chosen (rules.name r.0)) r.2 in
-    clash-line rules taken r.0 w.0 r.1 w.1 w.2
-
-node-refuted : (rules : Rules ℕ ℕ ℕ ℕ) (taken : List (Pin ℕ ℕ)) (nodes : List ℕ) → AreNeeded rules (version_in rules.compare taken) nodes → list_any (node_clash rules (version_in rules.compare taken)) nodes ≡ true → IsRefuted rules taken
-node-refuted rules taken nodes a h =
-    let chosen : ℕ → Option ℕ = version_in rules.compare taken in
-    let n : (n : ℕ) × Contains nodes n × (node_clash rules chosen n ≡ true) = any-true (node_clash rules chosen) nodes h in
-    let v : (v : ℕ) × (chosen (rules.on n.0) ≡ Some v) × (list_any (clash_in rules chosen) (rules.wants n.0 v) ≡ true) = node_clash_at-true rules chosen n.0 (chosen (rules.on n.0)) n.2 in
-    let r : (r : ℕ) × Contains (rules.wants n.0 v.0) r × (clash_in rules chosen r ≡ true) = any-true (clash_in rules chosen) (rules.wants n.0 v.0) v.2 in
-    let w : (w : ℕ) × (chosen (rules.name r.0) ≡ Some w) × (rules.admits r.0 w ≡ false) = clash_at-true rules r.0 (chosen (rules.name r.0)) r.2 in
-    clash-dependency rules taken n.0 v.0 r.0 w.0 (a.sound n.0 n.1) v.1 r.1 w.1 w.2
-
--- where something clashes, no solution has what is taken
-pub clash-refuted : (rules : Rules ℕ ℕ ℕ ℕ) (taken : List (Pin ℕ ℕ)) (nodes : List ℕ) → AreNeeded rules (version_in rules.compare taken) nodes → any_clash rules (version_in rules.compare taken) nodes ≡ true → IsRefuted rules taken
-clash-refuted rules taken nodes a h = elim (or-true (list_any (clash_in rules (version_in rules.compare taken)) rules.lines) (list_any (node_clash rules (version_in rules.compare taken)) nodes) h) [
-  | inl b ↦ line-refuted rules taken b
-  | inr b ↦ node-refuted rules taken nodes a b
-]
+    elim (a.sound r.0 r.1) [
+      | inl l ↦ clash-line rules taken r.0 w.0 l w.1 w.2
+      | inr k ↦ clash-dependency rules taken k.0 k.1 r.0 w.0 k.2 k.3 k.4 w.1 w.2
+    ]
 
 clash_at-false : (rules : Rules ℕ ℕ ℕ ℕ) (r : ℕ) (o : Option ℕ) (w : ℕ) → clash_at rules r o ≡ false → o ≡ Some w → rules.admits r w ≡ true
 clash_at-false rules r None w h e = absurd (cc)
 clash_at-false rules r (Some v) w h e = let k : v ≡ w = cc in subst (λ x. rules.admits r x ≡ true) k (not-false (rules.admits r v) h)
 
-node_clash_at-false : (rules : Rules ℕ ℕ ℕ ℕ) (chosen : ℕ → Option ℕ) (node : ℕ) (o : Option ℕ) (v : ℕ) → node_clash_at rules chosen node o ≡ false → o ≡ Some v → list_any (clash_in rules chosen) (rules.wants node v) ≡ false
-node_clash_at-false rules chosen node None v h e = absurd (cc)
-node_clash_at-false rules chosen node (Some u) v h e = let k : u ≡ v = cc in subst (λ x. list_any (clash_in rules chosen) (rules.wants node x) ≡ false) k h
-
 -- where nothing does, all that counts is met as far as it is taken
-pub clash-fits : (rules : Rules ℕ ℕ ℕ ℕ) (chosen : ℕ → Option ℕ) (nodes : List ℕ) → AreNeeded rules chosen nodes → any_clash rules chosen nodes ≡ false → AllFit rules chosen
-clash-fits rules chosen nodes a h =
-    let k : (list_any (clash_in rules chosen) rules.lines ≡ false) × (list_any (node_clash rules chosen) nodes ≡ false) = or-false (list_any (clash_in rules chosen) rules.lines) (list_any (node_clash rules chosen) nodes) h in
-    record {
-      lines = λ r i w e. clash_at-false rules r (chosen (rules.name r)) w (any-false (clash_in rules chosen) rules.lines r k.0 i) e;
-      dependencies = λ node v r n at i w e.
-          let none : list_any (clash_in rules chosen) (rules.wants node v) ≡ false = node_clash_at-false rules chosen node (chosen (rules.on node)) v (any-false (node_clash rules chosen) nodes node k.1 (a.whole node n)) at in
-          clash_at-false rules r (chosen (rules.name r)) w (any-false (clash_in rules chosen) (rules.wants node v) r none i) e;
-    }
+pub asked-fits : (rules : Rules ℕ ℕ ℕ ℕ) (chosen : ℕ → Option ℕ) (asked : List ℕ) → AreAsked rules chosen asked → list_any (clash_in rules chosen) asked ≡ false → AllFit rules chosen
+asked-fits rules chosen asked a h = record {
+  lines = λ r i w e. clash_at-false rules r (chosen (rules.name r)) w (any-false (clash_in rules chosen) asked r h (a.whole r (inl i))) e;
+  dependencies = λ node v r n at i w e. clash_at-false rules r (chosen (rules.name r)) w (any-false (clash_in rules chosen) asked r h (a.whole r (inr (node, v, n, at, i)))) e;
+}
 
 option_not_none : (o : Option ℕ) → (o ≡ None → ⊥) → (w : ℕ) × (o ≡ Some w)
 option_not_none None h = absurd (h refl)

@@ -11,5 +11,7 @@ pub mod Stack
 pub mod Work
 pub mod Steps
 pub mod TakenFacts
+pub mod Walks
+pub mod Fronts
 pub mod PictureFacts
 pub mod PictureLaw

@@ -52,14 +52,14 @@ grown-asked rules old mid new rs i l g h =
     let k : nodes_asked rules (take (suc i) rs) ≡ nodes_asked rules (take i rs) ++ rules.nodes r = ap (nodes_asked rules) (take-more rs i r l (get_or-any rs i 0 r l)) ∙ nodes_asked-append rules (take i rs) (r ∷ []) ∙ ap (λ zs. nodes_asked rules (take i rs) ++ zs) (append-nil (rules.nodes r)) in
     rw add-one (subst (λ ns. IsGrown old new ns) (sym k) (grown-then old mid new (nodes_asked rules (take i rs)) (rules.nodes r) g h))
 
-asked-from : (rules : Rules ℕ ℕ ℕ ℕ) (rs : List ℕ) (r node : ℕ) → Contains rs r → Contains (rules.nodes r) node → Contains (nodes_asked rules rs) node
+pub asked-from : (rules : Rules ℕ ℕ ℕ ℕ) (rs : List ℕ) (r node : ℕ) → Contains rs r → Contains (rules.nodes r) node → Contains (nodes_asked rules rs) node
 asked-from rules [] r node h i = absurd (Contains-nil r h)
 asked-from rules (s ∷ rs) r node h i = elim (Contains-cons_cases s rs r h) [
   | inl e ↦ Contains-append_left (rules.nodes s) (nodes_asked rules rs) node (subst (λ q. Contains (rules.nodes q) node) (sym e) i)
   | inr k ↦ Contains-append_right (rules.nodes s) (nodes_asked rules rs) node (asked-from rules rs r node k i)
 ]
 
-asked-to : (rules : Rules ℕ ℕ ℕ ℕ) (rs : List ℕ) (node : ℕ) → Contains (nodes_asked rules rs) node → (r : ℕ) × Contains rs r × Contains (rules.nodes r) node
+pub asked-to : (rules : Rules ℕ ℕ ℕ ℕ) (rs : List ℕ) (node : ℕ) → Contains (nodes_asked rules rs) node → (r : ℕ) × Contains rs r × Contains (rules.nodes r) node
 asked-to rules [] node h = absurd (Contains-nil node h)
 asked-to rules (r ∷ rs) node h = elim (Contains-append_cases (rules.nodes r) (nodes_asked rules rs) node h) [
   | inl a ↦ (r, Contains-here r rs, a)
@@ -78,13 +78,13 @@ closing-start rules chosen nodes g = record {
   linked = λ link node h i. absurd (Contains-take_zero nodes link h);
 }
 
-linked-needed : (rules : Rules ℕ ℕ ℕ ℕ) (chosen : ℕ → Option ℕ) (link node : ℕ) (o : Option ℕ) → chosen (rules.on link) ≡ o → Needed rules chosen link → Contains (nodes_linked rules link o) node → Needed rules chosen node
+pub linked-needed : (rules : Rules ℕ ℕ ℕ ℕ) (chosen : ℕ → Option ℕ) (link node : ℕ) (o : Option ℕ) → chosen (rules.on link) ≡ o → Needed rules chosen link → Contains (nodes_linked rules link o) node → Needed rules chosen node
 linked-needed rules chosen link node None e n h = absurd (Contains-nil node h)
 linked-needed rules chosen link node (Some v) e n h =
     let k : (r : ℕ) × Contains (rules.wants link v) r × Contains (rules.nodes r) node = asked-to rules (rules.wants link v) node h in
     by_dependency link v k.0 node n e k.1 k.2
 
-take-front : {X : Type 0} (xs ys : List X) (k : ℕ) → k ≤ length xs → take k (xs ++ ys) ≡ take k xs
+pub take-front : {X : Type 0} (xs ys : List X) (k : ℕ) → k ≤ length xs → take k (xs ++ ys) ≡ take k xs
 take-front [] [] zero l = refl
 take-front [] (y ∷ ys) zero l = refl
 take-front [] ys (suc k) l = absurd (omega arith)

@@ -35,7 +35,7 @@ version_in-other ps p n d = elim (option_cases (version_in nat_cmp ps n)) [
   | inr some ↦ version_in-append_some nat_cmp ps (p ∷ []) n some.0 some.1 ∙ sym some.1
 ]
 
-first-step : (old new : List (Option ℕ)) (f : Frame) (ps : List (Pin ℕ ℕ)) → TakesFirst old new f → ((n : ℕ) → taken_at old n ≡ version_in nat_cmp ps n) → (n : ℕ) → taken_at new n ≡ version_in nat_cmp (ps ++ pin_at f ∷ []) n
+pub first-step : (old new : List (Option ℕ)) (f : Frame) (ps : List (Pin ℕ ℕ)) → TakesFirst old new f → ((n : ℕ) → taken_at old n ≡ version_in nat_cmp ps n) → (n : ℕ) → taken_at new n ≡ version_in nat_cmp (ps ++ pin_at f ∷ []) n
 first-step old new f ps h same n = elim (option_cases (version_in nat_cmp ps n)) [
   | inl none ↦ elim (nat_cases n f.name) [
     | inl e ↦

@@ -5,4 +5,5 @@ pub mod Search
 pub mod Ranges
 pub mod Nodes
 pub mod Steps
+pub mod Front
 pub mod Picture

@@ -20,6 +20,10 @@ pub record IsMarked (members : List ℕ) (marks : List Bool) : Type 0 where
   pub marked : (node : ℕ) → Contains members node → slice_index_or marks node false ≡ true
   pub member : (node : ℕ) → slice_index_or marks node false ≡ true → Contains members node
 
+-- new is old, and perhaps more behind it
+abbrev pub Extends : List ℕ → List ℕ → Type 0
+Extends old new = (more : List ℕ) × (new ≡ old ++ more)
+
 -- new is old with what is wanted and wasn't there behind it
 pub record Grows (old new wanted : List ℕ) : Type 0 where
   pub more : List ℕ
@@ -41,6 +45,11 @@ nodes_asked rules (r ∷ rs) = rules.nodes r ++ nodes_asked rules rs
 abbrev pub nodes_linked : Rules ℕ ℕ ℕ ℕ → ℕ → Option ℕ → List ℕ
 nodes_linked rules node None = []
 nodes_linked rules node (Some place) = nodes_asked rules (rules.wants node place)
+
+-- what this release of a node's name asks for there
+abbrev pub wants_linked : Rules ℕ ℕ ℕ ℕ → ℕ → Option ℕ → List ℕ
+wants_linked rules node None = []
+wants_linked rules node (Some place) = rules.wants node place
 
 -- the walk through needed nodes, as far as the first `at` nodes have been followed
 pub record IsClosing (rules : Rules ℕ ℕ ℕ ℕ) (chosen : ℕ → Option ℕ) (nodes : List ℕ) (at : ℕ) : Type 0 where

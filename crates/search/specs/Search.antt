@@ -1,6 +1,6 @@
 -- What a backtracking search keeps true of its choices. No public clause speaks of it.
-use Rattle.std.specs.Prelude.{ℕ, List, [], ◌∷◌, ◌++◌, Option, Some, None, ◌≡◌, ◌<◌, ◌≤◌, Bool, true, false, not, ◌||◌, take, length}
-use Rattle.std.specs.List.{Contains, slice_index_or, list_any}
+use Rattle.std.specs.Prelude.{ℕ, List, [], ◌∷◌, ◌++◌, Option, Some, None, ◌≡◌, ◌<◌, ◌≤◌, ◌⊎◌, Bool, true, false, not, take, length}
+use Rattle.std.specs.List.{Contains, slice_index_or}
 use Rattle.search.specs.declared.parts.Frame.{Frame}
 use Rattle.search.specs.Rules.{Rules}
 use Rattle.search.specs.Solutions.{Needed, Solution, IsNext, IsMet, Has, Pin}
@@ -49,6 +49,15 @@ pub record AreNeeded (rules : Rules ℕ ℕ ℕ ℕ) (chosen : ℕ → Option �
   pub sound : (node : ℕ) → Contains nodes node → Needed rules chosen node
   pub whole : (node : ℕ) → Needed rules chosen node → Contains nodes node
 
+-- r is asked for by a line, or counts at a needed node
+abbrev pub IsAsked : Rules ℕ ℕ ℕ ℕ → (ℕ → Option ℕ) → ℕ → Type 0
+IsAsked rules chosen r = Contains rules.lines r ⊎ ((node : ℕ) × (v : ℕ) × Needed rules chosen node × (chosen (rules.on node) ≡ Some v) × Contains (rules.wants node v) r)
+
+-- the requirements that are asked for, and no others
+pub record AreAsked (rules : Rules ℕ ℕ ℕ ℕ) (chosen : ℕ → Option ℕ) (asked : List ℕ) : Type 0 where
+  pub sound : (r : ℕ) → Contains asked r → IsAsked rules chosen r
+  pub whole : (r : ℕ) → IsAsked rules chosen r → Contains asked r
+
 -- each of the nodes has a name that is taken
 abbrev pub NoneFree : Rules ℕ ℕ ℕ ℕ → (ℕ → Option ℕ) → List ℕ → Type 0
 NoneFree rules chosen nodes = (node : ℕ) → Contains nodes node → chosen (rules.on node) ≡ None → ⊥
@@ -68,17 +77,6 @@ clash_at rules r (Some v) = not (rules.admits r v)
 
 abbrev pub clash_in : Rules ℕ ℕ ℕ ℕ → (ℕ → Option ℕ) → ℕ → Bool
 clash_in rules chosen r = clash_at rules r (chosen (rules.name r))
-
--- whether something that counts at a node clashes
-abbrev pub node_clash_at : Rules ℕ ℕ ℕ ℕ → (ℕ → Option ℕ) → ℕ → Option ℕ → Bool
-node_clash_at rules chosen node None = false
-node_clash_at rules chosen node (Some v) = list_any (clash_in rules chosen) (rules.wants node v)
-
-abbrev pub node_clash : Rules ℕ ℕ ℕ ℕ → (ℕ → Option ℕ) → ℕ → Bool
-node_clash rules chosen node = node_clash_at rules chosen node (chosen (rules.on node))
-
-abbrev pub any_clash : Rules ℕ ℕ ℕ ℕ → (ℕ → Option ℕ) → List ℕ → Bool
-any_clash rules chosen nodes = list_any (clash_in rules chosen) rules.lines || list_any (node_clash rules chosen) nodes
 
 -- what is taken, as a list with a place or none for each name
 abbrev pub taken_at : List (Option ℕ) → ℕ → Option ℕ

@@ -1,12 +1,14 @@
 // Whether choices contradict what is asked for, and the next name.
 
-ghost use Rattle.std.specs.Prelude.{◌≡◌, ◌<◌, MatchOption, length, nat_lt, if◌then◌else◌};
+ghost use Rattle.std.specs.Prelude.{◌≡◌, ◌≢◌, ◌<◌, MatchOption, length, nat_lt, if◌then◌else◌, true, false};
 ghost use Rattle.std.specs.List.{list_any};
 ghost use Rattle.search.specs.Ranges.{EachBelow};
-ghost use Rattle.search.specs.Search.{taken_at, clash_in, node_clash, any_clash, NoneFree, IsLeastFree};
+ghost use Rattle.search.specs.Front.{HaveFit};
+ghost use Rattle.search.specs.Search.{taken_at, clash_in, NoneFree, IsLeastFree};
 ghost use Rattle.search.specs.Table.{rules_of, admits_at};
 
 use crate::needed::place_of;
+use crate::parts::Since;
 use crate::table::Table;
 
 /// Whether a requirement doesn't admit the release that its name has.
@@ -20,52 +22,37 @@ fn does_clash(table: &Table, taken: &[Option<usize>], requirement: usize) -> boo
     }
 }
 
-/// Whether one of the requirements clashes.
-fn do_any_clash(table: &Table, taken: &[Option<usize>], asked: &[usize]) -> bool
-    requires { EachBelow (length table.now.requirements) asked.now }
+/// Whether a requirement clashes. One that was known before, on another name than this, doesn't.
+fn does_now_clash(
+    table: &Table,
+    taken: &[Option<usize>],
+    requirement: usize,
+    is_known: bool,
+    name: usize,
+) -> bool
+    requires known { requirement < length table.now.requirements }
+    requires fits { is_known ≡ true → (rules_of table.now).name requirement ≢ name → clash_in (rules_of table.now) (taken_at taken.now) requirement ≡ false }
+    ensures { result ≡ clash_in (rules_of table.now) (taken_at taken.now) requirement }
+{
+    if is_known && table.name_asked(requirement) != name {
+        return false;
+    }
+    does_clash(table, taken, requirement)
+}
+
+/// Whether one of the requirements clashes. Of those that were known before only the ones on the
+/// name that was taken last are tested.
+pub fn do_any_clash(table: &Table, taken: &[Option<usize>], asked: &[usize], since: Since) -> bool
+    requires known { EachBelow (length table.now.requirements) asked.now }
+    requires fit { HaveFit (rules_of table.now) (taken_at taken.now) asked.now since }
     ensures { result ≡ list_any (clash_in (rules_of table.now) (taken_at taken.now)) asked.now }
 {
-    for requirement in asked {
-        if does_clash(table, taken, *requirement) {
+    for at in 0..asked.len() {
+        if does_now_clash(table, taken, asked[at], at < since.asked, since.name) {
             return true;
         }
     }
     false
-}
-
-/// Whether something that counts at a node clashes.
-fn does_node_clash(table: &Table, taken: &[Option<usize>], node: usize) -> bool
-    requires { node < length table.now.nodes }
-    ensures { result ≡ node_clash (rules_of table.now) (taken_at taken.now) node }
-{
-    match place_of(taken, table.name_of(node)) {
-        None => false,
-        Some(place) => do_any_clash(table, taken, table.wants(node, place)),
-    }
-}
-
-/// Whether something that counts at one of the nodes clashes.
-fn do_nodes_clash(table: &Table, taken: &[Option<usize>], nodes: &[usize]) -> bool
-    requires { EachBelow (length table.now.nodes) nodes.now }
-    ensures { result ≡ list_any (node_clash (rules_of table.now) (taken_at taken.now)) nodes.now }
-{
-    for node in nodes {
-        if does_node_clash(table, taken, *node) {
-            return true;
-        }
-    }
-    false
-}
-
-/// Whether a line, or something that counts at one of the nodes, clashes.
-pub fn does_anything_clash(table: &Table, taken: &[Option<usize>], nodes: &[usize]) -> bool
-    requires { EachBelow (length table.now.nodes) nodes.now }
-    ensures { result ≡ any_clash (rules_of table.now) (taken_at taken.now) nodes.now }
-{
-    if do_any_clash(table, taken, table.lines()) {
-        return true;
-    }
-    do_nodes_clash(table, taken, nodes)
 }
 
 /// The lesser of a name and what was found so far.

@@ -7,6 +7,7 @@
 #![tactic(auto)]
 
 mod clash;
+mod front;
 pub mod laws;
 mod needed;
 mod node_set;

@@ -1,15 +1,17 @@
-// The nodes that are needed under what is taken.
+// The nodes that are needed under what is taken, and the requirements that count there.
 
-ghost use Rattle.std.specs.Prelude.{◌≡◌, ◌<◌, IfOk, None, length};
+ghost use Rattle.std.specs.Prelude.{◌≡◌, ◌<◌, ◌≤◌, ◌+◌, IfOk, None, length};
 ghost use Rattle.std.specs.List.{slice_index_or};
-ghost use Rattle.search.specs.Nodes.{IsGrown, nodes_asked, nodes_linked};
+ghost use Rattle.search.specs.Front.{IsFollowed};
+ghost use Rattle.search.specs.Nodes.{Extends, IsGrown, nodes_asked, nodes_linked, wants_linked};
 ghost use Rattle.search.specs.Ranges.{EachBelow};
-ghost use Rattle.search.specs.Search.{AreNeeded, taken_at};
+ghost use Rattle.search.specs.Search.{AreNeeded, AreAsked, taken_at};
 ghost use Rattle.search.specs.Table.{rules_of, nodes_of, requirement_at, name_of};
 
 use crate::node_set::NodeSet;
+use crate::parts::Since;
 use crate::table::Table;
-use std::alloc::{AllocError, Global};
+use std::alloc::AllocError;
 
 /// The place that is taken for a name.
 pub fn place_of(taken: &[Option<usize>], name: usize) -> Option<usize>
@@ -45,39 +47,94 @@ fn add_asked(table: &Table, nodes: &mut NodeSet, asked: &[usize]) -> Result<(), 
     Ok(())
 }
 
-/// Adds the nodes that a node leads to.
+/// Adds requirements, and the nodes that they need.
+pub fn ask(
+    table: &Table,
+    nodes: &mut NodeSet,
+    asked: &mut NodeSet,
+    more: &[usize],
+) -> Result<(), AllocError>
+    requires known { EachBelow (length table.now.requirements) more.now }
+    requires room { nodes.old.room ≡ length table.now.nodes }
+    requires asked_room { asked.old.room ≡ length table.now.requirements }
+    ensures nodes { IfOk result (λ _. IsGrown nodes.old nodes.new (nodes_asked (rules_of table.now) more.now)) }
+    ensures asked { IfOk result (λ _. IsGrown asked.old asked.new more.now) }
+{
+    asked.insert_all(more)?;
+    add_asked(table, nodes, more)?;
+    Ok(())
+}
+
+/// Adds what the release that is taken for a node's name wants there, and the nodes that this
+/// needs.
 fn follow(
     table: &Table,
     taken: &[Option<usize>],
     nodes: &mut NodeSet,
+    asked: &mut NodeSet,
     node: usize,
 ) -> Result<(), AllocError>
     requires known { node < length table.now.nodes }
     requires room { nodes.old.room ≡ length table.now.nodes }
-    ensures { IfOk result (λ _. IsGrown nodes.old nodes.new (nodes_linked (rules_of table.now) node (taken_at taken.now (name_of table.now node)))) }
+    requires asked_room { asked.old.room ≡ length table.now.requirements }
+    ensures nodes { IfOk result (λ _. IsGrown nodes.old nodes.new (nodes_linked (rules_of table.now) node (taken_at taken.now (name_of table.now node)))) }
+    ensures asked { IfOk result (λ _. IsGrown asked.old asked.new (wants_linked (rules_of table.now) node (taken_at taken.now (name_of table.now node)))) }
 {
     match place_of(taken, table.name_of(node)) {
         None => Ok(()),
-        Some(place) => add_asked(table, nodes, table.wants(node, place)),
+        Some(place) => ask(table, nodes, asked, table.wants(node, place)),
     }
 }
 
-/// The nodes that are needed under what is taken.
-pub fn needed_nodes(
-    alloc: Global,
+/// Follows the node at a place. One that was known before, on another name than the one that was
+/// taken last, leads to what is there.
+fn follow_at(
     table: &Table,
     taken: &[Option<usize>],
-) -> Result<NodeSet, AllocError>
-    ensures needed { IfOk result (λ nodes. AreNeeded (rules_of table.now) (taken_at taken.now) nodes.members) }
-    ensures room { IfOk result (λ nodes. nodes.room ≡ length table.now.nodes) }
+    nodes: &mut NodeSet,
+    asked: &mut NodeSet,
+    since: Since,
+    at: usize,
+) -> Result<(), AllocError>
+    requires within { at < length nodes.old.members }
+    requires room { nodes.old.room ≡ length table.now.nodes }
+    requires asked_room { asked.old.room ≡ length table.now.requirements }
+    requires followed { IsFollowed (rules_of table.now) (taken_at taken.now) nodes.old.members asked.old.members since at }
+    ensures grown { IfOk result (λ _. length nodes.old.members ≤ length nodes.new.members) }
+    ensures room { IfOk result (λ _. nodes.new.room ≡ nodes.old.room) }
+    ensures asked_room { IfOk result (λ _. asked.new.room ≡ asked.old.room) }
+    ensures kept { IfOk result (λ _. Extends asked.old.members asked.new.members) }
+    ensures followed { IfOk result (λ _. IsFollowed (rules_of table.now) (taken_at taken.now) nodes.new.members asked.new.members since (at + 1)) }
 {
-    let mut nodes = NodeSet::new(alloc, table.node_count())?;
-    add_asked(table, &mut nodes, table.lines())?;
+    let node = nodes.at(at);
+    if at < since.nodes && table.name_of(node) != since.name {
+        return Ok(());
+    }
+    follow(table, taken, nodes, asked, node)?;
+    Ok(())
+}
+
+/// Adds all that is needed and asked for under what is taken.
+pub fn follow_all(
+    table: &Table,
+    taken: &[Option<usize>],
+    nodes: &mut NodeSet,
+    asked: &mut NodeSet,
+    since: Since,
+) -> Result<(), AllocError>
+    requires room { nodes.old.room ≡ length table.now.nodes }
+    requires asked_room { asked.old.room ≡ length table.now.requirements }
+    requires followed { IsFollowed (rules_of table.now) (taken_at taken.now) nodes.old.members asked.old.members since 0 }
+    ensures room { IfOk result (λ _. nodes.new.room ≡ length table.now.nodes) }
+    ensures asked_room { IfOk result (λ _. asked.new.room ≡ length table.now.requirements) }
+    ensures kept { IfOk result (λ _. Extends asked.old.members asked.new.members) }
+    ensures needed { IfOk result (λ _. AreNeeded (rules_of table.now) (taken_at taken.now) nodes.new.members) }
+    ensures asked { IfOk result (λ _. AreAsked (rules_of table.now) (taken_at taken.now) asked.new.members) }
+{
     let mut at = 0;
     while at < nodes.len() {
-        let node = nodes.at(at);
-        follow(table, taken, &mut nodes, node)?;
+        follow_at(table, taken, nodes, asked, since, at)?;
         at += 1;
     }
-    Ok(nodes)
+    Ok(())
 }

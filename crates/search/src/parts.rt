@@ -38,6 +38,14 @@ pub struct Frame {
     pub turn: usize,
 }
 
+/// The name that a search took last, and how many nodes and requirements it knew before.
+#[derive(Clone, Copy)]
+pub struct Since {
+    pub name: usize,
+    pub nodes: usize,
+    pub asked: usize,
+}
+
 /// What a step of a search finds.
 #[derive(Debug, Drop)]
 pub enum Step {

@@ -1,17 +1,18 @@
 // A plain backtracking search.
 
-ghost use Rattle.std.specs.Prelude.{◌≡◌, ◌<◌, ◌+◌, [], IfOk, IsTrue, IsFalse, MatchOption, length, true};
+ghost use Rattle.std.specs.Prelude.{◌≡◌, ◌<◌, ◌+◌, ◌-◌, [], IfOk, IsTrue, IsFalse, MatchOption, length, true, false};
 ghost use Rattle.std.specs.List.{slice_index_or};
+ghost use Rattle.search.specs.Front.{IsFrontOf};
 ghost use Rattle.search.specs.Search.{taken_at, pins_of, IsSearch, IsRefuted};
-ghost use Rattle.search.specs.Solutions.{HasNoSolution, IsBest, version_in};
+ghost use Rattle.search.specs.Solutions.{HasNoSolution, IsBest, IsNext, version_in};
+ghost use Rattle.search.specs.declared.parts.Step.TheVariants.{Entered};
 ghost use Rattle.search.specs.Steps.{IsTried, IsForward, IsStep};
 ghost use Rattle.search.specs.Table.{rules_of, candidates_of, in_range, place_in, IsAscending};
 
-use crate::clash::{does_anything_clash, least_free};
-use crate::needed::needed_nodes;
+use crate::front::Front;
 use crate::parts::{Choice, Frame, Step};
 use crate::table::Table;
-use crate::taken::{choices_of, taken_of};
+use crate::taken::choices_of;
 use lists::Seq;
 use std::alloc::{AllocError, Global};
 
@@ -61,28 +62,50 @@ fn retreat(table: &Table, frames: &mut Vec<Frame>) -> Result<bool, AllocError>
     Ok(false)
 }
 
-/// One step onward.
-fn advance(alloc: Global, table: &Table, frames: &mut Vec<Frame>) -> Result<Step, AllocError>
+/// The last frame.
+fn last_of(frames: &[Frame]) -> Frame
+    requires { 0 < length frames.now }
+    ensures { result ≡ slice_index_or frames.now (length frames.now - 1) result }
+{
+    frames[frames.len() - 1]
+}
+
+/// Takes the next name with its first candidate, if it has one.
+fn enter(
+    table: &Table,
+    frames: &mut Vec<Frame>,
+    front: &mut Front,
+    name: usize,
+) -> Result<Step, AllocError>
     requires known { in_range table.now ≡ true }
     requires search { IsSearch (rules_of table.now) [] frames.old.items }
-    ensures { IfOk result (λ step. IsStep table.now frames.old.items frames.new.items step) }
+    requires stands { IsFrontOf table.now frames.old.items front.old }
+    requires fits { front.old.clashes ≡ false }
+    requires next { IsNext (rules_of table.now) (pins_of frames.old.items) name }
+    ensures step { IfOk result (λ step. IsStep table.now frames.old.items frames.new.items step) }
+    ensures stands { IfOk result (λ step. step ≡ Entered → IsFrontOf table.now frames.new.items front.new) }
 {
-    let places = taken_of(alloc, table, frames.as_slice())?;
-    let taken = places.as_slice();
-    let needed = needed_nodes(alloc, table, taken)?;
-    let nodes = needed.as_slice();
-    if does_anything_clash(table, taken, nodes) {
+    if !try_turn(table, frames, name, 0)? {
         return Ok(Step::Refuted);
     }
-    match least_free(table, taken, nodes) {
+    front.enter(table, last_of(frames.as_slice()))?;
+    Ok(Step::Entered)
+}
+
+/// One step onward.
+fn advance(table: &Table, frames: &mut Vec<Frame>, front: &mut Front) -> Result<Step, AllocError>
+    requires known { in_range table.now ≡ true }
+    requires search { IsSearch (rules_of table.now) [] frames.old.items }
+    requires stands { IsFrontOf table.now frames.old.items front.old }
+    ensures step { IfOk result (λ step. IsStep table.now frames.old.items frames.new.items step) }
+    ensures stands { IfOk result (λ step. step ≡ Entered → IsFrontOf table.now frames.new.items front.new) }
+{
+    if front.clashes() {
+        return Ok(Step::Refuted);
+    }
+    match front.least_free(table) {
         None => Ok(Step::Complete),
-        Some(name) => {
-            if try_turn(table, frames, name, 0)? {
-                Ok(Step::Entered)
-            } else {
-                Ok(Step::Refuted)
-            }
-        }
+        Some(name) => enter(table, frames, front, name),
     }
 }
 
@@ -93,8 +116,9 @@ pub fn best(alloc: Global, table: &Table) -> Result<Option<Seq<Choice>>, AllocEr
     ensures ascending { IfOk result (λ answer. MatchOption answer Unit (λ choices. IsAscending choices)) }
 {
     let mut frames = Vec::with_capacity(alloc, table.name_count())?;
+    let mut front = Front::of(alloc, table, frames.as_slice())?;
     'search: loop {
-        match advance(alloc, table, &mut frames)? {
+        match advance(table, &mut frames, &mut front)? {
             Step::Complete => {
                 let choices = choices_of(alloc, table, frames.as_slice())?;
                 return Ok(Some(choices));
@@ -104,6 +128,7 @@ pub fn best(alloc: Global, table: &Table) -> Result<Option<Seq<Choice>>, AllocEr
                 if !retreat(table, &mut frames)? {
                     return Ok(None);
                 }
+                front = Front::of(alloc, table, frames.as_slice())?;
             }
         }
     }

@@ -151,6 +151,13 @@ impl Table {
         self.nodes.len()
     }
 
+    /// How many requirements there are.
+    pub fn requirement_count(&self) -> usize
+        ensures { result ≡ length self.now.requirements }
+    {
+        self.requirements.len()
+    }
+
     /// The requirements of the lines.
     pub fn lines(&self) -> &[usize]
         ensures lines { result.now ≡ self.now.lines }

@@ -14,7 +14,7 @@ use lists::Seq;
 use std::alloc::{AllocError, Global};
 
 /// Takes the choice of a frame, unless its name is taken.
-fn take_frame(taken: &mut Vec<Option<usize>>, frame: Frame)
+pub fn take_frame(taken: &mut Vec<Option<usize>>, frame: Frame)
     requires { frame.name < length taken.old.items }
     ensures { TakesFirst taken.old.items taken.new.items frame }
 {
@@ -30,7 +30,8 @@ pub fn taken_of(
     frames: &[Frame],
 ) -> Result<Vec<Option<usize>>, AllocError>
     requires { AreKnown (length table.now.candidates) frames.now }
-    ensures { IfOk result (λ taken. (n : ℕ) → taken_at taken.items n ≡ version_in nat_cmp (pins_of frames.now) n) }
+    ensures same { IfOk result (λ taken. (n : ℕ) → taken_at taken.items n ≡ version_in nat_cmp (pins_of frames.now) n) }
+    ensures room { IfOk result (λ taken. length taken.items ≡ length table.now.candidates) }
 {
     let mut taken = vec![in alloc; None; table.name_count()]?;
     for frame in frames {

@@ -1,70 +1,66 @@
-use Rattle.std.proofs.Common.{ℕ, Option, ◌≡◌, sym, refl, ◌∙◌, subst, subst₂, Bool, true, false, List, length}
+use Rattle.std.proofs.Common.{ℕ, Option, List, Bool, ◌≡◌, true, false, refl, sym, ◌∙◌, subst}
+use Rattle.std.specs.List.{list_any}
 use Rattle.std.specs.Ordering.{nat_cmp}
-use Rattle.search.proofs.Clashes.{clash-refuted, clash-fits, fits-complete}
+use Rattle.search.proofs.Clashes.{asked-refuted, asked-fits, fits-complete}
 use Rattle.search.proofs.Least.{least-next}
-use Rattle.search.proofs.Steps.{tried-first, tried-none}
-use Rattle.search.proofs.TakenFacts.{taken-same}
-use Rattle.search.proofs.Work.{table-lawful, frames-known}
+use Rattle.search.proofs.Work.{table-lawful}
+use Rattle.search.specs.declared.front.Front.{Front}
 use Rattle.search.specs.declared.parts.Frame.{Frame}
-use Rattle.search.specs.Ranges.{EachBelow}
+use Rattle.search.specs.declared.parts.Step.TheVariants.{Complete, Entered, Refuted}
+use Rattle.search.specs.Front.{IsFrontOf}
+use Rattle.search.specs.Search.{pins_of, AreNeeded, AreAsked, NoneFree, IsLeastFree, clash_in, taken_at}
+use Rattle.search.specs.Solutions.{version_in}
 use Rattle.search.specs.Table.{Parts, rules_of}
-use Rattle.search.specs.Solutions.{version_in, IsNext}
-use Rattle.search.specs.Search.{pins_of, AreNeeded, NoneFree, IsLeastFree, any_clash, taken_at}
-use Rattle.search.specs.Steps.{IsTried, AreKnown}
 use Rattle.search.proofs.search.advance.Goals as goal
 
--- the facts of the calls, at the map of the frames
-needed : (t : Parts) (chosen map : ℕ → Option ℕ) (nodes members : List ℕ) → chosen ≡ map → nodes ≡ members → AreNeeded (rules_of t) chosen members → AreNeeded (rules_of t) map nodes
-needed t chosen map nodes members e f h = subst₂ (λ (s : ℕ → Option ℕ) (ns : List ℕ). AreNeeded (rules_of t) s ns) e (sym f) h
+-- the facts of a front, at the map of the frames
+map-same : (t : Parts) (fs : List Frame) (front : Front) → IsFrontOf t fs front → taken_at front.taken.items ≡ version_in nat_cmp (pins_of fs)
+map-same t fs front h = λ i n. h.same n i
 
-clash : (t : Parts) (chosen map : ℕ → Option ℕ) (nodes : List ℕ) (b v : Bool) → chosen ≡ map → b ≡ any_clash (rules_of t) chosen nodes → b ≡ v → any_clash (rules_of t) map nodes ≡ v
-clash t chosen map nodes b v e h k = subst (λ (s : ℕ → Option ℕ). any_clash (rules_of t) s nodes ≡ v) e (sym h ∙ k)
+needed : (t : Parts) (fs : List Frame) (front : Front) → IsFrontOf t fs front → AreNeeded (rules_of t) (version_in nat_cmp (pins_of fs)) front.needed.members
+needed t fs front h = subst (λ (s : ℕ → Option ℕ). AreNeeded (rules_of t) s front.needed.members) (map-same t fs front h) h.stands.needed
 
-pub taken_of-requires : goal.taken_of-requires
-taken_of-requires c = subst (λ (fs : List Frame). AreKnown (length c.args.table.now.candidates) fs) (sym c.as_slice.ensures.value) (frames-known c.args.table.now c.args.frames.now.items c.requires.search)
+asked : (t : Parts) (fs : List Frame) (front : Front) → IsFrontOf t fs front → AreAsked (rules_of t) (version_in nat_cmp (pins_of fs)) front.asked.members
+asked t fs front h = subst (λ (s : ℕ → Option ℕ). AreAsked (rules_of t) s front.asked.members) (map-same t fs front h) h.stands.asked
 
-pub does_anything_clash-requires : goal.does_anything_clash-requires
-does_anything_clash-requires c = subst (λ room. EachBelow room c.as_slice-nodes.result.now) c.in_ok-needed.ensures.room c.as_slice-nodes.ensures.within
+clash : (t : Parts) (fs : List Frame) (front : Front) (h : IsFrontOf t fs front) (b : Bool) → front.clashes ≡ b → list_any (clash_in (rules_of t) (version_in nat_cmp (pins_of fs))) front.asked.members ≡ b
+clash t fs front h b e = subst (λ (s : ℕ → Option ℕ). list_any (clash_in (rules_of t) s) front.asked.members ≡ b) (map-same t fs front h) (sym h.stands.clashes ∙ e)
+
+pub returns-then-clashes-clause-step : goal.returns-then-clashes-clause-step
+returns-then-clashes-clause-step c =
+    let t : Parts = c.args.table.now in let fs : List Frame = c.args.frames.now.items in let front : Front = c.args.front.now in
+    (refl, asked-refuted (rules_of t) (pins_of fs) front.asked.members (asked t fs front c.requires.stands) (clash t fs front c.requires.stands true (sym c.clashes.ensures ∙ c.if-clashes.true)))
+
+pub returns-then-clashes-clause-stands : goal.returns-then-clashes-clause-stands
+returns-then-clashes-clause-stands c = λ e. absurd (let k : Refuted ≡ Entered = e in cc)
 
 pub least_free-requires : goal.least_free-requires
-least_free-requires c = subst (λ room. EachBelow room c.as_slice-nodes.result.now) c.in_ok-needed.ensures.room c.as_slice-nodes.ensures.within
+least_free-requires c = c.requires.stands.stands
 
-pub returns-then-does_anything_clash : goal.returns-then-does_anything_clash
-returns-then-does_anything_clash c =
-    let t : Parts = c.args.table.now in let fs : List Frame = c.args.frames.now.items in let nodes : List ℕ = c.as_slice-nodes.result.now in
-    let map : ℕ → Option ℕ = version_in nat_cmp (pins_of fs) in
-    let same : taken_at c.as_slice-taken.result.now ≡ map = taken-same c.as_slice-taken.result.now c.in_ok-places.places.items c.as_slice.result.now fs c.as_slice-taken.ensures.value c.as_slice.ensures.value c.in_ok-places.ensures in
-    let n : AreNeeded (rules_of t) map nodes = needed t (taken_at c.as_slice-taken.result.now) map nodes c.in_ok-needed.needed.members same c.as_slice-nodes.ensures.members c.in_ok-needed.ensures.needed in
-    (refl, clash-refuted (rules_of t) (pins_of fs) nodes n (clash t (taken_at c.as_slice-taken.result.now) map nodes c.does_anything_clash.result true same c.does_anything_clash.ensures c.if-does_anything_clash.true))
+pub enter-requires-clause-fits : goal.enter-requires-clause-fits
+enter-requires-clause-fits c = sym c.clashes.ensures ∙ c.if-clashes.false
 
-pub returns-in-None : goal.returns-in-None
-returns-in-None c =
-    let t : Parts = c.args.table.now in let fs : List Frame = c.args.frames.now.items in let nodes : List ℕ = c.as_slice-nodes.result.now in
-    let map : ℕ → Option ℕ = version_in nat_cmp (pins_of fs) in
-    let same : taken_at c.as_slice-taken.result.now ≡ map = taken-same c.as_slice-taken.result.now c.in_ok-places.places.items c.as_slice.result.now fs c.as_slice-taken.ensures.value c.as_slice.ensures.value c.in_ok-places.ensures in
-    let n : AreNeeded (rules_of t) map nodes = needed t (taken_at c.as_slice-taken.result.now) map nodes c.in_ok-needed.needed.members same c.as_slice-nodes.ensures.members c.in_ok-needed.ensures.needed in (
+pub enter-requires-clause-next : goal.enter-requires-clause-next
+enter-requires-clause-next c =
+    let t : Parts = c.args.table.now in let fs : List Frame = c.args.frames.now.items in let front : Front = c.args.front.now in
+    least-next (rules_of t) refl (pins_of fs) front.needed.members c.in-Some.name (needed t fs front c.requires.stands)
+    (subst (λ (s : ℕ → Option ℕ). IsLeastFree (rules_of t) s front.needed.members c.in-Some.name) (map-same t fs front c.requires.stands) c.in-Some.ensures)
+
+pub returns-in-None-clause-step : goal.returns-in-None-clause-step
+returns-in-None-clause-step c =
+    let t : Parts = c.args.table.now in let fs : List Frame = c.args.frames.now.items in let front : Front = c.args.front.now in
+    let map : ℕ → Option ℕ = version_in nat_cmp (pins_of fs) in (
       refl,
-      fits-complete (rules_of t) (table-lawful t c.requires.known) map nodes n
-          (clash-fits (rules_of t) map nodes n (clash t (taken_at c.as_slice-taken.result.now) map nodes c.does_anything_clash.result false same c.does_anything_clash.ensures c.if-does_anything_clash.false))
-          (subst (λ (s : ℕ → Option ℕ). NoneFree (rules_of t) s nodes) same c.in-None.ensures),
+      fits-complete (rules_of t) (table-lawful t c.requires.known) map front.needed.members (needed t fs front c.requires.stands)
+          (asked-fits (rules_of t) map front.asked.members (asked t fs front c.requires.stands) (clash t fs front c.requires.stands false (sym c.clashes.ensures ∙ c.if-clashes.false)))
+          (subst (λ (s : ℕ → Option ℕ). NoneFree (rules_of t) s front.needed.members) (map-same t fs front c.requires.stands) c.in-None.ensures),
     )
 
-pub returns-then-branch : goal.returns-then-branch
-returns-then-branch c =
-    let t : Parts = c.args.table.now in let fs : List Frame = c.args.frames.now.items in let nodes : List ℕ = c.as_slice-nodes.result.now in
-    let map : ℕ → Option ℕ = version_in nat_cmp (pins_of fs) in
-    let same : taken_at c.as_slice-taken.result.now ≡ map = taken-same c.as_slice-taken.result.now c.in_ok-places.places.items c.as_slice.result.now fs c.as_slice-taken.ensures.value c.as_slice.ensures.value c.in_ok-places.ensures in
-    let n : AreNeeded (rules_of t) map nodes = needed t (taken_at c.as_slice-taken.result.now) map nodes c.in_ok-needed.needed.members same c.as_slice-nodes.ensures.members c.in_ok-needed.ensures.needed in
-    let next : IsNext (rules_of t) (pins_of fs) c.in-Some.name = least-next (rules_of t) refl (pins_of fs) nodes c.in-Some.name n (subst (λ (s : ℕ → Option ℕ). IsLeastFree (rules_of t) s nodes c.in-Some.name) same c.in-Some.ensures) in
-    tried-first t c.requires.known fs c.try_turn.new.frames.items c.in-Some.name c.requires.search next
-    (subst (λ b. IsTried t c.in-Some.name 0 fs c.try_turn.new.frames.items b) c.if-branch.true c.in_ok-try_turn-in-Some.ensures)
+pub returns-in-None-clause-stands : goal.returns-in-None-clause-stands
+returns-in-None-clause-stands c = λ e. absurd (let k : Complete ≡ Entered = e in cc)
 
-pub returns : goal.returns
-returns c =
-    let t : Parts = c.args.table.now in let fs : List Frame = c.args.frames.now.items in let nodes : List ℕ = c.as_slice-nodes.result.now in
-    let map : ℕ → Option ℕ = version_in nat_cmp (pins_of fs) in
-    let same : taken_at c.as_slice-taken.result.now ≡ map = taken-same c.as_slice-taken.result.now c.in_ok-places.places.items c.as_slice.result.now fs c.as_slice-taken.ensures.value c.as_slice.ensures.value c.in_ok-places.ensures in
-    let n : AreNeeded (rules_of t) map nodes = needed t (taken_at c.as_slice-taken.result.now) map nodes c.in_ok-needed.needed.members same c.as_slice-nodes.ensures.members c.in_ok-needed.ensures.needed in
-    let next : IsNext (rules_of t) (pins_of fs) c.in-Some.name = least-next (rules_of t) refl (pins_of fs) nodes c.in-Some.name n (subst (λ (s : ℕ → Option ℕ). IsLeastFree (rules_of t) s nodes c.in-Some.name) same c.in-Some.ensures) in
-    let tried : IsTried t c.in-Some.name 0 fs c.try_turn.new.frames.items false = subst (λ b. IsTried t c.in-Some.name 0 fs c.try_turn.new.frames.items b) c.if-branch.false c.in_ok-try_turn-in-Some.ensures in
-    (tried.0, tried-none t c.requires.known fs c.try_turn.new.frames.items c.in-Some.name next tried)
+pub returns-in-Some-clause-step : goal.returns-in-Some-clause-step
+returns-in-Some-clause-step c = c.enter.ensures.step
+
+pub returns-in-Some-clause-stands : goal.returns-in-Some-clause-stands
+returns-in-Some-clause-stands c = c.enter.ensures.stands

@@ -1,11 +1,15 @@
 use Rattle.std.proofs.Common.{[]}
 use Rattle.search.proofs.Work.{work_of}
+use Rattle.search.specs.Front.{IsFrontOf}
 use Rattle.search.specs.Table.{rules_of}
 use Rattle.search.specs.Search.{IsSearch}
 use Rattle.search.proofs.search.best.Given as goal
 
 abbrev pub invariant-search : goal.invariant-search
-invariant-search l = IsSearch (rules_of l.table) [] l.frames.items
+invariant-search l = record {
+  search : IsSearch (rules_of l.table) [] l.frames.items;
+  stands : IsFrontOf l.table l.frames.items l.front;
+}
 
 abbrev pub decreases-search : goal.decreases-search
 decreases-search l = work_of l.table l.frames.items

@@ -1,14 +1,17 @@
 use Rattle.std.proofs.Common.{◌≡◌, ◌≤◌, ◌-◌, length}
-use Rattle.search.specs.Nodes.{IsClosing}
+use Rattle.search.specs.Front.{IsFollowed}
+use Rattle.search.specs.Nodes.{Extends}
 use Rattle.search.specs.Search.{taken_at}
 use Rattle.search.specs.Table.{rules_of}
-use Rattle.search.proofs.needed.needed_nodes.Given as goal
+use Rattle.search.proofs.needed.follow_all.Given as goal
 
 abbrev pub invariant-loop-at : goal.invariant-loop-at
 invariant-loop-at l = record {
-  closing : IsClosing (rules_of l.table) (taken_at l.taken) l.nodes.members l.at;
+  followed : IsFollowed (rules_of l.table) (taken_at l.taken) l.nodes.members l.asked.members l.since l.at;
   within : l.at ≤ length l.nodes.members;
   room : l.nodes.room ≡ length l.table.nodes;
+  kept : Extends l.fn.asked.members l.asked.members;
+  asked_room : l.asked.room ≡ length l.table.requirements;
 }
 
 -- the nodes that have not been followed, at most

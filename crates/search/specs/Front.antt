@@ -1,0 +1,44 @@
+-- What a search knows of its choices while it goes forward.
+use Rattle.std.specs.Prelude.{ℕ, List, Option, ◌≡◌, ◌≢◌, ◌≤◌, false, take, length}
+use Rattle.std.specs.List.{Contains, list_any}
+use Rattle.std.specs.Ordering.{nat_cmp}
+use Rattle.search.specs.declared.front.Front.{Front}
+use Rattle.search.specs.declared.parts.Frame.{Frame}
+use Rattle.search.specs.declared.parts.Since.{Since}
+use Rattle.search.specs.Nodes.{IsClosing, nodes_linked, wants_linked}
+use Rattle.search.specs.Rules.{Rules}
+use Rattle.search.specs.Search.{taken_at, pins_of, clash_in, IsAsked, AreNeeded, AreAsked}
+use Rattle.search.specs.Solutions.{version_in}
+use Rattle.search.specs.Table.{Parts, rules_of}
+
+-- the requirements of a walk, as far as the first `at` nodes have been followed
+pub record IsAsking (rules : Rules ℕ ℕ ℕ ℕ) (chosen : ℕ → Option ℕ) (nodes asked : List ℕ) (at : ℕ) : Type 0 where
+  pub sound : (r : ℕ) → Contains asked r → IsAsked rules chosen r
+  pub lines : (r : ℕ) → Contains rules.lines r → Contains asked r
+  pub wanted : (link r : ℕ) → Contains (take at nodes) link → Contains (wants_linked rules link (chosen (rules.on link))) r → Contains asked r
+
+-- the same walk, where the nodes that were known on other names lead to nothing new
+pub record IsFollowed (rules : Rules ℕ ℕ ℕ ℕ) (chosen : ℕ → Option ℕ) (nodes asked : List ℕ) (since : Since) (at : ℕ) : Type 0 where
+  pub closing : IsClosing rules chosen nodes at
+  pub asking : IsAsking rules chosen nodes asked at
+  pub within : since.nodes ≤ length nodes
+  pub linked : (link node : ℕ) → Contains (take since.nodes nodes) link → rules.on link ≢ since.name → Contains (nodes_linked rules link (chosen (rules.on link))) node → Contains nodes node
+  pub wanted : (link r : ℕ) → Contains (take since.nodes nodes) link → rules.on link ≢ since.name → Contains (wants_linked rules link (chosen (rules.on link))) r → Contains asked r
+
+-- the requirements that were known on other names don't clash
+abbrev pub HaveFit : Rules ℕ ℕ ℕ ℕ → (ℕ → Option ℕ) → List ℕ → Since → Type 0
+HaveFit rules chosen asked since = (r : ℕ) → Contains (take since.asked asked) r → rules.name r ≢ since.name → clash_in rules chosen r ≡ false
+
+-- a front has all that is needed and asked for under what it takes, and tells whether something clashes
+pub record IsFront (t : Parts) (front : Front) : Type 0 where
+  pub room : length front.taken.items ≡ length t.candidates
+  pub needed_room : front.needed.room ≡ length t.nodes
+  pub asked_room : front.asked.room ≡ length t.requirements
+  pub needed : AreNeeded (rules_of t) (taken_at front.taken.items) front.needed.members
+  pub asked : AreAsked (rules_of t) (taken_at front.taken.items) front.asked.members
+  pub clashes : front.clashes ≡ list_any (clash_in (rules_of t) (taken_at front.taken.items)) front.asked.members
+
+-- and it takes what the frames take
+pub record IsFrontOf (t : Parts) (frames : List Frame) (front : Front) : Type 0 where
+  pub stands : IsFront t front
+  pub same : (n : ℕ) → taken_at front.taken.items n ≡ version_in nat_cmp (pins_of frames) n

@@ -1,0 +1,104 @@
+// What a search knows of its choices while it goes forward.
+
+ghost use Rattle.std.specs.Prelude.{◌≡◌, ◌<◌, ℕ, IfOk, MatchOption, length, false};
+ghost use Rattle.std.specs.Ordering.{nat_cmp};
+ghost use Rattle.search.specs.Front.{IsFront};
+ghost use Rattle.search.specs.Search.{taken_at, pins_of, NoneFree, IsLeastFree};
+ghost use Rattle.search.specs.Solutions.{version_in};
+ghost use Rattle.search.specs.Steps.{AreKnown, TakesFirst};
+ghost use Rattle.search.specs.Table.{rules_of};
+
+use crate::clash::{do_any_clash, least_free};
+use crate::needed::{ask, follow_all};
+use crate::node_set::NodeSet;
+use crate::parts::{Frame, Since};
+use crate::table::Table;
+use crate::taken::{take_frame, taken_of};
+use std::alloc::{AllocError, Global};
+
+/// What is taken, the nodes that are needed under it, the requirements that count there, and
+/// whether one of them clashes.
+pub struct Front {
+    taken: Vec<Option<usize>>,
+    needed: NodeSet,
+    asked: NodeSet,
+    clashes: bool,
+}
+
+impl Drop for Front {
+    fn drop(self) {
+        let Front {
+            taken: _,
+            needed: _,
+            asked: _,
+            clashes: _,
+        } = self;
+    }
+}
+
+impl Front {
+    /// The front of frames, worked out anew.
+    pub fn of(alloc: Global, table: &Table, frames: &[Frame]) -> Result<Front, AllocError>
+        requires { AreKnown (length table.now.candidates) frames.now }
+        ensures front { IfOk result (λ front. IsFront table.now front) }
+        ensures same { IfOk result (λ front. (n : ℕ) → taken_at front.taken.items n ≡ version_in nat_cmp (pins_of frames.now) n) }
+    {
+        let taken = taken_of(alloc, table, frames)?;
+        let mut needed = NodeSet::new(alloc, table.node_count())?;
+        let mut asked = NodeSet::new(alloc, table.requirement_count())?;
+        let since = Since {
+            name: 0,
+            nodes: 0,
+            asked: 0,
+        };
+        ask(table, &mut needed, &mut asked, table.lines())?;
+        follow_all(table, taken.as_slice(), &mut needed, &mut asked, since)?;
+        let clashes = do_any_clash(table, taken.as_slice(), asked.as_slice(), since);
+        Ok(Front {
+            taken,
+            needed,
+            asked,
+            clashes,
+        })
+    }
+
+    /// Whether something that is asked for contradicts what is taken.
+    pub fn clashes(&self) -> bool
+        ensures { result ≡ self.now.clashes }
+    {
+        self.clashes
+    }
+
+    /// The least name of the needed nodes that is not taken.
+    pub fn least_free(&self, table: &Table) -> Option<usize>
+        requires { IsFront table.now self.now }
+        ensures { MatchOption result (NoneFree (rules_of table.now) (taken_at self.now.taken.items) self.now.needed.members) (λ n. IsLeastFree (rules_of table.now) (taken_at self.now.taken.items) self.now.needed.members n) }
+    {
+        least_free(table, self.taken.as_slice(), self.needed.as_slice())
+    }
+
+    /// Takes the choice of a frame, and follows what this adds to what was known.
+    pub fn enter(&mut self, table: &Table, frame: Frame) -> Result<(), AllocError>
+        requires known { frame.name < length table.now.candidates }
+        requires front { IsFront table.now self.old }
+        requires fits { self.old.clashes ≡ false }
+        ensures front { IfOk result (λ _. IsFront table.now self.new) }
+        ensures taken { IfOk result (λ _. TakesFirst self.old.taken.items self.new.taken.items frame) }
+    {
+        let since = Since {
+            name: frame.name,
+            nodes: self.needed.len(),
+            asked: self.asked.len(),
+        };
+        take_frame(&mut self.taken, frame);
+        follow_all(
+            table,
+            self.taken.as_slice(),
+            &mut self.needed,
+            &mut self.asked,
+            since,
+        )?;
+        self.clashes = do_any_clash(table, self.taken.as_slice(), self.asked.as_slice(), since);
+        Ok(())
+    }
+}
