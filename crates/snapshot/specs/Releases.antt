@@ -19,7 +19,7 @@ use Rattle.snapshot.specs.declared.skipped.SkipCause.{SkipCause}
 use Rattle.snapshot.specs.declared.skipped.SkipCause.TheVariants as causes
 use Rattle.snapshot.specs.declared.skipped.Skipped.{Skipped}
 use Rattle.snapshot.specs.Files.{file_of, has_file, sdist_of, wheels_of}
-pub use Rattle.snapshot.specs.Python.{is_blank, python_of, python_with}
+use Rattle.snapshot.specs.Python.{python_of}
 use Rattle.snapshot.specs.Release.{Release}
 use Rattle.snapshot.specs.Shape.{◌>>=◌, each_at, each_from, field, object_of, optional, or_absent, required, text_of}
 
