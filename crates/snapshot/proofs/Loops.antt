@@ -1,6 +1,9 @@
 -- Reading the items of an array one after the other, as a loop does.
 use Rattle.std.proofs.Common.{◌≡◌, ℕ, suc, ◌+◌, ◌<◌, ◌≤◌, List, [], ◌∷◌, ◌++◌, length, get_or, drop, Result, Ok, Err, fold, refl, sym, ap, ◌∙◌, append_assoc, add-one, inl, inr, ◌⊎◌}
-use Rattle.std.proofs.lemmas.List.{append-nil}
+use Rattle.std.proofs.lemmas.List.{append-nil, nil_from_length}
+use Rattle.std.specs.Vec.Iter.{into_iter_items, into_iter_len}
+use Rattle.std.specs.declared.alloc.Global.{Global}
+use Rattle.std.specs.declared.vec.IntoIter.{IntoIter}
 use Rattle.std.proofs.Math.Seq.{drop-cons}
 use Rattle.std.proofs.Math.ListN.{drop_of_length-le}
 use Rattle.serde_json.specs.Data.{Data}
@@ -33,33 +36,55 @@ gather-first step so_far x (Ok xs) = refl
 gather-first step so_far x (Err e) = refl
 
 -- the items from a place on: the one there, and the others
-each-drop : {A : Type 0} (form : Data → Result A Fault) (vs : List Value) (i : ℕ) (v : Value) → i < length vs → v ≡ get_or vs i v
-    → each_from form i (items_view (drop i vs)) ≡ (below (place_path i) (form (view v)) >>= λ x. each_from form (suc i) (items_view (drop (suc i) vs)) >>= λ xs. Ok (x ∷ xs))
+each-first : {A : Type 0} (form : Data → Result A Fault) (i : ℕ) (v : Value) (vs rest : List Value) → vs ≡ v ∷ rest
+    → each_from form i (items_view vs) ≡ (below (place_path i) (form (view v)) >>= λ x. each_from form (suc i) (items_view rest) >>= λ xs. Ok (x ∷ xs))
 unfolding each_from
-each-drop form vs i v lt is = rw (drop-cons vs i v lt, ← is) refl
+each-first form i v vs rest is = rw is refl
 
--- the item at the place is read: it is gathered, and the others are left
-pub goes_on : {A B : Type 0} (step : B → A → B) (so_far : B) (form : Data → Result A Fault) (vs : List Value) (i : ℕ) (v : Value) (x : A) (total : Result B Fault) → i < length vs → v ≡ get_or vs i v
-    → below (place_path i) (form (view v)) ≡ Ok x → gather step so_far (each_from form i (items_view (drop i vs))) ≡ total
-    → gather step (step so_far x) (each_from form (i + 1) (items_view (drop (i + 1) vs))) ≡ total
-goes_on step so_far form vs i v x total lt is h before =
-    let first : gather step so_far (each_from form i (items_view (drop i vs))) ≡ gather step (step so_far x) (each_from form (suc i) (items_view (drop (suc i) vs))) =
-    rw (each-drop form vs i v lt is, h) (gather-first step so_far x (each_from form (suc i) (items_view (drop (suc i) vs)))) in
+-- the first item is read: it is gathered, and the others are left
+pub goes_on : {A B : Type 0} (step : B → A → B) (so_far : B) (form : Data → Result A Fault) (i : ℕ) (v : Value) (vs rest : List Value) (x : A) (total : Result B Fault) → vs ≡ v ∷ rest
+    → below (place_path i) (form (view v)) ≡ Ok x → gather step so_far (each_from form i (items_view vs)) ≡ total
+    → gather step (step so_far x) (each_from form (i + 1) (items_view rest)) ≡ total
+goes_on step so_far form i v vs rest x total is h before =
+    let first : gather step so_far (each_from form i (items_view vs)) ≡ gather step (step so_far x) (each_from form (suc i) (items_view rest)) =
+    rw (each-first form i v vs rest is, h) (gather-first step so_far x (each_from form (suc i) (items_view rest))) in
     rw add-one (sym first ∙ before)
 
--- the item at the place has a fault: that is the fault of all
-pub ends : {A B : Type 0} (step : B → A → B) (so_far : B) (form : Data → Result A Fault) (vs : List Value) (i : ℕ) (v : Value) (e : Fault) (total : Result B Fault) → i < length vs → v ≡ get_or vs i v
-    → (e ≡ OutOfMemory) ⊎ (below (place_path i) (form (view v)) ≡ Err e) → gather step so_far (each_from form i (items_view (drop i vs))) ≡ total
+-- the first item has a fault: that is the fault of all
+pub ends : {A B : Type 0} (step : B → A → B) (so_far : B) (form : Data → Result A Fault) (i : ℕ) (v : Value) (vs rest : List Value) (e : Fault) (total : Result B Fault) → vs ≡ v ∷ rest
+    → (e ≡ OutOfMemory) ⊎ (below (place_path i) (form (view v)) ≡ Err e) → gather step so_far (each_from form i (items_view vs)) ≡ total
     → (e ≡ OutOfMemory) ⊎ (total ≡ Err e)
-ends step so_far form vs i v e total lt is (inl memory) before = inl memory
-ends step so_far form vs i v e total lt is (inr h) before =
-    let first : gather step so_far (each_from form i (items_view (drop i vs))) ≡ Err e = rw (each-drop form vs i v lt is, h) refl in
+ends step so_far form i v vs rest e total is (inl memory) before = inl memory
+ends step so_far form i v vs rest e total is (inr h) before =
+    let first : gather step so_far (each_from form i (items_view vs)) ≡ Err e = rw (each-first form i v vs rest is, h) refl in
     inr (sym before ∙ first)
 
--- past the last item all is gathered
-pub is_done : {A B : Type 0} (step : B → A → B) (so_far : B) (form : Data → Result A Fault) (vs : List Value) (i : ℕ) (total : Result B Fault) → length vs ≤ i
-    → gather step so_far (each_from form i (items_view (drop i vs))) ≡ total → total ≡ Ok so_far
+-- where no item is left all is gathered
+pub is_done : {A B : Type 0} (step : B → A → B) (so_far : B) (form : Data → Result A Fault) (i : ℕ) (vs : List Value) (total : Result B Fault) → vs ≡ []
+    → gather step so_far (each_from form i (items_view vs)) ≡ total → total ≡ Ok so_far
 unfolding each_from
-is_done step so_far form vs i total le before =
-    let none : gather step so_far (each_from form i (items_view (drop i vs))) ≡ Ok so_far = rw (drop_of_length-le vs le) refl in
+is_done step so_far form i vs total is before =
+    let none : gather step so_far (each_from form i (items_view vs)) ≡ Ok so_far = rw is refl in
     sym before ∙ none
+
+-- a list that is gone through has no items left where its length is zero
+pub none_left : (it : IntoIter Value Global) → into_iter_len it ≡ 0 → into_iter_items it ≡ []
+none_left it none = nil_from_length (into_iter_items it) (sym it.rest.ok.0 ∙ none)
+
+-- the same over the items of a list that a loop goes through by their places
+at-place : (vs : List Value) (i : ℕ) (v : Value) → i < length vs → v ≡ get_or vs i v → drop i vs ≡ v ∷ drop (i + 1) vs
+at-place vs i v lt is = rw add-one (drop-cons vs i v lt ∙ ap (λ x. x ∷ drop (suc i) vs) (sym is))
+
+pub goes_on_at : {A B : Type 0} (step : B → A → B) (so_far : B) (form : Data → Result A Fault) (vs : List Value) (i : ℕ) (v : Value) (x : A) (total : Result B Fault) → i < length vs → v ≡ get_or vs i v
+    → below (place_path i) (form (view v)) ≡ Ok x → gather step so_far (each_from form i (items_view (drop i vs))) ≡ total
+    → gather step (step so_far x) (each_from form (i + 1) (items_view (drop (i + 1) vs))) ≡ total
+goes_on_at step so_far form vs i v x total lt is = goes_on step so_far form i v (drop i vs) (drop (i + 1) vs) x total (at-place vs i v lt is)
+
+pub ends_at : {A B : Type 0} (step : B → A → B) (so_far : B) (form : Data → Result A Fault) (vs : List Value) (i : ℕ) (v : Value) (e : Fault) (total : Result B Fault) → i < length vs → v ≡ get_or vs i v
+    → (e ≡ OutOfMemory) ⊎ (below (place_path i) (form (view v)) ≡ Err e) → gather step so_far (each_from form i (items_view (drop i vs))) ≡ total
+    → (e ≡ OutOfMemory) ⊎ (total ≡ Err e)
+ends_at step so_far form vs i v e total lt is = ends step so_far form i v (drop i vs) (drop (i + 1) vs) e total (at-place vs i v lt is)
+
+pub is_done_at : {A B : Type 0} (step : B → A → B) (so_far : B) (form : Data → Result A Fault) (vs : List Value) (i : ℕ) (total : Result B Fault) → length vs ≤ i
+    → gather step so_far (each_from form i (items_view (drop i vs))) ≡ total → total ≡ Ok so_far
+is_done_at step so_far form vs i total le = is_done step so_far form i (drop i vs) total (drop_of_length-le vs le)

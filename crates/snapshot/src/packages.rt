@@ -8,7 +8,7 @@ ghost use Rattle.snapshot.specs.Shape.{Gives, below, field, place_path, required
 use crate::fault::Fault;
 use crate::package::{Package, ReadPackage, ReadPackages};
 use crate::releases::{ReadReleases, releases_of};
-use crate::shape::{array_at, below_key, below_place, check_object, misshapen, text_at};
+use crate::shape::{below_key, below_place, check_object, misshapen, take_array, text_at};
 use lists::Seq;
 use pep508::{Cause, Name};
 use serde_json::Value;
@@ -30,12 +30,12 @@ fn name_of(alloc: Global, object: &Value) -> Result<Name, Fault>
 
 /// The package that a value lists.
 #[tactic(auto, unfolding(crate::specs::Packages::package_of))]
-fn package_of(alloc: Global, value: &Value) -> Result<ReadPackage, Fault>
-    ensures { Gives (λ p. p) (package_of (view value.now)) result }
+fn package_of(alloc: Global, mut value: Value) -> Result<ReadPackage, Fault>
+    ensures { Gives (λ p. p) (package_of (view value)) result }
 {
-    check_object(alloc, value)?;
-    let name = name_of(alloc, value)?;
-    let listed = array_at(alloc, value, "releases")?;
+    check_object(alloc, &value)?;
+    let name = name_of(alloc, &value)?;
+    let listed = take_array(alloc, &mut value, "releases")?;
     let ReadReleases { releases, skipped } = below_key(
         alloc,
         "releases",
@@ -46,20 +46,20 @@ fn package_of(alloc: Global, value: &Value) -> Result<ReadPackage, Fault>
 }
 
 /// The package that the value at `place` lists.
-fn package_at_place(alloc: Global, place: usize, value: &Value) -> Result<ReadPackage, Fault>
-    ensures { Gives (λ p. p) (below (place_path place) (package_of (view value.now))) result }
+fn package_at_place(alloc: Global, place: usize, value: Value) -> Result<ReadPackage, Fault>
+    ensures { Gives (λ p. p) (below (place_path place) (package_of (view value))) result }
 {
     below_place(alloc, place, package_of(alloc, value))
 }
 
 /// The packages that the values list.
-fn listed_packages(alloc: Global, values: &[Value]) -> Result<ReadPackages, Fault>
-    ensures { Gives (λ p. p) (packages_in (items_view values.now)) result }
+fn listed_packages(alloc: Global, values: Vec<Value>) -> Result<ReadPackages, Fault>
+    ensures { Gives (λ p. p) (packages_in (items_view values.items)) result }
 {
     let mut packages = Vec::new(alloc);
     let mut all_skipped = Vec::new(alloc);
-    for place in 0..values.len() {
-        let ReadPackage { kept, skipped } = package_at_place(alloc, place, &values[place])?;
+    for (place, value) in values.into_iter().enumerate() {
+        let ReadPackage { kept, skipped } = package_at_place(alloc, place, value)?;
         packages.push(kept)?;
         all_skipped.append(&mut skipped.into_vec())?;
     }
@@ -81,11 +81,11 @@ fn check_format(alloc: Global, index: &Value) -> Result<(), Fault>
 
 /// The packages of an index, in its order.
 #[tactic(auto, unfolding(crate::specs::Packages::packages_of))]
-pub(crate) fn packages_of(alloc: Global, index: &Value) -> Result<ReadPackages, Fault>
-    ensures { Gives (λ p. p) (packages_of (view index.now)) result }
+pub(crate) fn packages_of(alloc: Global, mut index: Value) -> Result<ReadPackages, Fault>
+    ensures { Gives (λ p. p) (packages_of (view index)) result }
 {
-    check_object(alloc, index)?;
-    check_format(alloc, index)?;
-    let listed = array_at(alloc, index, "packages")?;
+    check_object(alloc, &index)?;
+    check_format(alloc, &index)?;
+    let listed = take_array(alloc, &mut index, "packages")?;
     below_key(alloc, "packages", listed_packages(alloc, listed))
 }

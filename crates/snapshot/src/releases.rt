@@ -48,11 +48,11 @@ fn release_of(alloc: Global, value: &Value) -> Result<Result<Release, SkipCause>
 fn release_at_place(
     alloc: Global,
     place: usize,
-    value: &Value,
+    value: Value,
 ) -> Result<Result<Release, SkipCause>, Fault>
-    ensures { Gives (λ r. r) (below (place_path place) (release_of (view value.now))) result }
+    ensures { Gives (λ r. r) (below (place_path place) (release_of (view value))) result }
 {
-    below_place(alloc, place, release_of(alloc, value))
+    below_place(alloc, place, release_of(alloc, &value))
 }
 
 /// Puts the release into its place, unless one of an equal version is there, and says whether it did.
@@ -103,15 +103,15 @@ fn add(
 }
 
 /// The releases of the package that the values list, gone through.
-fn gathered(alloc: Global, name: &Name, values: &[Value]) -> Result<Gathering, Fault>
-    ensures { Gives kept_view (releases_in name.now (items_view values.now)) result }
+fn gathered(alloc: Global, name: &Name, values: Vec<Value>) -> Result<Gathering, Fault>
+    ensures { Gives kept_view (releases_in name.now (items_view values.items)) result }
 {
     let mut gathering = Gathering {
         newest: BTreeSet::new(alloc),
         skipped: Vec::new(alloc),
     };
-    for place in 0..values.len() {
-        let release = release_at_place(alloc, place, &values[place])?;
+    for (place, value) in values.into_iter().enumerate() {
+        let release = release_at_place(alloc, place, value)?;
         add(&mut gathering, name, place, release)?;
     }
     Ok(gathering)
@@ -133,9 +133,9 @@ fn in_order(alloc: Global, newest: BTreeSet<Newest>) -> Result<Seq<Release>, All
 pub(crate) fn releases_of(
     alloc: Global,
     name: &Name,
-    values: &[Value],
+    values: Vec<Value>,
 ) -> Result<ReadReleases, Fault>
-    ensures { Gives (λ r. r) (releases_in name.now (items_view values.now)) result }
+    ensures { Gives (λ r. r) (releases_in name.now (items_view values.items)) result }
 {
     let Gathering { newest, skipped } = gathered(alloc, name, values)?;
     let releases = in_order(alloc, newest)?;

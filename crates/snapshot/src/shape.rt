@@ -125,6 +125,16 @@ pub(crate) fn array_at<'v>(
     }
 }
 
+/// The items of the array at `key`, which the object gives up.
+pub(crate) fn take_array(alloc: Global, object: &mut Value, key: &str) -> Result<Vec<Value>, Fault>
+    ensures { Gives (λ items. items_view items.items) (field (required as_array) key.now (view object.old)) result }
+{
+    match object.get_mut(key).map(Value::take) {
+        Some(Value::Array(items)) => Ok(items),
+        _ => Err(misshapen(alloc, key)),
+    }
+}
+
 /// The items of the array at `key`, none where it is absent or null.
 pub(crate) fn optional_array_at<'v>(
     alloc: Global,

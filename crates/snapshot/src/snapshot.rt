@@ -103,7 +103,7 @@ impl Snapshot {
         ensures { Answers OutOfMemory (snapshot_of bytes.now) result }
     {
         let value = json_of(alloc, bytes)?;
-        let read = packages_of(alloc, &value)?;
+        let read = packages_of(alloc, value)?;
         let places = places_of(alloc, read.packages.as_slice())?;
         let ReadPackages { packages, skipped } = read;
         Ok(Snapshot {

@@ -1,4 +1,4 @@
-use Rattle.std.proofs.Common.{◌≡◌, drop}
+use Rattle.std.proofs.Common.{◌≡◌}
 use Rattle.serde_json.specs.View.{items_view}
 use Rattle.snapshot.specs.Gathering.{gathered_view}
 use Rattle.snapshot.specs.Releases.{gather_release, nothing, release_of}
@@ -7,4 +7,6 @@ use Rattle.snapshot.proofs.Loops.{gather}
 use Rattle.snapshot.proofs.releases.gathered.Given as goal
 
 abbrev pub invariant-loop-place : goal.invariant-loop-place
-invariant-loop-place l = gather (gather_release l.name) (gathered_view l.place l.gathering) (each_from release_of l.place (items_view (drop l.place l.values))) ≡ gather (gather_release l.name) nothing (each_from release_of 0 (items_view l.values))
+invariant-loop-place l =
+    gather (gather_release l.name) (gathered_view l.place-iterator.count l.gathering) (each_from release_of l.place-iterator.count (items_view l.place-iterator.iter.rest.items))
+    ≡ gather (gather_release l.name) nothing (each_from release_of 0 (items_view l.fn.values.items))
