@@ -90,6 +90,8 @@ long = f"{folder}/long"
 making = [index_program, "index", whole], [index_program, "value", whole]
 what = "index of 100,000 whole releases (50 MB)"
 compare(f"{what}, made of its bytes", *making, same=False, unit=1000, other="serde_json")
+least = [index_program, "least", whole]
+compare("the JSON value, dropped again, and the digest", least, making[1], same=False, unit=1000, other="serde_json")
 compare(f"{what}, read, made and dropped", *making, same=False, other="serde_json")
 compare(
     "index of 51,250 releases, read",
