@@ -1,6 +1,6 @@
 // Reading sets of specifiers.
 
-ghost use Rattle.std.specs.Prelude.{◌≡◌, ◌+◌, ◌<◌, ◌∷◌, ◌&&◌, ◌==◌, nat_lt, [], IfNone, IfSome, length, take, drop};
+ghost use Rattle.std.specs.Prelude.{◌≡◌, ◌+◌, ◌<◌, ◌≤◌, ◌∷◌, ◌&&◌, ◌==◌, nat_lt, [], IfNone, IfSome, length, take, drop};
 ghost use Rattle.std.specs.List.{list_all, list_any};
 ghost use Rattle.pep440.specs.Reading.{Gives, parts_in};
 ghost use Rattle.pep440.specs.Sets.{clause_of, clauses_from, double_of, clause_text, ends_in_star, is_arbitrary, is_plain, operator_of, set_of, single_of, star_operator, takes, version_text};
@@ -218,11 +218,24 @@ fn is_end(piece: &[u8], place: usize) -> bool
     place > 1 && are_blank(piece)
 }
 
-// The clauses of a text that isn't blank.
+// How many commas a text has.
+fn commas_in(text: &[u8]) -> usize
+    ensures { result ≤ length text.now }
+{
+    let mut commas = 0;
+    for i in 0..text.len() {
+        if text[i] == b',' {
+            commas += 1;
+        }
+    }
+    commas
+}
+
+// The clauses of a text that isn't blank. There is one more than commas, at most.
 fn clauses_at(alloc: Global, text: &[u8]) -> Result<Vec<Clause>, Fault>
     ensures { Gives (λ v. v.items) result (clauses_from 1 (pieces text.now)) }
 {
-    let mut clauses = Vec::new(alloc);
+    let mut clauses = Vec::with_capacity(alloc, commas_in(text) + 1)?;
     let mut rest = text;
     'pieces: while let Some(comma) = comma_at(rest) {
         let (piece, behind) = text::cut_at(rest, comma);

@@ -1,10 +1,16 @@
 -- Files that are gone through one after the other.
-use Rattle.std.proofs.Common.{◌≡◌, cond, List, [], ◌∷◌, Option, Some, None, find, fold, refl, ap, ◌∙◌}
+use Rattle.std.proofs.Common.{◌≡◌, Bool, true, cond, Ordering, Less, Equal, Greater, List, [], ◌∷◌, ◌++◌, Option, Some, None, find, fold, refl, sym, ap, ◌∙◌, append_assoc}
+use Rattle.std.proofs.lemmas.List.{append-nil}
 use Rattle.std.specs.Prelude.{filter}
 use Rattle.std.specs.BTreeSet.{insert_key}
 use Rattle.std.specs.Option.{option_or}
-use Rattle.snapshot.specs.Chosen.{Sorted, no_files, with_file, with_form}
-use Rattle.snapshot.specs.Files.{form_of, is_tar_gz, is_wheel, is_zip, name_cmp, sdist_of, wheels_of}
+use Rattle.std.specs.Prelude.{◌&&◌}
+use Rattle.std.specs.Ordering.{is_lt}
+use Rattle.snapshot.specs.OrderLaws.{name_total}
+use Rattle.snapshot.proofs.InsertFacts.{Rises, rising}
+use Rattle.snapshot.specs.Chosen.{no_files, with_file, with_form}
+use Rattle.snapshot.specs.declared.chosen.Sorted.{Sorted}
+use Rattle.snapshot.specs.Files.{ascend, form_of, is_tar_gz, is_wheel, is_zip, name_cmp, sdist_of, wheels_of}
 use Rattle.snapshot.specs.declared.file.ReleaseFile.{ReleaseFile}
 use Rattle.snapshot.specs.declared.form.Form.{Form}
 use Rattle.snapshot.specs.declared.form.Form.TheVariants.{Wheel, TarGz, Zip, Other}
@@ -17,15 +23,15 @@ or-some : {X : Type 0} (o : Option X) (x : X) (later : Option X) → option_or (
 or-some (Some y) x later = refl
 or-some None x later = refl
 
-wheels_by : (o : Form) (s : Sorted) (f : ReleaseFile) (fs rest : List ReleaseFile) → ((t : Sorted) → (fold with_file t fs).wheels ≡ fold (insert_key name_cmp) t.wheels rest)
-    → (fold with_file (with_form s f o) fs).wheels ≡ fold (insert_key name_cmp) s.wheels (cond (is_wheel o) (f ∷ rest) rest)
-wheels_by Wheel s f fs rest all = all (with_form s f Wheel)
+wheels_by : (o : Form) (s : Sorted) (f : ReleaseFile) (fs rest : List ReleaseFile) → ((t : Sorted) → (fold with_file t fs).wheels ≡ t.wheels ++ rest)
+    → (fold with_file (with_form s f o) fs).wheels ≡ s.wheels ++ cond (is_wheel o) (f ∷ rest) rest
+wheels_by Wheel s f fs rest all = all (with_form s f Wheel) ∙ append_assoc s.wheels (f ∷ []) rest
 wheels_by TarGz s f fs rest all = all (with_form s f TarGz)
 wheels_by Zip s f fs rest all = all (with_form s f Zip)
 wheels_by Other s f fs rest all = all s
 
-wheels_from : (fs : List ReleaseFile) (s : Sorted) → (fold with_file s fs).wheels ≡ fold (insert_key name_cmp) s.wheels (filter (λ f. is_wheel (form_of f.name)) fs)
-wheels_from [] s = refl
+wheels_from : (fs : List ReleaseFile) (s : Sorted) → (fold with_file s fs).wheels ≡ s.wheels ++ filter (λ f. is_wheel (form_of f.name)) fs
+wheels_from [] s = sym (append-nil s.wheels)
 wheels_from (f ∷ fs) s = wheels_by (form_of f.name) s f fs (filter (λ f. is_wheel (form_of f.name)) fs) (wheels_from fs)
 
 tar_gz_by : (o : Form) (s : Sorted) (f : ReleaseFile) (fs : List ReleaseFile) (later : Option ReleaseFile) → ((t : Sorted) → (fold with_file t fs).tar_gz ≡ option_or t.tar_gz later)
@@ -51,10 +57,28 @@ zip_from [] s = or-none s.zip
 zip_from (f ∷ fs) s = zip_by (form_of f.name) s f fs (find (λ f. is_zip (form_of f.name)) fs) (zip_from fs)
 
 -- the wheels of files that were gone through
-pub wheels_gathered : (fs : List ReleaseFile) (s : Sorted) → s ≡ fold with_file no_files fs → s.wheels ≡ wheels_of fs
-wheels_gathered fs s is = ap (λ (t : Sorted). t.wheels) is ∙ wheels_from fs no_files
+pub wheels_gathered : (fs : List ReleaseFile) (s : Sorted) → s ≡ fold with_file no_files fs → fold (insert_key name_cmp) [] s.wheels ≡ wheels_of fs
+wheels_gathered fs s is = ap (fold (insert_key name_cmp) []) (ap (λ (t : Sorted). t.wheels) is ∙ wheels_from fs no_files)
 
 -- their source distribution
 pub sdist_gathered : (fs : List ReleaseFile) (s : Sorted) → s ≡ fold with_file no_files fs → option_or s.tar_gz s.zip ≡ sdist_of fs
 sdist_gathered fs s is = ap (λ (t : Sorted). option_or t.tar_gz t.zip) is ∙ ap (λ (o : Option ReleaseFile). option_or o (fold with_file no_files fs).zip) (tar_gz_from fs no_files)
     ∙ ap (option_or (find (λ f. is_tar_gz (form_of f.name)) fs)) (zip_from fs no_files)
+
+-- ---- wheels that are listed by name
+
+lower_and : (o : Ordering) (b : Bool) → (is_lt o && b) ≡ true → (o ≡ Less) × (b ≡ true)
+lower_and Less b e = (refl, e)
+lower_and Equal b e = absurd cc
+lower_and Greater b e = absurd cc
+
+rises_of : (fs : List ReleaseFile) → ascend fs ≡ true → Rises name_cmp fs
+rises_of [] e = tt
+rises_of (f ∷ []) e = tt
+rises_of (f ∷ g ∷ gs) e =
+    let both = lower_and (name_cmp f g) (ascend (g ∷ gs)) e in
+    (both.0, rises_of (g ∷ gs) both.1)
+
+-- files whose names ascend are those of the set by name
+pub ascending : (fs : List ReleaseFile) → ascend fs ≡ true → fs ≡ fold (insert_key name_cmp) [] fs
+ascending fs e = sym (rising name_total fs (rises_of fs e))

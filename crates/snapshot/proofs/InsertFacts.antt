@@ -1,5 +1,6 @@
 -- Items put one after another into a list that is in order.
-use Rattle.std.proofs.Common.{◌≡◌, List, [], ◌∷◌, Ordering, Less, Equal, Greater, fold, refl, ap, ◌∙◌}
+use Rattle.std.proofs.Common.{◌≡◌, List, [], ◌∷◌, ◌++◌, Ordering, Less, Equal, Greater, fold, refl, ap, ◌∙◌, append_assoc}
+use Rattle.std.specs.Bool.{⊤}
 use Rattle.std.specs.BTreeSet.{insert_key}
 use Rattle.std.specs.Cmp.{IsTotalOrder}
 use Rattle.std.specs.List.{AllByRecursion}
@@ -45,3 +46,34 @@ all-inserted R P so_far (k ∷ ks) before all = all-inserted R P (insert_key R s
 pub sorted-inserted : {K : Type 0} {R : K → K → Ordering} (total : IsTotalOrder R) (so_far ks : List K) → IsStrictlySortedBy R so_far → IsStrictlySortedBy R (fold (insert_key R) so_far ks)
 sorted-inserted total so_far [] s = s
 sorted-inserted {R = R} total so_far (k ∷ ks) s = sorted-inserted total (insert_key R so_far k) ks (sorted-insert total so_far k s)
+
+-- ---- items that are in order
+
+-- an item above all goes to the end
+insert-last : {K : Type 0} (R : K → K → Ordering) (ks : List K) (k : K) → AllByRecursion (λ z. R k z ≡ Greater) ks → insert_key R ks k ≡ ks ++ k ∷ []
+insert-last R [] k above = refl
+insert-last R (x ∷ xs) k above = rw above.0 (ap (λ l. x ∷ l) (insert-last R xs k above.1))
+
+-- what is above an item of another is above what that is above
+above-last : {K : Type 0} {R : K → K → Ordering} (total : IsTotalOrder R) (ks : List K) (k next : K) → R k next ≡ Less → AllByRecursion (λ z. R k z ≡ Greater) ks → AllByRecursion (λ z. R next z ≡ Greater) (ks ++ k ∷ [])
+above-last total [] k next lt above = (total.antisymm next k ∙ ap ordering_reverse lt, tt)
+above-last {R = R} total (x ∷ xs) k next lt above =
+    let below : R x k ≡ Less = total.antisymm x k ∙ ap ordering_reverse above.0 in
+    (total.antisymm next x ∙ ap ordering_reverse (total.trans x k next below lt), above-last total xs k next lt above.1)
+
+-- whether each item is above the one before it
+abbrev pub Rises : {K : Type 0} → (K → K → Ordering) → List K → Type 0
+Rises R [] = ⊤
+Rises R (k ∷ []) = ⊤
+Rises R (k ∷ next ∷ ks) = (R k next ≡ Less) × Rises R (next ∷ ks)
+
+rising-from : {K : Type 0} {R : K → K → Ordering} (total : IsTotalOrder R) (front : List K) (k : K) (ks : List K) → AllByRecursion (λ z. R k z ≡ Greater) front → Rises R (k ∷ ks)
+    → fold (insert_key R) front (k ∷ ks) ≡ front ++ k ∷ ks
+rising-from {R = R} total front k [] above rises = insert-last R front k above
+rising-from {R = R} total front k (next ∷ ks) above rises =
+    rw (insert-last R front k above) (rising-from total (front ++ k ∷ []) next ks (above-last total front k next rises.0 above) rises.1 ∙ append_assoc front (k ∷ []) (next ∷ ks))
+
+-- items that rise are put where they are
+pub rising : {K : Type 0} {R : K → K → Ordering} (total : IsTotalOrder R) (ks : List K) → Rises R ks → fold (insert_key R) [] ks ≡ ks
+rising total [] rises = refl
+rising total (k ∷ ks) rises = rising-from total [] k ks tt rises

@@ -23,7 +23,8 @@ use Rattle.snapshot.specs.Lawful.{IsFile, IsRelease, IsSdist, IsWheel}
 use Rattle.snapshot.specs.OrderLaws.{name_total}
 use Rattle.snapshot.specs.Python.{is_blank, python_of, python_with}
 use Rattle.snapshot.specs.Release.{Release}
-use Rattle.snapshot.specs.Releases.{Listed, listed_of}
+use Rattle.snapshot.specs.Releases.{listed_of}
+use Rattle.snapshot.specs.declared.listed.Listed.{Listed}
 use Rattle.snapshot.specs.Shape.{each_at, each_from, field, key_path, object_of, optional, or_absent, required, text_of}
 use Rattle.snapshot.proofs.InsertFacts.{all-inserted, sorted-inserted}
 use Rattle.snapshot.proofs.StepFacts.{both, each-holds, found, inside, ok-inside, through}

@@ -3,6 +3,8 @@ pub mod InsertFacts
 pub mod Loops
 pub mod PlaceFacts
 pub mod JsonFacts
+pub mod KeyFacts
+pub mod ValueFacts
 pub mod FileFacts
 pub mod UsableFacts
 pub mod SortedFacts

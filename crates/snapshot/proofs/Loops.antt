@@ -1,11 +1,9 @@
 -- Reading the items of an array one after the other, as a loop does.
-use Rattle.std.proofs.Common.{◌≡◌, ℕ, suc, ◌+◌, ◌<◌, ◌≤◌, List, [], ◌∷◌, ◌++◌, length, get_or, drop, Result, Ok, Err, fold, refl, sym, ap, ◌∙◌, append_assoc, add-one, inl, inr, ◌⊎◌}
+use Rattle.std.proofs.Common.{◌≡◌, ℕ, suc, ◌+◌, List, [], ◌∷◌, ◌++◌, Result, Ok, Err, fold, refl, sym, ap, ◌∙◌, append_assoc, add-one, inl, inr, ◌⊎◌}
 use Rattle.std.proofs.lemmas.List.{append-nil, nil_from_length}
 use Rattle.std.specs.Vec.Iter.{into_iter_items, into_iter_len}
 use Rattle.std.specs.declared.alloc.Global.{Global}
 use Rattle.std.specs.declared.vec.IntoIter.{IntoIter}
-use Rattle.std.proofs.Math.Seq.{drop-cons}
-use Rattle.std.proofs.Math.ListN.{drop_of_length-le}
 use Rattle.serde_json.specs.Data.{Data}
 use Rattle.serde_json.specs.View.{items_view, view}
 use Rattle.serde_json.specs.declared.value.Value.{Value}
@@ -70,21 +68,3 @@ is_done step so_far form i vs total is before =
 -- a list that is gone through has no items left where its length is zero
 pub none_left : (it : IntoIter Value Global) → into_iter_len it ≡ 0 → into_iter_items it ≡ []
 none_left it none = nil_from_length (into_iter_items it) (sym it.rest.ok.0 ∙ none)
-
--- the same over the items of a list that a loop goes through by their places
-at-place : (vs : List Value) (i : ℕ) (v : Value) → i < length vs → v ≡ get_or vs i v → drop i vs ≡ v ∷ drop (i + 1) vs
-at-place vs i v lt is = rw add-one (drop-cons vs i v lt ∙ ap (λ x. x ∷ drop (suc i) vs) (sym is))
-
-pub goes_on_at : {A B : Type 0} (step : B → A → B) (so_far : B) (form : Data → Result A Fault) (vs : List Value) (i : ℕ) (v : Value) (x : A) (total : Result B Fault) → i < length vs → v ≡ get_or vs i v
-    → below (place_path i) (form (view v)) ≡ Ok x → gather step so_far (each_from form i (items_view (drop i vs))) ≡ total
-    → gather step (step so_far x) (each_from form (i + 1) (items_view (drop (i + 1) vs))) ≡ total
-goes_on_at step so_far form vs i v x total lt is = goes_on step so_far form i v (drop i vs) (drop (i + 1) vs) x total (at-place vs i v lt is)
-
-pub ends_at : {A B : Type 0} (step : B → A → B) (so_far : B) (form : Data → Result A Fault) (vs : List Value) (i : ℕ) (v : Value) (e : Fault) (total : Result B Fault) → i < length vs → v ≡ get_or vs i v
-    → (e ≡ OutOfMemory) ⊎ (below (place_path i) (form (view v)) ≡ Err e) → gather step so_far (each_from form i (items_view (drop i vs))) ≡ total
-    → (e ≡ OutOfMemory) ⊎ (total ≡ Err e)
-ends_at step so_far form vs i v e total lt is = ends step so_far form i v (drop i vs) (drop (i + 1) vs) e total (at-place vs i v lt is)
-
-pub is_done_at : {A B : Type 0} (step : B → A → B) (so_far : B) (form : Data → Result A Fault) (vs : List Value) (i : ℕ) (total : Result B Fault) → length vs ≤ i
-    → gather step so_far (each_from form i (items_view (drop i vs))) ≡ total → total ≡ Ok so_far
-is_done_at step so_far form vs i total le = is_done step so_far form i (drop i vs) total (drop_of_length-le vs le)

@@ -1,27 +1,17 @@
 -- The files of a release as they are gone through, one after the other.
-use Rattle.std.specs.Prelude.{List, [], Option, Some, None}
-use Rattle.std.specs.BTreeSet.{insert_key}
+use Rattle.std.specs.Prelude.{[], ◌∷◌, ◌++◌, Some, None}
 use Rattle.std.specs.Option.{option_or}
-use Rattle.snapshot.specs.declared.chosen.Sorted.{Sorted as Held}
+use Rattle.snapshot.specs.declared.chosen.Sorted.{Sorted}
 use Rattle.snapshot.specs.declared.file.ReleaseFile.{ReleaseFile}
 use Rattle.snapshot.specs.declared.form.Form.{Form}
 use Rattle.snapshot.specs.declared.form.Form.TheVariants.{Wheel, TarGz, Zip, Other}
-use Rattle.snapshot.specs.Files.{form_of, name_cmp}
-
--- the wheels in their order, and the first file of each other form
-pub record Sorted : Type 0 where
-  pub wheels : List ReleaseFile
-  pub tar_gz : Option ReleaseFile
-  pub zip : Option ReleaseFile
+use Rattle.snapshot.specs.Files.{form_of}
 
 abbrev pub no_files : Sorted
 no_files = record { wheels = []; tar_gz = None; zip = None }
 
-abbrev pub sorted_view : Held → Sorted
-sorted_view s = record { wheels = s.wheels.keys; tar_gz = s.tar_gz; zip = s.zip }
-
 abbrev pub with_form : Sorted → ReleaseFile → Form → Sorted
-with_form s f Wheel = record { wheels = insert_key name_cmp s.wheels f; tar_gz = s.tar_gz; zip = s.zip }
+with_form s f Wheel = record { wheels = s.wheels ++ f ∷ []; tar_gz = s.tar_gz; zip = s.zip }
 with_form s f TarGz = record { wheels = s.wheels; tar_gz = option_or s.tar_gz (Some f); zip = s.zip }
 with_form s f Zip = record { wheels = s.wheels; tar_gz = s.tar_gz; zip = option_or s.zip (Some f) }
 with_form s f Other = s

@@ -5,7 +5,7 @@ use Rattle.std.specs.Char.{is_ascii_hexdigit, to_ascii_lowercase}
 use Rattle.std.specs.Cmp.Lexicographic.{slice_cmp}
 use Rattle.std.specs.List.{ends_with, list_all}
 use Rattle.std.specs.Option.{option_or}
-use Rattle.std.specs.Ordering.{nat_cmp}
+use Rattle.std.specs.Ordering.{is_lt, nat_cmp}
 use Rattle.std.specs.declared.cmp.Ordering.{Ordering}
 use Rattle.serde_json.specs.Data.{Data}
 use Rattle.serde_json.specs.Find.{as_number, as_str, as_u64}
@@ -79,6 +79,12 @@ is_zip Other = false
 -- files by their names, in the order of bytes
 abbrev pub name_cmp : ReleaseFile → ReleaseFile → Ordering
 name_cmp f g = slice_cmp nat_cmp f.name g.name
+
+-- whether the name of each file is above that of the one before it
+abbrev pub ascend : List ReleaseFile → Bool
+ascend [] = true
+ascend (f ∷ []) = true
+ascend (f ∷ g ∷ gs) = is_lt (name_cmp f g) && ascend (g ∷ gs)
 
 -- the wheels by name; of those with one name the first
 abbrev pub wheels_of : List ReleaseFile → List ReleaseFile

@@ -6,7 +6,7 @@ pub mod Release
 pub mod Releases
 pub mod Lawful
 pub mod Packages
-pub mod Listed
 pub mod Places
 pub mod OrderLaws
 pub mod Gathering
+pub mod Keys

@@ -13,7 +13,7 @@ use Rattle.pep440.specs.Version.{Parts}
 use Rattle.pep440.specs.declared.fault.Fault.{Fault as VersionFault}
 use Rattle.pep508.specs.Requirement.{Wanted, requirement_text}
 use Rattle.snapshot.specs.declared.fault.Fault.{Fault}
-use Rattle.snapshot.specs.declared.file.ReleaseFile.{ReleaseFile}
+use Rattle.snapshot.specs.declared.listed.Listed.{Listed}
 use Rattle.snapshot.specs.declared.releases.ReadReleases.{ReadReleases}
 use Rattle.snapshot.specs.declared.skipped.SkipCause.{SkipCause}
 use Rattle.snapshot.specs.declared.skipped.SkipCause.TheVariants as causes
@@ -22,14 +22,6 @@ use Rattle.snapshot.specs.Files.{file_of, has_file, sdist_of, wheels_of}
 use Rattle.snapshot.specs.Python.{python_of}
 use Rattle.snapshot.specs.Release.{Release}
 use Rattle.snapshot.specs.Shape.{◌>>=◌, each_at, each_from, field, object_of, optional, or_absent, required, text_of}
-
--- a release as the index lists it; a text that is absent or null is empty
-pub record Listed : Type 0 where
-  pub version : List ℕ
-  pub requires_python : List ℕ
-  pub requires_dist : List (List ℕ)
-  pub yanked : Bool
-  pub files : List ReleaseFile
 
 -- the keys of a release, in the order in which their shapes are tested
 unfoldable pub listed_of : Data → Result Listed Fault

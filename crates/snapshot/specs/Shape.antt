@@ -44,9 +44,13 @@ object_of d = found_at [] (option_map (λ _. tt) (as_object d))
 abbrev pub text_of : Data → Result (List ℕ) Fault
 text_of d = found_at [] (as_str d)
 
+-- what a form makes of what was found at a key
+abbrev pub at_key : {A : Type 0} → (Option Data → Option A) → List ℕ → Option Data → Result A Fault
+at_key form key found = found_at (key_path key) (form found)
+
 -- what a form makes of the value of a key, or of its absence
 abbrev pub field : {A : Type 0} → (Option Data → Option A) → List ℕ → Data → Result A Fault
-field form key d = found_at (key_path key) (form (get key d))
+field form key d = at_key form key (get key d)
 
 -- a value that has to be there
 abbrev pub required : {A : Type 0} → (Data → Option A) → Option Data → Option A

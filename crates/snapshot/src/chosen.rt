@@ -1,10 +1,11 @@
 // Which files of a release are wheels, and which is its source distribution.
 
-ghost use Rattle.std.specs.Prelude.{◌≡◌, refl, IfOk, IsOkUnless, Ok, OnOk, fold};
+ghost use Rattle.std.specs.Prelude.{◌≡◌, [], refl, IfOk, IsOkUnless, Ok, OnOk, fold};
+ghost use Rattle.std.specs.BTreeSet.{insert_key};
 ghost use Rattle.std.specs.Cmp.{eq_by_cmp_equiv, partial_equiv_from_equiv, partial_order_from_total};
 ghost use Rattle.std.specs.Ordering.{as_partial_cmp, eq_by_cmp};
-ghost use Rattle.snapshot.specs.Chosen.{no_files, sorted_view, with_file};
-ghost use Rattle.snapshot.specs.Files.{sdist_of, wheels_of};
+ghost use Rattle.snapshot.specs.Chosen.{no_files, with_file};
+ghost use Rattle.snapshot.specs.Files.{ascend, name_cmp, sdist_of, wheels_of};
 ghost use Rattle.snapshot.specs.declared.fault.Fault.TheVariants.{OutOfMemory};
 
 use crate::fault::Fault;
@@ -23,23 +24,23 @@ pub(crate) struct Chosen {
     pub(crate) wheels: Seq<ReleaseFile>,
 }
 
-/// The files of a release that were gone through: the wheels in their order, and the first of each form
-/// of a source distribution.
+/// The files of a release that were gone through: the wheels as they are listed, and the first of each
+/// form of a source distribution.
 #[derive(Drop)]
 pub(crate) struct Sorted {
-    wheels: BTreeSet<ByName>,
-    tar_gz: Option<ReleaseFile>,
-    zip: Option<ReleaseFile>,
+    pub(crate) wheels: Seq<ReleaseFile>,
+    pub(crate) tar_gz: Option<ReleaseFile>,
+    pub(crate) zip: Option<ReleaseFile>,
 }
 
 /// Puts one more file to those before it.
 fn add(sorted: &mut Sorted, file: ReleaseFile) -> Result<(), Fault>
-    ensures kept { OnOk result (sorted_view sorted.new ≡ with_file (sorted_view sorted.old) file) }
+    ensures kept { OnOk result (sorted.new ≡ with_file sorted.old file) }
     ensures memory { IsOkUnless result OutOfMemory }
 {
     match form_of(file.name()) {
         Form::Wheel => {
-            sorted.wheels.insert(ByName::new(file))?;
+            sorted.wheels.push(file)?;
         }
         Form::TarGz => {
             if sorted.tar_gz.is_none() {
@@ -58,11 +59,11 @@ fn add(sorted: &mut Sorted, file: ReleaseFile) -> Result<(), Fault>
 
 /// The files, gone through one after the other.
 fn sort_files(alloc: Global, files: Vec<ReleaseFile>) -> Result<Sorted, Fault>
-    ensures all { IfOk result (λ s. sorted_view s ≡ fold with_file no_files files.items) }
+    ensures all { IfOk result (λ sorted. sorted ≡ fold with_file no_files files.items) }
     ensures memory { IsOkUnless result OutOfMemory }
 {
     let mut sorted = Sorted {
-        wheels: BTreeSet::new(alloc),
+        wheels: Seq::from_vec(Vec::with_capacity(alloc, files.len())?),
         tar_gz: None,
         zip: None,
     };
@@ -72,29 +73,73 @@ fn sort_files(alloc: Global, files: Vec<ReleaseFile>) -> Result<Sorted, Fault>
     Ok(sorted)
 }
 
-/// The files in their order.
-fn in_order(alloc: Global, wheels: BTreeSet<ByName>) -> Result<Seq<ReleaseFile>, AllocError>
-    ensures { IfOk result (λ files. files ≡ wheels.keys) }
+/// The order of two files by name.
+fn cmp_names(file: &ReleaseFile, other: &ReleaseFile) -> Ordering
+    ensures { result ≡ name_cmp file.now other.now }
 {
-    let mut files = Vec::with_capacity(alloc, wheels.len())?;
-    for file in wheels {
+    file.name().as_bytes().cmp(other.name().as_bytes())
+}
+
+/// Whether the name of each file is above that of the one before it.
+fn ascend(files: &[ReleaseFile]) -> bool
+    ensures { result ≡ ascend files.now }
+{
+    let mut left = files;
+    while let [file, others @ ..] = left {
+        if let [next, ..] = others {
+            if !cmp_names(file, next).is_lt() {
+                return false;
+            }
+        }
+        left = others;
+    }
+    true
+}
+
+/// The files put into a set by name, which keeps the first of each.
+fn set_by_name(alloc: Global, files: Vec<ReleaseFile>) -> Result<BTreeSet<ByName>, AllocError>
+    ensures { IfOk result (λ set. set.keys ≡ fold (insert_key name_cmp) [] files.items) }
+{
+    let mut set = BTreeSet::new(alloc);
+    for file in files {
+        set.insert(ByName::new(file))?;
+    }
+    Ok(set)
+}
+
+/// The files of a set in their order.
+fn in_order(alloc: Global, set: BTreeSet<ByName>) -> Result<Seq<ReleaseFile>, AllocError>
+    ensures { IfOk result (λ files. files ≡ set.keys) }
+{
+    let mut files = Vec::with_capacity(alloc, set.len())?;
+    for file in set {
         files.push(file.into_file())?;
     }
     Ok(Seq::from_vec(files))
 }
 
+/// The files by name, the first of each name. Where they are listed so already, no set is made.
+fn by_name(alloc: Global, files: Seq<ReleaseFile>) -> Result<Seq<ReleaseFile>, AllocError>
+    ensures { IfOk result (λ sorted. sorted ≡ fold (insert_key name_cmp) [] files) }
+{
+    if ascend(files.as_slice()) {
+        return Ok(files);
+    }
+    in_order(alloc, set_by_name(alloc, files.into_vec())?)
+}
+
 /// The wheels and the source distribution among the files of a release.
-pub(crate) fn choose(alloc: Global, files: Vec<ReleaseFile>) -> Result<Chosen, Fault>
-    ensures wheels { IfOk result (λ chosen. chosen.wheels ≡ wheels_of files.items) }
-    ensures sdist { IfOk result (λ chosen. chosen.sdist ≡ sdist_of files.items) }
+pub(crate) fn choose(alloc: Global, files: Seq<ReleaseFile>) -> Result<Chosen, Fault>
+    ensures wheels { IfOk result (λ chosen. chosen.wheels ≡ wheels_of files) }
+    ensures sdist { IfOk result (λ chosen. chosen.sdist ≡ sdist_of files) }
     ensures memory { IsOkUnless result OutOfMemory }
 {
     let Sorted {
         wheels,
         tar_gz,
         zip,
-    } = sort_files(alloc, files)?;
-    let wheels = in_order(alloc, wheels)?;
+    } = sort_files(alloc, files.into_vec())?;
+    let wheels = by_name(alloc, wheels)?;
     let sdist = tar_gz.or(zip);
     Ok(Chosen { sdist, wheels })
 }
@@ -172,7 +217,6 @@ impl Ord for ByName {
     ghost matches_eq = { λ a b. refl };
 
     fn cmp(&self, other: &ByName) -> Ordering {
-        let name = self.file.name().as_bytes();
-        name.cmp(other.file.name().as_bytes())
+        cmp_names(&self.file, &other.file)
     }
 }

@@ -8,6 +8,7 @@ mod files;
 mod form;
 pub mod laws;
 mod listed;
+mod members;
 mod package;
 mod packages;
 mod python;

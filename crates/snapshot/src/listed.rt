@@ -1,42 +1,90 @@
 // Reading a release as the index lists it.
 
+ghost use Rattle.std.specs.Prelude.{◌≡◌, IfOk, codes, option_map};
+ghost use Rattle.serde_json.specs.Find.{get};
 ghost use Rattle.serde_json.specs.View.{view};
-ghost use Rattle.snapshot.specs.Listed.{listed_view};
 ghost use Rattle.snapshot.specs.Releases.{listed_of};
-ghost use Rattle.snapshot.specs.Shape.{Gives};
+ghost use Rattle.snapshot.specs.Shape.{Gives, object_of};
 
 use crate::fault::Fault;
 use crate::file::ReleaseFile;
 use crate::files::files_of;
+use crate::members::values_at;
 use crate::shape::{
-    array_at, below_key, check_object, flag_at, optional_array_at, optional_text_at, text_at,
-    texts_of,
+    below_key, flag_of, items_of, optional_items_of, optional_text_of, text_of, texts_of,
 };
+use lists::{Seq, Text};
 use serde_json::Value;
 use std::alloc::Global;
 
-/// A release as the index lists it, its texts lent by the JSON value.
+/// A release as the index lists it. A text that is absent or null is empty.
 #[derive(Drop)]
-pub(crate) struct Listed<'v> {
-    pub(crate) version: &'v str,
-    pub(crate) requires_python: &'v str,
-    pub(crate) requires_dist: Vec<&'v str>,
+pub(crate) struct Listed {
+    pub(crate) version: Text,
+    pub(crate) requires_python: Text,
+    pub(crate) requires_dist: Seq<Text>,
     pub(crate) yanked: bool,
-    pub(crate) files: Vec<ReleaseFile>,
+    pub(crate) files: Seq<ReleaseFile>,
+}
+
+/// What an object has at the keys of a release.
+#[derive(Drop)]
+struct ListedValues {
+    version: Option<Value>,
+    requires_python: Option<Value>,
+    requires_dist: Option<Value>,
+    yanked: Option<Value>,
+    files: Option<Value>,
+}
+
+/// What an object has at the keys of a release, which it gives up.
+fn listed_values(alloc: Global, object: Value) -> Result<ListedValues, Fault>
+    ensures object { Gives (λ _. tt) (object_of (view object)) result }
+    ensures version { IfOk result (λ values. option_map view values.version ≡ get (codes "version") (view object)) }
+    ensures requires_python { IfOk result
+        (λ values. option_map view values.requires_python ≡ get (codes "requires_python") (view object)) }
+    ensures requires_dist { IfOk result
+        (λ values. option_map view values.requires_dist ≡ get (codes "requires_dist") (view object)) }
+    ensures yanked { IfOk result (λ values. option_map view values.yanked ≡ get (codes "yanked") (view object)) }
+    ensures files { IfOk result (λ values. option_map view values.files ≡ get (codes "files") (view object)) }
+{
+    let keys = [
+        "version",
+        "requires_python",
+        "requires_dist",
+        "yanked",
+        "files",
+    ];
+    let [version, requires_python, requires_dist, yanked, files] = values_at::<5>(
+        alloc, object, &keys,
+    )?;
+    Ok(ListedValues {
+        version,
+        requires_python,
+        requires_dist,
+        yanked,
+        files,
+    })
 }
 
 /// The release that a value lists.
 #[tactic(auto, unfolding(crate::specs::Releases::listed_of))]
-pub(crate) fn listed_of(alloc: Global, value: &Value) -> Result<Listed<'_>, Fault>
-    ensures { Gives listed_view (listed_of (view value.now)) result }
+pub(crate) fn listed_of(alloc: Global, value: Value) -> Result<Listed, Fault>
+    ensures { Gives (λ r. r) (listed_of (view value)) result }
 {
-    check_object(alloc, value)?;
-    let version = text_at(alloc, value, "version")?;
-    let requires_python = optional_text_at(alloc, value, "requires_python")?;
-    let dependencies = optional_array_at(alloc, value, "requires_dist")?;
+    let ListedValues {
+        version,
+        requires_python,
+        requires_dist,
+        yanked,
+        files,
+    } = listed_values(alloc, value)?;
+    let version = text_of(alloc, "version", version)?;
+    let requires_python = optional_text_of(alloc, "requires_python", requires_python)?;
+    let dependencies = optional_items_of(alloc, "requires_dist", requires_dist)?;
     let requires_dist = below_key(alloc, "requires_dist", texts_of(alloc, dependencies))?;
-    let yanked = flag_at(alloc, value, "yanked")?;
-    let listed = array_at(alloc, value, "files")?;
+    let yanked = flag_of(alloc, "yanked", yanked)?;
+    let listed = items_of(alloc, "files", files)?;
     let files = below_key(alloc, "files", files_of(alloc, listed))?;
     Ok(Listed {
         version,

@@ -1,25 +1,26 @@
 // Reading the packages of an index.
 
-ghost use Rattle.std.specs.Prelude.{codes};
+ghost use Rattle.std.specs.Prelude.{codes, option_map};
 ghost use Rattle.serde_json.specs.View.{items_view, view};
 ghost use Rattle.snapshot.specs.Packages.{as_name, as_one, package_of, packages_in, packages_of};
-ghost use Rattle.snapshot.specs.Shape.{Gives, below, field, place_path, required};
+ghost use Rattle.snapshot.specs.Shape.{Gives, at_key, below, place_path, required};
 
 use crate::fault::Fault;
+use crate::members::values_at;
 use crate::package::{Package, ReadPackage, ReadPackages};
 use crate::releases::{ReadReleases, releases_of};
-use crate::shape::{below_key, below_place, check_object, misshapen, take_array, text_at};
+use crate::shape::{below_key, below_place, items_of, misshapen, text_of};
 use lists::Seq;
 use pep508::{Cause, Name};
 use serde_json::Value;
 use std::alloc::Global;
 
 /// The name of a package.
-fn name_of(alloc: Global, object: &Value) -> Result<Name, Fault>
-    ensures { Gives (λ n. n) (field (required as_name) (codes "name") (view object.now)) result }
+fn name_of(alloc: Global, found: Option<Value>) -> Result<Name, Fault>
+    ensures { Gives (λ n. n) (at_key (required as_name) (codes "name") (option_map view found)) result }
 {
-    let text = text_at(alloc, object, "name")?;
-    match Name::parse(alloc, text) {
+    let text = text_of(alloc, "name", found)?;
+    match Name::parse(alloc, text.as_str()) {
         Ok(name) => Ok(name),
         Err(fault) => match fault.cause {
             Cause::OutOfMemory => Err(Fault::OutOfMemory),
@@ -30,12 +31,12 @@ fn name_of(alloc: Global, object: &Value) -> Result<Name, Fault>
 
 /// The package that a value lists.
 #[tactic(auto, unfolding(crate::specs::Packages::package_of))]
-fn package_of(alloc: Global, mut value: Value) -> Result<ReadPackage, Fault>
+fn package_of(alloc: Global, value: Value) -> Result<ReadPackage, Fault>
     ensures { Gives (λ p. p) (package_of (view value)) result }
 {
-    check_object(alloc, &value)?;
-    let name = name_of(alloc, &value)?;
-    let listed = take_array(alloc, &mut value, "releases")?;
+    let [name, releases] = values_at::<2>(alloc, value, &["name", "releases"])?;
+    let name = name_of(alloc, name)?;
+    let listed = items_of(alloc, "releases", releases)?;
     let ReadReleases { releases, skipped } = below_key(
         alloc,
         "releases",
@@ -70,10 +71,10 @@ fn listed_packages(alloc: Global, values: Vec<Value>) -> Result<ReadPackages, Fa
 }
 
 /// Asks for version 1 of the format.
-fn check_format(alloc: Global, index: &Value) -> Result<(), Fault>
-    ensures { Gives (λ _. tt) (field (required as_one) (codes "snapshot") (view index.now)) result }
+fn check_format(alloc: Global, found: Option<Value>) -> Result<(), Fault>
+    ensures { Gives (λ _. tt) (at_key (required as_one) (codes "snapshot") (option_map view found)) result }
 {
-    match index.get("snapshot").and_then(Value::as_u64) {
+    match found.as_ref().and_then(Value::as_u64) {
         Some(1) => Ok(()),
         _ => Err(misshapen(alloc, "snapshot")),
     }
@@ -81,11 +82,11 @@ fn check_format(alloc: Global, index: &Value) -> Result<(), Fault>
 
 /// The packages of an index, in its order.
 #[tactic(auto, unfolding(crate::specs::Packages::packages_of))]
-pub(crate) fn packages_of(alloc: Global, mut index: Value) -> Result<ReadPackages, Fault>
+pub(crate) fn packages_of(alloc: Global, index: Value) -> Result<ReadPackages, Fault>
     ensures { Gives (λ p. p) (packages_of (view index)) result }
 {
-    check_object(alloc, &index)?;
-    check_format(alloc, &index)?;
-    let listed = take_array(alloc, &mut index, "packages")?;
+    let [format, packages] = values_at::<2>(alloc, index, &["snapshot", "packages"])?;
+    check_format(alloc, format)?;
+    let listed = items_of(alloc, "packages", packages)?;
     below_key(alloc, "packages", listed_packages(alloc, listed))
 }

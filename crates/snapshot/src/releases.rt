@@ -37,8 +37,8 @@ pub(crate) struct Gathering {
 
 /// The release that a value lists, or why it can't be used.
 #[tactic(auto, unfolding(crate::specs::Releases::release_of))]
-fn release_of(alloc: Global, value: &Value) -> Result<Result<Release, SkipCause>, Fault>
-    ensures { Gives (λ r. r) (release_of (view value.now)) result }
+fn release_of(alloc: Global, value: Value) -> Result<Result<Release, SkipCause>, Fault>
+    ensures { Gives (λ r. r) (release_of (view value)) result }
 {
     let listed = listed_of(alloc, value)?;
     usable(alloc, listed)
@@ -52,7 +52,7 @@ fn release_at_place(
 ) -> Result<Result<Release, SkipCause>, Fault>
     ensures { Gives (λ r. r) (below (place_path place) (release_of (view value))) result }
 {
-    below_place(alloc, place, release_of(alloc, &value))
+    below_place(alloc, place, release_of(alloc, value))
 }
 
 /// Puts the release into its place, unless one of an equal version is there, and says whether it did.

@@ -1,14 +1,14 @@
 // JSON values of a wanted shape.
 
-ghost use Rattle.std.specs.Prelude.{◌≡◌, ◌⊎◌, ◌++◌, ◌∷◌, false, [], IfOk, decimal, map, string_bytes};
+ghost use Rattle.std.specs.Prelude.{◌≡◌, ◌⊎◌, ◌++◌, ◌∷◌, false, [], IfOk, decimal, option_map};
 ghost use Rattle.serde_json.specs.Data.{no_items};
-ghost use Rattle.serde_json.specs.Find.{as_array, as_bool, as_object, as_str};
+ghost use Rattle.serde_json.specs.Find.{as_array, as_bool, as_str};
 ghost use Rattle.serde_json.specs.View.{items_view, view};
-ghost use Rattle.snapshot.specs.Shape.{Gives, below, each_from, fault_below, field, found_at, key_path, object_of, optional, or_absent, place_path, required, text_of};
+ghost use Rattle.snapshot.specs.Shape.{Gives, at_key, below, each_from, fault_below, key_path, optional, or_absent, place_path, required, text_of};
 ghost use Rattle.snapshot.specs.declared.fault.Fault.TheVariants.{OutOfMemory, Shape};
 
 use crate::fault::Fault;
-use lists::Text;
+use lists::{Seq, Text};
 use serde_json::Value;
 use std::alloc::{AllocError, Global};
 
@@ -76,109 +76,85 @@ pub(crate) fn below_place<T>(
     }
 }
 
-/// Asks for an object.
-pub(crate) fn check_object(alloc: Global, value: &Value) -> Result<(), Fault>
-    ensures { Gives (λ _. tt) (object_of (view value.now)) result }
+/// The text that was found at `key`.
+pub(crate) fn text_of(alloc: Global, key: &str, found: Option<Value>) -> Result<Text, Fault>
+    ensures { Gives (λ text. text) (at_key (required as_str) key.now (option_map view found)) result }
 {
-    match value.as_object() {
-        Some(_) => Ok(()),
-        None => Err(Fault::Shape(Text::new(alloc))),
+    match found {
+        Some(Value::String(text)) => Ok(Text::from_string(text)),
+        _ => Err(misshapen(alloc, key)),
     }
 }
 
-/// The text at `key`.
-pub(crate) fn text_at<'v>(alloc: Global, object: &'v Value, key: &str) -> Result<&'v str, Fault>
-    ensures { Gives (λ text. text.now) (field (required as_str) key.now (view object.now)) result }
-{
-    match object.get(key).and_then(Value::as_str) {
-        Some(text) => Ok(text),
-        None => Err(misshapen(alloc, key)),
-    }
-}
-
-/// The text at `key`, empty where it is absent or null.
-pub(crate) fn optional_text_at<'v>(
+/// The text that was found at `key`, empty where it is absent or null.
+pub(crate) fn optional_text_of(
     alloc: Global,
-    object: &'v Value,
     key: &str,
-) -> Result<&'v str, Fault>
-    ensures { Gives (λ text. text.now) (field (optional [] as_str) key.now (view object.now)) result }
+    found: Option<Value>,
+) -> Result<Text, Fault>
+    ensures { Gives (λ text. text) (at_key (optional [] as_str) key.now (option_map view found)) result }
 {
-    match object.get(key) {
-        None | Some(Value::Null) => Ok(""),
-        Some(Value::String(text)) => Ok(text.as_str()),
+    match found {
+        None | Some(Value::Null) => Ok(Text::new(alloc)),
+        Some(Value::String(text)) => Ok(Text::from_string(text)),
         Some(_) => Err(misshapen(alloc, key)),
     }
 }
 
-/// The items of the array at `key`.
-pub(crate) fn array_at<'v>(
-    alloc: Global,
-    object: &'v Value,
-    key: &str,
-) -> Result<&'v [Value], Fault>
-    ensures { Gives (λ items. items_view items.now) (field (required as_array) key.now (view object.now)) result }
+/// The items of the array that was found at `key`.
+pub(crate) fn items_of(alloc: Global, key: &str, found: Option<Value>) -> Result<Vec<Value>, Fault>
+    ensures { Gives (λ items. items_view items.items) (at_key (required as_array) key.now (option_map view found)) result }
 {
-    match object.get(key).and_then(Value::as_array) {
-        Some(items) => Ok(items.as_slice()),
-        None => Err(misshapen(alloc, key)),
-    }
-}
-
-/// The items of the array at `key`, which the object gives up.
-pub(crate) fn take_array(alloc: Global, object: &mut Value, key: &str) -> Result<Vec<Value>, Fault>
-    ensures { Gives (λ items. items_view items.items) (field (required as_array) key.now (view object.old)) result }
-{
-    match object.get_mut(key).map(Value::take) {
+    match found {
         Some(Value::Array(items)) => Ok(items),
         _ => Err(misshapen(alloc, key)),
     }
 }
 
-/// The items of the array at `key`, none where it is absent or null.
-pub(crate) fn optional_array_at<'v>(
+/// The items of the array that was found at `key`, none where it is absent or null.
+pub(crate) fn optional_items_of(
     alloc: Global,
-    object: &'v Value,
     key: &str,
-) -> Result<&'v [Value], Fault>
-    ensures { Gives (λ items. items_view items.now) (field (optional no_items as_array) key.now (view object.now)) result }
+    found: Option<Value>,
+) -> Result<Vec<Value>, Fault>
+    ensures { Gives (λ items. items_view items.items) (at_key (optional no_items as_array) key.now (option_map view found)) result }
 {
-    match object.get(key) {
-        None | Some(Value::Null) => Ok(&[]),
-        Some(Value::Array(items)) => Ok(items.as_slice()),
+    match found {
+        None | Some(Value::Null) => Ok(Vec::new(alloc)),
+        Some(Value::Array(items)) => Ok(items),
         Some(_) => Err(misshapen(alloc, key)),
     }
 }
 
-/// The truth value at `key`, false where it is absent.
-pub(crate) fn flag_at(alloc: Global, object: &Value, key: &str) -> Result<bool, Fault>
-    ensures { Gives (λ b. b) (field (or_absent false as_bool) key.now (view object.now)) result }
+/// The truth value that was found at `key`, false where it is absent.
+pub(crate) fn flag_of(alloc: Global, key: &str, found: Option<Value>) -> Result<bool, Fault>
+    ensures { Gives (λ b. b) (at_key (or_absent false as_bool) key.now (option_map view found)) result }
 {
-    match object.get(key) {
+    match found {
         None => Ok(false),
-        Some(Value::Bool(flag)) => Ok(*flag),
+        Some(Value::Bool(flag)) => Ok(flag),
         Some(_) => Err(misshapen(alloc, key)),
     }
 }
 
 /// The text that the value at `place` is.
-fn text_at_place<'v>(alloc: Global, place: usize, value: &'v Value) -> Result<&'v str, Fault>
-    ensures { Gives (λ text. text.now) (below (place_path place) (text_of (view value.now))) result }
+fn text_at_place(alloc: Global, place: usize, value: Value) -> Result<Text, Fault>
+    ensures { Gives (λ text. text) (below (place_path place) (text_of (view value))) result }
 {
-    match value.as_str() {
-        Some(text) => Ok(text),
-        None => Err(fault_below_place(alloc, place, Fault::Shape(Text::new(alloc)))),
+    match value {
+        Value::String(text) => Ok(Text::from_string(text)),
+        _ => Err(fault_below_place(alloc, place, Fault::Shape(Text::new(alloc)))),
     }
 }
 
 /// The texts that the values are.
-pub(crate) fn texts_of<'v>(alloc: Global, values: &'v [Value]) -> Result<Vec<&'v str>, Fault>
-    ensures { Gives (λ texts. map (λ text. text.now) texts.items) (each_from text_of 0 (items_view values.now)) result }
+pub(crate) fn texts_of(alloc: Global, values: Vec<Value>) -> Result<Seq<Text>, Fault>
+    ensures { Gives (λ texts. texts) (each_from text_of 0 (items_view values.items)) result }
 {
     let mut texts = Vec::with_capacity(alloc, values.len())?;
-    for place in 0..values.len() {
-        let text = text_at_place(alloc, place, &values[place])?;
+    for (place, value) in values.into_iter().enumerate() {
+        let text = text_at_place(alloc, place, value)?;
         texts.push(text)?;
     }
-    Ok(texts)
+    Ok(Seq::from_vec(texts))
 }

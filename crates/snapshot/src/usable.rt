@@ -1,12 +1,11 @@
 // Which listed releases can be used.
 
-ghost use Rattle.std.specs.Prelude.{◌≡◌, Ok, map};
+ghost use Rattle.std.specs.Prelude.{◌≡◌, Ok};
 ghost use Rattle.std.specs.List.{AllByRecursion};
 ghost use Rattle.pep440.specs.Reading.{version_of};
 ghost use Rattle.pep508.specs.Requirement.{requirement_text};
 ghost use Rattle.snapshot.specs.Files.{has_file};
 ghost use Rattle.snapshot.specs.Lawful.{IsFile};
-ghost use Rattle.snapshot.specs.Listed.{listed_view};
 ghost use Rattle.snapshot.specs.Python.{is_blank, python_of};
 ghost use Rattle.snapshot.specs.Releases.{required_at, requirements_from, usable, versioned};
 ghost use Rattle.snapshot.specs.Shape.{Gives};
@@ -43,17 +42,14 @@ fn is_blank(text: &str) -> bool
 }
 
 /// What a text asks of Python: nothing, where it is empty or blank.
-fn python_of(alloc: Global, text: &str) -> Result<Result<Option<RequiresPython>, SkipCause>, Fault>
-    ensures { Gives (λ p. p) (Ok (python_of text.now)) result }
+fn python_of(alloc: Global, text: Text) -> Result<Result<Option<RequiresPython>, SkipCause>, Fault>
+    ensures { Gives (λ p. p) (Ok (python_of text)) result }
 {
-    if is_blank(text) {
+    if is_blank(text.as_str()) {
         return Ok(Ok(None));
     }
-    match SpecifierSet::parse(alloc, text) {
-        Ok(set) => {
-            let text = Text::copy_of(alloc, text)?;
-            Ok(Ok(Some(RequiresPython::new(text, set))))
-        }
+    match SpecifierSet::parse(alloc, text.as_str()) {
+        Ok(set) => Ok(Ok(Some(RequiresPython::new(text, set)))),
         Err(VersionFault::OutOfMemory) => Err(Fault::OutOfMemory),
         Err(fault) => Ok(Err(SkipCause::RequiresPython(fault))),
     }
@@ -77,14 +73,13 @@ fn requirement_at(
 /// The requirements that the texts are.
 fn requirements_of(
     alloc: Global,
-    texts: &[&str],
+    texts: &[Text],
 ) -> Result<Result<Seq<Requirement>, SkipCause>, Fault>
-    ensures { Gives (λ d. d) (Ok (requirements_from 0 (map (λ text. text.now) texts.now))) result }
+    ensures { Gives (λ d. d) (Ok (requirements_from 0 texts.now)) result }
 {
     let mut requirements = Vec::with_capacity(alloc, texts.len())?;
     for place in 0..texts.len() {
-        let text = &texts[place];
-        match requirement_at(alloc, place, text)? {
+        match requirement_at(alloc, place, texts[place].as_str())? {
             Ok(requirement) => requirements.push(requirement)?,
             Err(cause) => return Ok(Err(cause)),
         }
@@ -101,9 +96,9 @@ fn has_file(files: &Chosen) -> bool
 
 /// The release, or the first cause for which it can't be used.
 #[tactic(auto, unfolding(crate::specs::Releases::usable))]
-pub(crate) fn usable(alloc: Global, listed: Listed<'_>) -> Result<Result<Release, SkipCause>, Fault>
-    requires { AllByRecursion IsFile listed.files.items }
-    ensures { Gives (λ r. r) (Ok (usable (listed_view listed.entry))) result }
+pub(crate) fn usable(alloc: Global, listed: Listed) -> Result<Result<Release, SkipCause>, Fault>
+    requires { AllByRecursion IsFile listed.files }
+    ensures { Gives (λ r. r) (Ok (usable listed)) result }
 {
     let Listed {
         version,
@@ -112,7 +107,7 @@ pub(crate) fn usable(alloc: Global, listed: Listed<'_>) -> Result<Result<Release
         yanked,
         files,
     } = listed;
-    let version = match version_of(alloc, version)? {
+    let version = match version_of(alloc, version.as_str())? {
         Ok(version) => version,
         Err(cause) => return Ok(Err(cause)),
     };

@@ -8,7 +8,7 @@ use Rattle.pep440.proofs.sets.clauses_at.Goals as goal
 
 pub returns-in_err-clause : goal.returns-in_err-clause
 returns-in_err-clause c =
-    let p = err_from_is_err_and c.from_residual.result c.from_residual.ensures.1 in
+    let p = err_from_is_err_and c.from_residual-in_err-clause.result c.from_residual-in_err-clause.ensures.1 in
     let piece = take c.in-Some.comma c.pieces.rest.now in
     let behind = drop (c.in-Some.comma + 1) c.pieces.rest.now in
     let fault : Fails c.in_err-clause.field-0.0 (clause_of (vec_len c.pieces.clauses + 1) (trim_blank piece)) = rw (← c.cut_at.ensures.front, ← c.len.ensures, ← c.trim_blank.ensures) c.in_err-clause.ensures in

@@ -9,4 +9,4 @@ new-requires c =
     let files = c.in_ok-files.files in
     let python = ok-inside _ _ c.in_ok-python.ensures ∙ c.in-Ok-2.is in
     let file : has_file files.sdist files.wheels ≡ true = grind arith in
-    release-lawful c.args.listed.requires_python.now c.args.listed.files.items _ c.requires python c.in_ok-files.ensures.sdist c.in_ok-files.ensures.wheels file
+    release-lawful c.args.listed.requires_python c.args.listed.files _ c.requires python c.in_ok-files.ensures.sdist c.in_ok-files.ensures.wheels file
