@@ -87,12 +87,11 @@ def compare_locks(what, place):
 index = f"{folder}/index.json"
 whole = f"{folder}/whole.json"
 long = f"{folder}/long"
-making = [index_program, "index", whole], [index_program, "value", whole]
+making, apart, value = ([index_program, word, whole] for word in ("index", "apart", "value"))
 what = "index of 100,000 whole releases (50 MB)"
-compare(f"{what}, made of its bytes", *making, same=False, unit=1000, other="serde_json")
-least = [index_program, "least", whole]
-compare("the JSON value, dropped again, and the digest", least, making[1], same=False, unit=1000, other="serde_json")
-compare(f"{what}, read, made and dropped", *making, same=False, other="serde_json")
+compare(f"{what}, made of its bytes", making, value, same=False, unit=1000, other="serde_json")
+compare("its JSON value, taken apart, and the digest", apart, value, same=False, unit=1000, other="serde_json")
+compare(f"{what}, read, made and dropped", making, value, same=False, other="serde_json")
 compare(
     "index of 51,250 releases, read",
     [program, "--dir", empty, "--index", index, "--env", environment, "try"],
