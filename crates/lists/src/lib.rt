@@ -5,8 +5,6 @@
 #![tactic(auto)]
 
 mod seq;
-#[cfg(test)]
-mod tests;
 mod text;
 
 pub use crate::seq::{Faithful, Seq};

@@ -11,11 +11,7 @@ pub mod laws;
 mod lock;
 mod order;
 mod reading;
-#[cfg(test)]
-mod shape_tests;
 mod table;
-#[cfg(test)]
-mod tests;
 mod text;
 mod writing;
 

@@ -17,8 +17,6 @@ mod releases;
 mod shape;
 mod skipped;
 mod snapshot;
-#[cfg(test)]
-mod tests;
 mod usable;
 
 pub use crate::fault::Fault;

@@ -1,0 +1,53 @@
+"""Tests of tools/gate_times.py: which process is what, the table, and a run of a command that works for a moment."""
+
+import os
+import subprocess
+import sys
+import tempfile
+import unittest
+from pathlib import Path
+
+TOOLS = Path(__file__).resolve().parent.parent
+sys.path.insert(0, str(TOOLS))
+import gate_times  # noqa: E402
+
+# A stand-in for the prover, which works for a second.
+WORKS = "import time\nend = time.process_time() + 1\nwhile time.process_time() < end: pass\n"
+
+
+class Times(unittest.TestCase):
+    def test_knows_what_a_process_does(self):
+        words = ["/kit/bin/rattle", "check", "--crate-name", "lists", "src/lib.rt"]
+        self.assertEqual(gate_times.check_of(words, "/a/crates/lists"), ("lists", "proofs"))
+        self.assertEqual(gate_times.check_of(words, "/tmp/rt-edit-x1"), ("lists", "edits"))
+        tests = ["rattle", "build", "--crate-name", "rows", "--test"]
+        self.assertEqual(gate_times.check_of(tests, "/a"), ("rows", "tests"))
+        for other in [], ["rattle"], ["rattle", "fmt", "--crate-name", "a"], ["python3", "check"], ["rattle", "check"]:
+            self.assertIsNone(gate_times.check_of(other, "/a"))
+
+    def test_the_crate_with_the_most_time_is_first(self):
+        used = {("a", "proofs"): 60, ("b", "proofs"): 30, ("b", "tests"): 60, ("a", "edits"): 6}
+        lines = gate_times.table(used, 200, 90)
+        self.assertEqual(lines[2:], [
+            "| b | 0.5 | 1.0 | 0.0 | 1.5 |",
+            "| a | 1.0 | 0.0 | 0.1 | 1.1 |",
+            "| all | 1.5 | 1.0 | 0.1 | 3.3 |",
+            "3 processor minutes in 2 minutes",
+        ])
+
+    def test_runs_the_command_and_gives_its_status(self):
+        with tempfile.TemporaryDirectory() as folder:
+            prover = Path(folder) / "rattle"
+            os.symlink(sys.executable, prover)
+            (Path(folder) / "check").write_text(WORKS, encoding="utf-8")
+            command = [prover, "check", "--crate-name", "lists"]
+            done = subprocess.run(
+                [TOOLS / "gate_times.py", "bash", "-c", f"cd {folder} && {' '.join(map(str, command))}; echo done; exit 3"],
+                capture_output=True, encoding="utf-8", check=False,
+            )
+        self.assertEqual((done.returncode, done.stdout), (3, "done\n"))
+        self.assertRegex(done.stderr, r"\| lists \| 0\.0 \| 0\.0 \| 0\.0 \| 0\.0 \|")
+
+
+if __name__ == "__main__":
+    unittest.main()
