@@ -13,7 +13,7 @@ use Rattle.serde_json.specs.Data.{Data, no_items}
 use Rattle.serde_json.specs.Find.{as_array, as_bool, as_number, as_str, as_u64, get}
 use Rattle.pep440.specs.declared.fault.Fault.{Fault as VersionFault}
 use Rattle.pep440.specs.declared.specifier.Clause.{Clause}
-use Rattle.pep440.specs.Sets.{set_of}
+use Rattle.pep440.specs.Tied.Sets.{set_of}
 use Rattle.snapshot.specs.declared.file.ReleaseFile.{ReleaseFile}
 use Rattle.snapshot.specs.declared.form.Form.{Form}
 use Rattle.snapshot.specs.declared.form.Form.TheVariants.{Wheel, TarGz, Zip, Other}

@@ -8,7 +8,7 @@ use Rattle.serde_json.specs.Data.{Data, Items, no_items}
 use Rattle.serde_json.specs.Find.{as_array, as_bool, as_str}
 use Rattle.markers.specs.declared.fault.Cause.{Cause}
 use Rattle.pep440.specs.Order.{version_cmp}
-use Rattle.pep440.specs.Reading.{version_of}
+use Rattle.pep440.specs.Tied.Reading.{version_of}
 use Rattle.pep440.specs.Version.{Parts}
 use Rattle.pep440.specs.declared.fault.Fault.{Fault as VersionFault}
 use Rattle.pep508.specs.Requirement.{Wanted, requirement_text}

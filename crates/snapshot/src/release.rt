@@ -40,7 +40,7 @@ impl Drop for Release {
 
 impl Model for Release {
     ghost use Rattle.std.specs.Coded.{codes};
-    ghost use Rattle.markers.specs.MarkerCode.{tree_code};
+    ghost use Rattle.markers.specs.Tied.MarkerCode.{tree_code};
     ghost use Rattle.snapshot.specs.Lawful.{IsRelease};
     ghost use Rattle.snapshot.specs.Release.{Release};
 
@@ -159,7 +159,7 @@ pub(crate) struct Newest {
 
 impl Model for Newest {
     ghost use Rattle.std.specs.Coded.{codes};
-    ghost use Rattle.markers.specs.MarkerCode.{tree_code};
+    ghost use Rattle.markers.specs.Tied.MarkerCode.{tree_code};
     ghost use Rattle.snapshot.specs.Release.{Release};
 
     ghost Value = { Release };

@@ -46,7 +46,7 @@ impl Drop for Snapshot {
 
 impl Model for Snapshot {
     ghost use Rattle.std.specs.Coded.{codes};
-    ghost use Rattle.markers.specs.MarkerCode.{tree_code};
+    ghost use Rattle.markers.specs.Tied.MarkerCode.{tree_code};
     ghost use Rattle.snapshot.specs.Packages.{Index};
     ghost use Rattle.snapshot.specs.Places.{AllFall, ArePlaces};
 

@@ -1,7 +1,7 @@
 -- The laws of the orders of releases and of files.
 use Rattle.std.specs.Cmp.{IsTotalOrder, back_total, on_total}
 use Rattle.std.specs.Cmp.Lexicographic.{nat_list_cmp_total}
-use Rattle.pep440.specs.OrderLaws.{version_total}
+use Rattle.pep440.specs.Tied.OrderLaws.{version_total}
 use Rattle.snapshot.specs.Files.{name_cmp}
 use Rattle.snapshot.specs.Releases.{newer_cmp}
 
