@@ -10,7 +10,7 @@ use Rattle.std.specs.List.{list_any, position_from}
 use Rattle.std.specs.Prelude.{is_some}
 use Rattle.snapshot.specs.declared.package.Package.{Package}
 use Rattle.snapshot.specs.Packages.{is_named, releases_of, repeated_from}
-use Rattle.snapshot.specs.Places.{ArePlaces}
+use Rattle.snapshot.specs.Tied.Places.{ArePlaces}
 
 -- an item that doesn't pass, put last, changes no place
 position-push_other : {X : Type 0} (p : X → Bool) (k : ℕ) (xs : List X) (y : X) → p y ≡ false → position_from p k (xs ++ y ∷ []) ≡ position_from p k xs

@@ -4,7 +4,7 @@ ghost use Rattle.std.specs.Prelude.{◌≡◌, ◌<◌, true, IfOk, IfSome, leng
 ghost use Rattle.serde_json.specs.Data.{Members, member};
 ghost use Rattle.serde_json.specs.View.{members_view, view};
 ghost use Rattle.serde_json.specs.Find.{get, get_member};
-ghost use Rattle.snapshot.specs.Keys.{are_apart, place_of, values_in};
+ghost use Rattle.snapshot.specs.Tied.Keys.{are_apart, place_of, values_in};
 ghost use Rattle.snapshot.specs.Shape.{Gives, object_of};
 
 use crate::fault::Fault;

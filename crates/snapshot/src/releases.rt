@@ -4,8 +4,8 @@ ghost use Rattle.std.specs.Prelude.{◌≡◌, ◌+◌, ◌++◌, IfOk, IsOkUnle
 ghost use Rattle.std.specs.BTreeSet.{insert_key};
 ghost use Rattle.std.specs.List.{list_any};
 ghost use Rattle.serde_json.specs.View.{items_view, view};
-ghost use Rattle.snapshot.specs.Gathering.{gathered_view, kept_view};
-ghost use Rattle.snapshot.specs.Releases.{gather_release, has_version_of, left_out, newer_cmp, release_of, releases_in};
+ghost use Rattle.snapshot.specs.Tied.Gathering.{gathered_view, kept_view, gather_release, left_out};
+ghost use Rattle.snapshot.specs.Releases.{has_version_of, newer_cmp, release_of, releases_in};
 ghost use Rattle.snapshot.specs.Shape.{Gives, below, place_path};
 ghost use Rattle.snapshot.specs.declared.fault.Fault.TheVariants.{OutOfMemory};
 

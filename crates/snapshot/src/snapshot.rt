@@ -5,7 +5,7 @@ ghost use Rattle.std.specs.List.Sorted.{IsStrictlySortedBy};
 ghost use Rattle.lists.specs.Answers.{Answers};
 ghost use Rattle.serde_json.specs.View.{view};
 ghost use Rattle.snapshot.specs.Packages.{json_of, releases_of, repeated_from, snapshot_of, unless_repeated};
-ghost use Rattle.snapshot.specs.Places.{ArePlaces};
+ghost use Rattle.snapshot.specs.Tied.Places.{ArePlaces};
 ghost use Rattle.snapshot.specs.Releases.{newer_cmp};
 ghost use Rattle.snapshot.specs.Shape.{Gives};
 ghost use Rattle.snapshot.specs.declared.fault.Fault.TheVariants.{OutOfMemory};
@@ -48,7 +48,7 @@ impl Model for Snapshot {
     ghost use Rattle.std.specs.Coded.{codes};
     ghost use Rattle.markers.specs.Tied.MarkerCode.{tree_code};
     ghost use Rattle.snapshot.specs.Packages.{Index};
-    ghost use Rattle.snapshot.specs.Places.{AllFall, ArePlaces};
+    ghost use Rattle.snapshot.specs.Tied.Places.{AllFall, ArePlaces};
 
     ghost Value = { Index };
 

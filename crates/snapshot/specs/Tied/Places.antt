@@ -1,4 +1,5 @@
 -- What an index that was read keeps: where each package stands, and that releases fall.
+-- Tied to `releases_of` by the model of `Snapshot`; need not be read.
 use Rattle.std.specs.Prelude.{◌≡◌, ℕ, List, String}
 use Rattle.std.specs.BTreeMap.{BTreeMap, get_by_text}
 use Rattle.std.specs.List.{AllByRecursion, position_from}
