@@ -1,10 +1,10 @@
 // The index.
 
-ghost use Rattle.std.specs.Prelude.{◌≡◌, ◌⊎◌, Err, IfErr, IfOk, None, []};
+ghost use Rattle.std.specs.Prelude.{◌≡◌, ◌⊎◌, Err, IfErr, IfOk, Ok};
 ghost use Rattle.std.specs.List.Sorted.{IsStrictlySortedBy};
 ghost use Rattle.lists.specs.Answers.{Answers};
 ghost use Rattle.serde_json.specs.View.{view};
-ghost use Rattle.snapshot.specs.Packages.{json_of, releases_of, repeated_from, snapshot_of, unless_repeated};
+ghost use Rattle.snapshot.specs.Packages.{json_of, releases_of, repeated_names, snapshot_of, unless_repeated};
 ghost use Rattle.snapshot.specs.Tied.Places.{ArePlaces};
 ghost use Rattle.snapshot.specs.Releases.{newer_cmp};
 ghost use Rattle.snapshot.specs.Shape.{Gives};
@@ -77,9 +77,10 @@ fn json_of(alloc: Global, bytes: &[u8]) -> Result<Value, Fault>
 
 /// The place of each package, by its name.
 fn places_of(alloc: Global, packages: &[Package]) -> Result<BTreeMap<String, usize>, Fault>
-    ensures distinct { IfOk result (λ _. repeated_from [] packages.now ≡ None) }
+    ensures distinct { IfOk result (λ _. unless_repeated (repeated_names packages.now) ≡ Ok tt) }
     ensures places { IfOk result (λ places. ArePlaces places packages.now) }
-    ensures err { IfErr result (λ e. (e ≡ OutOfMemory) ⊎ (unless_repeated (repeated_from [] packages.now) ≡ Err e)) }
+    ensures err { IfErr result (λ e.
+        (e ≡ OutOfMemory) ⊎ (unless_repeated (repeated_names packages.now) ≡ Err e)) }
 {
     let mut places = BTreeMap::new(alloc);
     for place in 0..packages.len() {
