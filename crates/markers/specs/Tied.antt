@@ -3,6 +3,7 @@ pub mod Known
 pub mod MarkerCode
 pub mod MarkerFalls
 pub mod MarkerReading
+pub mod MarkerSize
 pub mod MarkerTokens
 pub mod MarkerView
 pub mod Names

@@ -39,7 +39,8 @@ enum Node {
 
 impl Model for Marker {
     ghost use Rattle.markers.specs.Tied.MarkerCode.{tree_code};
-    ghost use Rattle.markers.specs.MarkerTree.{Tree, tree_size};
+    ghost use Rattle.markers.specs.MarkerTree.{Tree};
+    ghost use Rattle.markers.specs.Tied.MarkerSize.{tree_size};
 
     ghost Value = { Tree };
 
@@ -144,7 +145,8 @@ fn all_hold(members: &[Marker], environment: &Environment, extra: Option<&Name>)
 
 #[cycle(holds)]
 fn any_holds(members: &[Marker], environment: &Environment, extra: Option<&Name>) -> bool
-    ensures { result ≡ any_holds (trees_of members.now) environment.now (option_copied extra.entry) }
+    ensures { result
+        ≡ any_holds (trees_of members.now) environment.now (option_copied extra.entry) }
 {
     for member in members {
         if member.holds(environment, extra) {

@@ -169,7 +169,8 @@ impl CachedRelation {
         operator: Operator,
         right: Operand,
     ) -> Result<CachedRelation, AllocError>
-        ensures { IfOk result (λ r. r ≡ record { left = left; operator = operator; right = right }) }
+        ensures { IfOk result (λ r. r
+            ≡ record { left = left; operator = operator; right = right }) }
     {
         let version = known_version(alloc, &left)?;
         let clauses = known_clauses(alloc, operator, &right)?;

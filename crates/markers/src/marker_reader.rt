@@ -156,7 +156,8 @@ fn complete(
     operator: Operator,
     token: Token,
 ) -> Result<Reader, Cause>
-    ensures { Answers OutOfMemory (ok_or (complete outer group left operator token) BadMarker) result }
+    ensures { Answers OutOfMemory
+        (ok_or (complete outer group left operator token) BadMarker) result }
 {
     let Token::Side(right) = token else {
         return Err(Cause::BadMarker);

@@ -132,12 +132,14 @@ fn part_at(alloc: Global, text: &[u8]) -> Result<LocalPart, Fault>
 // The place of the first separator.
 fn separator_at(text: &[u8]) -> Option<usize>
     ensures none { IfNone result (locals_from [] text.now ≡ part_of text.now ∷ []) }
-    ensures none_within { IfNone result (is_local_from false text.now ≡ true → list_all is_ascii_alphanumeric text.now ≡ true) }
+    ensures none_within { IfNone result (is_local_from false text.now ≡ true
+        → list_all is_ascii_alphanumeric text.now ≡ true) }
     ensures within { IfSome result (λ i. i < length text.now) }
     ensures some { IfSome result (λ i. locals_from [] text.now
         ≡ part_of (take i text.now) ∷ locals_from [] (drop (i + 1) text.now)) }
     ensures some_within { IfSome result (λ i. is_local_from false text.now ≡ true
-        → (list_all is_ascii_alphanumeric (take i text.now) ≡ true) × (is_local_from false (drop (i + 1) text.now) ≡ true)) }
+        → (list_all is_ascii_alphanumeric (take i text.now) ≡ true)
+        × (is_local_from false (drop (i + 1) text.now) ≡ true)) }
 {
     for i in 0..text.len() {
         if words::is_separator(text[i]) {

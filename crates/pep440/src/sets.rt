@@ -59,7 +59,8 @@ fn trim_blank(text: &[u8]) -> &[u8]
 fn comma_at(text: &[u8]) -> Option<usize>
     ensures none { IfNone result (pieces text.now ≡ text.now ∷ []) }
     ensures within { IfSome result (λ i. i < length text.now) }
-    ensures some { IfSome result (λ i. pieces text.now ≡ take i text.now ∷ pieces (drop (i + 1) text.now)) }
+    ensures some { IfSome result (λ i. pieces text.now
+        ≡ take i text.now ∷ pieces (drop (i + 1) text.now)) }
 {
     for i in 0..text.len() {
         if text[i] == b',' {

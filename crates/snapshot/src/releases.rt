@@ -57,7 +57,8 @@ fn release_at_place(
 
 /// Puts the release into its place, unless one of an equal version is there, and says whether it did.
 fn put(newest: &mut BTreeSet<Newest>, release: Newest) -> Result<bool, Fault>
-    ensures is_new { IfOk result (λ new. new ≡ not (list_any (has_version_of release) newest.old.keys)) }
+    ensures is_new { IfOk result (λ new. new
+        ≡ not (list_any (has_version_of release) newest.old.keys)) }
     ensures keys { OnOk result (newest.new.keys ≡ insert_key newer_cmp newest.old.keys release) }
     ensures memory { IsOkUnless result OutOfMemory }
 {
@@ -71,7 +72,8 @@ fn leave_out(
     place: usize,
     cause: SkipCause,
 ) -> Result<(), Fault>
-    ensures kept { OnOk result (skipped.new.items ≡ skipped.old.items ++ left_out name.now place cause) }
+    ensures kept { OnOk result (skipped.new.items
+        ≡ skipped.old.items ++ left_out name.now place cause) }
     ensures memory { IsOkUnless result OutOfMemory }
 {
     let name = name.clone()?;
@@ -88,7 +90,8 @@ fn add(
     release: Result<Release, SkipCause>,
 ) -> Result<(), Fault>
     ensures kept { OnOk result
-        (gathered_view (place + 1) gathering.new ≡ gather_release name.now (gathered_view place gathering.old) release) }
+        (gathered_view (place + 1) gathering.new
+        ≡ gather_release name.now (gathered_view place gathering.old) release) }
     ensures memory { IsOkUnless result OutOfMemory }
 {
     match release {

@@ -56,7 +56,10 @@ impl Model for Snapshot {
 
     ghost view = { λ s. record { packages = s.packages; skipped = s.skipped; digest = s.digest } };
 
-    ghost invariant = { λ s. record { places : ArePlaces s.places s.packages; fall : AllFall s.packages } };
+    ghost invariant = { λ s. record {
+      places : ArePlaces s.places s.packages;
+      fall : AllFall s.packages;
+    } };
 }
 
 /// The JSON value of the bytes.
