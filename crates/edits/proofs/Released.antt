@@ -8,7 +8,7 @@ use Rattle.std.specs.Ordering.{is_eq}
 use Rattle.std.specs.Prelude.{filter, not}
 use Rattle.std.specs.Str.{bytes_eq}
 use Rattle.pep440.specs.Order.{version_cmp}
-use Rattle.pep440.specs.OrderLaws.{version_total}
+use Rattle.pep440.specs.Tied.OrderLaws.{version_total}
 use Rattle.pep440.specs.Version.{Parts}
 use Rattle.search.specs.Solutions.{Solution}
 use Rattle.snapshot.specs.Release.{Release}

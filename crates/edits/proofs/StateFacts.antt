@@ -11,7 +11,7 @@ use Rattle.markers.specs.Environment.{Texts, marker_text, text_of}
 use Rattle.markers.specs.declared.variable.Variable.TheVariants.{PythonFullVersion}
 use Rattle.pep440.specs.Matching.{matches}
 use Rattle.pep440.specs.Order.{version_cmp}
-use Rattle.pep440.specs.Sets.{set_of}
+use Rattle.pep440.specs.Tied.Sets.{set_of}
 use Rattle.pep440.specs.Version.{Parts}
 use Rattle.pep440.specs.declared.fault.Fault.{Fault}
 use Rattle.pep440.specs.declared.specifier.Clause.{Clause}

@@ -11,7 +11,7 @@ use Rattle.serde_json.specs.Data.{Data, null, boolean, number, string, array, ob
 use Rattle.serde_json.specs.Find.{as_object}
 use Rattle.serde_json.specs.Read.{read}
 use Rattle.markers.specs.Comparisons.{version_read}
-use Rattle.markers.specs.Environment.{IsEnvironment, Texts, ◌>>=◌, all_variables, checked_text, environment_of, is_lawful, is_plain, is_versioned, kept_text, object_in, object_of, place_of, text_for, text_in, texts_in}
+use Rattle.markers.specs.Environment.{IsEnvironment, Texts, ◌>>=◌, all_variables, checked_text, environment_of, is_lawful, is_unescaped, is_versioned, kept_text, object_in, object_of, place_of, text_for, text_in, texts_in}
 use Rattle.markers.specs.declared.fault.Cause.{Cause}
 use Rattle.markers.specs.declared.fault.Cause.TheVariants.{BadEnvironment, OutOfMemory}
 use Rattle.markers.specs.declared.variable.Variable.{Variable}
@@ -159,13 +159,13 @@ pub environment_of-environment : (bytes : List ℕ) (texts : Texts) → environm
 unfolding environment_of
 environment_of-environment bytes texts h = environment_from (object_of bytes) texts h
 
-versioned_reads_by : (b : Bool) (v : Variable) (text : List ℕ) → list_all is_plain text ≡ b → is_versioned v ≡ true → is_lawful v text ≡ true → is_some (version_read text) ≡ true
+versioned_reads_by : (b : Bool) (v : Variable) (text : List ℕ) → list_all is_unescaped text ≡ b → is_versioned v ≡ true → is_lawful v text ≡ true → is_some (version_read text) ≡ true
 versioned_reads_by true v text plain versioned h = rw (plain, versioned) at h
 versioned_reads_by false v text plain versioned h = let e = rw plain at h in cc
 
 -- a lawful text of a variable whose texts are versions reads as one
 pub versioned_reads : (v : Variable) (text : List ℕ) → is_versioned v ≡ true → is_lawful v text ≡ true → is_some (version_read text) ≡ true
-versioned_reads v text versioned h = versioned_reads_by (list_all is_plain text) v text refl versioned h
+versioned_reads v text versioned h = versioned_reads_by (list_all is_unescaped text) v text refl versioned h
 
 -- ---- the loop over the conditions
 

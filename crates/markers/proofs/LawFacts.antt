@@ -2,7 +2,7 @@
 use Rattle.std.proofs.Common.{◌≡◌, ℕ, Bool, true, false, List, [], ◌∷◌, ◌++◌, Option, Some, refl, sym, ap, ◌∙◌, inl, inr, append_assoc, append-nil}
 use Rattle.std.specs.Result.{result_ok}
 use Rattle.markers.specs.MarkerGrammar.{AreConjunctions, AreMembers, IsAtom, IsMarker, IsMember, equality, operand_token, operator_tokens}
-use Rattle.markers.specs.MarkerReading.{atom_of, step, tree_behind, tree_of_tokens}
+use Rattle.markers.specs.Tied.MarkerReading.{atom_of, step, tree_behind, tree_of_tokens}
 use Rattle.markers.specs.MarkerTree.{Tree, atom, all_of, any_of, Trees, no_trees, tree, trees_of}
 use Rattle.markers.specs.Names.{name_of}
 use Rattle.markers.specs.declared.marker_atom.Atom.{Atom}

@@ -1,3 +1,4 @@
+mod DeepBeginnings
 mod EnvironmentFacts
 mod LawFacts
 mod MarkerFacts

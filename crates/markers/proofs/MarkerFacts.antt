@@ -7,7 +7,8 @@ use Rattle.std.specs.Cmp.Derive.{both_true}
 use Rattle.std.specs.Prelude.{◌↔◌}
 use Rattle.std.specs.Str.Iter.{HasSubslice}
 use Rattle.markers.specs.MarkerAtoms.{begins_with, contains}
-use Rattle.markers.specs.MarkerTree.{Tree, trees_of, tree_size, trees_size}
+use Rattle.markers.specs.MarkerTree.{Tree, trees_of}
+use Rattle.markers.specs.Tied.MarkerSize.{tree_size, trees_size}
 
 -- a member is smaller than the members
 pub member_size : (ts : List Tree) (k : ℕ) (t : Tree) → k < length ts → t ≡ get_or ts k t → tree_size t < trees_size (trees_of ts)

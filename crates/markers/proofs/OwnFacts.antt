@@ -6,13 +6,14 @@ use Rattle.std.specs.Cmp.Derive.{both_true}
 use Rattle.std.specs.List.{flat_map, list_all}
 use Rattle.std.specs.Prelude.{codes, is_some, not, ◌||◌, Result, Ok}
 use Rattle.markers.specs.Comparisons.{compares, version_read}
-use Rattle.markers.specs.Environment.{IsEnvironment, Texts, all_variables, condition, is_lawful, is_plain, is_versioned, joined, marker_text, text_of}
+use Rattle.markers.specs.Environment.{IsEnvironment, Texts, all_variables, condition, is_lawful, is_unescaped, is_versioned, joined, marker_text, text_of}
 use Rattle.markers.specs.Marker.{holds, marker_of}
 use Rattle.markers.specs.MarkerAtoms.{Relation}
 use Rattle.markers.specs.MarkerGrammar.{AreMembers, relation_tokens}
 use Rattle.markers.specs.MarkerHolds.{all_hold}
-use Rattle.markers.specs.MarkerSpelling.{AreTokens, Spells, is_inside}
-use Rattle.markers.specs.MarkerTokens.{is_deep_from, is_quote, is_too_deep}
+use Rattle.markers.specs.MarkerSpelling.{AreTokens, Spells, is_inside, is_quote}
+use Rattle.markers.specs.MarkerDepth.{is_too_deep}
+use Rattle.markers.specs.Tied.MarkerTokens.{is_deep_from}
 use Rattle.markers.specs.MarkerTree.{Tree, all_of, any_of, atom, no_trees, tree, trees_of}
 use Rattle.markers.specs.Variables.{variable_name}
 use Rattle.markers.specs.declared.comparison.Comparison.TheVariants as comparisons
@@ -23,6 +24,7 @@ use Rattle.markers.specs.declared.marker_token.Token.{Token}
 use Rattle.markers.specs.declared.marker_token.Token.TheVariants as tokens
 use Rattle.markers.specs.declared.variable.Variable.{Variable}
 use Rattle.markers.specs.declared.variable.Variable.TheVariants as variables
+use Rattle.markers.proofs.DeepBeginnings.{deep-is_scanned}
 use Rattle.markers.proofs.SpellFacts.{space-first}
 use Rattle.markers.proofs.TextLaw.{text-read}
 
@@ -153,7 +155,7 @@ more-shallow texts lawful [] = refl
 more-shallow texts lawful (v ∷ vs) = own-skipped texts lawful v (more_text texts vs) 0 0 ∙ more-shallow texts lawful vs
 
 own-shallow : (texts : Texts) → AreQuotable texts → (v : Variable) (vs : List Variable) → is_too_deep (joined (map (condition texts) (v ∷ vs))) ≡ false
-own-shallow texts lawful v vs = own-skipped texts lawful v (more_text texts vs) 0 0 ∙ more-shallow texts lawful vs
+own-shallow texts lawful v vs = deep-is_scanned (joined (map (condition texts) (v ∷ vs))) ∙ own-skipped texts lawful v (more_text texts vs) 0 0 ∙ more-shallow texts lawful vs
 
 -- ---- it holds
 
@@ -170,18 +172,18 @@ own-holds texts same extra vs = rw (own-all_hold texts same extra vs) refl
 
 -- ---- the law
 
-plain-inside : (b : ℕ) → is_plain b ≡ true → is_inside 34 b ≡ true
+plain-inside : (b : ℕ) → is_unescaped b ≡ true → is_inside 34 b ≡ true
 plain-inside b h = grind (arith, nat_tests)
 
-all_plain-inside : (text : List ℕ) → list_all is_plain text ≡ true → list_all (is_inside 34) text ≡ true
+all_plain-inside : (text : List ℕ) → list_all is_unescaped text ≡ true → list_all (is_inside 34) text ≡ true
 all_plain-inside [] h = refl
 all_plain-inside (b ∷ text) h =
-    both_true (plain-inside b (first_so (is_plain b) (list_all is_plain text) h)) (all_plain-inside text (second_so (is_plain b) (list_all is_plain text) h))
+    both_true (plain-inside b (first_so (is_unescaped b) (list_all is_unescaped text) h)) (all_plain-inside text (second_so (is_unescaped b) (list_all is_unescaped text) h))
 
 environment-quotable : (texts : Texts) → IsEnvironment texts → AreQuotable texts
 environment-quotable texts e v =
     all_plain-inside (text_of texts v)
-    (first_so (list_all is_plain (text_of texts v)) (not (is_versioned v) || is_some (version_read (text_of texts v))) (e.lawful v))
+    (first_so (list_all is_unescaped (text_of texts v)) (not (is_versioned v) || is_some (version_read (text_of texts v))) (e.lawful v))
 
 -- what stands behind the first variable
 abbrev later_variables : List Variable

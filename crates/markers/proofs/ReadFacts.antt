@@ -3,9 +3,9 @@ use Rattle.std.proofs.Common.{◌≡◌, ℕ, zero, suc, true, false, List, [], 
 use Rattle.std.specs.Prelude.{ok_or, option_and_then}
 use Rattle.std.specs.Option.{option_map}
 use Rattle.lists.specs.Answers.{Answers}
-use Rattle.markers.specs.MarkerReading.{step, tree_behind}
+use Rattle.markers.specs.Tied.MarkerReading.{step, tree_behind}
 use Rattle.pep440.specs.Text.{is_blank}
-use Rattle.markers.specs.MarkerTokens.{token_at, tokens_from}
+use Rattle.markers.specs.Tied.MarkerTokens.{token_at, tokens_from}
 use Rattle.markers.specs.MarkerTree.{Tree}
 use Rattle.markers.specs.declared.fault.Cause.{Cause}
 use Rattle.markers.specs.declared.fault.Cause.TheVariants.{BadMarker, OutOfMemory}

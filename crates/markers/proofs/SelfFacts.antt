@@ -10,10 +10,10 @@ use Rattle.std.specs.Ordering.{is_eq}
 use Rattle.std.specs.Result.{result_ok}
 use Rattle.pep440.specs.Grammar.{IsVersionText, is_space}
 use Rattle.pep440.specs.Matching.{equals, matches}
-use Rattle.pep440.specs.OrderLaws.{public_total, version_total}
-use Rattle.pep440.specs.Reading.{bare_parts, fitting, trim_space, version_of}
+use Rattle.pep440.specs.Tied.OrderLaws.{public_total, version_total}
+use Rattle.pep440.specs.Tied.Reading.{bare_parts, fitting, trim_space, version_of}
 use Rattle.pep440.specs.SetGrammar.{IsClause}
-use Rattle.pep440.specs.Sets.{◌>>=◌, clause_of, clause_text, clauses_from, is_arbitrary, set_of}
+use Rattle.pep440.specs.Tied.Sets.{◌>>=◌, clause_of, clause_text, clauses_from, is_arbitrary, set_of}
 use Rattle.pep440.specs.Text.{is_blank, pieces, trim_blank, trim_end, trim_front}
 use Rattle.pep440.specs.Version.{Parts, fits}
 use Rattle.pep440.specs.declared.fault.Fault.{Fault}
@@ -21,7 +21,7 @@ use Rattle.pep440.specs.declared.fault.Fault.TheVariants.{ArbitraryEquality}
 use Rattle.pep440.specs.declared.specifier.Clause.{Clause}
 use Rattle.pep440.specs.declared.specifier.Operator.TheVariants as operators
 use Rattle.markers.specs.Comparisons.{clauses_read, compares, decides, has_comma, text_cmp, version_read}
-use Rattle.markers.specs.Environment.{IsEnvironment, Texts, is_lawful, is_plain, is_printable, text_of}
+use Rattle.markers.specs.Environment.{IsEnvironment, Texts, is_lawful, is_unescaped, is_printable, text_of}
 use Rattle.markers.specs.declared.comparison.Comparison.TheVariants as comparisons
 use Rattle.markers.specs.declared.variable.Variable.{Variable}
 
@@ -198,20 +198,20 @@ equal_itself finds reads text printable =
 
 -- ---- the texts of an environment
 
-plain_printable : (b : ℕ) → is_plain b ≡ true → is_printable b ≡ true
+plain_printable : (b : ℕ) → is_unescaped b ≡ true → is_printable b ≡ true
 plain_printable b h = elim (cases_Bool (is_printable b)) [
   | inl good ↦ good
   | inr bad ↦ let e = rw bad at h in cc
 ]
 
-all_printable : (text : List ℕ) → list_all is_plain text ≡ true → list_all is_printable text ≡ true
+all_printable : (text : List ℕ) → list_all is_unescaped text ≡ true → list_all is_printable text ≡ true
 all_printable [] h = refl
 all_printable (b ∷ text) h =
-    let p = test_head is_plain b text h in
+    let p = test_head is_unescaped b text h in
     rw (plain_printable b p.0, all_printable text p.1) refl
 
 lawful_printable : (variable : Variable) (text : List ℕ) → is_lawful variable text ≡ true → list_all is_printable text ≡ true
-lawful_printable variable text h = elim (cases_Bool (list_all is_plain text)) [
+lawful_printable variable text h = elim (cases_Bool (list_all is_unescaped text)) [
   | inl good ↦ all_printable text good
   | inr bad ↦ let e = rw bad at h in cc
 ]

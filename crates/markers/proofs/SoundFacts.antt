@@ -3,7 +3,7 @@ use Rattle.std.proofs.Common.{◌≡◌, ℕ, true, false, List, [], ◌∷◌, 
 use Rattle.std.specs.Prelude.{option_and_then}
 use Rattle.std.specs.Result.{result_ok}
 use Rattle.markers.specs.MarkerGrammar.{AreConjunctions, AreMembers, IsAtom, IsConjunction, IsMarker, IsMember, operator_tokens}
-use Rattle.markers.specs.MarkerReading.{added, atom_of, begin, close, closed, complete, empty_group, extra_named, join, negate, relate, start, step, step_at, tree_behind, tree_of_tokens, whole, with_end, with_member}
+use Rattle.markers.specs.Tied.MarkerReading.{added, atom_of, begin, close, closed, complete, empty_group, extra_named, join, negate, relate, start, step, step_at, tree_behind, tree_of_tokens, whole, with_end, with_member}
 use Rattle.markers.specs.MarkerTree.{Tree, atom, all_of, Trees, no_trees, tree, trees_of}
 use Rattle.markers.specs.Names.{name_of}
 use Rattle.markers.specs.declared.comparison.Comparison.TheVariants as comparisons

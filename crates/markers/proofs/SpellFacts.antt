@@ -10,9 +10,9 @@ use Rattle.std.specs.Prelude.{codes, find}
 use Rattle.std.specs.Str.{bytes_eq}
 use Rattle.markers.specs.Comparisons.{sign}
 use Rattle.markers.specs.Environment.{all_variables, variable_named}
-use Rattle.markers.specs.MarkerSpelling.{AreTokens, IsToken, goes_on, is_inside, starts_word}
+use Rattle.markers.specs.MarkerSpelling.{AreTokens, IsToken, goes_on, is_inside, starts_word, is_quotable, is_quote, is_word_byte, starts_equal}
 use Rattle.pep440.specs.Text.{is_blank}
-use Rattle.markers.specs.MarkerTokens.{before_tokens, double_sign, is_quotable, is_quote, is_word_byte, quoted_at, quoted_text, sign_at, single_sign, starts_equal, token_at, tokens_from, word_at, word_of, word_token}
+use Rattle.markers.specs.Tied.MarkerTokens.{before_tokens, double_sign, quoted_at, quoted_text, sign_at, single_sign, token_at, tokens_from, word_at, word_of, word_token}
 use Rattle.markers.specs.Variables.{variable_name}
 use Rattle.markers.specs.declared.comparison.Comparison.{Comparison}
 use Rattle.markers.specs.declared.comparison.Comparison.TheVariants as comparisons

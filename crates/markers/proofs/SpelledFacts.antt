@@ -7,9 +7,9 @@ use Rattle.std.specs.Cmp.{first_so, second_so}
 use Rattle.std.specs.List.{list_all}
 use Rattle.std.specs.Option.{option_map}
 use Rattle.std.specs.Prelude.{codes, not}
-use Rattle.markers.specs.MarkerSpelling.{AreTokens, IsQuoted, IsToken, goes_on, is_inside, starts_word}
+use Rattle.markers.specs.MarkerSpelling.{AreTokens, IsQuoted, IsToken, goes_on, is_inside, starts_word, is_quotable, is_quote, is_word_byte}
 use Rattle.pep440.specs.Text.{is_blank}
-use Rattle.markers.specs.MarkerTokens.{is_quotable, is_quote, is_word_byte, quoted_text, token_at, tokens_from, word_at, word_of, word_token}
+use Rattle.markers.specs.Tied.MarkerTokens.{quoted_text, token_at, tokens_from, word_at, word_of, word_token}
 use Rattle.markers.specs.Variables.{variable_name}
 use Rattle.markers.specs.declared.comparison.Comparison.TheVariants as comparisons
 use Rattle.markers.specs.declared.marker_atom.Operand.TheVariants as operands

@@ -3,9 +3,10 @@ use Rattle.std.proofs.Common.{◌≡◌, ℕ, true, false, List, Option, Some, O
 use Rattle.std.proofs.lemmas.Bool.{cases_Bool}
 use Rattle.std.specs.Prelude.{option_and_then}
 use Rattle.markers.specs.Marker.{marker_of}
-use Rattle.markers.specs.MarkerReading.{tree_of, tree_of_tokens}
+use Rattle.markers.specs.Tied.MarkerReading.{tree_of, tree_of_tokens}
 use Rattle.markers.specs.MarkerSpelling.{Spells}
-use Rattle.markers.specs.MarkerTokens.{is_too_deep, tokens_of}
+use Rattle.markers.specs.MarkerDepth.{is_too_deep}
+use Rattle.markers.specs.Tied.MarkerTokens.{tokens_of}
 use Rattle.markers.specs.MarkerTree.{Tree}
 use Rattle.markers.specs.declared.fault.Cause.TheVariants.{MarkerTooDeep}
 use Rattle.markers.specs.declared.marker_token.Token.{Token}

@@ -4,7 +4,8 @@ use Rattle.std.proofs.lemmas.Bool.{cases_Bool}
 use Rattle.std.proofs.lemmas.Bool.Decides.{nat_tests}
 use Rattle.std.specs.Option.{option_map}
 use Rattle.std.specs.Str.{IsAscii}
-use Rattle.markers.specs.MarkerTokens.{is_quotable, is_word_byte, quoted_text, word_of}
+use Rattle.markers.specs.MarkerSpelling.{is_quotable, is_word_byte}
+use Rattle.markers.specs.Tied.MarkerTokens.{quoted_text, word_of}
 
 ascii-cons : (b : ℕ) (rest : List ℕ) → b < 128 → IsAscii rest → IsAscii (b ∷ rest)
 ascii-cons b rest h g zero = h

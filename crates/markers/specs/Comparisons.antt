@@ -6,8 +6,8 @@ use Rattle.std.specs.Ordering.{is_eq, is_ge, is_gt, is_le, is_lt, nat_cmp}
 use Rattle.std.specs.Result.{result_ok}
 use Rattle.std.specs.declared.cmp.Ordering.{Ordering}
 use Rattle.pep440.specs.Matching.{matches}
-use Rattle.pep440.specs.Reading.{version_of}
-use Rattle.pep440.specs.Sets.{set_of}
+use Rattle.pep440.specs.Tied.Reading.{version_of}
+use Rattle.pep440.specs.Tied.Sets.{set_of}
 use Rattle.pep440.specs.Version.{Parts}
 use Rattle.pep440.specs.declared.specifier.Clause.{Clause}
 use Rattle.markers.specs.declared.comparison.Comparison.{Comparison}

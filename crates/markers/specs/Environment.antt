@@ -56,8 +56,8 @@ abbrev pub is_printable : ℕ → Bool
 is_printable b = nat_le 32 b && nat_le b 126
 
 -- a printable ASCII character that stands for itself between double quotes (reqlock's own rule)
-abbrev pub is_plain : ℕ → Bool
-is_plain b = is_printable b && not (b == 34) && not (b == 92)
+abbrev pub is_unescaped : ℕ → Bool
+is_unescaped b = is_printable b && not (b == 34) && not (b == 92)
 
 -- the variables whose texts are versions
 abbrev pub is_versioned : Variable → Bool
@@ -67,7 +67,7 @@ is_versioned variable = false
 
 -- whether a variable may have the text (reqlock's own rule)
 abbrev pub is_lawful : Variable → List ℕ → Bool
-is_lawful variable text = list_all is_plain text && (not (is_versioned variable) || is_some (version_read text))
+is_lawful variable text = list_all is_unescaped text && (not (is_versioned variable) || is_some (version_read text))
 
 -- what holds of every `Environment`
 pub record IsEnvironment (texts : Texts) : Type 0 where

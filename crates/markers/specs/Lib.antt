@@ -3,15 +3,11 @@ pub mod Environment
 pub mod Faults
 pub mod Marker
 pub mod MarkerAtoms
-pub mod MarkerCode
-pub mod MarkerFalls
+pub mod MarkerDepth
 pub mod MarkerGrammar
 pub mod MarkerHolds
-pub mod MarkerReading
 pub mod MarkerSpelling
-pub mod MarkerTokens
 pub mod MarkerTree
-pub mod MarkerView
 pub mod Names
-pub mod Values
+pub mod Tied
 pub mod Variables

@@ -1,9 +1,7 @@
 -- Atoms of markers (PEP 508, "Environment Markers").
 use Rattle.std.specs.Prelude.{ℕ, ◌&&◌, ◌||◌, nat_eq, not, Bool, true, false, List, [], ◌∷◌, Option, Some, None}
 use Rattle.std.specs.Str.{bytes_eq}
-use Rattle.pep440.specs.Version.{Parts}
-use Rattle.pep440.specs.declared.specifier.Clause.{Clause}
-use Rattle.markers.specs.Comparisons.{clauses_read, compares, version_read}
+use Rattle.markers.specs.Comparisons.{compares}
 use Rattle.markers.specs.Environment.{Texts, text_of}
 use Rattle.markers.specs.declared.marker_atom.Operand.{Operand}
 use Rattle.markers.specs.declared.marker_atom.Operand.TheVariants.{Variable, Quoted}
@@ -15,18 +13,6 @@ pub record Relation : Type 0 where
   pub left : Operand
   pub operator : Operator
   pub right : Operand
-
--- the version that an operand on the left is known to read as
-abbrev pub known_version : Operand → Option Parts
-known_version (Variable variable) = None
-known_version (Quoted text) = version_read text
-
--- the clauses that an operand on the right is known to read as behind a comparison
-abbrev pub known_clauses : Operator → Operand → Option (List Clause)
-known_clauses (Compare comparison) (Variable variable) = None
-known_clauses (Compare comparison) (Quoted text) = clauses_read comparison text
-known_clauses In right = None
-known_clauses NotIn right = None
 
 -- the text that an operand has
 abbrev pub operand_text : Texts → Operand → List ℕ

@@ -1,10 +1,10 @@
 -- Which texts are a marker (PEP 508, "Grammar"), as a relation between a whole text and the tree.
-use Rattle.std.specs.Prelude.{◌≡◌, ℕ, ◌==◌, ◌&&◌, not, Bool, true, false, List, [], ◌∷◌, ◌++◌, codes}
+use Rattle.std.specs.Prelude.{◌≡◌, ℕ, ◌==◌, ◌&&◌, ◌||◌, nat_le, not, Bool, true, false, List, [], ◌∷◌, ◌++◌, codes}
+use Rattle.std.specs.Char.{is_ascii_alphabetic}
 use Rattle.std.specs.List.{list_all}
 use Rattle.markers.specs.Comparisons.{sign}
 use Rattle.markers.specs.MarkerGrammar.{IsMarker}
 use Rattle.pep440.specs.Text.{is_blank}
-use Rattle.markers.specs.MarkerTokens.{is_quotable, is_quote, is_word_byte, starts_equal}
 use Rattle.markers.specs.MarkerTree.{Tree}
 use Rattle.markers.specs.Variables.{variable_name}
 use Rattle.markers.specs.declared.comparison.Comparison.TheVariants as comparisons
@@ -12,6 +12,14 @@ use Rattle.markers.specs.declared.marker_atom.Operand.TheVariants as operands
 use Rattle.markers.specs.declared.marker_token.Side.TheVariants as sides
 use Rattle.markers.specs.declared.marker_token.Token.{Token}
 use Rattle.markers.specs.declared.marker_token.Token.TheVariants as tokens
+
+-- `"` or `'`
+abbrev pub is_quote : ℕ → Bool
+is_quote b = (b == 34) || (b == 39)
+
+-- a byte of a quoted text: printable ASCII without backslash (reqlock's own rule)
+abbrev pub is_quotable : ℕ → Bool
+is_quotable b = nat_le 32 b && nat_le b 126 && not (b == 92)
 
 -- a byte that may stand between these quotes
 abbrev pub is_inside : ℕ → ℕ → Bool
@@ -36,6 +44,15 @@ IsToken text tokens.And = text ≡ codes "and"
 IsToken text tokens.Or = text ≡ codes "or"
 IsToken text tokens.Open = text ≡ codes "("
 IsToken text tokens.Close = text ≡ codes ")"
+
+-- a letter or `_`
+abbrev pub is_word_byte : ℕ → Bool
+is_word_byte b = is_ascii_alphabetic b || (b == 95)
+
+-- `=` leads the text
+abbrev pub starts_equal : List ℕ → Bool
+starts_equal [] = false
+starts_equal (b ∷ rest) = b == 61
 
 -- a letter or `_` leads the text
 abbrev pub starts_word : List ℕ → Bool

@@ -1,7 +1,7 @@
 -- Names of projects and extras.
-use Rattle.std.specs.Prelude.{ℕ, ◌-◌, ◌==◌, ◌&&◌, ◌||◌, Bool, false, List, [], ◌∷◌, ◌++◌, length, slice_index, nat_lt, Result, Ok, Err, if◌then◌else◌}
+use Rattle.std.specs.Prelude.{ℕ, ◌-◌, ◌==◌, ◌&&◌, ◌||◌, Bool, List, filter, length, map, slice_index, nat_lt, Result, Ok, Err, if◌then◌else◌}
 use Rattle.std.specs.Char.{is_ascii_alphanumeric, to_ascii_lowercase}
-use Rattle.std.specs.List.{list_all}
+use Rattle.std.specs.List.{join_with_byte, list_all, slice_split}
 use Rattle.std.specs.Str.{bytes_eq}
 use Rattle.markers.specs.declared.fault.Cause.{Cause}
 use Rattle.markers.specs.declared.fault.Cause.TheVariants.{BadName}
@@ -18,21 +18,13 @@ is_name_byte b = is_ascii_alphanumeric b || is_separator b
 abbrev pub is_name : List ℕ → Bool
 is_name text = nat_lt 0 (length text) && list_all is_name_byte text && is_ascii_alphanumeric (slice_index text 0) && is_ascii_alphanumeric (slice_index text (length text - 1))
 
--- whether a separator leads the text
-abbrev pub starts_separated : List ℕ → Bool
-starts_separated [] = false
-starts_separated (b ∷ rest) = is_separator b
+-- the words of a name: what stands between its longest runs of separators
+abbrev pub words_of : List ℕ → List (List ℕ)
+words_of name = filter (λ word. nat_lt 0 (length word)) (slice_split is_separator name)
 
--- what stands in the normal form for a byte before others: a letter in lower case, one hyphen for the last of a run of separators
-abbrev pub normal_byte : ℕ → List ℕ → List ℕ
-normal_byte b rest =
-    if is_separator b then if starts_separated rest then [] else 45 ∷ []
-    else to_ascii_lowercase b ∷ []
-
--- the normal form of a name (PEP 503, "Normalized Names"; PEP 685 for extras)
+-- the normal form of a name: its words in lower case, with a hyphen between them (PEP 503, "Normalized Names"; PEP 685 for extras)
 unfoldable pub normal_of : List ℕ → List ℕ
-normal_of [] = []
-normal_of (b ∷ rest) = normal_byte b rest ++ normal_of rest
+normal_of name = join_with_byte 45 (map (map to_ascii_lowercase) (words_of name))
 
 -- a name in its normal form
 abbrev pub is_normal : List ℕ → Bool

@@ -7,7 +7,7 @@ ghost use Rattle.std.specs.Option.{option_copied};
 ghost use Rattle.std.specs.Result.{result_map_both};
 ghost use Rattle.serde_json.specs.View.{view};
 ghost use Rattle.markers.specs.Comparisons.{clauses_read, version_read};
-ghost use Rattle.markers.specs.Environment.{IsEnvironment, all_variables, condition, environment_of, is_lawful, is_plain, is_versioned, kept_text, marker_text, object_of, place_of, text_in, text_of, texts_in, value_of, variable_named, without_plus};
+ghost use Rattle.markers.specs.Environment.{IsEnvironment, all_variables, condition, environment_of, is_lawful, is_unescaped, is_versioned, kept_text, marker_text, object_of, place_of, text_in, text_of, texts_in, value_of, variable_named, without_plus};
 ghost use Rattle.markers.specs.Faults.{memory_fault, no_line};
 ghost use Rattle.markers.specs.declared.fault.Cause.TheVariants.{OutOfMemory};
 ghost use Rattle.markers.specs.declared.variable.Variable.TheVariants.{PythonFullVersion};
@@ -73,8 +73,8 @@ pub(crate) fn variable_named(name: &str) -> Option<Variable>
 }
 
 /// Whether every byte is a printable ASCII character that stands for itself between double quotes.
-fn is_plain(text: &[u8]) -> bool
-    ensures { result ≡ list_all is_plain text.now }
+fn is_unescaped(text: &[u8]) -> bool
+    ensures { result ≡ list_all is_unescaped text.now }
 {
     text.iter().all(|byte| *byte >= b' ' && *byte <= b'~' && *byte != b'"' && *byte != b'\\')
 }
@@ -93,7 +93,7 @@ fn is_versioned(variable: Variable) -> bool
 fn is_lawful(variable: Variable, value: &Value) -> bool
     ensures { result ≡ is_lawful variable value.now }
 {
-    is_plain(value.text().as_bytes()) && (!is_versioned(variable) || value.version().is_some())
+    is_unescaped(value.text().as_bytes()) && (!is_versioned(variable) || value.version().is_some())
 }
 
 /// A text without a `+` at its end.

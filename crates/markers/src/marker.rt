@@ -38,20 +38,21 @@ enum Node {
 }
 
 impl Model for Marker {
-    ghost use Rattle.markers.specs.MarkerCode.{tree_code};
-    ghost use Rattle.markers.specs.MarkerTree.{Tree, tree_size};
+    ghost use Rattle.markers.specs.Tied.MarkerCode.{tree_code};
+    ghost use Rattle.markers.specs.MarkerTree.{Tree};
+    ghost use Rattle.markers.specs.Tied.MarkerSize.{tree_size};
 
     ghost Value = { Tree };
 
     ghost coded = { tree_code };
 
-    ghost use Rattle.markers.specs.MarkerView.{tree_of_node};
+    ghost use Rattle.markers.specs.Tied.MarkerView.{tree_of_node};
 
     ghost view = { λ m. tree_of_node m.node };
 
     ghost size = { tree_size };
 
-    ghost use Rattle.markers.specs.MarkerFalls.{depth_le-tree_size};
+    ghost use Rattle.markers.specs.Tied.MarkerFalls.{depth_le-tree_size};
 
     ghost size_decreases = { λ m h. depth_le-tree_size m.node };
 }
@@ -144,7 +145,8 @@ fn all_hold(members: &[Marker], environment: &Environment, extra: Option<&Name>)
 
 #[cycle(holds)]
 fn any_holds(members: &[Marker], environment: &Environment, extra: Option<&Name>) -> bool
-    ensures { result ≡ any_holds (trees_of members.now) environment.now (option_copied extra.entry) }
+    ensures { result
+        ≡ any_holds (trees_of members.now) environment.now (option_copied extra.entry) }
 {
     for member in members {
         if member.holds(environment, extra) {

@@ -3,7 +3,8 @@
 ghost use Rattle.std.specs.Prelude.{◌≡◌, IfOk};
 ghost use Rattle.std.specs.Option.{option_copied};
 ghost use Rattle.markers.specs.Comparisons.{clauses_read, version_read};
-ghost use Rattle.markers.specs.MarkerAtoms.{contains, is_asked, known_clauses, known_version, operand_text, relation_holds};
+ghost use Rattle.markers.specs.MarkerAtoms.{contains, is_asked, operand_text, relation_holds};
+ghost use Rattle.markers.specs.Tied.Known.{known_clauses, known_version};
 ghost use Rattle.markers.specs.declared.marker_atom.Operator.TheVariants.{Compare};
 
 use crate::comparison::{Comparison, Left, Right, compare, read_clauses, read_version};
@@ -69,7 +70,8 @@ impl Drop for CachedRelation {
 
 impl Model for CachedRelation {
     ghost use Rattle.std.specs.Prelude.{◌≡◌};
-    ghost use Rattle.markers.specs.MarkerAtoms.{Relation, known_clauses, known_version};
+    ghost use Rattle.markers.specs.MarkerAtoms.{Relation};
+    ghost use Rattle.markers.specs.Tied.Known.{known_clauses, known_version};
 
     ghost Value = { Relation };
 
@@ -167,7 +169,8 @@ impl CachedRelation {
         operator: Operator,
         right: Operand,
     ) -> Result<CachedRelation, AllocError>
-        ensures { IfOk result (λ r. r ≡ record { left = left; operator = operator; right = right }) }
+        ensures { IfOk result (λ r. r
+            ≡ record { left = left; operator = operator; right = right }) }
     {
         let version = known_version(alloc, &left)?;
         let clauses = known_clauses(alloc, operator, &right)?;

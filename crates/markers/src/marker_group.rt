@@ -1,7 +1,7 @@
 // What has been read of a marker, or of a part of one in parentheses.
 
 ghost use Rattle.std.specs.Prelude.{◌≡◌, IfOk};
-ghost use Rattle.markers.specs.MarkerReading.{closed, empty_group, with_end, with_member};
+ghost use Rattle.markers.specs.Tied.MarkerReading.{closed, empty_group, with_end, with_member};
 
 use crate::marker::Marker;
 use lists::Seq;

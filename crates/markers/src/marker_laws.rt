@@ -4,7 +4,7 @@ ghost use Rattle.std.specs.Prelude.{◌≡◌, ℕ, List, Option, Ok, Err, true,
 ghost use Rattle.markers.specs.Environment.{IsEnvironment, Texts, marker_text};
 ghost use Rattle.markers.specs.Marker.{Tree, holds, marker_of};
 ghost use Rattle.markers.specs.MarkerSpelling.{Spells};
-ghost use Rattle.markers.specs.MarkerTokens.{is_too_deep};
+ghost use Rattle.markers.specs.MarkerDepth.{is_too_deep};
 ghost use Rattle.markers.specs.declared.fault.Cause.TheVariants.{MarkerTooDeep};
 
 use crate::laws::a_text_equals_itself;

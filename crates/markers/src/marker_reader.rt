@@ -3,7 +3,7 @@
 ghost use Rattle.lists.specs.Answers.{Answers};
 ghost use Rattle.std.specs.Prelude.{◌≡◌, [], ◌∷◌, IfOk, MatchOption, drop, ok_or};
 ghost use Rattle.std.specs.Result.{result_ok};
-ghost use Rattle.markers.specs.MarkerReading.{atom_of, begin, close, complete, extra_atom, finished, join, negate, relate, start, step, tree_of};
+ghost use Rattle.markers.specs.Tied.MarkerReading.{atom_of, begin, close, complete, extra_atom, finished, join, negate, relate, start, step, tree_of};
 ghost use Rattle.markers.specs.Names.{name_of};
 ghost use Rattle.markers.specs.declared.fault.Cause.TheVariants.{BadMarker, OutOfMemory};
 
@@ -70,7 +70,7 @@ fn extra_atom(alloc: Global, operator: Operator, operand: Operand) -> Result<Ato
 }
 
 /// The atom of two sides and what stands between them.
-#[tactic(auto, unfolding(crate::specs::MarkerReading::atom_of))]
+#[tactic(auto, unfolding(crate::specs::Tied::MarkerReading::atom_of))]
 fn atom_of(alloc: Global, left: Side, operator: Operator, right: Side) -> Result<Atom, Cause>
     ensures { Answers OutOfMemory (ok_or (atom_of left operator right) BadMarker) result }
 {
@@ -156,7 +156,8 @@ fn complete(
     operator: Operator,
     token: Token,
 ) -> Result<Reader, Cause>
-    ensures { Answers OutOfMemory (ok_or (complete outer group left operator token) BadMarker) result }
+    ensures { Answers OutOfMemory
+        (ok_or (complete outer group left operator token) BadMarker) result }
 {
     let Token::Side(right) = token else {
         return Err(Cause::BadMarker);
@@ -222,7 +223,7 @@ impl Reader {
     }
 
     /// What was read with one more token.
-    #[tactic(auto, unfolding(crate::specs::MarkerReading::step))]
+    #[tactic(auto, unfolding(crate::specs::Tied::MarkerReading::step))]
     fn step(self, alloc: Global, token: Token) -> Result<Reader, Cause>
         ensures { Answers OutOfMemory (ok_or (step self token) BadMarker) result }
     {
@@ -278,7 +279,7 @@ fn behind(text: &[u8], count: usize) -> &[u8]
 }
 
 /// The marker that a text is.
-#[tactic(auto, unfolding(crate::specs::MarkerReading::tree_of))]
+#[tactic(auto, unfolding(crate::specs::Tied::MarkerReading::tree_of))]
 pub(crate) fn tree_of(alloc: Global, text: &[u8]) -> Result<Marker, Cause>
     ensures { Answers OutOfMemory (ok_or (tree_of text.now) BadMarker) result }
 {

@@ -4,7 +4,9 @@ ghost use Rattle.lists.specs.Answers.{Answers};
 ghost use Rattle.std.specs.Prelude.{◌≡◌, ok_or, option_copied};
 ghost use Rattle.std.specs.Str.{IsAscii};
 ghost use Rattle.pep440.specs.Text.{is_blank};
-ghost use Rattle.markers.specs.MarkerTokens.{double_sign, is_quotable, is_quote, is_too_deep, is_word_byte, quote_after, quoted_at, quoted_text, sign_at, single_sign, starts_equal, token_at, word_at, word_of, word_token};
+ghost use Rattle.markers.specs.MarkerDepth.{is_too_deep, quote_after};
+ghost use Rattle.markers.specs.MarkerSpelling.{is_quotable, is_quote, is_word_byte, starts_equal};
+ghost use Rattle.markers.specs.Tied.MarkerTokens.{double_sign, quoted_at, quoted_text, sign_at, single_sign, token_at, word_at, word_of, word_token};
 ghost use Rattle.markers.specs.declared.fault.Cause.TheVariants.{BadMarker, OutOfMemory};
 
 use crate::comparison::Comparison;
@@ -226,7 +228,7 @@ fn sign_at(byte: u8, rest: &[u8]) -> Option<(Token, usize)>
 }
 
 /// The token that a text begins with, and how many bytes of it stand behind the first.
-#[tactic(auto, unfolding(crate::specs::MarkerTokens::token_at))]
+#[tactic(auto, unfolding(crate::specs::Tied::MarkerTokens::token_at))]
 pub(crate) fn token_at(alloc: Global, text: &[u8]) -> Result<(Token, usize), Cause>
     ensures { Answers OutOfMemory (ok_or (token_at text.now) BadMarker) result }
 {

@@ -5,7 +5,8 @@ ghost use Rattle.std.specs.Prelude.{◌≡◌, ◌++◌, IfOk, OnOk, true, strin
 ghost use Rattle.std.specs.List.{list_all};
 ghost use Rattle.markers.specs.Faults.{memory_fault, one_line};
 ghost use Rattle.markers.specs.declared.fault.Cause.TheVariants.{OutOfMemory};
-ghost use Rattle.markers.specs.Names.{is_name, is_name_byte, is_normal, is_separator, name_of, normal_byte, normal_of, starts_separated};
+ghost use Rattle.markers.specs.Names.{is_name, is_name_byte, is_normal, is_separator, name_of, normal_of};
+ghost use Rattle.markers.specs.Tied.Names.{normal_byte, starts_separated};
 
 use crate::fault::{Cause, Fault};
 use lists::{Faithful, Text};
@@ -98,7 +99,8 @@ fn push_normal(normal: &mut String, byte: u8, rest: &[u8]) -> Result<(), AllocEr
 
 /// The normal form of a name.
 fn normal_form(alloc: Global, name: &[u8]) -> Result<String, AllocError>
-    requires { list_all is_name_byte name.now ≡ true }
+    requires bytes { list_all is_name_byte name.now ≡ true }
+    requires name { is_name name.now ≡ true }
     ensures { IfOk result (λ normal. string_bytes normal ≡ normal_of name.now) }
 {
     let mut normal = String::with_capacity(alloc, name.len())?;

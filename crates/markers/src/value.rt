@@ -25,7 +25,7 @@ pub(crate) struct Readings {
 }
 
 impl Readings {
-    ghost use Rattle.markers.specs.Values.{readings_of};
+    ghost use Rattle.markers.specs.Tied.Values.{readings_of};
 
     /// All that a text reads as.
     fn read(alloc: Global, text: &str) -> Result<Readings, AllocError>
@@ -88,7 +88,7 @@ impl Drop for Value {
 
 impl Model for Value {
     ghost use Rattle.std.specs.Prelude.{◌≡◌, List, ℕ};
-    ghost use Rattle.markers.specs.Values.{readings_of};
+    ghost use Rattle.markers.specs.Tied.Values.{readings_of};
 
     ghost Value = { List ℕ };
 

@@ -13,7 +13,7 @@ use Rattle.pep440.specs.declared.specifier.Operator.TheVariants as operators
 use Rattle.pep440.specs.declared.specifier.Clause.{Clause}
 use Rattle.pep440.specs.Version.{Parts, is_post, is_pre}
 use Rattle.pep440.specs.Order.{dev_key, part_cmp, post_key, pre_key, pre_key_of, public_cmp, rank_cmp, trimmed, version_cmp}
-use Rattle.pep440.specs.OrderLaws.{first_tie, list_tie, nat_tie, public_total, second_tie, version_total}
+use Rattle.pep440.specs.Tied.OrderLaws.{first_tie, list_tie, nat_tie, public_total, second_tie, version_total}
 use Rattle.pep440.specs.Matching.{begins, equals, has_prefix, matches, operator_matches, same_release, without_last}
 
 -- ---- releases

@@ -20,7 +20,7 @@ use Rattle.pep440.specs.Canonical.{canonical, dev_text, epoch_text, local_text, 
 use Rattle.pep440.specs.Version.{IsVersion, Parts, is_part, is_word_byte, pre_numbers}
 use Rattle.pep440.specs.Grammar.{IsAlphaWord, IsBetaWord, IsCandidateWord, IsDev, IsDevWord, IsEpoch, IsLabelled, IsLocal, IsLocalPart, IsLocalParts, IsNumeral, IsPost, IsPostWord, IsPre, IsRelease, IsSeparator, Says, Spells, value_from}
 use Rattle.std.specs.Prelude.{option_to_list}
-use Rattle.pep440.specs.Views.{part_fits}
+use Rattle.pep440.specs.Tied.Views.{part_fits}
 use Rattle.pep440.proofs.ReleaseFacts.{all_fit}
 use Rattle.pep440.proofs.VersionFacts.{fits-parts}
 

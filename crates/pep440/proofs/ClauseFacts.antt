@@ -1,5 +1,5 @@
 -- The grammar of clauses and their reading agree.
-use Rattle.std.proofs.Common.{◌≡◌, ℕ, zero, suc, ◌+◌, ◌-◌, ◌≤◌, Bool, true, false, cond, eqb, leb, not, ◌&&◌, List, [], ◌∷◌, ◌++◌, length, take, get_or, Option, Some, None, Result, Ok, Err, refl, sym, ap, subst, ◌∙◌, arith, inl, inr, length-append}
+use Rattle.std.proofs.Common.{◌≡◌, ℕ, zero, suc, ◌+◌, ◌-◌, ◌≤◌, Bool, true, false, cond, eqb, leb, not, ◌&&◌, ◌⊎◌, List, [], ◌∷◌, ◌++◌, length, take, get_or, Option, Some, None, Result, Ok, Err, refl, sym, ap, subst, ◌∙◌, arith, inl, inr, length-append}
 use Rattle.std.specs.List.{list_all}
 use Rattle.std.specs.Option.{option_map}
 use Rattle.std.specs.Prelude.{codes}
@@ -14,10 +14,10 @@ use Rattle.pep440.specs.declared.specifier.Operator.TheVariants as operators
 use Rattle.pep440.specs.declared.specifier.Clause.{Clause}
 use Rattle.pep440.specs.Version.{Parts, fits}
 use Rattle.pep440.specs.Grammar.{IsVersionText}
-use Rattle.pep440.specs.Reading.{Spans, bare_parts, parts_in, spans_of}
+use Rattle.pep440.specs.Tied.Reading.{Spans, bare_parts, parts_in, spans_of}
 use Rattle.pep440.specs.Text.{is_blank, trim_front}
-use Rattle.pep440.specs.Sets.{clause_behind, clause_for, clause_of, clause_text, double_of, ends_in_star, is_arbitrary, operator_of, single_of, star_operator, takes, version_text, with_rest}
-use Rattle.pep440.specs.SetGrammar.{IsClause, sign, star}
+use Rattle.pep440.specs.SetGrammar.{takes, IsClause, sign, star}
+use Rattle.pep440.specs.Tied.Sets.{clause_behind, clause_for, clause_of, clause_text, double_of, ends_in_star, is_arbitrary, operator_of, single_of, star_operator, version_text, with_rest}
 use Rattle.pep440.proofs.ByteFacts.{Covers, version-pass}
 use Rattle.pep440.proofs.ReleaseReads.{is_start, spells-read, starts_version, version-start}
 use Rattle.pep440.proofs.CutFacts.{chosen}
@@ -169,9 +169,9 @@ starred operators.AtLeast text v h = bare-end operators.AtLeast text v h
 starred operators.Below text v h = bare-end operators.Below text v h
 starred operators.Above text v h = bare-end operators.Above text v h
 
--- a clause of the grammar whose numbers fit is read
-pub clause-read : (k : ℕ) (piece : List ℕ) (c : Clause) → IsClause piece c → fits c.version ≡ true → clause_of k piece ≡ Ok c
-clause-read k piece c h small =
+-- a clause of the grammar is read, or its number is refused
+clause-reads : (k : ℕ) (piece : List ℕ) (c : Clause) → IsClause piece c → clause_of k piece ≡ cond (fits c.version) (Ok c) (Err NumberTooLarge)
+clause-reads k piece c h =
     let behind = h.blanks ++ (h.version ++ star c.operator) in
     let start = version-start h.version c.version h.spells in
     let clear = behind-no_equals h.blanks h.version (star c.operator) h.are_blank start in
@@ -180,8 +180,14 @@ clause-read k piece c h small =
     let rest : trim_front is_blank behind ≡ h.version ++ star c.operator = trimmed h.blanks h.version (star c.operator) h.are_blank start in
     let s = starred c.operator h.version c.version h.spells in
     let parts : bare_parts h.version ≡ Some c.version = spells-read h.version c.version h.spells in
-    let text : clause_text k (base c.operator) (h.version ++ star c.operator) ≡ Ok c = rw (s.0, s.1, parts, h.taken, small) refl in
+    let text : clause_text k (base c.operator) (h.version ++ star c.operator) ≡ cond (fits c.version) (Ok c) (Err NumberTooLarge) = rw (s.0, s.1, parts, h.taken) refl in
     rw (usual, cut, rest) text
+
+pub clause-read : (k : ℕ) (piece : List ℕ) (c : Clause) → IsClause piece c → fits c.version ≡ true → clause_of k piece ≡ Ok c
+clause-read k piece c h small = clause-reads k piece c h ∙ rw small refl
+
+pub clause-large : (k : ℕ) (piece : List ℕ) (c : Clause) → IsClause piece c → fits c.version ≡ false → clause_of k piece ≡ Err NumberTooLarge
+clause-large k piece c h large = clause-reads k piece c h ∙ rw large refl
 
 -- ---- what is read is a clause
 
@@ -308,24 +314,36 @@ ended true operators.AtLeast q text e usual h = absurd cc
 ended true operators.Below q text e usual h = absurd cc
 ended true operators.Above q text e usual h = absurd cc
 
-record ForCut (k : ℕ) (o : Option Operator) (v : Option Parts) (c : Clause) : Type 0 where
+record ForCut (o : Option Operator) (v : Option Parts) (c : Clause) : Type 0 where
   operator : o ≡ Some c.operator
   version : v ≡ Some c.version
   taken : takes c.operator c.version ≡ true
-  small : fits c.version ≡ true
 
 ok-is : (x y : Clause) → ◌≡◌ {A = Result Clause Fault} (Ok x) (Ok y) → x ≡ y
 ok-is x y h = cc
 
-for-cut : (k : ℕ) (o : Option Operator) (v : Option Parts) (c : Clause) → clause_for k o v ≡ Ok c → ForCut k o v c
+for-cut : (k : ℕ) (o : Option Operator) (v : Option Parts) (c : Clause) → clause_for k o v ≡ Ok c → ForCut o v c × (fits c.version ≡ true)
 for-cut k None v c h = absurd cc
 for-cut k (Some o) None c h = absurd cc
 for-cut k (Some o) (Some v) c h = elim (chosen (takes o v) (cond (fits v) (Ok (record { operator = o; version = v })) (Err NumberTooLarge)) (Err (BadClause k)) (Ok c) h) [
   | inl x ↦ elim (chosen (fits v) (Ok (record { operator = o; version = v })) (Err NumberTooLarge) (Ok c) x.1) [
-    | inl y ↦ subst (λ (d : Clause). ForCut k (Some o) (Some v) d) (ok-is _ c y.1) (record { operator = refl; version = refl; taken = x.0; small = y.0 })
+    | inl y ↦ subst (λ (d : Clause). ForCut (Some o) (Some v) d × (fits d.version ≡ true)) (ok-is _ c y.1) (record { operator = refl; version = refl; taken = x.0 }, y.0)
     | inr y ↦ absurd (let bad = y.1 in cc)
   ]
   | inr x ↦ absurd (let bad = x.1 in cc)
+]
+
+-- a fault behind the operator: a number is too large where all else is a clause, and any other is that of a bad clause
+for-fault : (k : ℕ) (o : Option Operator) (v : Option Parts) (e : Fault) → clause_for k o v ≡ Err e
+    → (e ≡ BadClause k) ⊎ ((e ≡ NumberTooLarge) × ((c : Clause) × ForCut o v c × (fits c.version ≡ false)))
+for-fault k None v e h = inl cc
+for-fault k (Some o) None e h = inl cc
+for-fault k (Some o) (Some v) e h = elim (chosen (takes o v) (cond (fits v) (Ok (record { operator = o; version = v })) (Err NumberTooLarge)) (Err (BadClause k)) (Err e) h) [
+  | inl x ↦ elim (chosen (fits v) (Ok (record { operator = o; version = v })) (Err NumberTooLarge) (Err e) x.1) [
+    | inl y ↦ absurd (let bad = y.1 in cc)
+    | inr y ↦ inr ((let bad = y.1 in cc), (record { operator = o; version = v }, record { operator = refl; version = refl; taken = x.0 }, y.0))
+  ]
+  | inr x ↦ inl (let bad = x.1 in cc)
 ]
 
 map-some : (o : Option Spans) (v : Parts) → option_map parts_in o ≡ Some v → (s : Spans) × (o ≡ Some s) × (parts_in s ≡ v)
@@ -335,25 +353,41 @@ map-some (Some s) v h = (s, refl, cc)
 pub bare-spells : (text : List ℕ) (v : Parts) → bare_parts text ≡ Some v → IsVersionText text v
 bare-spells text v h = let m = map-some (spans_of text) v h in subst (λ (w : Parts). IsVersionText text w) m.2 (read-spells text m.0 m.1)
 
-behind-cut : (k : ℕ) (piece : List ℕ) (o : Option (Operator × List ℕ)) (c : Clause) → operator_of piece ≡ o → clause_behind k o ≡ Ok c → IsClause piece c × (fits c.version ≡ true)
-behind-cut k piece None c e h = absurd cc
-behind-cut k piece (Some p) c e h =
+-- what was found behind the operator is a clause of the grammar
+found-clause : (piece : List ℕ) (p : Operator × List ℕ) (c : Clause) → operator_of piece ≡ Some p
+    → ForCut (star_operator (ends_in_star (trim_front is_blank p.1)) p.0) (bare_parts (version_text (ends_in_star (trim_front is_blank p.1)) (trim_front is_blank p.1))) c
+    → IsClause piece c
+found-clause piece p c e f =
     let s = operator-cut piece p e in
     let b = blank-cut p.1 in
     let text = trim_front is_blank p.1 in
-    let f = for-cut k (star_operator (ends_in_star text) p.0) (bare_parts (version_text (ends_in_star text) text)) c h in
     let d = ended (ends_in_star text) p.0 c.operator text refl s.usual f.operator in
-    let version = version_text (ends_in_star text) text in (
-      record {
-        blanks = b.blanks;
-        version = version;
-        whole = s.whole ∙ (λ i. d.sign_is i ++ p.1) ∙ ap (λ (t : List ℕ). sign c.operator ++ t) (b.whole ∙ ap (λ (t : List ℕ). b.blanks ++ t) d.whole);
-        are_blank = b.are_blank;
-        spells = bare-spells version c.version f.version;
-        taken = f.taken;
-      },
-      f.small,
-    )
+    let version = version_text (ends_in_star text) text in
+    record {
+      blanks = b.blanks;
+      version = version;
+      whole = s.whole ∙ (λ i. d.sign_is i ++ p.1) ∙ ap (λ (t : List ℕ). sign c.operator ++ t) (b.whole ∙ ap (λ (t : List ℕ). b.blanks ++ t) d.whole);
+      are_blank = b.are_blank;
+      spells = bare-spells version c.version f.version;
+      taken = f.taken;
+    }
+
+behind-cut : (k : ℕ) (piece : List ℕ) (o : Option (Operator × List ℕ)) (c : Clause) → operator_of piece ≡ o → clause_behind k o ≡ Ok c → IsClause piece c × (fits c.version ≡ true)
+behind-cut k piece None c e h = absurd cc
+behind-cut k piece (Some p) c e h =
+    let text = trim_front is_blank p.1 in
+    let f = for-cut k (star_operator (ends_in_star text) p.0) (bare_parts (version_text (ends_in_star text) text)) c h in
+    (found-clause piece p c e f.0, f.1)
+
+pub behind-fault : (k : ℕ) (piece : List ℕ) (o : Option (Operator × List ℕ)) (e : Fault) → operator_of piece ≡ o → clause_behind k o ≡ Err e
+    → (e ≡ BadClause k) ⊎ ((e ≡ NumberTooLarge) × ((c : Clause) × IsClause piece c × (fits c.version ≡ false)))
+behind-fault k piece None e s h = inl cc
+behind-fault k piece (Some p) e s h =
+    let text = trim_front is_blank p.1 in
+    elim (for-fault k (star_operator (ends_in_star text) p.0) (bare_parts (version_text (ends_in_star text) text)) e h) [
+      | inl bad ↦ inl bad
+      | inr large ↦ let found = large.1 in inr (large.0, (found.0, found-clause piece p found.0 s found.1, found.2))
+    ]
 
 -- what is read is a clause of the grammar, and its numbers fit
 pub read-clause : (k : ℕ) (piece : List ℕ) (c : Clause) → clause_of k piece ≡ Ok c → IsClause piece c × (fits c.version ≡ true)

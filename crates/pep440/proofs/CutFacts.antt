@@ -7,7 +7,7 @@ use Rattle.std.proofs.lemmas.Bool.Decides.{nat_tests}
 use Rattle.pep440.specs.declared.words.PreWord.{PreWord}
 use Rattle.pep440.specs.declared.words.PreWord.TheVariants as words
 use Rattle.pep440.specs.Grammar.{IsAlphaWord, IsBetaWord, IsCandidateWord, IsPostWord, IsSeparator, Says, is_separator, starts_number}
-use Rattle.pep440.specs.Reading.{after_digits, after_separator, digits_of, named, optional_word, post_word_at, pre_word_at, preview_rest, strip_word}
+use Rattle.pep440.specs.Tied.Reading.{after_digits, after_separator, digits_of, named, optional_word, post_word_at, pre_word_at, preview_rest, strip_word}
 use Rattle.pep440.proofs.HeadFacts.{are_digits}
 
 -- ---- the cuts of the readers

@@ -5,8 +5,9 @@ use Rattle.std.proofs.lemmas.Bool.{cases_Bool}
 use Rattle.pep440.specs.declared.fault.Fault.{Fault}
 use Rattle.pep440.specs.declared.fault.Fault.TheVariants.{ArbitraryEquality, BadClause, BadVersion, NumberTooLarge, OutOfMemory}
 use Rattle.pep440.specs.Version.{Parts, fits}
-use Rattle.pep440.specs.Grammar.{Spells}
-use Rattle.pep440.specs.Reading.{Gives, ParseAnswers, fitting, parts_of, version_of}
+use Rattle.pep440.specs.Grammar.{Spells, ParseAnswers}
+use Rattle.pep440.specs.Answers.{Gives}
+use Rattle.pep440.specs.Tied.Reading.{fitting, parts_of, version_of}
 use Rattle.pep440.proofs.Trims.{parts-spell, spells-parts}
 
 -- a text spells one version at most

@@ -6,9 +6,11 @@ pub mod CutFacts
 pub mod HeadFacts
 pub mod Law
 pub mod MatchFacts
+pub mod PieceAnswersOnce
 pub mod ReadFacts
 pub mod ReleaseFacts
 pub mod ReleaseReads
+pub mod SetAnswersOnce
 pub mod SetBytes
 pub mod SetFacts
 pub mod SoundFacts

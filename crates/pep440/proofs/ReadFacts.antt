@@ -14,7 +14,7 @@ use Rattle.pep440.specs.declared.parts.LocalPart.TheVariants.{Number, Word}
 use Rattle.pep440.specs.declared.words.PreWord.{PreWord}
 use Rattle.pep440.specs.declared.words.PreWord.TheVariants as words
 use Rattle.pep440.specs.Grammar.{IsAlphaWord, IsBetaWord, IsCandidateWord, IsDev, IsLabelled, IsLocal, IsLocalPart, IsLocalParts, IsPost, IsPre, IsPreLabel, is_separator, value_from}
-use Rattle.pep440.specs.Reading.{after_separator, dev_spans, is_implicit, is_local_from, label_at, local_at, locals_from, locals_of, number_behind, part_of, post_spans, post_word_at, pre_at, pre_of, pre_with, pre_word_at, spans_with, strip_word}
+use Rattle.pep440.specs.Tied.Reading.{after_separator, dev_spans, is_implicit, is_local_from, label_at, local_at, locals_from, locals_of, number_behind, part_of, post_spans, post_word_at, pre_at, pre_of, pre_with, pre_word_at, spans_with, strip_word}
 use Rattle.pep440.proofs.HeadFacts.{are_digits, ends_word, head_is, is_word_start, opens, separator-no_plus, word-no_digit, word-no_plus}
 use Rattle.pep440.proofs.WordFacts.{alpha-read, alpha-starts, beta-read, beta-starts, candidate-read, candidate-starts, dev-read, dev-starts, post-read, post-starts, starts_word}
 use Rattle.pep440.proofs.TailFacts.{DevTail, PostTail, Skips, apart-no_dot, apart-no_implicit, behind, behind-ends_word, dev-tail, digits-read, digits-start, label-front, opens-starts, post-tail, starts_dot_digit, word-after_separator}

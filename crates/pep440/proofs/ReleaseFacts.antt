@@ -5,7 +5,7 @@ use Rattle.std.specs.Prelude.{Ok, Err}
 use Rattle.std.proofs.lemmas.Bool.{cases_Bool, le-ltb, lt-ltb}
 use Rattle.std.proofs.lemmas.List.{at_drop_more, drop_all}
 use Rattle.pep440.specs.declared.fault.Fault.TheVariants.{NumberTooLarge}
-use Rattle.pep440.specs.Reading.{fitting_numbers, numbers_from}
+use Rattle.pep440.specs.Tied.Reading.{fitting_numbers, numbers_from}
 
 and-false : (b : Bool) → (b && false) ≡ false
 and-false true = refl

@@ -7,7 +7,7 @@ use Rattle.std.specs.Cmp.{first_so, second_so}
 use Rattle.std.proofs.lemmas.List.{append-nil}
 use Rattle.pep440.specs.Version.{Parts}
 use Rattle.pep440.specs.Grammar.{IsEpoch, IsLead, IsRelease, IsVersionText, value_from}
-use Rattle.pep440.specs.Reading.{Spans, after_digits, after_lead, after_release, bare_parts, digits_of, epoch_at, epoch_end, numbers_from, parts_in, release_of, release_spans, spans_of, starts_digit}
+use Rattle.pep440.specs.Tied.Reading.{Spans, after_digits, after_lead, after_release, bare_parts, digits_of, epoch_at, epoch_end, numbers_from, parts_in, release_of, release_spans, spans_of, starts_digit}
 use Rattle.pep440.proofs.HeadFacts.{are_digits, digit-no_dot, digit-no_lead, head_is, opens, opens-no_bang, opens-no_digit}
 use Rattle.pep440.proofs.TailFacts.{digits-read, digits-start, opens-starts}
 use Rattle.pep440.proofs.ReadFacts.{ReleaseTail, release-tail, tail-part}

@@ -9,7 +9,7 @@ use Rattle.pep440.specs.declared.specifier.Clause.{Clause}
 use Rattle.pep440.specs.declared.specifier.Operator.{Operator}
 use Rattle.pep440.specs.declared.specifier.Operator.TheVariants as operators
 use Rattle.pep440.specs.SetGrammar.{IsClause, begins_operator, is_set_byte, sign, star}
-use Rattle.pep440.specs.Sets.{◌>>=◌, clause_of, clauses_from, set_of}
+use Rattle.pep440.specs.Tied.Sets.{◌>>=◌, clause_of, clauses_from, set_of}
 use Rattle.pep440.specs.Text.{is_blank, pieces, trim_blank, trim_end, trim_front}
 use Rattle.pep440.proofs.ByteFacts.{Covers, all-append, all-weaker, version-pass}
 use Rattle.pep440.proofs.ClauseFacts.{read-clause}

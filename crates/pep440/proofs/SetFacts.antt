@@ -6,8 +6,8 @@ use Rattle.std.proofs.lemmas.List.{append-nil}
 use Rattle.pep440.specs.declared.fault.Fault.{Fault}
 use Rattle.pep440.specs.declared.fault.Fault.TheVariants.{ArbitraryEquality, BadClause, BadVersion, NumberTooLarge, OutOfMemory}
 use Rattle.pep440.specs.declared.specifier.Clause.{Clause}
-use Rattle.pep440.specs.Reading.{Fails}
-use Rattle.pep440.specs.Sets.{◌>>=◌, clause_of, clauses_from}
+use Rattle.pep440.specs.Answers.{Fails}
+use Rattle.pep440.specs.Tied.Sets.{◌>>=◌, clause_of, clauses_from}
 use Rattle.pep440.specs.Text.{is_blank, pieces, trim_blank}
 
 -- ---- the parts between commas

@@ -11,7 +11,7 @@ use Rattle.pep440.specs.declared.parts.LocalPart.{LocalPart}
 use Rattle.pep440.specs.declared.words.PreWord.{PreWord}
 use Rattle.pep440.specs.declared.words.PreWord.TheVariants as words
 use Rattle.pep440.specs.Grammar.{IsAlphaWord, IsBetaWord, IsCandidateWord, IsDev, IsDevWord, IsEpoch, IsLabelled, IsLead, IsLocal, IsLocalPart, IsLocalParts, IsNumeral, IsPost, IsPostWord, IsPre, IsRelease, IsVersionText, is_separator, starts_number, value_from}
-use Rattle.pep440.specs.Reading.{Spans, after_digits, after_lead, after_release, after_separator, dev_at, digits_of, epoch_at, epoch_end, goes_on, is_implicit, is_local_from, label_at, local_at, locals_from, locals_of, number_behind, numbers_from, part_of, parts_in, post_at, post_spans, post_word_at, pre_at, pre_label_at, pre_of, pre_word_at, release_of, spans_of, spans_with, starts_digit, strip_word}
+use Rattle.pep440.specs.Tied.Reading.{Spans, after_digits, after_lead, after_release, after_separator, dev_at, digits_of, epoch_at, epoch_end, goes_on, is_implicit, is_local_from, label_at, local_at, locals_from, locals_of, number_behind, numbers_from, part_of, parts_in, post_at, post_spans, post_word_at, pre_at, pre_label_at, pre_of, pre_word_at, release_of, spans_of, spans_with, starts_digit, strip_word}
 use Rattle.pep440.proofs.HeadFacts.{are_digits, digit-no_dot}
 use Rattle.pep440.proofs.CutFacts.{SaysPre, WordCut, chosen, digits-cut, eqb-is, post-word_cut, pre-word_cut, separator-cut, some-is, strip-cut}
 

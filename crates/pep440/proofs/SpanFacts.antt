@@ -10,9 +10,10 @@ use Rattle.pep440.specs.declared.fault.Fault.{Fault}
 use Rattle.pep440.specs.declared.fault.Fault.TheVariants.{ArbitraryEquality, BadClause, BadVersion, NumberTooLarge, OutOfMemory}
 use Rattle.pep440.specs.declared.parts.LocalPart.{LocalPart}
 use Rattle.pep440.specs.Grammar.{is_separator, value_from}
-use Rattle.pep440.specs.Reading.{Fails, is_local_from, locals_from, locals_of, numbers_from, part_of, strip_word}
+use Rattle.pep440.specs.Answers.{Fails}
+use Rattle.pep440.specs.Tied.Reading.{is_local_from, locals_from, locals_of, numbers_from, part_of, strip_word}
 use Rattle.pep440.specs.Version.{is_part, is_word_byte}
-use Rattle.pep440.specs.Views.{capped, fitting_locals, fitting_part, is_local, part_fits}
+use Rattle.pep440.specs.Tied.Views.{capped, fitting_locals, fitting_part, is_local, part_fits}
 
 -- ---- numbers
 

@@ -6,7 +6,7 @@ use Rattle.std.proofs.lemmas.Bool.{cases_Bool}
 use Rattle.std.proofs.lemmas.Bool.Decides.{nat_tests}
 use Rattle.pep440.specs.declared.parts.LocalPart.{LocalPart}
 use Rattle.pep440.specs.Grammar.{IsDev, IsDevWord, IsLabelled, IsLocal, IsPost, IsSeparator, is_separator, starts_number}
-use Rattle.pep440.specs.Reading.{after_digits, after_separator, digits_of, is_implicit, number_behind, post_word_at, pre_word_at, pre_word_of, starts_digit}
+use Rattle.pep440.specs.Tied.Reading.{after_digits, after_separator, digits_of, is_implicit, number_behind, post_word_at, pre_word_at, pre_word_of, starts_digit}
 use Rattle.pep440.proofs.HeadFacts.{are_digits, digit-ends_word, digit-no_separator, ends_word, head_is, opens, opens-ends_word, opens-no_digit, separator-opens, word-no_digit, word-no_separator, word-opens}
 use Rattle.pep440.proofs.WordFacts.{dev-no_post, dev-no_pre, dev-starts, post-no_pre, post-starts, starts_word}
 

@@ -8,7 +8,7 @@ use Rattle.std.proofs.lemmas.Bool.Decides.{nat_tests}
 use Rattle.pep440.specs.Version.{Parts}
 use Rattle.pep440.specs.Grammar.{IsVersionText, Spells, is_space}
 use Rattle.pep440.specs.Text.{trim_end, trim_front}
-use Rattle.pep440.specs.Reading.{Spans, parts_of, trim_space, bare_parts, parts_in, spans_of}
+use Rattle.pep440.specs.Tied.Reading.{Spans, parts_of, trim_space, bare_parts, parts_in, spans_of}
 use Rattle.pep440.proofs.ByteFacts.{Covers, version-pass}
 use Rattle.pep440.proofs.ReleaseReads.{spells-read}
 use Rattle.pep440.proofs.SoundFacts.{read-spells}

@@ -12,9 +12,10 @@ use Rattle.pep440.specs.declared.parts.Pre.{Pre}
 use Rattle.pep440.specs.declared.words.PreWord.{PreWord}
 use Rattle.pep440.specs.declared.words.PreWord.TheVariants as words
 use Rattle.pep440.specs.Grammar.{value_from}
-use Rattle.pep440.specs.Reading.{Fails, Spans, fitting, fitting_numbers, locals_of, numbers_from, parts_in, pre_of, pre_with}
+use Rattle.pep440.specs.Answers.{Fails}
+use Rattle.pep440.specs.Tied.Reading.{Spans, fitting, fitting_numbers, locals_of, numbers_from, parts_in, pre_of, pre_with}
 use Rattle.pep440.specs.Version.{IsVersion, Parts, fits, part_number, pre_number, pre_numbers}
-use Rattle.pep440.specs.Views.{capped, capped_option, capped_pre, fitting_locals, is_local, part_fits}
+use Rattle.pep440.specs.Tied.Views.{capped, capped_option, capped_pre, fitting_locals, is_local, part_fits}
 use Rattle.pep440.proofs.ReleaseFacts.{all_fit, all_fit-append}
 use Rattle.pep440.proofs.SpanFacts.{locals-lawful}
 

@@ -5,7 +5,7 @@ use Rattle.std.specs.Prelude.{codes}
 use Rattle.std.proofs.lemmas.Bool.Decides.{nat_tests}
 use Rattle.pep440.specs.declared.words.PreWord.TheVariants as words
 use Rattle.pep440.specs.Grammar.{IsAlphaWord, IsBetaWord, IsCandidateWord, IsDevWord, IsPostWord, Says}
-use Rattle.pep440.specs.Reading.{named, optional_word, post_word_at, post_word_of, pre_word_at, pre_word_of, preview_rest, strip_word}
+use Rattle.pep440.specs.Tied.Reading.{named, optional_word, post_word_at, post_word_of, pre_word_at, pre_word_of, preview_rest, strip_word}
 use Rattle.pep440.proofs.HeadFacts.{ends_word, ends_word-e, ends_word-l, ends_word-v, head_is, is_word_start}
 
 -- ---- a word at the front of a text

@@ -1,12 +1,16 @@
 -- Worked values of the definitions.
-use Rattle.std.specs.Prelude.{◌≡◌, [], ◌∷◌, true, false, Some, codes, refl}
+use Rattle.std.specs.Prelude.{◌≡◌, ℕ, List, [], ◌∷◌, true, false, Some, None, codes, refl}
 use Rattle.std.specs.declared.cmp.Ordering.TheVariants.{Less, Equal}
 use Rattle.pep440.specs.declared.parts.Pre.TheVariants.{Alpha, Candidate}
 use Rattle.pep440.specs.declared.parts.LocalPart.TheVariants.{Number, Word}
 use Rattle.pep440.specs.declared.specifier.Operator.TheVariants as operators
-use Rattle.pep440.specs.Version.{plain}
+use Rattle.pep440.specs.Version.{Parts}
 use Rattle.pep440.specs.Order.{version_cmp}
 use Rattle.pep440.specs.Matching.{operator_matches}
+
+-- a version of release numbers alone
+abbrev plain : List ℕ → Parts
+plain ns = record { epoch = 0; release = ns; pre = None; post = None; dev = None; local = [] }
 
 -- a version with a dev part alone comes before the first alpha, and that before the release
 dev_first : version_cmp (record (plain (1 ∷ 0 ∷ [])) { dev = Some 456 }) (record (plain (1 ∷ 0 ∷ [])) { pre = Some (Alpha 1) }) ≡ Less

@@ -1,13 +1,15 @@
 -- Which texts are versions (PEP 440, "Appendix: Parsing version strings with regular expressions" and
 -- "Normalization"), as a relation between a whole text and the parts that it spells.
-use Rattle.std.specs.Prelude.{◌≡◌, ℕ, ◌+◌, ◌-◌, ◌*◌, ◌<◌, ◌==◌, ◌&&◌, ◌||◌, ◌⊎◌, ⊤, nat_le, Bool, true, false, List, [], ◌∷◌, ◌++◌, length, map, Option, Some, None, codes}
+use Rattle.std.specs.Prelude.{◌≡◌, ℕ, ◌+◌, ◌-◌, ◌*◌, ◌<◌, ◌==◌, ◌&&◌, ◌||◌, ◌⊎◌, ⊤, nat_le, Bool, true, false, List, [], ◌∷◌, ◌++◌, length, map, Option, Some, None, Result, Ok, Err, codes}
 use Rattle.std.specs.Char.{is_ascii_alphanumeric, is_ascii_digit, to_ascii_lowercase}
 use Rattle.std.specs.List.{list_all}
+use Rattle.pep440.specs.declared.fault.Fault.{Fault}
+use Rattle.pep440.specs.declared.fault.Fault.TheVariants.{BadVersion, NumberTooLarge, BadClause, ArbitraryEquality, OutOfMemory}
 use Rattle.pep440.specs.declared.parts.Pre.{Pre}
 use Rattle.pep440.specs.declared.parts.Pre.TheVariants.{Alpha, Beta, Candidate}
 use Rattle.pep440.specs.declared.parts.LocalPart.{LocalPart}
 use Rattle.pep440.specs.declared.parts.LocalPart.TheVariants.{Number, Word}
-use Rattle.pep440.specs.Version.{Parts}
+use Rattle.pep440.specs.Version.{Parts, fits}
 
 -- the number that digits write, behind a number
 abbrev pub value_from : ℕ → List ℕ → ℕ
@@ -154,3 +156,12 @@ pub record Spells (text : List ℕ) (v : Parts) : Type 0 where
   pub spaces_before : list_all is_space before ≡ true
   pub spaces_after : list_all is_space after ≡ true
   pub version : IsVersionText inner v
+
+-- what `Version::parse` may answer to a text
+abbrev pub ParseAnswers : List ℕ → Result Parts Fault → Type 0
+ParseAnswers text (Ok v) = Spells text v × (fits v ≡ true)
+ParseAnswers text (Err NumberTooLarge) = (v : Parts) × Spells text v × (fits v ≡ false)
+ParseAnswers text (Err BadVersion) = (v : Parts) → ¬ Spells text v
+ParseAnswers text (Err OutOfMemory) = ⊤
+ParseAnswers text (Err (BadClause k)) = ⊥
+ParseAnswers text (Err ArbitraryEquality) = ⊥

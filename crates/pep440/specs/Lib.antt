@@ -3,10 +3,8 @@ pub mod Version
 pub mod Order
 pub mod Canonical
 pub mod Grammar
-pub mod Reading
+pub mod Answers
 pub mod Hash
-pub mod OrderLaws
 pub mod Matching
-pub mod Sets
-pub mod Views
 pub mod SetGrammar
+pub mod Tied

@@ -16,10 +16,6 @@ pub record Parts : Type 0 where
   pub dev : Option ℕ
   pub local : List LocalPart
 
--- a version of release numbers alone
-abbrev pub plain : List ℕ → Parts
-plain ns = record { epoch = 0; release = ns; pre = None; post = None; dev = None; local = [] }
-
 -- the number of a pre-release part
 abbrev pub pre_number : Pre → ℕ
 pre_number (Alpha n) = n

@@ -1,6 +1,6 @@
 //! Laws of the grammars of versions and of specifiers.
 
-ghost use Rattle.std.specs.Prelude.{◌≡◌, ℕ, List, Ok, Some, true, ◌⊎◌, [], false, slice_index};
+ghost use Rattle.std.specs.Prelude.{◌≡◌, ℕ, List, Ok, Result, Some, true, ◌⊎◌, [], false, slice_index};
 ghost use Rattle.std.specs.List.{list_all};
 ghost use Rattle.std.specs.declared.cmp.Ordering.TheVariants.{Equal};
 ghost use Rattle.pep440.specs.Text.{is_blank};
@@ -8,10 +8,11 @@ ghost use Rattle.pep440.specs.Canonical.{canonical};
 ghost use Rattle.pep440.specs.Grammar.{IsVersionText, Spells};
 ghost use Rattle.pep440.specs.Matching.{matches};
 ghost use Rattle.pep440.specs.Order.{version_cmp};
-ghost use Rattle.pep440.specs.Reading.{bare_parts, version_of};
-ghost use Rattle.pep440.specs.SetGrammar.{IsClause, begins_operator, is_set_byte};
-ghost use Rattle.pep440.specs.Sets.{clause_of, set_of};
+ghost use Rattle.pep440.specs.Tied.Reading.{bare_parts, version_of};
+ghost use Rattle.pep440.specs.SetGrammar.{IsClause, PieceAnswers, SetAnswers, begins_operator, is_set_byte};
+ghost use Rattle.pep440.specs.Tied.Sets.{clause_of, set_of};
 ghost use Rattle.pep440.specs.Version.{IsVersion, Parts, fits};
+ghost use Rattle.pep440.specs.declared.fault.Fault.{Fault};
 ghost use Rattle.pep440.specs.declared.specifier.Clause.{Clause};
 
 /// A text spells at most one version.
@@ -41,6 +42,24 @@ pub fn a_piece_reads_as_its_clause()
         → clause_of place piece ≡ Ok c → IsClause piece c × (fits c.version ≡ true) }
     ensures found { (place : ℕ) (piece : List ℕ) (c : Clause)
         → IsClause piece c → fits c.version ≡ true → clause_of place piece ≡ Ok c }
+{}
+
+/// What a piece of a set reads as is what the grammar says of it, its faults too: `ArbitraryEquality`
+/// exactly where it begins with `===`, `NumberTooLarge` exactly where it is a clause with a number that
+/// is too large, and `BadClause` with its place exactly where it is nothing else.
+pub fn a_piece_has_one_answer()
+    ensures answers { (place : ℕ) (piece : List ℕ)
+        → PieceAnswers place piece (clause_of place piece) }
+    ensures one { (place : ℕ) (piece : List ℕ) (answer : Result Clause Fault)
+        → PieceAnswers place piece answer → clause_of place piece ≡ answer }
+{}
+
+/// What a text reads as is what the grammar says of its pieces: their clauses, or the fault of the first
+/// piece that has one. One comma may stand behind the last clause.
+pub fn a_set_has_one_answer()
+    ensures answers { (text : List ℕ) → SetAnswers text (set_of text) }
+    ensures one { (text : List ℕ) (answer : Result (List Clause) Fault)
+        → SetAnswers text answer → set_of text ≡ answer }
 {}
 
 /// A text that reads as a set has bytes of its own alone, and an operator begins it where no space does.

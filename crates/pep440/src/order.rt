@@ -6,7 +6,7 @@ ghost use Rattle.std.specs.Cmp.Lexicographic.{slice_cmp};
 ghost use Rattle.std.specs.Hash as fed;
 ghost use Rattle.std.specs.Ordering.{as_partial_cmp, eq_by_cmp, nat_cmp};
 ghost use Rattle.pep440.specs.Order.{dev_key, part_cmp, part_key, post_key, pre_key, public_cmp, rank_cmp, trimmed, version_cmp};
-ghost use Rattle.pep440.specs.OrderLaws.{part_total, part_fed, version_fed, version_total};
+ghost use Rattle.pep440.specs.Tied.OrderLaws.{part_total, part_fed, version_fed, version_total};
 ghost use Rattle.pep440.specs.Hash.{part_writes, version_writes};
 
 use crate::parts::{LocalPart, Pre};

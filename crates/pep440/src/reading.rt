@@ -3,11 +3,12 @@
 ghost use Rattle.std.specs.Prelude.{◌≡◌, ◌+◌, ◌-◌, ◌*◌, ◌^◌, ◌<◌, ◌≤◌, ◌∷◌, [], false, true, length, take, drop, map, Some, IfNone, IfOk, IfSome, IsOkUnless};
 ghost use Rattle.std.specs.Char.{is_ascii_alphanumeric, is_ascii_digit, to_ascii_lowercase};
 ghost use Rattle.std.specs.List.{list_all};
-ghost use Rattle.pep440.specs.Grammar.{Spells, is_separator, is_space, value_from};
-ghost use Rattle.pep440.specs.Reading.{Gives, ParseAnswers, fitting, fitting_numbers, is_local_from, locals_from, locals_of, numbers_from, part_of, parts_in, pre_with, trim_space, version_of};
+ghost use Rattle.pep440.specs.Grammar.{Spells, is_separator, is_space, value_from, ParseAnswers};
+ghost use Rattle.pep440.specs.Answers.{Gives};
+ghost use Rattle.pep440.specs.Tied.Reading.{fitting, fitting_numbers, is_local_from, locals_from, locals_of, numbers_from, part_of, parts_in, pre_with, trim_space, version_of};
 ghost use Rattle.pep440.specs.Text.{trim_end, trim_front};
 ghost use Rattle.pep440.specs.Version.{Parts, fits};
-ghost use Rattle.pep440.specs.Views.{capped, capped_option, capped_pre, fitting_locals, fitting_part, is_local, span_view};
+ghost use Rattle.pep440.specs.Tied.Views.{capped, capped_option, capped_pre, fitting_locals, fitting_part, is_local, span_view};
 
 use crate::fault::Fault;
 use crate::parts::{LocalPart, Pre};
@@ -131,12 +132,14 @@ fn part_at(alloc: Global, text: &[u8]) -> Result<LocalPart, Fault>
 // The place of the first separator.
 fn separator_at(text: &[u8]) -> Option<usize>
     ensures none { IfNone result (locals_from [] text.now ≡ part_of text.now ∷ []) }
-    ensures none_within { IfNone result (is_local_from false text.now ≡ true → list_all is_ascii_alphanumeric text.now ≡ true) }
+    ensures none_within { IfNone result (is_local_from false text.now ≡ true
+        → list_all is_ascii_alphanumeric text.now ≡ true) }
     ensures within { IfSome result (λ i. i < length text.now) }
     ensures some { IfSome result (λ i. locals_from [] text.now
         ≡ part_of (take i text.now) ∷ locals_from [] (drop (i + 1) text.now)) }
     ensures some_within { IfSome result (λ i. is_local_from false text.now ≡ true
-        → (list_all is_ascii_alphanumeric (take i text.now) ≡ true) × (is_local_from false (drop (i + 1) text.now) ≡ true)) }
+        → (list_all is_ascii_alphanumeric (take i text.now) ≡ true)
+        × (is_local_from false (drop (i + 1) text.now) ≡ true)) }
 {
     for i in 0..text.len() {
         if words::is_separator(text[i]) {
@@ -168,7 +171,7 @@ fn local_parts(alloc: Global, text: &[u8]) -> Result<Vec<LocalPart>, Fault>
 }
 
 // The version that stands in the spans.
-pub(crate) fn version_in(alloc: Global, spans: &SpannedText) -> Result<Version, Fault>
+pub(crate) fn version_of_spans(alloc: Global, spans: &SpannedText) -> Result<Version, Fault>
     requires { is_local spans.now.local.now ≡ true }
     ensures { Gives (λ v. v) result (fitting (Some (parts_in (span_view spans.now)))) }
 {
@@ -222,7 +225,7 @@ fn version_at(alloc: Global, text: &[u8]) -> Result<Version, Fault>
     let Some(spans) = spans::spans_of(trim_space_end(trim_space_front(text))) else {
         return Err(Fault::BadVersion);
     };
-    version_in(alloc, &spans)
+    version_of_spans(alloc, &spans)
 }
 
 impl Version {

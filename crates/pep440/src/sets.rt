@@ -2,9 +2,11 @@
 
 ghost use Rattle.std.specs.Prelude.{◌≡◌, ◌+◌, ◌<◌, ◌≤◌, ◌∷◌, ◌&&◌, ◌==◌, nat_lt, [], IfNone, IfSome, length, take, drop};
 ghost use Rattle.std.specs.List.{list_all, list_any};
-ghost use Rattle.pep440.specs.Reading.{Gives, parts_in};
-ghost use Rattle.pep440.specs.Sets.{clause_of, clauses_from, double_of, clause_text, ends_in_star, is_arbitrary, is_plain, operator_of, set_of, single_of, star_operator, takes, version_text};
-ghost use Rattle.pep440.specs.Views.{operator_view, span_view};
+ghost use Rattle.pep440.specs.Answers.{Gives};
+ghost use Rattle.pep440.specs.Tied.Reading.{parts_in};
+ghost use Rattle.pep440.specs.SetGrammar.{is_release_alone, takes};
+ghost use Rattle.pep440.specs.Tied.Sets.{clause_of, clauses_from, double_of, clause_text, ends_in_star, is_arbitrary, operator_of, set_of, single_of, star_operator, version_text};
+ghost use Rattle.pep440.specs.Tied.Views.{operator_view, span_view};
 ghost use Rattle.pep440.specs.Text.{is_blank, pieces, trim_blank, trim_end, trim_front};
 
 use crate::fault::Fault;
@@ -57,7 +59,8 @@ fn trim_blank(text: &[u8]) -> &[u8]
 fn comma_at(text: &[u8]) -> Option<usize>
     ensures none { IfNone result (pieces text.now ≡ text.now ∷ []) }
     ensures within { IfSome result (λ i. i < length text.now) }
-    ensures some { IfSome result (λ i. pieces text.now ≡ take i text.now ∷ pieces (drop (i + 1) text.now)) }
+    ensures some { IfSome result (λ i. pieces text.now
+        ≡ take i text.now ∷ pieces (drop (i + 1) text.now)) }
 {
     for i in 0..text.len() {
         if text[i] == b',' {
@@ -154,8 +157,8 @@ fn has_dot(release: &[u8]) -> bool
 }
 
 #[tactic(auto, using(crate::proofs::SpanFacts::no_locals))]
-fn is_plain(spans: &SpannedText) -> bool
-    ensures { result ≡ is_plain (parts_in (span_view spans.now)) }
+fn is_release_alone(spans: &SpannedText) -> bool
+    ensures { result ≡ is_release_alone (parts_in (span_view spans.now)) }
 {
     spans.pre.is_none() && spans.post.is_none() && spans.dev.is_none() && spans.local.is_empty()
 }
@@ -168,7 +171,7 @@ fn takes(operator: Operator, spans: &SpannedText) -> bool
     match operator {
         Operator::Compatible => has_dot(spans.release) && spans.local.is_empty(),
         Operator::Equal | Operator::NotEqual => true,
-        Operator::EqualPrefix | Operator::NotEqualPrefix => is_plain(spans),
+        Operator::EqualPrefix | Operator::NotEqualPrefix => is_release_alone(spans),
         Operator::AtMost | Operator::AtLeast | Operator::Below | Operator::Above => {
             spans.local.is_empty()
         }
@@ -194,7 +197,7 @@ fn clause_text(
     if !takes(operator, &spans) {
         return Err(Fault::BadClause(place));
     }
-    let version = reading::version_in(alloc, &spans)?;
+    let version = reading::version_of_spans(alloc, &spans)?;
     Ok(Clause { operator, version })
 }
 

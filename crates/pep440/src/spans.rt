@@ -2,8 +2,8 @@
 
 ghost use Rattle.std.specs.Prelude.{◌≡◌, ◌∷◌, ◌<◌, length, take, drop, IfSome, option_copied, true, false};
 ghost use Rattle.std.specs.Option.{option_map};
-ghost use Rattle.pep440.specs.Reading.{after_lead, after_release, dev_at, epoch_at, goes_on, is_local_from, local_at, post_at, pre_at, release_of, spans_of};
-ghost use Rattle.pep440.specs.Views.{is_local, span_view, word_view};
+ghost use Rattle.pep440.specs.Tied.Reading.{after_lead, after_release, dev_at, epoch_at, goes_on, is_local_from, local_at, post_at, pre_at, release_of, spans_of};
+ghost use Rattle.pep440.specs.Tied.Views.{is_local, span_view, word_view};
 
 use crate::words;
 use crate::words::PreWord;
@@ -149,7 +149,7 @@ fn local_at(text: &[u8]) -> Option<&[u8]>
 }
 
 /// The spans of a version with nothing around it.
-#[tactic(auto, unfolding(crate::specs::Reading::spans_of))]
+#[tactic(auto, unfolding(crate::specs::Tied::Reading::spans_of))]
 pub(crate) fn spans_of(text: &[u8]) -> Option<SpannedText<'_>>
     ensures value { option_map span_view result ≡ spans_of text.now }
     ensures lawful { IfSome result (λ spans. is_local spans.local.now ≡ true) }

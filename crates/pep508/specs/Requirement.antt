@@ -2,7 +2,7 @@
 use Rattle.std.specs.Prelude.{◌≡◌, ℕ, ◌+◌, ◌-◌, ◌==◌, ◌||◌, Bool, true, false, List, [], ◌∷◌, drop, length, slice_index, is_ok, Option, Some, None, unwrap_or, Result, Ok, Err, if◌then◌else◌}
 use Rattle.std.specs.List.{list_all}
 use Rattle.std.specs.Str.{IsUtf8, is_utf8}
-use Rattle.pep440.specs.Sets.{set_of}
+use Rattle.pep440.specs.Tied.Sets.{set_of}
 use Rattle.pep440.specs.Text.{pieces}
 use Rattle.pep440.specs.declared.specifier.Clause.{Clause}
 use Rattle.pep440.specs.declared.fault.Fault.{Fault as SpecifierFault}

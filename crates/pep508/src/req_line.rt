@@ -3,7 +3,7 @@
 ghost use Rattle.lists.specs.Answers.{Answers};
 ghost use Rattle.std.specs.Prelude.{◌≡◌, ◌<◌, List, Some, Ok, IfOk, length};
 ghost use Rattle.std.specs.Option.{option_copied};
-ghost use Rattle.pep440.specs.Sets.{set_of};
+ghost use Rattle.pep440.specs.Tied.Sets.{set_of};
 ghost use Rattle.pep440.specs.declared.specifier.Clause.{Clause};
 ghost use Rattle.markers.specs.Faults.{memory_fault, one_line};
 ghost use Rattle.pep508.specs.Requirement.{ReadsWith, Wanted, cut_line, requirement_of};

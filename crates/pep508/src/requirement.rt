@@ -39,7 +39,7 @@ impl Drop for Requirement {
 
 impl Model for Requirement {
     ghost use Rattle.std.specs.Coded.{codes};
-    ghost use Rattle.markers.specs.MarkerCode.{tree_code};
+    ghost use Rattle.markers.specs.Tied.MarkerCode.{tree_code};
     ghost use Rattle.pep508.specs.Requirement.{Wanted};
 
     ghost Value = { Wanted };

@@ -7,7 +7,7 @@ use Rattle.std.specs.Str.{bytes_eq}
 use Rattle.hex.specs.Hex.{encode_lower}
 use Rattle.hex.proofs.HexLemmas.{decode_sized-encode_lower}
 use Rattle.pep440.specs.Canonical.{canonical}
-use Rattle.pep440.specs.Reading.{version_of}
+use Rattle.pep440.specs.Tied.Reading.{version_of}
 use Rattle.pep440.specs.Version.{IsVersion, Parts}
 use Rattle.toml.specs.Data.{Data, string, Members, no_members, member, get_member}
 use Rattle.toml.specs.View.{items_of}

@@ -13,7 +13,7 @@ use Rattle.pylock.specs.Forms.{◌>>=◌, after, all_known, each, found, natural
 use Rattle.hex.specs.Hex.{decode_sized, encode_lower}
 use Rattle.hex.specs.declared.error.FromHexError.{FromHexError}
 use Rattle.pep440.specs.Canonical.{canonical}
-use Rattle.pep440.specs.Reading.{version_of}
+use Rattle.pep440.specs.Tied.Reading.{version_of}
 use Rattle.pep440.specs.Version.{Parts}
 use Rattle.pep440.specs.declared.fault.Fault.{Fault as VersionFault}
 use Rattle.pylock.specs.Locks.{Locked, are_entries}

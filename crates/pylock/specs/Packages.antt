@@ -3,7 +3,7 @@ use Rattle.std.specs.Prelude.{◌≡◌, ℕ, ◌==◌, ◌&&◌, ◌||◌, not,
 use Rattle.std.specs.List.{list_all}
 use Rattle.std.specs.Option.{option_map_or}
 use Rattle.std.specs.Str.{bytes_eq}
-use Rattle.pep440.specs.Sets.{set_of}
+use Rattle.pep440.specs.Tied.Sets.{set_of}
 use Rattle.pep440.specs.Text.{is_blank}
 use Rattle.pep440.specs.Version.{IsVersion, Parts}
 use Rattle.markers.specs.Names.{is_normal}

@@ -4,7 +4,7 @@ use Rattle.std.specs.Str.{bytes_eq, is_utf8}
 use Rattle.hex.specs.Hex.{decode_sized, encode_lower}
 use Rattle.hex.specs.declared.error.FromHexError.{FromHexError}
 use Rattle.pep440.specs.Canonical.{canonical}
-use Rattle.pep440.specs.Reading.{version_of}
+use Rattle.pep440.specs.Tied.Reading.{version_of}
 use Rattle.pep440.specs.Version.{Parts}
 use Rattle.pep440.specs.declared.fault.Fault.{Fault as VersionFault}
 use Rattle.markers.specs.Names.{is_normal}

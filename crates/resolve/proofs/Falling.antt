@@ -6,7 +6,7 @@ use Rattle.std.specs.List.{AllByRecursion}
 use Rattle.std.specs.List.Sorted.{IsStrictlySortedBy}
 use Rattle.std.specs.Ordering.{is_eq}
 use Rattle.pep440.specs.Order.{version_cmp}
-use Rattle.pep440.specs.OrderLaws.{version_total}
+use Rattle.pep440.specs.Tied.OrderLaws.{version_total}
 use Rattle.snapshot.specs.Release.{Release}
 use Rattle.snapshot.specs.Releases.{newer_cmp}
 use Rattle.resolve.specs.Admission.{has_version}

@@ -17,7 +17,7 @@ use Rattle.std.proofs.lemmas.List.Folds.{find_at}
 use Rattle.std.proofs.lemmas.Map.Text.{is_eq-slice_cmp}
 use borrow.Author.Tests.{eqb-true, eqb-false, ltb-true, ltb-false}
 use Rattle.pep440.specs.Order.{version_cmp}
-use Rattle.pep440.specs.OrderLaws.{version_total}
+use Rattle.pep440.specs.Tied.OrderLaws.{version_total}
 use Rattle.pep440.specs.Version.{Parts}
 use Rattle.snapshot.specs.Release.{Release}
 use Rattle.snapshot.specs.Releases.{newer_cmp}

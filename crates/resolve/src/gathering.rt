@@ -39,7 +39,7 @@ impl<'q> Drop for Gathering<'q> {
 impl<'q> Model for Gathering<'q> {
     ghost use Rattle.std.specs.Coded.{codes};
     ghost use Rattle.std.specs.Prelude.{map};
-    ghost use Rattle.markers.specs.MarkerCode.{tree_code};
+    ghost use Rattle.markers.specs.Tied.MarkerCode.{tree_code};
     ghost use Rattle.resolve.specs.Building.{Gathered};
 
     ghost Value = { Gathered };

@@ -40,7 +40,7 @@ impl<'a> Drop for Problem<'a> {
 
 impl<'a> Model for Problem<'a> {
     ghost use Rattle.std.specs.Coded.{codes};
-    ghost use Rattle.markers.specs.MarkerCode.{tree_code};
+    ghost use Rattle.markers.specs.Tied.MarkerCode.{tree_code};
     ghost use Rattle.resolve.specs.Given.{Given};
     ghost use Rattle.resolve.specs.Pictured.{IsPictured};
 

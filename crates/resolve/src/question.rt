@@ -39,7 +39,7 @@ impl<'a> Drop for Question<'a> {
 
 impl<'a> Model for Question<'a> {
     ghost use Rattle.std.specs.Coded.{codes};
-    ghost use Rattle.markers.specs.MarkerCode.{tree_code};
+    ghost use Rattle.markers.specs.Tied.MarkerCode.{tree_code};
     ghost use Rattle.resolve.specs.Given.{Given};
 
     ghost Value = { Given };

@@ -1,5 +1,5 @@
 -- The releases of each package of an index fall.
-use Rattle.std.proofs.Common.{◌≡◌, ℕ, suc, Bool, true, false, cond, List, [], ◌∷◌, Option, Some, Ok, find, fold, ap}
+use Rattle.std.proofs.Common.{◌≡◌, ℕ, suc, Bool, true, false, cond, List, [], ◌∷◌, Option, Some, Ok, find, ap}
 use Rattle.std.specs.Prelude.{codes}
 use Rattle.std.specs.List.Sorted.{IsStrictlySortedBy}
 use Rattle.std.specs.Option.{option_map_or}
@@ -10,18 +10,18 @@ use Rattle.snapshot.specs.declared.package.ReadPackage.{ReadPackage}
 use Rattle.snapshot.specs.declared.package.ReadPackages.{ReadPackages}
 use Rattle.snapshot.specs.declared.releases.ReadReleases.{ReadReleases}
 use Rattle.snapshot.specs.Packages.{as_name, as_one, is_named, package_of, packages_in, packages_of, releases_of, together}
-use Rattle.snapshot.specs.Places.{AllFall}
-use Rattle.snapshot.specs.Releases.{gather_release, newer_cmp, nothing, release_of, releases_in}
+use Rattle.snapshot.specs.Tied.Places.{AllFall}
+use Rattle.snapshot.specs.Releases.{newer_cmp, newest_first, release_of, releases_in, usable_of}
 use Rattle.snapshot.specs.Shape.{below, each_from, field, key_path, object_of, place_path, required}
-use Rattle.snapshot.proofs.SortedFacts.{gathered-sorted}
+use Rattle.snapshot.proofs.SortedFacts.{newest-sorted}
 use Rattle.snapshot.proofs.StepFacts.{both, inside, ok-inside}
 
 releases-fall : (name : List ℕ) (ds : Items) (r : ReadReleases) → releases_in name ds ≡ Ok r → IsStrictlySortedBy newer_cmp r.releases
 unfolding releases_in
 releases-fall name ds r e =
     let b = both (each_from release_of 0 ds) _ r e in
-    let same : (fold (gather_release name) nothing b.first).releases ≡ r.releases = ap (λ (q : ReadReleases). q.releases) (ok-inside _ _ b.then) in
-    rw same at (gathered-sorted name b.first)
+    let same : newest_first (usable_of b.first) ≡ r.releases = ap (λ (q : ReadReleases). q.releases) (ok-inside _ _ b.then) in
+    rw same at (newest-sorted (usable_of b.first))
 
 package-falls : (d : Data) (p : ReadPackage) → package_of d ≡ Ok p → IsStrictlySortedBy newer_cmp p.kept.releases
 unfolding package_of

@@ -6,11 +6,11 @@ use Rattle.std.specs.BTreeSet.{insert_key}
 use Rattle.std.specs.Option.{option_or}
 use Rattle.std.specs.Prelude.{◌&&◌}
 use Rattle.std.specs.Ordering.{is_lt}
-use Rattle.snapshot.specs.OrderLaws.{name_total}
+use Rattle.snapshot.specs.Tied.OrderLaws.{name_total}
 use Rattle.snapshot.proofs.InsertFacts.{Rises, rising}
-use Rattle.snapshot.specs.Chosen.{no_files, with_file, with_form}
+use Rattle.snapshot.specs.Tied.Chosen.{no_files, with_file, with_form, ascend}
 use Rattle.snapshot.specs.declared.chosen.Sorted.{Sorted}
-use Rattle.snapshot.specs.Files.{ascend, form_of, is_tar_gz, is_wheel, is_zip, name_cmp, sdist_of, wheels_of}
+use Rattle.snapshot.specs.Files.{form_of, is_tar_gz, is_wheel, is_zip, name_cmp, sdist_of, wheels_of}
 use Rattle.snapshot.specs.declared.file.ReleaseFile.{ReleaseFile}
 use Rattle.snapshot.specs.declared.form.Form.{Form}
 use Rattle.snapshot.specs.declared.form.Form.TheVariants.{Wheel, TarGz, Zip, Other}

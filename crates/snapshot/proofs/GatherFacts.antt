@@ -9,9 +9,11 @@ use Rattle.snapshot.specs.declared.fault.Fault.TheVariants.{OutOfMemory}
 use Rattle.snapshot.specs.declared.releases.ReadReleases.{ReadReleases}
 use Rattle.snapshot.specs.Release.{Release}
 use Rattle.snapshot.specs.Shape.{◌>>=◌, each_from}
+use Rattle.snapshot.proofs.GatheredFacts.{gathered-is}
 use Rattle.snapshot.proofs.Loops.{gather}
 use Rattle.snapshot.proofs.StepFacts.{ok-inside}
-use Rattle.snapshot.specs.Releases.{Gathered, gather_release, has_version_of, kept, left_out, newer_cmp, nothing, release_of, releases_in}
+use Rattle.snapshot.specs.Releases.{has_version_of, newer_cmp, newest_first, release_of, releases_in, skipped_of, usable_of}
+use Rattle.snapshot.specs.Tied.Gathering.{Gathered, gather_release, kept, left_out, nothing}
 use Rattle.snapshot.specs.declared.skipped.SkipCause.TheVariants.{Duplicate}
 use Rattle.snapshot.specs.declared.skipped.SkipCause.{SkipCause}
 use Rattle.snapshot.specs.declared.skipped.Skipped.{Skipped}
@@ -45,8 +47,13 @@ pub release_left : (name : List ℕ) (place : ℕ) (keys : List Release) (skippe
     → record { place = place + 1; releases = keys; skipped = all } ≡ gather_release name (record { place = place; releases = keys; skipped = skipped }) (Err cause)
 release_left name place keys skipped all cause left = λ i. record { place = place + 1; releases = keys; skipped = left i }
 
-kept_by : (name : List ℕ) (read : Result (List (Result Release SkipCause)) Fault) (g : Gathered) → gather (gather_release name) nothing read ≡ Ok g → (read >>= λ listed. Ok (kept (fold (gather_release name) nothing listed))) ≡ Ok (kept g)
-kept_by name (Ok listed) g is = ap (λ (h : Gathered). let r : Result ReadReleases Fault = Ok (kept h) in r) (ok-inside _ _ is)
+-- what an array lists for a package
+abbrev listed_with : List ℕ → Result (List (Result Release SkipCause)) Fault → Result ReadReleases Fault
+listed_with name read = read >>= λ listed. Ok (record { releases = newest_first (usable_of listed); skipped = skipped_of name listed })
+
+kept_by : (name : List ℕ) (read : Result (List (Result Release SkipCause)) Fault) (g : Gathered) → gather (gather_release name) nothing read ≡ Ok g → listed_with name read ≡ Ok (kept g)
+kept_by name (Ok listed) g is =
+    ap (λ (r : ReadReleases). let whole : Result ReadReleases Fault = Ok r in whole) (sym (gathered-is name listed) ∙ ap (λ (h : Gathered). kept h) (ok-inside _ _ is))
 kept_by name (Err e) g is = absurd cc
 
 -- what is gathered of all that an array lists
@@ -54,7 +61,7 @@ pub kept_gathered : (name : List ℕ) (ds : Items) (g : Gathered) → gather (ga
 unfolding releases_in
 kept_gathered name ds g is = kept_by name (each_from release_of 0 ds) g is
 
-fault_by : (name : List ℕ) (read : Result (List (Result Release SkipCause)) Fault) (e : Fault) → gather (gather_release name) nothing read ≡ Err e → (read >>= λ listed. Ok (kept (fold (gather_release name) nothing listed))) ≡ Err e
+fault_by : (name : List ℕ) (read : Result (List (Result Release SkipCause)) Fault) (e : Fault) → gather (gather_release name) nothing read ≡ Err e → listed_with name read ≡ Err e
 fault_by name (Ok listed) e is = absurd cc
 fault_by name (Err d) e is = cc
 

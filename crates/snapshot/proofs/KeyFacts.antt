@@ -2,7 +2,7 @@
 use Rattle.std.proofs.Common.{◌≡◌, ℕ, suc, ◌+◌, ◌<◌, ◌≤◌, true, false, List, length, get_or, drop, map, Option, Some, None, option_map, refl, sym, ap, ◌∙◌, add-one, arith, bytes_eq}
 use Rattle.std.proofs.Math.Seq.{drop-cons}
 use Rattle.std.proofs.Math.ListN.{drop_of_length-le}
-use Rattle.snapshot.specs.Keys.{place_of}
+use Rattle.snapshot.specs.Tied.Keys.{place_of}
 
 -- the place of a key behind others
 abbrev pub behind : ℕ → Option ℕ → Option ℕ

@@ -13,14 +13,14 @@ use Rattle.serde_json.specs.Data.{Data, no_items}
 use Rattle.serde_json.specs.Find.{as_array, as_bool, as_number, as_str, as_u64, get}
 use Rattle.pep440.specs.declared.fault.Fault.{Fault as VersionFault}
 use Rattle.pep440.specs.declared.specifier.Clause.{Clause}
-use Rattle.pep440.specs.Sets.{set_of}
+use Rattle.pep440.specs.Tied.Sets.{set_of}
 use Rattle.snapshot.specs.declared.file.ReleaseFile.{ReleaseFile}
 use Rattle.snapshot.specs.declared.form.Form.{Form}
 use Rattle.snapshot.specs.declared.form.Form.TheVariants.{Wheel, TarGz, Zip, Other}
 use Rattle.snapshot.specs.declared.python.RequiresPython.{RequiresPython}
 use Rattle.snapshot.specs.Files.{as_digest, as_filled, as_size, digest_in, file_of, fitting_size, form_of, has_file, is_digest, is_tar_gz, is_wheel, is_zip, name_cmp, sdist_of, wheels_of}
 use Rattle.snapshot.specs.Lawful.{IsFile, IsRelease, IsSdist, IsWheel}
-use Rattle.snapshot.specs.OrderLaws.{name_total}
+use Rattle.snapshot.specs.Tied.OrderLaws.{name_total}
 use Rattle.snapshot.specs.Python.{is_blank, python_of, python_with}
 use Rattle.snapshot.specs.Release.{Release}
 use Rattle.snapshot.specs.Releases.{listed_of}

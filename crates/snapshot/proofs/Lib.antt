@@ -10,6 +10,7 @@ pub mod UsableFacts
 pub mod SortedFacts
 pub mod PackageFacts
 pub mod NameFacts
+pub mod GatheredFacts
 pub mod GatherFacts
 pub mod FallFacts
 pub mod LawFacts

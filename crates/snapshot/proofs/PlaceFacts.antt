@@ -1,16 +1,18 @@
 -- Where packages stand, and what a look-up by the place finds.
-use Rattle.std.proofs.Common.{◌≡◌, ℕ, suc, ◌+◌, ◌<◌, ◌||◌, Bool, true, false, cond, List, [], ◌∷◌, ◌++◌, length, get_or, take, drop, Option, Some, None, find, refl, sym, ap, ◌∙◌, add-one, arith, bytes_eq, zero-add, String, Global, string_bytes, string_cmp, true≢false}
-use Rattle.std.proofs.Math.Seq.{drop-cons}
-use Rattle.std.proofs.lemmas.List.{take_more, length-take-le}
+use Rattle.std.proofs.Common.{◌≡◌, ℕ, suc, ◌+◌, ◌<◌, ◌||◌, Bool, true, false, cond, List, [], ◌∷◌, ◌++◌, length, get_or, take, drop, Option, Some, None, Ok, Err, find, refl, sym, ap, ◌∙◌, add-one, append_assoc, arith, bytes_eq, zero-add, String, Global, string_bytes, string_cmp, true≢false}
+use Rattle.std.proofs.Math.Seq.{drop-cons, take-append_seam}
+use Rattle.std.proofs.lemmas.List.{length-append, length-take-le, take_more}
 use Rattle.std.proofs.lemmas.Map.Text.{btree_map_updates_text}
 use Rattle.std.proofs.lemmas.Slice.Eq.{bytes_eq-Decides}
 use Rattle.std.specs.BTreeMap.{BTreeMap, UpdatesBy, get_by_text}
 use Rattle.std.specs.Map.{update}
-use Rattle.std.specs.List.{list_any, position_from}
+use Rattle.std.specs.List.{cons_option, enumerate_from, filter_map, list_any, position_from}
 use Rattle.std.specs.Prelude.{is_some}
 use Rattle.snapshot.specs.declared.package.Package.{Package}
-use Rattle.snapshot.specs.Packages.{is_named, releases_of, repeated_from}
-use Rattle.snapshot.specs.Places.{ArePlaces}
+use Rattle.snapshot.specs.Packages.{is_named, releases_of, repeated_at, repeated_names, unless_repeated}
+use Rattle.snapshot.specs.declared.fault.Fault.{Fault}
+use Rattle.snapshot.specs.declared.fault.Fault.TheVariants.{DuplicatePackage}
+use Rattle.snapshot.specs.Tied.Places.{ArePlaces, repeated_from}
 
 -- an item that doesn't pass, put last, changes no place
 position-push_other : {X : Type 0} (p : X → Bool) (k : ℕ) (xs : List X) (y : X) → p y ≡ false → position_from p k (xs ++ y ∷ []) ≡ position_from p k xs
@@ -102,6 +104,40 @@ repeated-more ps i p lt is none = rw (drop-cons ps i p lt, take_more ps i p lt, 
 -- the package at the place has an earlier name
 pub repeated-here : (ps : List Package) (i : ℕ) (p : Package) → i < length ps → p ≡ get_or ps i p → list_any (is_named p.name) (take i ps) ≡ true → repeated_from (take i ps) (drop i ps) ≡ Some p.name
 repeated-here ps i p lt is some = rw (drop-cons ps i p lt, ← is, some) refl
+
+-- the first of the names, if there is one
+abbrev first_name : List (List ℕ) → Option (List ℕ)
+first_name [] = None
+first_name (name ∷ more) = Some name
+
+first_by : (b : Bool) (name : List ℕ) (names : List (List ℕ)) (later : Option (List ℕ)) → first_name names ≡ later → first_name (cons_option (cond b (Some name) None) names) ≡ cond b (Some name) later
+first_by true name names later more = refl
+first_by false name names later more = more
+
+-- the rule, gone through from the front
+first-repeated : (before rest : List Package) → first_name (filter_map (repeated_at (before ++ rest)) (enumerate_from (length before) rest)) ≡ repeated_from before rest
+first-repeated before [] = refl
+first-repeated before (p ∷ rest) =
+    let all = append_assoc before (p ∷ []) rest in
+    let next : length (before ++ p ∷ []) ≡ length before + 1 = length-append before (p ∷ []) in
+    let more : first_name (filter_map (repeated_at (before ++ p ∷ rest)) (enumerate_from (length before + 1) rest)) ≡ repeated_from (before ++ p ∷ []) rest =
+    (λ i. first_name (filter_map (repeated_at (sym all i)) (enumerate_from (sym next i) rest))) ∙ first-repeated (before ++ p ∷ []) rest in
+    ap (λ (front : List Package). first_name (cons_option (cond (list_any (is_named p.name) front) (Some p.name) None) (filter_map (repeated_at (before ++ p ∷ rest)) (enumerate_from (length before + 1) rest)))) (take-append_seam before (p ∷ rest))
+    ∙ first_by (list_any (is_named p.name) before) p.name (filter_map (repeated_at (before ++ p ∷ rest)) (enumerate_from (length before + 1) rest)) (repeated_from (before ++ p ∷ []) rest) more
+
+none_repeated : (names : List (List ℕ)) → first_name names ≡ None → unless_repeated names ≡ Ok tt
+none_repeated [] e = refl
+none_repeated (name ∷ more) e = absurd cc
+
+some_repeated : (names : List (List ℕ)) (name : List ℕ) → first_name names ≡ Some name → unless_repeated names ≡ Err (DuplicatePackage name)
+some_repeated [] name e = absurd cc
+some_repeated (other ∷ more) name e = let same : other ≡ name = cc in ap (λ (n : List ℕ). Err (DuplicatePackage n)) same
+
+pub names-distinct : (ps : List Package) → repeated_from [] ps ≡ None → unless_repeated (repeated_names ps) ≡ Ok tt
+names-distinct ps e = none_repeated (repeated_names ps) (first-repeated [] ps ∙ e)
+
+pub name-repeated : (ps : List Package) (name : List ℕ) → repeated_from [] ps ≡ Some name → unless_repeated (repeated_names ps) ≡ Err (DuplicatePackage name)
+name-repeated ps name e = some_repeated (repeated_names ps) name (first-repeated [] ps ∙ e)
 
 -- ---- in the words of the map's calls
 

@@ -1,31 +1,26 @@
--- The releases of a package, put one after another into a list that is in order.
-use Rattle.std.proofs.Common.{◌≡◌, Bool, true, false, cond, List, [], ◌∷◌, ℕ, Result, Ok, Err, Option, Some, None, Ordering, Less, Equal, Greater, find, fold, refl, ap, ◌∙◌}
+-- Items put one after another into a list that is in order: of equal items the first stays.
+use Rattle.std.proofs.Common.{◌≡◌, Bool, true, false, cond, List, [], ◌∷◌, Option, Some, None, Ordering, Less, Equal, Greater, find, fold, refl, ap, ◌∙◌}
 use Rattle.std.specs.BTreeSet.{insert_key}
 use Rattle.std.specs.Cmp.{IsTotalOrder, alike_right}
-use Rattle.std.specs.List.{AllByRecursion, filter_map}
+use Rattle.std.specs.List.{AllByRecursion}
 use Rattle.std.specs.List.Sorted.{IsStrictlySortedBy}
 use Rattle.std.specs.Ordering.{is_eq, match_ordering}
-use Rattle.std.specs.Result.{result_ok}
-use Rattle.snapshot.specs.declared.skipped.SkipCause.{SkipCause}
+use Rattle.snapshot.specs.declared.file.ReleaseFile.{ReleaseFile}
+use Rattle.snapshot.specs.Files.{has_name_of, listed_wheels, name_cmp, wheels_of}
 use Rattle.snapshot.specs.Release.{Release}
-use Rattle.snapshot.specs.OrderLaws.{newer_total}
-use Rattle.snapshot.specs.Releases.{Gathered, gather_release, newer_cmp, nothing, with_release}
-use Rattle.snapshot.proofs.InsertFacts.{above-trans, sorted-insert}
-
-sorted-gathered : (so_far : List Release) (listed : List (Result Release SkipCause)) → IsStrictlySortedBy newer_cmp so_far → IsStrictlySortedBy newer_cmp (fold with_release so_far listed)
-sorted-gathered so_far [] s = s
-sorted-gathered so_far (Err cause ∷ listed) s = sorted-gathered so_far listed s
-sorted-gathered so_far (Ok r ∷ listed) s = sorted-gathered (insert_key newer_cmp so_far r) listed (sorted-insert newer_total so_far r s)
-
--- the releases that were gathered are those that were put into their places
-releases-gathered : (name : List ℕ) (g : Gathered) (listed : List (Result Release SkipCause)) → (fold (gather_release name) g listed).releases ≡ fold with_release g.releases listed
-releases-gathered name g [] = refl
-releases-gathered name g (r ∷ listed) = releases-gathered name (gather_release name g r) listed
+use Rattle.snapshot.specs.Releases.{has_version_of, newer_cmp, newest_first}
+use Rattle.snapshot.specs.Tied.OrderLaws.{name_total, newer_total}
+use Rattle.snapshot.proofs.InsertFacts.{above-trans, sorted-insert, sorted-inserted}
 
 -- the newest release is first
-pub gathered-sorted : (name : List ℕ) (listed : List (Result Release SkipCause)) → IsStrictlySortedBy newer_cmp (fold (gather_release name) nothing listed).releases
+pub newest-sorted : (releases : List Release) → IsStrictlySortedBy newer_cmp (newest_first releases)
 unfolding IsStrictlySortedBy
-gathered-sorted name listed = rw (releases-gathered name nothing listed) (sorted-gathered [] listed tt)
+newest-sorted releases = sorted-inserted newer_total [] releases tt
+
+-- the wheels rise by name
+pub wheels-sorted : (files : List ReleaseFile) → IsStrictlySortedBy name_cmp (wheels_of files)
+unfolding IsStrictlySortedBy
+wheels-sorted files = sorted-inserted name_total [] (listed_wheels files) tt
 
 -- ---- the first of equal items stays
 
@@ -81,17 +76,21 @@ front_found : {X : Type 0} (b : Bool) (x : X) (later : Option X) → or_else (co
 front_found true x later = refl
 front_found false x later = refl
 
-find-gathered : (r : Release) (so_far : List Release) (listed : List (Result Release SkipCause)) → IsStrictlySortedBy newer_cmp so_far
-    → find (λ s. is_eq (newer_cmp r s)) (fold with_release so_far listed) ≡ or_else (find (λ s. is_eq (newer_cmp r s)) so_far) (find (λ s. is_eq (newer_cmp r s)) (filter_map (λ o. result_ok o) listed))
-find-gathered r so_far [] s = or_else-none (find (λ s. is_eq (newer_cmp r s)) so_far)
-find-gathered r so_far (Err cause ∷ listed) s = find-gathered r so_far listed s
-find-gathered r so_far (Ok x ∷ listed) s =
-    find-gathered r (insert_key newer_cmp so_far x) listed (sorted-insert newer_total so_far x s)
-    ∙ ap (λ (o : Option Release). or_else o (find (λ s. is_eq (newer_cmp r s)) (filter_map (λ o. result_ok o) listed))) (find-insert newer_total r so_far x s)
-    ∙ or_else-assoc (find (λ s. is_eq (newer_cmp r s)) so_far) _ _
-    ∙ ap (or_else (find (λ s. is_eq (newer_cmp r s)) so_far)) (front_found (is_eq (newer_cmp r x)) x _)
+find-inserted : {K : Type 0} {R : K → K → Ordering} (total : IsTotalOrder R) (a : K) (so_far ks : List K) → IsStrictlySortedBy R so_far
+    → find (λ z. is_eq (R a z)) (fold (insert_key R) so_far ks) ≡ or_else (find (λ z. is_eq (R a z)) so_far) (find (λ z. is_eq (R a z)) ks)
+find-inserted {R = R} total a so_far [] s = or_else-none (find (λ z. is_eq (R a z)) so_far)
+find-inserted {R = R} total a so_far (k ∷ ks) s =
+    find-inserted total a (insert_key R so_far k) ks (sorted-insert total so_far k s)
+    ∙ ap (λ o. or_else o (find (λ z. is_eq (R a z)) ks)) (find-insert total a so_far k s)
+    ∙ or_else-assoc (find (λ z. is_eq (R a z)) so_far) _ _
+    ∙ ap (or_else (find (λ z. is_eq (R a z)) so_far)) (front_found (is_eq (R a k)) k _)
 
 -- of equal releases the first that is listed stays
-pub gathered-first : (name : List ℕ) (r : Release) (listed : List (Result Release SkipCause)) → find (λ s. is_eq (newer_cmp r s)) (fold (gather_release name) nothing listed).releases ≡ find (λ s. is_eq (newer_cmp r s)) (filter_map (λ o. result_ok o) listed)
+pub newest-first : (r : Release) (releases : List Release) → find (has_version_of r) (newest_first releases) ≡ find (has_version_of r) releases
 unfolding IsStrictlySortedBy
-gathered-first name r listed = rw (releases-gathered name nothing listed) (find-gathered r [] listed tt)
+newest-first r releases = find-inserted newer_total r [] releases tt
+
+-- of wheels of one name the first that is listed stays
+pub wheels-first : (f : ReleaseFile) (files : List ReleaseFile) → find (has_name_of f) (wheels_of files) ≡ find (has_name_of f) (listed_wheels files)
+unfolding IsStrictlySortedBy
+wheels-first f files = find-inserted name_total f [] (listed_wheels files) tt

@@ -10,7 +10,7 @@ use Rattle.serde_json.specs.Data.{Data, Members, member, no_members}
 use Rattle.serde_json.specs.Find.{get_member}
 use Rattle.serde_json.specs.View.{view}
 use Rattle.serde_json.specs.declared.value.Value.{Value}
-use Rattle.snapshot.specs.Keys.{are_apart, place_of, values_in}
+use Rattle.snapshot.specs.Tied.Keys.{are_apart, place_of, values_in}
 
 differs : (o : Ordering) (a b : Option Data) → is_eq o ≡ false → match_ordering o a b a ≡ a
 differs Less a b e = refl

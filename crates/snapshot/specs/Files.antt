@@ -5,7 +5,7 @@ use Rattle.std.specs.Char.{is_ascii_hexdigit, to_ascii_lowercase}
 use Rattle.std.specs.Cmp.Lexicographic.{slice_cmp}
 use Rattle.std.specs.List.{ends_with, list_all}
 use Rattle.std.specs.Option.{option_or}
-use Rattle.std.specs.Ordering.{is_lt, nat_cmp}
+use Rattle.std.specs.Ordering.{is_eq, nat_cmp}
 use Rattle.std.specs.declared.cmp.Ordering.{Ordering}
 use Rattle.serde_json.specs.Data.{Data}
 use Rattle.serde_json.specs.Find.{as_number, as_str, as_u64}
@@ -80,15 +80,17 @@ is_zip Other = false
 abbrev pub name_cmp : ReleaseFile → ReleaseFile → Ordering
 name_cmp f g = slice_cmp nat_cmp f.name g.name
 
--- whether the name of each file is above that of the one before it
-abbrev pub ascend : List ReleaseFile → Bool
-ascend [] = true
-ascend (f ∷ []) = true
-ascend (f ∷ g ∷ gs) = is_lt (name_cmp f g) && ascend (g ∷ gs)
+-- whether g has the name of f
+abbrev pub has_name_of : ReleaseFile → ReleaseFile → Bool
+has_name_of f g = is_eq (name_cmp f g)
 
--- the wheels by name; of those with one name the first
+-- the files that are wheels, as they are listed
+abbrev pub listed_wheels : List ReleaseFile → List ReleaseFile
+listed_wheels files = filter (λ f. is_wheel (form_of f.name)) files
+
+-- the wheels by name; of those with one name the first that is listed
 abbrev pub wheels_of : List ReleaseFile → List ReleaseFile
-wheels_of files = fold (insert_key name_cmp) [] (filter (λ f. is_wheel (form_of f.name)) files)
+wheels_of files = fold (insert_key name_cmp) [] (listed_wheels files)
 
 -- the first file that is a `.tar.gz`, else the first that is a `.zip`
 abbrev pub sdist_of : List ReleaseFile → Option ReleaseFile

@@ -1,12 +1,8 @@
 pub mod Shape
 pub mod Files
 pub mod Python
-pub mod Chosen
 pub mod Release
 pub mod Releases
 pub mod Lawful
 pub mod Packages
-pub mod Places
-pub mod OrderLaws
-pub mod Gathering
-pub mod Keys
+pub mod Tied

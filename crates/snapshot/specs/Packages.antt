@@ -1,6 +1,6 @@
 -- The packages of an index (reqlock's own format of an index).
-use Rattle.std.specs.Prelude.{ℕ, ◌==◌, List, [], ◌∷◌, ◌++◌, Bool, codes, map, flat_map, ⊤, Option, Some, None, option_and_then, find, Result, Ok, Err, if◌then◌else◌}
-use Rattle.std.specs.List.{list_any}
+use Rattle.std.specs.Prelude.{ℕ, ◌==◌, List, [], ◌∷◌, Bool, codes, map, take, flat_map, ⊤, Option, Some, None, option_and_then, find, Result, Ok, Err, if◌then◌else◌}
+use Rattle.std.specs.List.{enumerate_from, filter_map, list_any}
 use Rattle.std.specs.Option.{option_map_or}
 use Rattle.std.specs.Str.{bytes_eq, is_utf8}
 use Rattle.serde_json.specs.Data.{Data, Items}
@@ -67,15 +67,18 @@ packages_of d = do
 abbrev pub is_named : List ℕ → Package → Bool
 is_named name p = bytes_eq p.name name
 
--- the first package that has the name of one before it: its name; `earlier` are the packages before these
-abbrev pub repeated_from : List Package → List Package → Option (List ℕ)
-repeated_from earlier [] = None
-repeated_from earlier (p ∷ ps) = if list_any (is_named p.name) earlier then Some p.name else repeated_from (earlier ++ p ∷ []) ps
+-- the name of the package at a place, where one before it has this name too
+abbrev pub repeated_at : List Package → ℕ × Package → Option (List ℕ)
+repeated_at packages at = if list_any (is_named at.1.name) (take at.0 packages) then Some at.1.name else None
 
--- packages none of which has an earlier one's name
-abbrev pub unless_repeated : Option (List ℕ) → Result ⊤ Fault
-unless_repeated None = Ok tt
-unless_repeated (Some name) = Err (DuplicatePackage name)
+-- the names of the packages that have the name of one before them, as they are listed
+abbrev pub repeated_names : List Package → List (List ℕ)
+repeated_names packages = filter_map (repeated_at packages) (enumerate_from 0 packages)
+
+-- packages none of which has an earlier one's name, or the first of these names
+abbrev pub unless_repeated : List (List ℕ) → Result ⊤ Fault
+unless_repeated [] = Ok tt
+unless_repeated (name ∷ more) = Err (DuplicatePackage name)
 
 -- a JSON value that was read
 abbrev pub unless_json : Option Data → Result Data Fault
@@ -91,7 +94,7 @@ unfoldable pub snapshot_of : List ℕ → Result Index Fault
 snapshot_of bytes = do
   d ← json_of bytes
   read ← packages_of d
-  _ ← unless_repeated (repeated_from [] read.packages)
+  _ ← unless_repeated (repeated_names read.packages)
   Ok (record { packages = read.packages; skipped = read.skipped; digest = sha256 bytes })
 
 -- the releases of the package of that name, none where there is no such package

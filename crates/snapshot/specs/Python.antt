@@ -1,7 +1,7 @@
 -- What a release asks of Python (reqlock's own format of an index).
 use Rattle.std.specs.Prelude.{ℕ, ◌==◌, ◌||◌, Bool, List, Option, Some, None, Result, Ok, Err, if◌then◌else◌}
 use Rattle.std.specs.List.{list_all}
-use Rattle.pep440.specs.Sets.{set_of}
+use Rattle.pep440.specs.Tied.Sets.{set_of}
 use Rattle.pep440.specs.declared.fault.Fault.{Fault as VersionFault}
 use Rattle.pep440.specs.declared.specifier.Clause.{Clause}
 use Rattle.snapshot.specs.declared.python.RequiresPython.{RequiresPython}

@@ -1,14 +1,16 @@
 -- The releases of a package (reqlock's own format of an index).
-use Rattle.std.specs.Prelude.{ℕ, suc, ◌+◌, Bool, false, List, [], ◌∷◌, ◌++◌, codes, fold, Result, Ok, Err, if◌then◌else◌}
+use Rattle.std.specs.Prelude.{ℕ, suc, Bool, false, List, [], ◌∷◌, codes, fold, take, Option, Some, None, Result, Ok, Err, if◌then◌else◌}
 use Rattle.std.specs.BTreeSet.{insert_key}
-use Rattle.std.specs.List.{list_any}
+use Rattle.std.specs.List.{enumerate_from, filter_map, list_any}
+use Rattle.std.specs.Option.{option_map}
 use Rattle.std.specs.Ordering.{is_eq}
+use Rattle.std.specs.Result.{result_ok}
 use Rattle.std.specs.declared.cmp.Ordering.{Ordering}
 use Rattle.serde_json.specs.Data.{Data, Items, no_items}
 use Rattle.serde_json.specs.Find.{as_array, as_bool, as_str}
 use Rattle.markers.specs.declared.fault.Cause.{Cause}
 use Rattle.pep440.specs.Order.{version_cmp}
-use Rattle.pep440.specs.Reading.{version_of}
+use Rattle.pep440.specs.Tied.Reading.{version_of}
 use Rattle.pep440.specs.Version.{Parts}
 use Rattle.pep440.specs.declared.fault.Fault.{Fault as VersionFault}
 use Rattle.pep508.specs.Requirement.{Wanted, requirement_text}
@@ -80,43 +82,30 @@ newer_cmp r s = version_cmp s.version r.version
 abbrev pub has_version_of : Release → Release → Bool
 has_version_of r s = is_eq (newer_cmp r s)
 
--- the releases of an array up to a place: those that are kept, newest first, and those that are left out, as they are listed
-pub record Gathered : Type 0 where
-  pub place : ℕ
-  pub releases : List Release
-  pub skipped : List Skipped
+-- the releases of a list that can be used, as they are listed
+abbrev pub usable_of : List (Result Release SkipCause) → List Release
+usable_of listed = filter_map (λ r. result_ok r) listed
 
-abbrev pub nothing : Gathered
-nothing = record { place = 0; releases = []; skipped = [] }
+-- the newest release first; of those with equal versions the first that is listed
+abbrev pub newest_first : List Release → List Release
+newest_first releases = fold (insert_key newer_cmp) [] releases
 
--- the release at this place, left out
-abbrev pub left_out : List ℕ → ℕ → SkipCause → List Skipped
-left_out name place cause = record { name = name; place = place; cause = cause } ∷ []
+-- why a release is left out behind those before it: it can't be used, or one of them can that has an equal version
+abbrev pub cause_behind : List (Result Release SkipCause) → Result Release SkipCause → Option SkipCause
+cause_behind before (Ok r) = if list_any (has_version_of r) (usable_of before) then Some causes.Duplicate else None
+cause_behind before (Err cause) = Some cause
 
--- the releases with one more at its place, unless one of an equal version is there
-abbrev pub with_release : List Release → Result Release SkipCause → List Release
-with_release releases (Ok r) = insert_key newer_cmp releases r
-with_release releases (Err cause) = releases
+-- the release of a package at a place, where it is left out
+abbrev pub left_out_for : List ℕ → ℕ → Option SkipCause → Option Skipped
+left_out_for name place cause = option_map (λ cause. record { name = name; place = place; cause = cause }) cause
 
--- what is left out at this place, where these releases are kept before it
-abbrev pub skipped_at : List ℕ → ℕ → List Release → Result Release SkipCause → List Skipped
-skipped_at name place kept (Ok r) = if list_any (has_version_of r) kept then left_out name place causes.Duplicate else []
-skipped_at name place kept (Err cause) = left_out name place cause
+-- the releases of a package that are left out, as they are listed
+abbrev pub skipped_of : List ℕ → List (Result Release SkipCause) → List Skipped
+skipped_of name listed =
+    filter_map (λ at. left_out_for name at.0 (cause_behind (take at.0 listed) at.1)) (enumerate_from 0 listed)
 
--- one more release of the package
-abbrev pub gather_release : List ℕ → Gathered → Result Release SkipCause → Gathered
-gather_release name g r = record {
-  place = g.place + 1;
-  releases = with_release g.releases r;
-  skipped = g.skipped ++ skipped_at name g.place g.releases r;
-}
-
--- what was gathered
-abbrev pub kept : Gathered → ReadReleases
-kept g = record { releases = g.releases; skipped = g.skipped }
-
--- the releases of a package that an array lists
+-- what an array lists for a package: the releases that can be used, and those that are left out
 unfoldable pub releases_in : List ℕ → Items → Result ReadReleases Fault
 releases_in name ds = do
   listed ← each_from release_of 0 ds
-  Ok (kept (fold (gather_release name) nothing listed))
+  Ok (record { releases = newest_first (usable_of listed); skipped = skipped_of name listed })

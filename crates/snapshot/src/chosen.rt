@@ -4,8 +4,8 @@ ghost use Rattle.std.specs.Prelude.{◌≡◌, [], refl, IfOk, IsOkUnless, Ok, O
 ghost use Rattle.std.specs.BTreeSet.{insert_key};
 ghost use Rattle.std.specs.Cmp.{eq_by_cmp_equiv, partial_equiv_from_equiv, partial_order_from_total};
 ghost use Rattle.std.specs.Ordering.{as_partial_cmp, eq_by_cmp};
-ghost use Rattle.snapshot.specs.Chosen.{no_files, with_file};
-ghost use Rattle.snapshot.specs.Files.{ascend, name_cmp, sdist_of, wheels_of};
+ghost use Rattle.snapshot.specs.Tied.Chosen.{no_files, with_file, ascend};
+ghost use Rattle.snapshot.specs.Files.{name_cmp, sdist_of, wheels_of};
 ghost use Rattle.snapshot.specs.declared.fault.Fault.TheVariants.{OutOfMemory};
 
 use crate::fault::Fault;
@@ -174,7 +174,7 @@ impl ByName {
 
 impl PartialEq for ByName {
     ghost use Rattle.snapshot.specs.Files.{name_cmp};
-    ghost use Rattle.snapshot.specs.OrderLaws.{name_total};
+    ghost use Rattle.snapshot.specs.Tied.OrderLaws.{name_total};
 
     ghost eq = { eq_by_cmp name_cmp };
 
@@ -186,14 +186,14 @@ impl PartialEq for ByName {
 }
 
 impl Eq for ByName {
-    ghost use Rattle.snapshot.specs.OrderLaws.{name_total};
+    ghost use Rattle.snapshot.specs.Tied.OrderLaws.{name_total};
 
     ghost laws = { eq_by_cmp_equiv name_total };
 }
 
 impl PartialOrd for ByName {
     ghost use Rattle.snapshot.specs.Files.{name_cmp};
-    ghost use Rattle.snapshot.specs.OrderLaws.{name_total};
+    ghost use Rattle.snapshot.specs.Tied.OrderLaws.{name_total};
 
     ghost partial_cmp = { as_partial_cmp name_cmp };
 
@@ -206,7 +206,7 @@ impl PartialOrd for ByName {
 
 impl Ord for ByName {
     ghost use Rattle.snapshot.specs.Files.{name_cmp};
-    ghost use Rattle.snapshot.specs.OrderLaws.{name_total};
+    ghost use Rattle.snapshot.specs.Tied.OrderLaws.{name_total};
 
     ghost cmp = { name_cmp };
 

@@ -18,7 +18,8 @@ use std::alloc::{AllocError, Global};
 
 /// The name of a file, which is not empty.
 fn name_of(alloc: Global, found: Option<Value>) -> Result<Text, Fault>
-    ensures { Gives (λ name. name) (at_key (required as_filled) (codes "name") (option_map view found)) result }
+    ensures { Gives (λ name. name)
+        (at_key (required as_filled) (codes "name") (option_map view found)) result }
 {
     let name = text_of(alloc, "name", found)?;
     if name.as_str().is_empty() {
@@ -29,7 +30,8 @@ fn name_of(alloc: Global, found: Option<Value>) -> Result<Text, Fault>
 
 /// The number of bytes of a file, at most 2 ^ 63 - 1.
 fn size_of(alloc: Global, found: Option<Value>) -> Result<u64, Fault>
-    ensures { Gives (λ size. size) (at_key (required as_size) (codes "size") (option_map view found)) result }
+    ensures { Gives (λ size. size)
+        (at_key (required as_size) (codes "size") (option_map view found)) result }
 {
     match found.as_ref().and_then(Value::as_u64) {
         Some(size) if size <= 9223372036854775807 => Ok(size),
@@ -53,7 +55,8 @@ fn is_digest(text: &str) -> bool
 
 /// The SHA-256 digest of a file, in lower case.
 fn sha256_of(alloc: Global, found: Option<Value>) -> Result<Text, Fault>
-    ensures { Gives (λ digest. digest) (at_key (required as_digest) (codes "sha256") (option_map view found)) result }
+    ensures { Gives (λ digest. digest)
+        (at_key (required as_digest) (codes "sha256") (option_map view found)) result }
 {
     let text = text_of(alloc, "sha256", found)?;
     if !is_digest(text.as_str()) {
@@ -76,10 +79,14 @@ struct FileValues {
 /// What an object has at the keys of a file, which it gives up.
 fn file_values(alloc: Global, object: Value) -> Result<FileValues, Fault>
     ensures object { Gives (λ _. tt) (object_of (view object)) result }
-    ensures name { IfOk result (λ values. option_map view values.name ≡ get (codes "name") (view object)) }
-    ensures url { IfOk result (λ values. option_map view values.url ≡ get (codes "url") (view object)) }
-    ensures size { IfOk result (λ values. option_map view values.size ≡ get (codes "size") (view object)) }
-    ensures sha256 { IfOk result (λ values. option_map view values.sha256 ≡ get (codes "sha256") (view object)) }
+    ensures name { IfOk result (λ values. option_map view values.name
+        ≡ get (codes "name") (view object)) }
+    ensures url { IfOk result (λ values. option_map view values.url
+        ≡ get (codes "url") (view object)) }
+    ensures size { IfOk result (λ values. option_map view values.size
+        ≡ get (codes "size") (view object)) }
+    ensures sha256 { IfOk result (λ values. option_map view values.sha256
+        ≡ get (codes "sha256") (view object)) }
 {
     let keys = ["name", "url", "size", "sha256"];
     let [name, url, size, sha256] = values_at::<4>(alloc, object, &keys)?;

@@ -40,13 +40,18 @@ struct ListedValues {
 /// What an object has at the keys of a release, which it gives up.
 fn listed_values(alloc: Global, object: Value) -> Result<ListedValues, Fault>
     ensures object { Gives (λ _. tt) (object_of (view object)) result }
-    ensures version { IfOk result (λ values. option_map view values.version ≡ get (codes "version") (view object)) }
+    ensures version { IfOk result (λ values. option_map view values.version
+        ≡ get (codes "version") (view object)) }
     ensures requires_python { IfOk result
-        (λ values. option_map view values.requires_python ≡ get (codes "requires_python") (view object)) }
+        (λ values. option_map view values.requires_python
+        ≡ get (codes "requires_python") (view object)) }
     ensures requires_dist { IfOk result
-        (λ values. option_map view values.requires_dist ≡ get (codes "requires_dist") (view object)) }
-    ensures yanked { IfOk result (λ values. option_map view values.yanked ≡ get (codes "yanked") (view object)) }
-    ensures files { IfOk result (λ values. option_map view values.files ≡ get (codes "files") (view object)) }
+        (λ values. option_map view values.requires_dist
+        ≡ get (codes "requires_dist") (view object)) }
+    ensures yanked { IfOk result (λ values. option_map view values.yanked
+        ≡ get (codes "yanked") (view object)) }
+    ensures files { IfOk result (λ values. option_map view values.files
+        ≡ get (codes "files") (view object)) }
 {
     let keys = [
         "version",

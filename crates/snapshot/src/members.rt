@@ -4,7 +4,7 @@ ghost use Rattle.std.specs.Prelude.{◌≡◌, ◌<◌, true, IfOk, IfSome, leng
 ghost use Rattle.serde_json.specs.Data.{Members, member};
 ghost use Rattle.serde_json.specs.View.{members_view, view};
 ghost use Rattle.serde_json.specs.Find.{get, get_member};
-ghost use Rattle.snapshot.specs.Keys.{are_apart, place_of, values_in};
+ghost use Rattle.snapshot.specs.Tied.Keys.{are_apart, place_of, values_in};
 ghost use Rattle.snapshot.specs.Shape.{Gives, object_of};
 
 use crate::fault::Fault;
@@ -29,7 +29,8 @@ fn place_of(keys: &[&str], key: &str) -> Option<usize>
 fn keep(found: &mut [Option<Value>], keys: &[&str], key: &str, value: Value)
     requires long { length found.old ≡ length keys.now }
     requires apart { are_apart (map (λ key. key.now) keys.now) ≡ true }
-    ensures { (others : Members) → values_in found.old (map (λ key. key.now) keys.now) (member key.now (view value) others)
+    ensures { (others : Members)
+        → values_in found.old (map (λ key. key.now) keys.now) (member key.now (view value) others)
         ≡ values_in found.new (map (λ key. key.now) keys.now) others }
 {
     if let Some(place) = place_of(keys, key) {
@@ -43,7 +44,8 @@ fn keep(found: &mut [Option<Value>], keys: &[&str], key: &str, value: Value)
 fn taken<const N: usize>(members: Map<String, Value>, keys: &[&str]) -> [Option<Value>; N]
     requires long { length keys.now ≡ N }
     requires apart { are_apart (map (λ key. key.now) keys.now) ≡ true }
-    ensures { map (option_map view) result ≡ map (λ key. get_member key.now (members_view members.entries)) keys.now }
+    ensures { map (option_map view) result
+        ≡ map (λ key. get_member key.now (members_view members.entries)) keys.now }
 {
     let mut found: [Option<Value>; N] = Default::default();
     for (key, value) in members {
@@ -61,7 +63,8 @@ pub(crate) fn values_at<const N: usize>(
     requires long { length keys.now ≡ N }
     requires apart { are_apart (map (λ key. key.now) keys.now) ≡ true }
     ensures object { Gives (λ _. tt) (object_of (view object)) result }
-    ensures values { IfOk result (λ found. map (option_map view) found ≡ map (λ key. get key.now (view object)) keys.now) }
+    ensures values { IfOk result (λ found. map (option_map view) found
+        ≡ map (λ key. get key.now (view object)) keys.now) }
 {
     match object {
         Value::Object(members) => Ok(taken(members, keys)),

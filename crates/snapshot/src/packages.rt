@@ -17,7 +17,8 @@ use std::alloc::Global;
 
 /// The name of a package.
 fn name_of(alloc: Global, found: Option<Value>) -> Result<Name, Fault>
-    ensures { Gives (λ n. n) (at_key (required as_name) (codes "name") (option_map view found)) result }
+    ensures { Gives (λ n. n)
+        (at_key (required as_name) (codes "name") (option_map view found)) result }
 {
     let text = text_of(alloc, "name", found)?;
     match Name::parse(alloc, text.as_str()) {
@@ -72,7 +73,8 @@ fn listed_packages(alloc: Global, values: Vec<Value>) -> Result<ReadPackages, Fa
 
 /// Asks for version 1 of the format.
 fn check_format(alloc: Global, found: Option<Value>) -> Result<(), Fault>
-    ensures { Gives (λ _. tt) (at_key (required as_one) (codes "snapshot") (option_map view found)) result }
+    ensures { Gives (λ _. tt)
+        (at_key (required as_one) (codes "snapshot") (option_map view found)) result }
 {
     match found.as_ref().and_then(Value::as_u64) {
         Some(1) => Ok(()),

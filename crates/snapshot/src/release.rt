@@ -40,7 +40,7 @@ impl Drop for Release {
 
 impl Model for Release {
     ghost use Rattle.std.specs.Coded.{codes};
-    ghost use Rattle.markers.specs.MarkerCode.{tree_code};
+    ghost use Rattle.markers.specs.Tied.MarkerCode.{tree_code};
     ghost use Rattle.snapshot.specs.Lawful.{IsRelease};
     ghost use Rattle.snapshot.specs.Release.{Release};
 
@@ -159,7 +159,7 @@ pub(crate) struct Newest {
 
 impl Model for Newest {
     ghost use Rattle.std.specs.Coded.{codes};
-    ghost use Rattle.markers.specs.MarkerCode.{tree_code};
+    ghost use Rattle.markers.specs.Tied.MarkerCode.{tree_code};
     ghost use Rattle.snapshot.specs.Release.{Release};
 
     ghost Value = { Release };
@@ -185,7 +185,7 @@ impl Newest {
 
 impl PartialEq for Newest {
     ghost use Rattle.snapshot.specs.Releases.{newer_cmp};
-    ghost use Rattle.snapshot.specs.OrderLaws.{newer_total};
+    ghost use Rattle.snapshot.specs.Tied.OrderLaws.{newer_total};
 
     ghost eq = { eq_by_cmp newer_cmp };
 
@@ -197,14 +197,14 @@ impl PartialEq for Newest {
 }
 
 impl Eq for Newest {
-    ghost use Rattle.snapshot.specs.OrderLaws.{newer_total};
+    ghost use Rattle.snapshot.specs.Tied.OrderLaws.{newer_total};
 
     ghost laws = { eq_by_cmp_equiv newer_total };
 }
 
 impl PartialOrd for Newest {
     ghost use Rattle.snapshot.specs.Releases.{newer_cmp};
-    ghost use Rattle.snapshot.specs.OrderLaws.{newer_total};
+    ghost use Rattle.snapshot.specs.Tied.OrderLaws.{newer_total};
 
     ghost partial_cmp = { as_partial_cmp newer_cmp };
 
@@ -217,7 +217,7 @@ impl PartialOrd for Newest {
 
 impl Ord for Newest {
     ghost use Rattle.snapshot.specs.Releases.{newer_cmp};
-    ghost use Rattle.snapshot.specs.OrderLaws.{newer_total};
+    ghost use Rattle.snapshot.specs.Tied.OrderLaws.{newer_total};
 
     ghost cmp = { newer_cmp };
 

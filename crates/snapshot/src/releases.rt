@@ -4,8 +4,8 @@ ghost use Rattle.std.specs.Prelude.{◌≡◌, ◌+◌, ◌++◌, IfOk, IsOkUnle
 ghost use Rattle.std.specs.BTreeSet.{insert_key};
 ghost use Rattle.std.specs.List.{list_any};
 ghost use Rattle.serde_json.specs.View.{items_view, view};
-ghost use Rattle.snapshot.specs.Gathering.{gathered_view, kept_view};
-ghost use Rattle.snapshot.specs.Releases.{gather_release, has_version_of, left_out, newer_cmp, release_of, releases_in};
+ghost use Rattle.snapshot.specs.Tied.Gathering.{gathered_view, kept_view, gather_release, left_out};
+ghost use Rattle.snapshot.specs.Releases.{has_version_of, newer_cmp, release_of, releases_in};
 ghost use Rattle.snapshot.specs.Shape.{Gives, below, place_path};
 ghost use Rattle.snapshot.specs.declared.fault.Fault.TheVariants.{OutOfMemory};
 
@@ -57,7 +57,8 @@ fn release_at_place(
 
 /// Puts the release into its place, unless one of an equal version is there, and says whether it did.
 fn put(newest: &mut BTreeSet<Newest>, release: Newest) -> Result<bool, Fault>
-    ensures is_new { IfOk result (λ new. new ≡ not (list_any (has_version_of release) newest.old.keys)) }
+    ensures is_new { IfOk result (λ new. new
+        ≡ not (list_any (has_version_of release) newest.old.keys)) }
     ensures keys { OnOk result (newest.new.keys ≡ insert_key newer_cmp newest.old.keys release) }
     ensures memory { IsOkUnless result OutOfMemory }
 {
@@ -71,7 +72,8 @@ fn leave_out(
     place: usize,
     cause: SkipCause,
 ) -> Result<(), Fault>
-    ensures kept { OnOk result (skipped.new.items ≡ skipped.old.items ++ left_out name.now place cause) }
+    ensures kept { OnOk result (skipped.new.items
+        ≡ skipped.old.items ++ left_out name.now place cause) }
     ensures memory { IsOkUnless result OutOfMemory }
 {
     let name = name.clone()?;
@@ -88,7 +90,8 @@ fn add(
     release: Result<Release, SkipCause>,
 ) -> Result<(), Fault>
     ensures kept { OnOk result
-        (gathered_view (place + 1) gathering.new ≡ gather_release name.now (gathered_view place gathering.old) release) }
+        (gathered_view (place + 1) gathering.new
+        ≡ gather_release name.now (gathered_view place gathering.old) release) }
     ensures memory { IsOkUnless result OutOfMemory }
 {
     match release {

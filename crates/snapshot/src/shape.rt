@@ -78,7 +78,8 @@ pub(crate) fn below_place<T>(
 
 /// The text that was found at `key`.
 pub(crate) fn text_of(alloc: Global, key: &str, found: Option<Value>) -> Result<Text, Fault>
-    ensures { Gives (λ text. text) (at_key (required as_str) key.now (option_map view found)) result }
+    ensures { Gives (λ text. text)
+        (at_key (required as_str) key.now (option_map view found)) result }
 {
     match found {
         Some(Value::String(text)) => Ok(Text::from_string(text)),
@@ -92,7 +93,8 @@ pub(crate) fn optional_text_of(
     key: &str,
     found: Option<Value>,
 ) -> Result<Text, Fault>
-    ensures { Gives (λ text. text) (at_key (optional [] as_str) key.now (option_map view found)) result }
+    ensures { Gives (λ text. text)
+        (at_key (optional [] as_str) key.now (option_map view found)) result }
 {
     match found {
         None | Some(Value::Null) => Ok(Text::new(alloc)),
@@ -103,7 +105,8 @@ pub(crate) fn optional_text_of(
 
 /// The items of the array that was found at `key`.
 pub(crate) fn items_of(alloc: Global, key: &str, found: Option<Value>) -> Result<Vec<Value>, Fault>
-    ensures { Gives (λ items. items_view items.items) (at_key (required as_array) key.now (option_map view found)) result }
+    ensures { Gives (λ items. items_view items.items)
+        (at_key (required as_array) key.now (option_map view found)) result }
 {
     match found {
         Some(Value::Array(items)) => Ok(items),
@@ -117,7 +120,8 @@ pub(crate) fn optional_items_of(
     key: &str,
     found: Option<Value>,
 ) -> Result<Vec<Value>, Fault>
-    ensures { Gives (λ items. items_view items.items) (at_key (optional no_items as_array) key.now (option_map view found)) result }
+    ensures { Gives (λ items. items_view items.items)
+        (at_key (optional no_items as_array) key.now (option_map view found)) result }
 {
     match found {
         None | Some(Value::Null) => Ok(Vec::new(alloc)),
@@ -128,7 +132,8 @@ pub(crate) fn optional_items_of(
 
 /// The truth value that was found at `key`, false where it is absent.
 pub(crate) fn flag_of(alloc: Global, key: &str, found: Option<Value>) -> Result<bool, Fault>
-    ensures { Gives (λ b. b) (at_key (or_absent false as_bool) key.now (option_map view found)) result }
+    ensures { Gives (λ b. b)
+        (at_key (or_absent false as_bool) key.now (option_map view found)) result }
 {
     match found {
         None => Ok(false),

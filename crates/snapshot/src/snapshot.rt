@@ -1,11 +1,11 @@
 // The index.
 
-ghost use Rattle.std.specs.Prelude.{◌≡◌, ◌⊎◌, Err, IfErr, IfOk, None, []};
+ghost use Rattle.std.specs.Prelude.{◌≡◌, ◌⊎◌, Err, IfErr, IfOk, Ok};
 ghost use Rattle.std.specs.List.Sorted.{IsStrictlySortedBy};
 ghost use Rattle.lists.specs.Answers.{Answers};
 ghost use Rattle.serde_json.specs.View.{view};
-ghost use Rattle.snapshot.specs.Packages.{json_of, releases_of, repeated_from, snapshot_of, unless_repeated};
-ghost use Rattle.snapshot.specs.Places.{ArePlaces};
+ghost use Rattle.snapshot.specs.Packages.{json_of, releases_of, repeated_names, snapshot_of, unless_repeated};
+ghost use Rattle.snapshot.specs.Tied.Places.{ArePlaces};
 ghost use Rattle.snapshot.specs.Releases.{newer_cmp};
 ghost use Rattle.snapshot.specs.Shape.{Gives};
 ghost use Rattle.snapshot.specs.declared.fault.Fault.TheVariants.{OutOfMemory};
@@ -46,9 +46,9 @@ impl Drop for Snapshot {
 
 impl Model for Snapshot {
     ghost use Rattle.std.specs.Coded.{codes};
-    ghost use Rattle.markers.specs.MarkerCode.{tree_code};
+    ghost use Rattle.markers.specs.Tied.MarkerCode.{tree_code};
     ghost use Rattle.snapshot.specs.Packages.{Index};
-    ghost use Rattle.snapshot.specs.Places.{AllFall, ArePlaces};
+    ghost use Rattle.snapshot.specs.Tied.Places.{AllFall, ArePlaces};
 
     ghost Value = { Index };
 
@@ -56,7 +56,10 @@ impl Model for Snapshot {
 
     ghost view = { λ s. record { packages = s.packages; skipped = s.skipped; digest = s.digest } };
 
-    ghost invariant = { λ s. record { places : ArePlaces s.places s.packages; fall : AllFall s.packages } };
+    ghost invariant = { λ s. record {
+      places : ArePlaces s.places s.packages;
+      fall : AllFall s.packages;
+    } };
 }
 
 /// The JSON value of the bytes.
@@ -77,9 +80,10 @@ fn json_of(alloc: Global, bytes: &[u8]) -> Result<Value, Fault>
 
 /// The place of each package, by its name.
 fn places_of(alloc: Global, packages: &[Package]) -> Result<BTreeMap<String, usize>, Fault>
-    ensures distinct { IfOk result (λ _. repeated_from [] packages.now ≡ None) }
+    ensures distinct { IfOk result (λ _. unless_repeated (repeated_names packages.now) ≡ Ok tt) }
     ensures places { IfOk result (λ places. ArePlaces places packages.now) }
-    ensures err { IfErr result (λ e. (e ≡ OutOfMemory) ⊎ (unless_repeated (repeated_from [] packages.now) ≡ Err e)) }
+    ensures err { IfErr result (λ e.
+        (e ≡ OutOfMemory) ⊎ (unless_repeated (repeated_names packages.now) ≡ Err e)) }
 {
     let mut places = BTreeMap::new(alloc);
     for place in 0..packages.len() {

@@ -2,7 +2,7 @@
 
 ghost use Rattle.std.specs.Prelude.{◌≡◌, Ok};
 ghost use Rattle.std.specs.List.{AllByRecursion};
-ghost use Rattle.pep440.specs.Reading.{version_of};
+ghost use Rattle.pep440.specs.Tied.Reading.{version_of};
 ghost use Rattle.pep508.specs.Requirement.{requirement_text};
 ghost use Rattle.snapshot.specs.Files.{has_file};
 ghost use Rattle.snapshot.specs.Lawful.{IsFile};

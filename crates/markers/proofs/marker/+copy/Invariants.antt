@@ -1,5 +1,6 @@
 use Rattle.std.proofs.Common.{◌≡◌, take}
-use Rattle.markers.specs.MarkerTree.{trees_of, tree_size, trees_size}
+use Rattle.markers.specs.MarkerTree.{trees_of}
+use Rattle.markers.specs.Tied.MarkerSize.{tree_size, trees_size}
 use Rattle.markers.proofs.marker.+copy.Given as goal
 
 abbrev pub invariant-copy_members-loop-member : goal.invariant-copy_members-loop-member

@@ -1,7 +1,8 @@
 use Rattle.std.proofs.Common.{◌≡◌, drop}
 use Rattle.std.specs.Option.{option_copied}
 use Rattle.markers.specs.MarkerHolds.{all_hold, any_holds}
-use Rattle.markers.specs.MarkerTree.{trees_of, tree_size, trees_size}
+use Rattle.markers.specs.MarkerTree.{trees_of}
+use Rattle.markers.specs.Tied.MarkerSize.{tree_size, trees_size}
 use Rattle.markers.proofs.marker.+holds.Given as goal
 
 abbrev pub invariant-all_hold-loop-member : goal.invariant-all_hold-loop-member

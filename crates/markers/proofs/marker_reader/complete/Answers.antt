@@ -1,6 +1,6 @@
 use Rattle.std.proofs.Common.{refl}
 use Rattle.std.proofs.lemmas.Result.{err_from_is_err_and}
-use Rattle.markers.specs.MarkerReading.{added, atom_of}
+use Rattle.markers.specs.Tied.MarkerReading.{added, atom_of}
 use Rattle.markers.proofs.ReadFacts.{fault_of_part, some-ok_or}
 use Rattle.markers.proofs.marker_reader.complete.Goals as goal
 

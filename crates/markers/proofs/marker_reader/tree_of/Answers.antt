@@ -2,9 +2,9 @@ use Rattle.std.proofs.Common.{◌≡◌, [], ◌∷◌, false, Some, Err, sym, �
 use Rattle.std.specs.Prelude.{ok_or}
 use Rattle.std.proofs.lemmas.Result.{err_from_is_err_and}
 use Rattle.lists.specs.Answers.{Answers}
-use Rattle.markers.specs.MarkerReading.{finished, step, tree_of}
+use Rattle.markers.specs.Tied.MarkerReading.{finished, step, tree_of}
 use Rattle.pep440.specs.Text.{is_blank}
-use Rattle.markers.specs.MarkerTokens.{token_at, tokens_from}
+use Rattle.markers.specs.Tied.MarkerTokens.{token_at, tokens_from}
 use Rattle.markers.specs.declared.fault.Cause.TheVariants.{BadMarker, OutOfMemory}
 use Rattle.markers.proofs.ReadFacts.{fault_of_part, some-ok_or, tree_in, tree_in-bad_token, tree_in-no_token, tree_in-space, tree_in-token}
 use Rattle.markers.proofs.marker_reader.tree_of.Goals as goal

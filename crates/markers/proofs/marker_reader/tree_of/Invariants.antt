@@ -1,6 +1,6 @@
 use Rattle.std.proofs.Common.{◌≡◌, length}
-use Rattle.markers.specs.MarkerReading.{tree_of}
-use Rattle.markers.specs.MarkerTokens.{tokens_from}
+use Rattle.markers.specs.Tied.MarkerReading.{tree_of}
+use Rattle.markers.specs.Tied.MarkerTokens.{tokens_from}
 use Rattle.markers.proofs.ReadFacts.{tree_in}
 use Rattle.markers.proofs.marker_reader.tree_of.Given as goal
 

@@ -1,5 +1,6 @@
 use Rattle.std.proofs.Common.{◌≡◌, ◌≤◌, drop}
-use Rattle.markers.specs.MarkerTokens.{is_deep_from, is_too_deep}
+use Rattle.markers.specs.MarkerDepth.{is_too_deep}
+use Rattle.markers.specs.Tied.MarkerTokens.{is_deep_from}
 use Rattle.markers.proofs.marker_token.is_too_deep.Given as goal
 
 abbrev pub invariant-loop-byte : goal.invariant-loop-byte

@@ -1,6 +1,6 @@
 use Rattle.std.proofs.Common.{◌≡◌, ◌++◌, drop, take}
 use Rattle.std.specs.Option.{option_map}
-use Rattle.markers.specs.MarkerTokens.{quoted_text}
+use Rattle.markers.specs.Tied.MarkerTokens.{quoted_text}
 use Rattle.markers.proofs.marker_token.quoted_text.Given as goal
 
 abbrev pub invariant-loop-place : goal.invariant-loop-place

@@ -1,5 +1,5 @@
 use Rattle.std.proofs.Common.{length}
-use Rattle.pep440.specs.Reading.{locals_of}
+use Rattle.pep440.specs.Tied.Reading.{locals_of}
 use Rattle.pep440.proofs.SpanFacts.{PartsSoFar}
 use Rattle.pep440.proofs.reading.local_parts.Given as goal
 

@@ -1,7 +1,7 @@
 use Rattle.std.proofs.Common.{◌≡◌, ◌++◌, ◌^◌, ◌<◌, drop, true}
 use Rattle.std.specs.List.{list_all}
 use Rattle.std.specs.Prelude.{nat_lt}
-use Rattle.pep440.specs.Reading.{numbers_from}
+use Rattle.pep440.specs.Tied.Reading.{numbers_from}
 use Rattle.pep440.proofs.reading.release_numbers.Given as goal
 
 abbrev pub invariant-loop-byte : goal.invariant-loop-byte

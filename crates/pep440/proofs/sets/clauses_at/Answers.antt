@@ -1,8 +1,8 @@
 use Rattle.std.proofs.Common.{◌≡◌, ◌+◌, sym, arith, vec_len, Ok, drop, take}
 use Rattle.std.proofs.lemmas.Result.{err_from_is_err_and}
-use Rattle.pep440.specs.Sets.{clause_of, clauses_from}
+use Rattle.pep440.specs.Tied.Sets.{clause_of, clauses_from}
 use Rattle.pep440.specs.Text.{pieces, trim_blank}
-use Rattle.pep440.specs.Reading.{Fails}
+use Rattle.pep440.specs.Answers.{Fails}
 use Rattle.pep440.proofs.SetFacts.{ends_blank, ends_clause, ends_fault, goes_on, stops}
 use Rattle.pep440.proofs.sets.clauses_at.Goals as goal
 

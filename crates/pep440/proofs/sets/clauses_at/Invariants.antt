@@ -1,5 +1,5 @@
 use Rattle.std.proofs.Common.{◌≡◌, ◌+◌, length, vec_len}
-use Rattle.pep440.specs.Sets.{clauses_from}
+use Rattle.pep440.specs.Tied.Sets.{clauses_from}
 use Rattle.pep440.specs.Text.{pieces}
 use Rattle.pep440.proofs.SetFacts.{with_front}
 use Rattle.pep440.proofs.sets.clauses_at.Given as goal

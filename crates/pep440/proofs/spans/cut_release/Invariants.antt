@@ -1,5 +1,5 @@
 use Rattle.std.proofs.Common.{◌≡◌, ◌++◌, drop, take}
-use Rattle.pep440.specs.Reading.{after_release, release_of}
+use Rattle.pep440.specs.Tied.Reading.{after_release, release_of}
 use Rattle.pep440.proofs.spans.cut_release.Given as goal
 
 abbrev pub invariant-loop-i : goal.invariant-loop-i

@@ -1,5 +1,5 @@
 use Rattle.std.proofs.Common.{◌≡◌, drop, false}
-use Rattle.pep440.specs.Reading.{is_local_from}
+use Rattle.pep440.specs.Tied.Reading.{is_local_from}
 use Rattle.pep440.proofs.spans.is_local.Given as goal
 
 abbrev pub invariant-loop-byte : goal.invariant-loop-byte

@@ -1,5 +1,5 @@
 use Rattle.std.proofs.Common.{◌≡◌, ◌≤◌, drop, length}
-use Rattle.pep440.specs.Reading.{strip_word}
+use Rattle.pep440.specs.Tied.Reading.{strip_word}
 use Rattle.pep440.proofs.words.strip_word.Given as goal
 
 abbrev pub invariant-loop-i : goal.invariant-loop-i

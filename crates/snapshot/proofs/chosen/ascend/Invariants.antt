@@ -1,5 +1,5 @@
 use Rattle.std.proofs.Common.{◌≡◌, length}
-use Rattle.snapshot.specs.Files.{ascend}
+use Rattle.snapshot.specs.Tied.Chosen.{ascend}
 use Rattle.snapshot.proofs.chosen.ascend.Given as goal
 
 abbrev pub invariant-loop-left : goal.invariant-loop-left

@@ -1,5 +1,5 @@
 use Rattle.std.proofs.Common.{◌≡◌, true, sym}
-use Rattle.snapshot.specs.Files.{ascend}
+use Rattle.snapshot.specs.Tied.Chosen.{ascend}
 use Rattle.snapshot.proofs.FileFacts.{ascending}
 use Rattle.snapshot.proofs.chosen.by_name.Goals as goal
 

@@ -1,5 +1,5 @@
 use Rattle.std.proofs.Common.{◌≡◌, fold}
-use Rattle.snapshot.specs.Chosen.{no_files, with_file}
+use Rattle.snapshot.specs.Tied.Chosen.{no_files, with_file}
 use Rattle.snapshot.proofs.chosen.sort_files.Given as goal
 
 abbrev pub invariant-loop-file : goal.invariant-loop-file

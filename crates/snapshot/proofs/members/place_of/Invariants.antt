@@ -1,5 +1,5 @@
 use Rattle.std.proofs.Common.{◌≡◌, map}
-use Rattle.snapshot.specs.Keys.{place_of}
+use Rattle.snapshot.specs.Tied.Keys.{place_of}
 use Rattle.snapshot.proofs.KeyFacts.{from}
 use Rattle.snapshot.proofs.members.place_of.Given as goal
 

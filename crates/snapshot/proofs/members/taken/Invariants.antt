@@ -1,7 +1,7 @@
 use Rattle.std.proofs.Common.{◌≡◌, length, map}
 use Rattle.serde_json.specs.View.{members_view}
 use Rattle.serde_json.specs.Find.{get_member}
-use Rattle.snapshot.specs.Keys.{values_in}
+use Rattle.snapshot.specs.Tied.Keys.{values_in}
 use Rattle.snapshot.proofs.members.taken.Given as goal
 
 abbrev pub invariant-loop-key : goal.invariant-loop-key

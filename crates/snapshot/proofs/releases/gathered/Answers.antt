@@ -1,7 +1,7 @@
 use Rattle.std.proofs.Common.{refl}
 use Rattle.std.proofs.lemmas.Result.{err_from_is_err_and}
-use Rattle.snapshot.specs.Gathering.{gathered_view}
-use Rattle.snapshot.specs.Releases.{gather_release, release_of}
+use Rattle.snapshot.specs.Tied.Gathering.{gathered_view, gather_release}
+use Rattle.snapshot.specs.Releases.{release_of}
 use Rattle.snapshot.proofs.GatherFacts.{kept_gathered, kept_refused}
 use Rattle.snapshot.proofs.Loops.{goes_on, ends, is_done, none_left}
 use Rattle.snapshot.proofs.releases.gathered.Goals as goal

@@ -1,7 +1,7 @@
 use Rattle.std.proofs.Common.{◌≡◌}
 use Rattle.serde_json.specs.View.{items_view}
-use Rattle.snapshot.specs.Gathering.{gathered_view}
-use Rattle.snapshot.specs.Releases.{gather_release, nothing, release_of}
+use Rattle.snapshot.specs.Tied.Gathering.{gathered_view, gather_release, nothing}
+use Rattle.snapshot.specs.Releases.{release_of}
 use Rattle.snapshot.specs.Shape.{each_from}
 use Rattle.snapshot.proofs.Loops.{gather}
 use Rattle.snapshot.proofs.releases.gathered.Given as goal

@@ -1,12 +1,8 @@
-use Rattle.std.proofs.Common.{◌≡◌, ◌∙◌, sym, ap, refl, true, false, take, inr, List, ℕ, Result, Err}
-use Rattle.std.specs.Bool.{⊤}
+use Rattle.std.proofs.Common.{◌≡◌, ◌∙◌, sym, ap, refl, true, false, take, inr, List, ℕ, Some}
 use Rattle.std.proofs.lemmas.List.{take_all}
 use Rattle.std.proofs.Math.ListN.{drop_of_length-le}
-use Rattle.snapshot.specs.declared.fault.Fault.{Fault}
-use Rattle.snapshot.specs.declared.fault.Fault.TheVariants.{DuplicatePackage}
 use Rattle.snapshot.specs.declared.package.Package.{Package}
-use Rattle.snapshot.specs.Packages.{unless_repeated}
-use Rattle.snapshot.proofs.PlaceFacts.{ArePlaces-inserted, names-before, repeated-more, repeated-here}
+use Rattle.snapshot.proofs.PlaceFacts.{ArePlaces-inserted, name-repeated, names-before, names-distinct, repeated-more, repeated-here}
 use Rattle.snapshot.proofs.snapshot.places_of.Goals as goal
 
 pub loop-place-init : goal.loop-place-init
@@ -19,7 +15,7 @@ returns-then-contains_key-clause-err c =
     let some = names-before c.loop-place.places (take c.loop-place.place c.args.packages.now) p c.normal.result.now c.contains_key.result true c.loop-place.invariant.places named c.contains_key.ensures c.if-contains_key.true in
     let here = repeated-here c.args.packages.now c.loop-place.place p c.loop-place-test.true c.index-packages-place.is some in
     let copied : p.name ≡ c.in_ok-clone.field-0 = ap (λ (q : Package). q.name) c.index-packages-place.is ∙ sym c.in_ok-clone.ensures.cases in
-    inr (ap unless_repeated (sym c.loop-place.invariant.distinct ∙ here) ∙ ap (λ (name : List ℕ). let r : Result ⊤ Fault = Err (DuplicatePackage name) in r) copied)
+    inr (name-repeated c.args.packages.now c.in_ok-clone.field-0 (sym c.loop-place.invariant.distinct ∙ here ∙ ap (λ (name : List ℕ). Some name) copied))
 
 pub loop-place-preserved : goal.loop-place-preserved
 loop-place-preserved c =
@@ -38,7 +34,7 @@ returns c =
     let whole = take_all c.loop-place.place c.args.packages.now c.loop-place-test.false in
     let over = drop_of_length-le c.args.packages.now c.loop-place-test.false in
     record {
-      distinct = sym c.loop-place.invariant.distinct ∙ rw over refl;
+      distinct = names-distinct c.args.packages.now (sym c.loop-place.invariant.distinct ∙ rw over refl);
       places = rw whole at c.loop-place.invariant.places;
       err = tt;
     }

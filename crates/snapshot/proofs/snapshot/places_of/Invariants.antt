@@ -1,6 +1,5 @@
 use Rattle.std.proofs.Common.{◌≡◌, [], drop, take}
-use Rattle.snapshot.specs.Packages.{repeated_from}
-use Rattle.snapshot.specs.Places.{ArePlaces}
+use Rattle.snapshot.specs.Tied.Places.{ArePlaces, repeated_from}
 use Rattle.snapshot.proofs.snapshot.places_of.Given as goal
 
 abbrev pub invariant-loop-place : goal.invariant-loop-place

@@ -1,5 +1,5 @@
 use Rattle.std.proofs.Common.{◌≡◌, Ok, refl}
-use Rattle.pep440.specs.Sets.{set_of}
+use Rattle.pep440.specs.Tied.Sets.{set_of}
 use Rattle.pep508.specs.Parts.{trim}
 use Rattle.pep508.proofs.LineCut.{trim_first, trim_last}
 use Rattle.pep508.proofs.specifier_text.SpecifierText.read.Goals as goal

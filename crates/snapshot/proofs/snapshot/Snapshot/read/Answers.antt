@@ -1,4 +1,4 @@
-use Rattle.snapshot.specs.Places.{ArePlaces}
+use Rattle.snapshot.specs.Tied.Places.{ArePlaces}
 use Rattle.snapshot.proofs.FallFacts.{packages-fall}
 use Rattle.snapshot.proofs.snapshot.Snapshot.read.Goals as goal
 

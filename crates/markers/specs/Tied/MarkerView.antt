@@ -1,4 +1,5 @@
 -- The tree that a marker's node stands for.
+-- Tied to `Tree` by the model of `Marker`; need not be read.
 use Rattle.markers.specs.MarkerTree.{Tree, atom, all_of, any_of, trees_of}
 use Rattle.markers.specs.declared.marker.Node.{Node}
 use Rattle.markers.specs.declared.marker.Node.TheVariants as nodes

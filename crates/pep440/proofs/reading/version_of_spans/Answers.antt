@@ -1,10 +1,10 @@
 use Rattle.std.proofs.Common.{◌∙◌, sym, ap, Ok, List, ℕ}
 use Rattle.pep440.specs.declared.parts.LocalPart.{LocalPart}
 use Rattle.std.proofs.lemmas.Result.{err_from_is_err_and}
-use Rattle.pep440.specs.Reading.{parts_in}
-use Rattle.pep440.specs.Views.{span_view}
+use Rattle.pep440.specs.Tied.Reading.{parts_in}
+use Rattle.pep440.specs.Tied.Views.{span_view}
 use Rattle.pep440.proofs.VersionFacts.{PartsRead, local-fault, version-lawful, version-made}
-use Rattle.pep440.proofs.reading.version_in.Goals as goal
+use Rattle.pep440.proofs.reading.version_of_spans.Goals as goal
 
 pub returns-in_err-local : goal.returns-in_err-local
 returns-in_err-local c =

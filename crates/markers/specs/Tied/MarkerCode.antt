@@ -1,4 +1,5 @@
 -- A tree as the list of steps that build it, by which proofs tell trees apart.
+-- Tied to `Tree` by `built-steps_of`: the steps build the tree again; need not be read.
 use Rattle.std.specs.Prelude.{◌≡◌, ◌⊎◌, Bool, true, false, List, [], ◌∷◌, ◌++◌, Option, Some, None, refl, if◌then◌else◌}
 use Rattle.std.specs.Coded.{Coded, code_by, coded⊎, coded_bool, coded_list, coded_option}
 use Rattle.std.proofs.Common.{sym, ap, ◌∙◌, append_assoc, append-nil, inl, inr}

@@ -1,4 +1,5 @@
 -- The laws of the order of versions and of their hash.
+-- Tied to `version_cmp` and `version_writes` by the impls of `Ord` and `Hash`; need not be read.
 use Rattle.std.specs.Prelude.{◌≡◌, ℕ, ◌++◌, true, List, [], ◌∷◌, refl}
 use Rattle.std.proofs.Common.{sym, ap, ◌∙◌}
 use Rattle.std.specs.Ordering.{eq_by_cmp, is_eq, nat_cmp, ordering_then}

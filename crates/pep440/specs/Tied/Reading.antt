@@ -1,4 +1,5 @@
 -- Reading a version from left to right.
+-- Tied to `Spells` by the contract of `Version::parse`; need not be read.
 use Rattle.std.specs.Prelude.{◌≡◌, ℕ, ◌+◌, ◌-◌, ◌*◌, ◌^◌, ◌==◌, ◌&&◌, ◌||◌, ⊤, nat_lt, Bool, true, false, List, [], ◌∷◌, ◌++◌, map, Option, Some, None, unwrap_or, Result, Ok, Err, if◌then◌else◌, codes}
 use Rattle.std.specs.Char.{is_ascii_alphanumeric, is_ascii_digit, to_ascii_lowercase}
 use Rattle.std.specs.Option.{option_map}
@@ -14,19 +15,6 @@ use Rattle.pep440.specs.declared.words.PreWord.TheVariants as words
 use Rattle.pep440.specs.Text.{trim_end, trim_front}
 use Rattle.pep440.specs.Version.{Parts, fits}
 use Rattle.pep440.specs.Grammar.{Spells, is_separator, is_space, value_from}
-
--- a fault that comes of the text is the one that reading gives
-abbrev pub Fails : {Y : Type 0} → Fault → Result Y Fault → Type 0
-Fails OutOfMemory read = ⊤
-Fails BadVersion read = read ≡ Err BadVersion
-Fails NumberTooLarge read = read ≡ Err NumberTooLarge
-Fails (BadClause k) read = read ≡ Err (BadClause k)
-Fails ArbitraryEquality read = read ≡ Err ArbitraryEquality
-
--- what a call answers, seen by view, is what reading gives, unless memory ran out
-abbrev pub Gives : {X Y : Type 0} → (X → Y) → Result X Fault → Result Y Fault → Type 0
-Gives view (Ok x) read = read ≡ Ok (view x)
-Gives view (Err e) read = Fails e read
 
 -- the numbers of a release of which `n` has been read
 abbrev pub numbers_from : ℕ → List ℕ → List ℕ
@@ -242,12 +230,3 @@ fitting (Some v) = if fits v then Ok v else Err NumberTooLarge
 -- the version that a text spells, or why there is none
 abbrev pub version_of : List ℕ → Result Parts Fault
 version_of text = fitting (parts_of text)
-
--- what `Version::parse` may answer to a text, in the words of the grammar
-abbrev pub ParseAnswers : List ℕ → Result Parts Fault → Type 0
-ParseAnswers text (Ok v) = Spells text v × (fits v ≡ true)
-ParseAnswers text (Err NumberTooLarge) = (v : Parts) × Spells text v × (fits v ≡ false)
-ParseAnswers text (Err BadVersion) = (v : Parts) → ¬ Spells text v
-ParseAnswers text (Err OutOfMemory) = ⊤
-ParseAnswers text (Err (BadClause k)) = ⊥
-ParseAnswers text (Err ArbitraryEquality) = ⊥

@@ -1,7 +1,8 @@
 -- The laws of the orders of releases and of files.
+-- Tied to `newer_cmp` and `name_cmp` by the impls of `Ord`; need not be read.
 use Rattle.std.specs.Cmp.{IsTotalOrder, back_total, on_total}
 use Rattle.std.specs.Cmp.Lexicographic.{nat_list_cmp_total}
-use Rattle.pep440.specs.OrderLaws.{version_total}
+use Rattle.pep440.specs.Tied.OrderLaws.{version_total}
 use Rattle.snapshot.specs.Files.{name_cmp}
 use Rattle.snapshot.specs.Releases.{newer_cmp}
 

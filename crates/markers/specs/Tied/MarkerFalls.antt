@@ -1,9 +1,11 @@
 -- Each member of a marker is smaller than the marker.
+-- Tied to `Tree` by the measure of `Marker::holds` and of a clone; need not be read.
 use Rattle.std.specs.Prelude.{◌+◌, ◌≤◌, max, List, [], ◌∷◌}
 use Rattle.std.proofs.Common.{arith}
 use denote.Param.Weighed.{most}
-use Rattle.markers.specs.MarkerTree.{Tree, trees_of, tree_size, trees_size}
-use Rattle.markers.specs.MarkerView.{tree_of_node}
+use Rattle.markers.specs.MarkerTree.{Tree, trees_of}
+use Rattle.markers.specs.Tied.MarkerSize.{tree_size, trees_size}
+use Rattle.markers.specs.Tied.MarkerView.{tree_of_node}
 use Rattle.markers.specs.declared.marker.Node.{Node}
 use Rattle.markers.specs.declared.marker.Node.TheVariants as nodes
 use Rattle.markers.specs.declared.marker.Marker.TheDeep.{deep-Node}

@@ -1,10 +1,13 @@
--- The tokens of a marker (PEP 508, "Grammar").
+-- Reading the tokens of a marker from left to right, and how deep its parentheses nest.
+-- Tied to `AreTokens` by the law `a_text_reads_as_the_marker_that_it_spells`, and to `is_too_deep` by the
+-- contract of the code's `is_too_deep`; need not be read.
 use Rattle.std.specs.Prelude.{ℕ, zero, suc, ◌+◌, ◌-◌, ◌==◌, ◌&&◌, ◌||◌, nat_le, nat_lt, not, Bool, false, List, [], ◌∷◌, length, codes, is_none, Option, Some, None, if◌then◌else◌}
-use Rattle.std.specs.Char.{is_ascii_alphabetic}
 use Rattle.std.specs.Option.{option_map}
 use Rattle.std.specs.Str.{bytes_eq}
 use Rattle.pep440.specs.Text.{is_blank}
 use Rattle.markers.specs.Environment.{variable_named}
+use Rattle.markers.specs.MarkerDepth.{quote_after}
+use Rattle.markers.specs.MarkerSpelling.{is_quotable, is_quote, is_word_byte, starts_equal}
 use Rattle.markers.specs.declared.comparison.Comparison.{Comparison}
 use Rattle.markers.specs.declared.comparison.Comparison.TheVariants as comparisons
 use Rattle.markers.specs.declared.marker_atom.Operand.TheVariants as operands
@@ -12,16 +15,7 @@ use Rattle.markers.specs.declared.marker_token.Side.TheVariants as sides
 use Rattle.markers.specs.declared.marker_token.Token.{Token}
 use Rattle.markers.specs.declared.marker_token.Token.TheVariants as tokens
 
--- `"` or `'`
-abbrev pub is_quote : ℕ → Bool
-is_quote b = (b == 34) || (b == 39)
-
 -- ---- how deep parentheses nest
-
--- the quote that encloses what follows a byte, where one does
-abbrev pub quote_after : Option ℕ → ℕ → Option ℕ
-quote_after None b = if is_quote b then Some b else None
-quote_after (Some q) b = if b == q then None else Some q
 
 -- whether more than 64 parentheses are open at some place, where so many were begun and ended before the text; those in quotes do not count, and a quote that isn't closed runs to the end
 abbrev pub is_deep_from : Option ℕ → ℕ → ℕ → List ℕ → Bool
@@ -31,15 +25,7 @@ is_deep_from quote begun ended (b ∷ rest) =
     else (if is_none quote && (b == 41) then is_deep_from quote begun (ended + 1) rest
     else is_deep_from (quote_after quote b) begun ended rest)
 
--- whether more than 64 parentheses are open at some place outside quotes (reqlock's own rule)
-abbrev pub is_too_deep : List ℕ → Bool
-is_too_deep text = is_deep_from None 0 0 text
-
 -- ---- tokens, each with the number of its bytes behind the first
-
--- a byte of a quoted text: printable ASCII without backslash (reqlock's own rule)
-abbrev pub is_quotable : ℕ → Bool
-is_quotable b = nat_le 32 b && nat_le b 126 && not (b == 92)
 
 -- the text up to the quote that ends it
 abbrev pub quoted_text : ℕ → List ℕ → Option (List ℕ)
@@ -50,10 +36,6 @@ quoted_text q (b ∷ rest) =
 abbrev pub quoted_at : ℕ → List ℕ → Option (Token × ℕ)
 quoted_at q rest =
     option_map (λ text. (tokens.Side (sides.Operand (operands.Quoted text)), length text + 1)) (quoted_text q rest)
-
--- a letter or `_`
-abbrev pub is_word_byte : ℕ → Bool
-is_word_byte b = is_ascii_alphabetic b || (b == 95)
 
 -- the longest word that a text begins with
 abbrev pub word_of : List ℕ → List ℕ
@@ -85,11 +67,6 @@ double_sign b =
 -- the comparisons of one character
 abbrev pub single_sign : ℕ → Option Comparison
 single_sign b = if b == 60 then Some comparisons.Below else (if b == 62 then Some comparisons.Above else None)
-
--- `=` leads the text
-abbrev pub starts_equal : List ℕ → Bool
-starts_equal [] = false
-starts_equal (b ∷ rest) = b == 61
 
 -- the longest comparison that begins with a byte, behind which the text stands
 abbrev pub sign_at : ℕ → List ℕ → Option (Token × ℕ)

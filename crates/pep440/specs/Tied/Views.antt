@@ -1,4 +1,5 @@
 -- What private readers return, with the texts behind the references.
+-- Tied to `Reading` by the contracts of private functions; need not be read.
 use Rattle.std.specs.Prelude.{ℕ, ◌^◌, nat_lt, Bool, true, false, List, [], ◌∷◌, Option, Some, None, Result, Ok, Err, if◌then◌else◌, option_copied}
 use Rattle.std.specs.List.{list_all}
 use Rattle.std.specs.Borrow.{Bor}
@@ -9,7 +10,7 @@ use Rattle.pep440.specs.declared.parts.LocalPart.TheVariants.{Number, Word}
 use Rattle.pep440.specs.declared.parts.Pre.{Pre}
 use Rattle.pep440.specs.declared.spans.SpannedText.{SpannedText}
 use Rattle.pep440.specs.declared.words.PreWord.{PreWord}
-use Rattle.pep440.specs.Reading.{Spans, is_local_from, pre_with}
+use Rattle.pep440.specs.Tied.Reading.{Spans, is_local_from, pre_with}
 use Rattle.pep440.specs.Grammar.{value_from}
 use Rattle.pep440.specs.declared.specifier.Operator.{Operator}
 

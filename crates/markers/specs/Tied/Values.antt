@@ -1,4 +1,5 @@
 -- What the value of a variable reads as.
+-- Tied to `version_read` and `clauses_read` by the model of `Value`; need not be read.
 use Rattle.std.specs.Prelude.{ℕ, List}
 use Rattle.markers.specs.declared.comparison.Comparison.TheVariants as comparisons
 use Rattle.markers.specs.declared.value.Readings.{Readings}

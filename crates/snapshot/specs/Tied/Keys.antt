@@ -1,4 +1,5 @@
 -- Keys of an object that are asked for at once.
+-- Tied to `field` by the contract of the code's `values_at`; need not be read.
 use Rattle.std.specs.Prelude.{ℕ, suc, Bool, true, not, ◌&&◌, List, [], ◌∷◌, Option, Some, None, option_map, is_some, bytes_eq, if◌then◌else◌}
 use Rattle.std.specs.Option.{option_or}
 use Rattle.serde_json.specs.Data.{Data, Members}

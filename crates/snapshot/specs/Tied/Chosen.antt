@@ -1,11 +1,13 @@
 -- The files of a release as they are gone through, one after the other.
-use Rattle.std.specs.Prelude.{[], ◌∷◌, ◌++◌, Some, None}
+-- Tied to `wheels_of` and `sdist_of` by the contract of the code's `choose`; need not be read.
+use Rattle.std.specs.Prelude.{◌&&◌, Bool, true, List, [], ◌∷◌, ◌++◌, Some, None}
+use Rattle.std.specs.Ordering.{is_lt}
 use Rattle.std.specs.Option.{option_or}
 use Rattle.snapshot.specs.declared.chosen.Sorted.{Sorted}
 use Rattle.snapshot.specs.declared.file.ReleaseFile.{ReleaseFile}
 use Rattle.snapshot.specs.declared.form.Form.{Form}
 use Rattle.snapshot.specs.declared.form.Form.TheVariants.{Wheel, TarGz, Zip, Other}
-use Rattle.snapshot.specs.Files.{form_of}
+use Rattle.snapshot.specs.Files.{form_of, name_cmp}
 
 abbrev pub no_files : Sorted
 no_files = record { wheels = []; tar_gz = None; zip = None }
@@ -19,3 +21,9 @@ with_form s f Other = s
 -- one more file
 abbrev pub with_file : Sorted → ReleaseFile → Sorted
 with_file s f = with_form s f (form_of f.name)
+
+-- whether the name of each file is above that of the one before it
+abbrev pub ascend : List ReleaseFile → Bool
+ascend [] = true
+ascend (f ∷ []) = true
+ascend (f ∷ g ∷ gs) = is_lt (name_cmp f g) && ascend (g ∷ gs)

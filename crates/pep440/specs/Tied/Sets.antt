@@ -1,4 +1,6 @@
--- Reading a set of specifiers (PEP 440, "Version specifiers").
+-- Reading a set of specifiers from left to right.
+-- Tied to `PieceAnswers` by the law `a_piece_has_one_answer`, and to `SetAnswers` by the law
+-- `a_set_has_one_answer`; need not be read.
 use Rattle.std.specs.Prelude.{ℕ, ◌+◌, ◌-◌, ◌==◌, ◌&&◌, is_none, nat_le, nat_lt, slice_index, take, Bool, true, false, List, [], ◌∷◌, length, Option, Some, None, Result, Ok, Err, if◌then◌else◌}
 use Rattle.std.specs.List.{list_all}
 use Rattle.pep440.specs.declared.fault.Fault.{Fault}
@@ -7,7 +9,8 @@ use Rattle.pep440.specs.declared.specifier.Operator.{Operator}
 use Rattle.pep440.specs.declared.specifier.Operator.TheVariants as operators
 use Rattle.pep440.specs.declared.specifier.Clause.{Clause}
 use Rattle.pep440.specs.Version.{Parts, fits}
-use Rattle.pep440.specs.Reading.{bare_parts}
+use Rattle.pep440.specs.SetGrammar.{takes}
+use Rattle.pep440.specs.Tied.Reading.{bare_parts}
 use Rattle.pep440.specs.Text.{is_blank, pieces, trim_blank, trim_front}
 
 infixl 10 ◌>>=◌
@@ -45,22 +48,6 @@ is_arbitrary [] = false
 is_arbitrary (a ∷ []) = false
 is_arbitrary (a ∷ b ∷ []) = false
 is_arbitrary (a ∷ b ∷ c ∷ rest) = (a == 61) && (b == 61) && (c == 61)
-
--- an epoch and a release alone
-abbrev pub is_plain : Parts → Bool
-is_plain v = is_none v.pre && is_none v.post && is_none v.dev && (length v.local == 0)
-
--- whether an operator may stand before these parts: `~=` asks for two release numbers, and only `==` and `!=` take a local part, and before `.*` an epoch and a release stand alone
-abbrev pub takes : Operator → Parts → Bool
-takes operators.Compatible v = nat_lt 1 (length v.release) && (length v.local == 0)
-takes operators.Equal v = true
-takes operators.NotEqual v = true
-takes operators.EqualPrefix v = is_plain v
-takes operators.NotEqualPrefix v = is_plain v
-takes operators.AtMost v = length v.local == 0
-takes operators.AtLeast v = length v.local == 0
-takes operators.Below v = length v.local == 0
-takes operators.Above v = length v.local == 0
 
 -- the clause at place k of an operator and the parts that its text spells
 abbrev pub clause_with : ℕ → Operator → Option Parts → Result Clause Fault

@@ -1,0 +1,5 @@
+-- What serves proofs alone. Each file begins with the law that ties it to a definition outside this folder.
+pub mod Reading
+pub mod Views
+pub mod OrderLaws
+pub mod Sets

@@ -1,0 +1,110 @@
+-- What is gathered one release after another is what the rule says of the whole list.
+use Rattle.std.proofs.Common.{◌≡◌, ℕ, suc, ◌+◌, Bool, true, false, cond, List, [], ◌∷◌, ◌++◌, length, take, Option, Some, None, Result, Ok, Err, find, fold, refl, sym, ap, ◌∙◌, append_assoc, arith}
+use Rattle.std.proofs.Math.Seq.{take-append_seam}
+use Rattle.std.proofs.lemmas.List.{append-nil, length-append}
+use Rattle.std.specs.BTreeSet.{insert_key}
+use Rattle.std.specs.List.{cons_option, enumerate_from, filter_map, list_any}
+use Rattle.std.specs.Prelude.{◌||◌, is_some}
+use Rattle.snapshot.specs.declared.releases.ReadReleases.{ReadReleases}
+use Rattle.snapshot.specs.declared.skipped.SkipCause.{SkipCause}
+use Rattle.snapshot.specs.declared.skipped.SkipCause.TheVariants.{Duplicate}
+use Rattle.snapshot.specs.declared.skipped.Skipped.{Skipped}
+use Rattle.snapshot.specs.Release.{Release}
+use Rattle.snapshot.specs.Releases.{cause_behind, has_version_of, left_out_for, newer_cmp, newest_first, skipped_of, usable_of}
+use Rattle.snapshot.specs.Tied.Gathering.{Gathered, gather_release, kept, left_out, nothing, skipped_at, with_release}
+use Rattle.snapshot.proofs.SortedFacts.{newest-first}
+
+-- ---- the releases that are kept
+
+with-usable : (so_far : List Release) (listed : List (Result Release SkipCause)) → fold with_release so_far listed ≡ fold (insert_key newer_cmp) so_far (usable_of listed)
+with-usable so_far [] = refl
+with-usable so_far (Err cause ∷ listed) = with-usable so_far listed
+with-usable so_far (Ok r ∷ listed) = with-usable (insert_key newer_cmp so_far r) listed
+
+releases-gathered : (name : List ℕ) (g : Gathered) (listed : List (Result Release SkipCause)) → (fold (gather_release name) g listed).releases ≡ fold with_release g.releases listed
+releases-gathered name g [] = refl
+releases-gathered name g (r ∷ listed) = releases-gathered name (gather_release name g r) listed
+
+-- ---- the releases that are left out
+
+found_by : {X : Type 0} (b any : Bool) (x : X) (later : Option X) → any ≡ is_some later → (b || any) ≡ is_some (cond b (Some x) later)
+found_by true any x later more = refl
+found_by false any x later more = more
+
+any-found : {X : Type 0} (p : X → Bool) (xs : List X) → list_any p xs ≡ is_some (find p xs)
+any-found p [] = refl
+any-found p (x ∷ xs) = found_by (p x) (list_any p xs) x (find p xs) (any-found p xs)
+
+-- an equal version is kept exactly where one is listed that can be used
+repeats : (r : Release) (releases : List Release) → list_any (has_version_of r) (newest_first releases) ≡ list_any (has_version_of r) releases
+repeats r releases = any-found (has_version_of r) (newest_first releases) ∙ ap is_some (newest-first r releases) ∙ sym (any-found (has_version_of r) releases)
+
+-- a release put before those that are left out behind it
+before_others : Option Skipped → List Skipped → List Skipped
+before_others None others = others
+before_others (Some one) others = one ∷ others
+
+-- those that are left out behind others
+skipped_behind : List ℕ → List (Result Release SkipCause) → List (Result Release SkipCause) → List Skipped
+skipped_behind name before [] = []
+skipped_behind name before (r ∷ rest) = before_others (left_out_for name (length before) (cause_behind before r)) (skipped_behind name (before ++ r ∷ []) rest)
+
+one-more : {X : Type 0} (before : List X) (x : X) → length (before ++ x ∷ []) ≡ length before + 1
+one-more before x = length-append before (x ∷ [])
+
+-- the rule, gone through from the front
+behind-front : (name : List ℕ) (before rest : List (Result Release SkipCause))
+    → filter_map (λ at. left_out_for name at.0 (cause_behind (take at.0 (before ++ rest)) at.1)) (enumerate_from (length before) rest) ≡ skipped_behind name before rest
+unfolding skipped_behind before_others
+behind-front name before [] = refl
+behind-front name before (r ∷ rest) =
+    let all = append_assoc before (r ∷ []) rest in
+    let more : filter_map (λ at. left_out_for name at.0 (cause_behind (take at.0 (before ++ r ∷ rest)) at.1)) (enumerate_from (length before + 1) rest) ≡ skipped_behind name (before ++ r ∷ []) rest =
+    (λ i. filter_map (λ at. left_out_for name at.0 (cause_behind (take at.0 (sym all i)) at.1)) (enumerate_from (sym (one-more before r) i) rest)) ∙ behind-front name (before ++ r ∷ []) rest in
+    front (left_out_for name (length before) (cause_behind (take (length before) (before ++ r ∷ rest)) r)) (left_out_for name (length before) (cause_behind before r)) _ _
+    (ap (λ (front : List (Result Release SkipCause)). left_out_for name (length before) (cause_behind front r)) (take-append_seam before (r ∷ rest))) more
+  where
+    front : (a b : Option Skipped) (xs ys : List Skipped) → a ≡ b → xs ≡ ys → cons_option a xs ≡ before_others b ys
+    front None None xs ys e f = f
+    front None (Some y) xs ys e f = absurd cc
+    front (Some x) None xs ys e f = absurd cc
+    front (Some x) (Some y) xs ys e f = let same : x ≡ y = cc in λ i. same i ∷ f i
+
+-- a release that is gone through
+one-skipped : (name : List ℕ) (before : List (Result Release SkipCause)) (r : Result Release SkipCause) (others : List Skipped)
+    → skipped_at name (length before) (newest_first (usable_of before)) r ++ others ≡ before_others (left_out_for name (length before) (cause_behind before r)) others
+unfolding before_others
+one-skipped name before (Err cause) others = refl
+one-skipped name before (Ok r) others = rw (repeats r (usable_of before)) (by (list_any (has_version_of r) (usable_of before)))
+  where
+    by : (b : Bool) → cond b (left_out name (length before) Duplicate) [] ++ others ≡ before_others (left_out_for name (length before) (cond b (Some Duplicate) None)) others
+    by true = refl
+    by false = refl
+
+skipped-gathered : (name : List ℕ) (g : Gathered) (before listed : List (Result Release SkipCause)) → g.place ≡ length before → g.releases ≡ fold with_release [] before
+    → (fold (gather_release name) g listed).skipped ≡ g.skipped ++ skipped_behind name before listed
+unfolding skipped_behind
+skipped-gathered name g before [] at kept = sym (append-nil g.skipped)
+skipped-gathered name g before (r ∷ listed) at kept =
+    let next = gather_release name g r in
+    let place : next.place ≡ length (before ++ r ∷ []) = ap (λ n. n + 1) at ∙ sym (one-more before r) in
+    let releases : next.releases ≡ fold with_release [] (before ++ r ∷ []) = ap (λ (rs : List Release). with_release rs r) kept ∙ sym (fold-last with_release [] before r) in
+    let others = skipped_behind name (before ++ r ∷ []) listed in
+    let here : skipped_at name g.place g.releases r ≡ skipped_at name (length before) (newest_first (usable_of before)) r = λ i. skipped_at name (at i) ((kept ∙ with-usable [] before) i) r in
+    skipped-gathered name next (before ++ r ∷ []) listed place releases
+    ∙ append_assoc g.skipped (skipped_at name g.place g.releases r) others
+    ∙ ap (λ (l : List Skipped). g.skipped ++ l) (ap (λ (l : List Skipped). l ++ others) here ∙ one-skipped name before r others)
+  where
+    fold-last : (step : List Release → Result Release SkipCause → List Release) (first : List Release) (xs : List (Result Release SkipCause)) (x : Result Release SkipCause)
+        → fold step first (xs ++ x ∷ []) ≡ step (fold step first xs) x
+    fold-last step first [] x = refl
+    fold-last step first (y ∷ ys) x = fold-last step (step first y) ys x
+
+-- ---- the whole list
+
+pub gathered-is : (name : List ℕ) (listed : List (Result Release SkipCause))
+    → kept (fold (gather_release name) nothing listed) ≡ record { releases = newest_first (usable_of listed); skipped = skipped_of name listed }
+gathered-is name listed =
+    let releases = releases-gathered name nothing listed ∙ with-usable [] listed in
+    let skipped = skipped-gathered name nothing [] listed refl refl ∙ sym (behind-front name [] listed) in
+    λ i. record { releases = releases i; skipped = skipped i }
