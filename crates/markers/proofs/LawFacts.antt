@@ -1,7 +1,7 @@
 -- What the grammar spells is read so.
 use Rattle.std.proofs.Common.{◌≡◌, ℕ, Bool, true, false, List, [], ◌∷◌, ◌++◌, Option, Some, refl, sym, ap, ◌∙◌, inl, inr, append_assoc, append-nil}
 use Rattle.std.specs.Result.{result_ok}
-use Rattle.markers.specs.MarkerGrammar.{AreConjunctions, AreMembers, IsAtom, IsMarker, IsMember, equality, operand_token, operator_tokens}
+use Rattle.markers.specs.MarkerGrammar.{AreConjunctions, AreMembers, IsAtom, AreMarkerTokens, IsMember, equality, operand_token, operator_tokens}
 use Rattle.markers.specs.Tied.MarkerReading.{atom_of, step, tree_behind, tree_of_tokens}
 use Rattle.markers.specs.MarkerTree.{Tree, atom, all_of, any_of, Trees, no_trees, tree, trees_of}
 use Rattle.markers.specs.Names.{name_of}
@@ -131,7 +131,7 @@ mutual
       }
 
 -- what is a marker by the grammar is read as that marker
-pub marker-read : (ts : List Token) (t : Tree) → IsMarker ts t → tree_of_tokens ts ≡ Some t
+pub marker-read : (ts : List Token) (t : Tree) → AreMarkerTokens ts t → tree_of_tokens ts ≡ Some t
 marker-read ts (atom a) h = absurd h
 marker-read ts (all_of us) h = absurd h
 marker-read ts (any_of us) h =

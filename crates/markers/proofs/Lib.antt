@@ -11,3 +11,4 @@ mod SpellFacts
 mod SpelledFacts
 mod TextLaw
 mod TokenFacts
+mod WorkedRows

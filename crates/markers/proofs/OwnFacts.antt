@@ -1,17 +1,17 @@
 -- The marker text of an environment spells a marker that holds in it.
-use Rattle.std.proofs.Common.{◌≡◌, ℕ, ◌+◌, Bool, true, false, eqb, ◌&&◌, List, [], ◌∷◌, ◌++◌, map, Option, Some, None, refl, sym, ap, ◌∙◌, append_assoc, arith}
+use Rattle.std.proofs.Common.{◌≡◌, ℕ, Bool, true, false, eqb, ◌&&◌, List, [], ◌∷◌, ◌++◌, map, Option, Some, None, refl, ap, ◌∙◌, append_assoc, arith}
 use Rattle.std.proofs.lemmas.Bool.Decides.{nat_tests}
 use Rattle.std.specs.Cmp.{first_so, second_so}
 use Rattle.std.specs.Cmp.Derive.{both_true}
 use Rattle.std.specs.List.{flat_map, list_all}
-use Rattle.std.specs.Prelude.{codes, is_some, not, ◌||◌, Result, Ok}
+use Rattle.std.specs.Prelude.{codes, is_some, not, ◌||◌, Ok}
 use Rattle.markers.specs.Comparisons.{compares, version_read}
-use Rattle.markers.specs.Environment.{IsEnvironment, Texts, all_variables, condition, is_lawful, is_unescaped, is_versioned, joined, marker_text, text_of}
+use Rattle.markers.specs.Environment.{IsEnvironment, Texts, condition, is_unescaped, is_versioned, joined, marker_text, text_of}
 use Rattle.markers.specs.Marker.{holds, marker_of}
 use Rattle.markers.specs.MarkerAtoms.{Relation}
 use Rattle.markers.specs.MarkerGrammar.{AreMembers, relation_tokens}
 use Rattle.markers.specs.MarkerHolds.{all_hold}
-use Rattle.markers.specs.MarkerSpelling.{AreTokens, Spells, is_inside, is_quote}
+use Rattle.markers.specs.MarkerSpelling.{AreTokens, SpellsMarker, is_inside, is_quote}
 use Rattle.markers.specs.MarkerDepth.{is_too_deep}
 use Rattle.markers.specs.Tied.MarkerTokens.{is_deep_from}
 use Rattle.markers.specs.MarkerTree.{Tree, all_of, any_of, atom, no_trees, tree, trees_of}
@@ -94,7 +94,7 @@ own-members : (texts : Texts) (v : Variable) (vs : List Variable) → AreMembers
 own-members texts v [] = refl
 own-members texts v (w ∷ vs) = (own_tokens texts v, own_tokens texts w ++ more_tokens texts vs, refl, refl, own-members texts w vs)
 
-own-spells : (texts : Texts) → AreQuotable texts → (v : Variable) (vs : List Variable) → Spells (joined (map (condition texts) (v ∷ vs))) (own_tree texts (v ∷ vs))
+own-spells : (texts : Texts) → AreQuotable texts → (v : Variable) (vs : List Variable) → SpellsMarker (joined (map (condition texts) (v ∷ vs))) (own_tree texts (v ∷ vs))
 own-spells texts lawful v vs = record {
   tokens = own_tokens texts v ++ more_tokens texts vs;
   are_tokens = own-tokens texts lawful v (more_text texts vs) (more_tokens texts vs) (more-tokens texts lawful vs);

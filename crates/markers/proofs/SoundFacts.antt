@@ -2,7 +2,7 @@
 use Rattle.std.proofs.Common.{◌≡◌, ℕ, true, false, List, [], ◌∷◌, ◌++◌, Option, Some, None, refl, sym, subst, ◌∙◌, inl, inr, append_assoc, append-nil}
 use Rattle.std.specs.Prelude.{option_and_then}
 use Rattle.std.specs.Result.{result_ok}
-use Rattle.markers.specs.MarkerGrammar.{AreConjunctions, AreMembers, IsAtom, IsConjunction, IsMarker, IsMember, operator_tokens}
+use Rattle.markers.specs.MarkerGrammar.{AreConjunctions, AreMembers, IsAtom, IsConjunction, AreMarkerTokens, IsMember, operator_tokens}
 use Rattle.markers.specs.Tied.MarkerReading.{added, atom_of, begin, close, closed, complete, empty_group, extra_named, join, negate, relate, start, step, step_at, tree_behind, tree_of_tokens, whole, with_end, with_member}
 use Rattle.markers.specs.MarkerTree.{Tree, atom, all_of, Trees, no_trees, tree, trees_of}
 use Rattle.markers.specs.Names.{name_of}
@@ -271,7 +271,7 @@ step-begun ts r t s b h = rw b.whole (step_at-begun b.far b.near r.outer r.group
 
 -- ---- all tokens
 
-whole-spelled : (far near : List Token) (outer : List Group) (g : Group) (expected : Expected) (t : Tree) → OuterBegun far outer → InGroup near g expected → whole outer g expected ≡ Some t → IsMarker (far ++ near) t
+whole-spelled : (far near : List Token) (outer : List Group) (g : Group) (expected : Expected) (t : Tree) → OuterBegun far outer → InGroup near g expected → whole outer g expected ≡ Some t → AreMarkerTokens (far ++ near) t
 whole-spelled far near [] g expecteds.Joint t o j h =
     let e : closed g ≡ t = cc in
     rw (← e, o) (conjunctions-closed near g j)
@@ -282,7 +282,7 @@ pub some-and_then : {A B : Type 0} (f : A → Option B) (o : Option A) (b : B) �
 some-and_then f None b h = absurd cc
 some-and_then f (Some a) b h = (a, refl, h)
 
-tree_behind-spelled : (rest ts : List Token) (r : Reader) (t : Tree) → Begun ts r → tree_behind r rest ≡ Some t → IsMarker (ts ++ rest) t
+tree_behind-spelled : (rest ts : List Token) (r : Reader) (t : Tree) → Begun ts r → tree_behind r rest ≡ Some t → AreMarkerTokens (ts ++ rest) t
 tree_behind-spelled [] ts r t b h = rw (append-nil ts, b.whole) (whole-spelled b.far b.near r.outer r.group r.expected t b.outer b.inside h)
 tree_behind-spelled (k ∷ rest) ts r t b h =
     let p = some-and_then (λ (s : Reader). tree_behind s rest) (step r k) t h in
@@ -290,7 +290,7 @@ tree_behind-spelled (k ∷ rest) ts r t b h =
     rw (← append_assoc ts (k ∷ []) rest) more
 
 -- what is read as a marker is one by the grammar
-pub marker-spelled : (ts : List Token) (t : Tree) → tree_of_tokens ts ≡ Some t → IsMarker ts t
+pub marker-spelled : (ts : List Token) (t : Tree) → tree_of_tokens ts ≡ Some t → AreMarkerTokens ts t
 marker-spelled ts t h =
     tree_behind-spelled ts [] start t
     (record { far = []; near = []; whole = refl; outer = refl; inside = record { before = []; last = []; whole = refl; ended = refl; members = refl } }) h

@@ -15,15 +15,15 @@ outside quote [] = []
 outside quote (b ∷ rest) = if is_none quote then b ∷ outside (quote_after quote b) rest else outside (quote_after quote b) rest
 
 -- how many parentheses are opened and closed outside quotes
-abbrev pub opened : List ℕ → ℕ
-opened text = length (filter (λ b. b == 40) (outside None text))
+abbrev pub count_opened : List ℕ → ℕ
+count_opened text = length (filter (λ b. b == 40) (outside None text))
 
-abbrev pub closed : List ℕ → ℕ
-closed text = length (filter (λ b. b == 41) (outside None text))
+abbrev pub count_closed : List ℕ → ℕ
+count_closed text = length (filter (λ b. b == 41) (outside None text))
 
 -- more than 64 parentheses outside quotes are open at the end of a text
 abbrev pub leaves_too_many : List ℕ → Bool
-leaves_too_many text = nat_lt (closed text + 64) (opened text)
+leaves_too_many text = nat_lt (count_closed text + 64) (count_opened text)
 
 -- what a text begins with, from nothing to the whole
 abbrev pub beginnings : List ℕ → List (List ℕ)

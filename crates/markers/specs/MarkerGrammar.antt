@@ -69,7 +69,7 @@ abbrev mutual
   AreConjunctions ts (tree t (tree u us)) = (first : List Token) × (rest : List Token) × (ts ≡ first ++ tokens.Or ∷ rest) × IsConjunction first t × AreConjunctions rest (tree u us)
 
 -- the tokens are the marker
-abbrev pub IsMarker : List Token → Tree → Type 0
-IsMarker ts (atom a) = ⊥
-IsMarker ts (all_of us) = ⊥
-IsMarker ts (any_of us) = AreConjunctions ts us
+abbrev pub AreMarkerTokens : List Token → Tree → Type 0
+AreMarkerTokens ts (atom a) = ⊥
+AreMarkerTokens ts (all_of us) = ⊥
+AreMarkerTokens ts (any_of us) = AreConjunctions ts us

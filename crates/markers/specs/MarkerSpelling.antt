@@ -3,7 +3,7 @@ use Rattle.std.specs.Prelude.{◌≡◌, ℕ, ◌==◌, ◌&&◌, ◌||◌, nat_
 use Rattle.std.specs.Char.{is_ascii_alphabetic}
 use Rattle.std.specs.List.{list_all}
 use Rattle.markers.specs.Comparisons.{sign}
-use Rattle.markers.specs.MarkerGrammar.{IsMarker}
+use Rattle.markers.specs.MarkerGrammar.{AreMarkerTokens}
 use Rattle.pep440.specs.Text.{is_blank}
 use Rattle.markers.specs.MarkerTree.{Tree}
 use Rattle.markers.specs.Variables.{variable_name}
@@ -82,7 +82,7 @@ AreTokens text (t ∷ ts) =
     × IsToken first t × (goes_on t rest ≡ false) × AreTokens rest ts
 
 -- the text spells the marker
-pub record Spells (text : List ℕ) (t : Tree) : Type 0 where
+pub record SpellsMarker (text : List ℕ) (t : Tree) : Type 0 where
   pub tokens : List Token
   pub are_tokens : AreTokens text tokens
-  pub are_marker : IsMarker tokens t
+  pub are_marker : AreMarkerTokens tokens t

@@ -1,11 +1,11 @@
 -- A set has one answer, by the grammar alone.
-use Rattle.std.proofs.Common.{◌≡◌, ℕ, zero, suc, ◌+◌, true, false, ltb, List, [], ◌∷◌, ◌++◌, length, Result, Ok, Err, refl, sym, ap, subst, ◌∙◌, arith, inl, inr}
+use Rattle.std.proofs.Common.{◌≡◌, ℕ, suc, ◌+◌, true, ltb, List, [], ◌∷◌, ◌++◌, length, Result, Ok, Err, refl, sym, ap, subst, ◌∙◌, arith, inl, inr}
 use Rattle.std.specs.List.{list_all}
 use Rattle.std.proofs.lemmas.Bool.{cases_Bool}
 use Rattle.std.proofs.lemmas.Bool.Decides.{nat_tests}
 use Rattle.pep440.specs.declared.fault.Fault.{Fault}
 use Rattle.pep440.specs.declared.specifier.Clause.{Clause}
-use Rattle.pep440.specs.SetGrammar.{AreClauses, FirstFault, PieceAnswers, SetAnswers, clause_texts, counted, without_end}
+use Rattle.pep440.specs.SetGrammar.{AreClauses, PieceAnswers, SetAnswers, clause_texts, counted, without_end}
 use Rattle.pep440.specs.Text.{is_blank, pieces, trim_blank}
 use Rattle.pep440.specs.Tied.Sets.{◌>>=◌, clause_of, clauses_from, set_of}
 use Rattle.pep440.proofs.PieceAnswersOnce.{piece-answers, piece-read}

@@ -7,6 +7,7 @@ use Rattle.pep440.specs.declared.specifier.Operator.TheVariants as operators
 use Rattle.pep440.specs.Version.{Parts}
 use Rattle.pep440.specs.Order.{version_cmp}
 use Rattle.pep440.specs.Matching.{operator_matches}
+use Rattle.pep440.specs.SetGrammar.{clause_texts}
 
 -- a version of release numbers alone
 abbrev plain : List ℕ → Parts
@@ -72,3 +73,16 @@ equal_local = refl
 
 equal_asks_local : operator_matches operators.Equal (record (plain (1 ∷ 0 ∷ [])) { local = Word (codes "x") ∷ [] }) (plain (1 ∷ 0 ∷ [])) ≡ false
 equal_asks_local = refl
+
+-- one comma may stand behind the last clause, and none alone
+trailing_comma : clause_texts (codes ">=1, <2, ") ≡ codes ">=1" ∷ codes " <2" ∷ []
+trailing_comma = refl
+
+comma_alone : clause_texts (codes ",") ≡ [] ∷ []
+comma_alone = refl
+
+two_commas : clause_texts (codes ">=1,,") ≡ codes ">=1" ∷ [] ∷ []
+two_commas = refl
+
+blank_text : clause_texts (codes " ") ≡ []
+blank_text = refl

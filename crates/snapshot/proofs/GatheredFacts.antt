@@ -1,11 +1,10 @@
 -- What is gathered one release after another is what the rule says of the whole list.
-use Rattle.std.proofs.Common.{◌≡◌, ℕ, suc, ◌+◌, Bool, true, false, cond, List, [], ◌∷◌, ◌++◌, length, take, Option, Some, None, Result, Ok, Err, find, fold, refl, sym, ap, ◌∙◌, append_assoc, arith}
+use Rattle.std.proofs.Common.{◌≡◌, ℕ, ◌+◌, Bool, true, false, cond, List, [], ◌∷◌, ◌++◌, length, take, Option, Some, None, Result, Ok, Err, find, fold, refl, sym, ap, ◌∙◌, append_assoc}
 use Rattle.std.proofs.Math.Seq.{take-append_seam}
 use Rattle.std.proofs.lemmas.List.{append-nil, length-append}
 use Rattle.std.specs.BTreeSet.{insert_key}
 use Rattle.std.specs.List.{cons_option, enumerate_from, filter_map, list_any}
 use Rattle.std.specs.Prelude.{◌||◌, is_some}
-use Rattle.snapshot.specs.declared.releases.ReadReleases.{ReadReleases}
 use Rattle.snapshot.specs.declared.skipped.SkipCause.{SkipCause}
 use Rattle.snapshot.specs.declared.skipped.SkipCause.TheVariants.{Duplicate}
 use Rattle.snapshot.specs.declared.skipped.Skipped.{Skipped}

@@ -10,7 +10,6 @@ use Rattle.std.specs.List.{cons_option, enumerate_from, filter_map, list_any, po
 use Rattle.std.specs.Prelude.{is_some}
 use Rattle.snapshot.specs.declared.package.Package.{Package}
 use Rattle.snapshot.specs.Packages.{is_named, releases_of, repeated_at, repeated_names, unless_repeated}
-use Rattle.snapshot.specs.declared.fault.Fault.{Fault}
 use Rattle.snapshot.specs.declared.fault.Fault.TheVariants.{DuplicatePackage}
 use Rattle.snapshot.specs.Tied.Places.{ArePlaces, repeated_from}
 

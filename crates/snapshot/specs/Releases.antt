@@ -90,7 +90,8 @@ usable_of listed = filter_map (λ r. result_ok r) listed
 abbrev pub newest_first : List Release → List Release
 newest_first releases = fold (insert_key newer_cmp) [] releases
 
--- why a release is left out behind those before it: it can't be used, or one of them can that has an equal version
+-- why a release is left out behind those before it: it can't be used, or one that can is before it with an equal
+-- version
 abbrev pub cause_behind : List (Result Release SkipCause) → Result Release SkipCause → Option SkipCause
 cause_behind before (Ok r) = if list_any (has_version_of r) (usable_of before) then Some causes.Duplicate else None
 cause_behind before (Err cause) = Some cause

@@ -1,6 +1,6 @@
 -- What the operands of an atom are known to read as.
 -- Tied to `version_read` and `clauses_read` by the model of the code's `Relation`; need not be read.
-use Rattle.std.specs.Prelude.{ℕ, List, Option, None}
+use Rattle.std.specs.Prelude.{List, Option, None}
 use Rattle.pep440.specs.Version.{Parts}
 use Rattle.pep440.specs.declared.specifier.Clause.{Clause}
 use Rattle.markers.specs.Comparisons.{clauses_read, version_read}

@@ -1,5 +1,5 @@
 -- Reading a marker from left to right, a token at a time (PEP 508, "Grammar").
--- Tied to `Spells` by the law `a_text_reads_as_the_marker_that_it_spells`; need not be read.
+-- Tied to `SpellsMarker` by the law `a_text_reads_as_the_marker_that_it_spells`; need not be read.
 use Rattle.std.specs.Prelude.{ℕ, true, false, List, [], ◌∷◌, ◌++◌, Option, Some, None, option_and_then}
 use Rattle.std.specs.Result.{result_ok}
 use Rattle.markers.specs.Names.{name_of}

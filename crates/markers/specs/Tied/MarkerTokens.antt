@@ -1,7 +1,7 @@
 -- Reading the tokens of a marker from left to right, and how deep its parentheses nest.
 -- Tied to `AreTokens` by the law `a_text_reads_as_the_marker_that_it_spells`, and to `is_too_deep` by the
 -- contract of the code's `is_too_deep`; need not be read.
-use Rattle.std.specs.Prelude.{ℕ, zero, suc, ◌+◌, ◌-◌, ◌==◌, ◌&&◌, ◌||◌, nat_le, nat_lt, not, Bool, false, List, [], ◌∷◌, length, codes, is_none, Option, Some, None, if◌then◌else◌}
+use Rattle.std.specs.Prelude.{ℕ, zero, suc, ◌+◌, ◌-◌, ◌==◌, ◌&&◌, ◌||◌, nat_lt, Bool, false, List, [], ◌∷◌, length, codes, is_none, Option, Some, None, if◌then◌else◌}
 use Rattle.std.specs.Option.{option_map}
 use Rattle.std.specs.Str.{bytes_eq}
 use Rattle.pep440.specs.Text.{is_blank}

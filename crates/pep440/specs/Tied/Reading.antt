@@ -1,11 +1,11 @@
 -- Reading a version from left to right.
 -- Tied to `Spells` by the contract of `Version::parse`; need not be read.
-use Rattle.std.specs.Prelude.{◌≡◌, ℕ, ◌+◌, ◌-◌, ◌*◌, ◌^◌, ◌==◌, ◌&&◌, ◌||◌, ⊤, nat_lt, Bool, true, false, List, [], ◌∷◌, ◌++◌, map, Option, Some, None, unwrap_or, Result, Ok, Err, if◌then◌else◌, codes}
+use Rattle.std.specs.Prelude.{ℕ, ◌+◌, ◌-◌, ◌*◌, ◌^◌, ◌==◌, ◌&&◌, ◌||◌, nat_lt, Bool, true, false, List, [], ◌∷◌, ◌++◌, map, Option, Some, None, unwrap_or, Result, Ok, Err, if◌then◌else◌, codes}
 use Rattle.std.specs.Char.{is_ascii_alphanumeric, is_ascii_digit, to_ascii_lowercase}
 use Rattle.std.specs.Option.{option_map}
 use Rattle.std.specs.List.{list_all}
 use Rattle.pep440.specs.declared.fault.Fault.{Fault}
-use Rattle.pep440.specs.declared.fault.Fault.TheVariants.{BadVersion, NumberTooLarge, BadClause, ArbitraryEquality, OutOfMemory}
+use Rattle.pep440.specs.declared.fault.Fault.TheVariants.{BadVersion, NumberTooLarge}
 use Rattle.pep440.specs.declared.parts.Pre.{Pre}
 use Rattle.pep440.specs.declared.parts.Pre.TheVariants as pres
 use Rattle.pep440.specs.declared.parts.LocalPart.{LocalPart}
@@ -14,7 +14,7 @@ use Rattle.pep440.specs.declared.words.PreWord.{PreWord}
 use Rattle.pep440.specs.declared.words.PreWord.TheVariants as words
 use Rattle.pep440.specs.Text.{trim_end, trim_front}
 use Rattle.pep440.specs.Version.{Parts, fits}
-use Rattle.pep440.specs.Grammar.{Spells, is_separator, is_space, value_from}
+use Rattle.pep440.specs.Grammar.{is_separator, is_space, value_from}
 
 -- the numbers of a release of which `n` has been read
 abbrev pub numbers_from : ℕ → List ℕ → List ℕ

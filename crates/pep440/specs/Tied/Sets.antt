@@ -1,7 +1,7 @@
 -- Reading a set of specifiers from left to right.
 -- Tied to `PieceAnswers` by the law `a_piece_has_one_answer`, and to `SetAnswers` by the law
 -- `a_set_has_one_answer`; need not be read.
-use Rattle.std.specs.Prelude.{ℕ, ◌+◌, ◌-◌, ◌==◌, ◌&&◌, is_none, nat_le, nat_lt, slice_index, take, Bool, true, false, List, [], ◌∷◌, length, Option, Some, None, Result, Ok, Err, if◌then◌else◌}
+use Rattle.std.specs.Prelude.{ℕ, ◌+◌, ◌-◌, ◌==◌, ◌&&◌, nat_le, nat_lt, slice_index, take, Bool, true, false, List, [], ◌∷◌, length, Option, Some, None, Result, Ok, Err, if◌then◌else◌}
 use Rattle.std.specs.List.{list_all}
 use Rattle.pep440.specs.declared.fault.Fault.{Fault}
 use Rattle.pep440.specs.declared.fault.Fault.TheVariants.{ArbitraryEquality, BadClause, NumberTooLarge}
