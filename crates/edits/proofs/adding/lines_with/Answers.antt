@@ -2,8 +2,8 @@ use Rattle.std.proofs.Common.{◌≡◌, [], ◌∙◌, length, append-nil, rule
 use Rattle.std.proofs.lemmas.List.{nil_from_length, take_all}
 use Rattle.edits.specs.Adding.{last_ended, usual_ending}
 use Rattle.edits.proofs.Additions.{last_ended-push}
-use Rattle.edits.proofs.adding.with_line.Goals as goal
-use Rattle.edits.proofs.adding.with_line.Goals.{in-Some+in_ok-ended+in_ok-push-2, in_default}
+use Rattle.edits.proofs.adding.lines_with.Goals as goal
+use Rattle.edits.proofs.adding.lines_with.Goals.{in-Some+in_ok-ended+in_ok-push-2, in_default}
 
 pub returns : goal.returns
 returns c =
