@@ -4,7 +4,7 @@ use Rattle.std.proofs.lemmas.Bool.{cases_Bool}
 use Rattle.std.specs.List.{list_any}
 use Rattle.pep508.specs.Lines.{AreLines}
 use Rattle.pep508.specs.Parts.{IsEnding, ended}
-use Rattle.edits.specs.Adding.{last_ended, lines_after, usual_ending}
+use Rattle.edits.specs.Adding.{last_ended, with_line, usual_ending}
 
 -- the last line alone gets the ending
 pub last_ended-push : (ending : List ℕ) (lines : List (List ℕ)) (line : List ℕ) → last_ended ending (lines ++ line ∷ []) ≡ lines ++ ended ending line ∷ []
@@ -47,7 +47,7 @@ AreLines-behind next lines front last line ending e are none is =
 
 -- lines stay lines with one more
 pub AreLines-after : MayBeFirst → MayBeNext → (lines : List (List ℕ)) (line : List ℕ) → AreLines lines → list_any (λ b. eqb b 10) line ≡ false
-    → AreLines (lines_after lines line)
+    → AreLines (with_line lines line)
 AreLines-after first next [] line are none = first line (10 ∷ []) none (inl refl)
 AreLines-after first next (old ∷ rest) line are none =
     let cut = front_and_last old rest in

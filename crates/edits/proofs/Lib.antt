@@ -1,11 +1,16 @@
 pub mod Additions
+pub mod ChangedLines
+pub mod EditFacts
 pub mod EntriesByName
 pub mod Gathering
 pub mod LawfulFiles
 pub mod LawfulNames
+pub mod LinesOnName
 pub mod LockFacts
 pub mod Members
 pub mod NamesInOrder
+pub mod NamesRead
+pub mod Refusals
 pub mod Released
 pub mod StateFacts
 pub mod WorkedRows

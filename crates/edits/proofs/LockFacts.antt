@@ -23,7 +23,8 @@ use Rattle.resolve.specs.Resolves.{AreNeeded, version_in}
 use Rattle.resolve.specs.Rules.{counts, rules_of, wants}
 use Rattle.resolve.specs.declared.node.Node.{Node}
 use Rattle.edits.specs.Dependencies.{leads_away, names_at, names_in, names_needed, names_over, names_wanted, release_chosen, with_names}
-use Rattle.edits.specs.Edits.{IsLocked}
+use Rattle.edits.specs.Content.{Content}
+use Rattle.edits.specs.Edits.{IsLocked, IsNew}
 use Rattle.edits.specs.Entries.{AreEntries, AreNeeds, HasRelease, entry_of}
 use Rattle.edits.specs.Locking.{IsDependency, IsEntry, versions_of}
 use Rattle.edits.proofs.LawfulNames.{apart, differ, rises-from}
@@ -199,3 +200,7 @@ IsLocked-from given lines versions lock best h environment snapshot = record {
   environment = refl;
   lock = record { environment = environment; snapshot = snapshot; rising = h.rising; best = rw h.versions_are best; entries = rw h.versions_are h.entries };
 }
+
+-- where there was no state, each is new
+pub IsNew-none : (state : Content) → IsNew None state
+IsNew-none state e = cc e

@@ -4,13 +4,13 @@ use Rattle.pep508.specs.Parts.{comment_place, has_odd}
 use Rattle.pep508.specs.Requirement.{asked_in, requirement_of, wanted_by}
 use Rattle.pep508.specs.Slices.{slices_with}
 use Rattle.markers.specs.Names.{normal_of}
-use Rattle.edits.specs.Adding.{asked_by, line_number, lines_after}
+use Rattle.edits.specs.Adding.{asked_by, line_number, with_line}
 
 -- an added line ends as the first line with an ending does, and a last line without one gets it
-ending_row : lines_after (codes "# web\r\n" ∷ codes "B_b >=1 # pin\r\n" ∷ codes "a" ∷ []) (codes "c") ≡ codes "# web\r\n" ∷ codes "B_b >=1 # pin\r\n" ∷ codes "a\r\n" ∷ codes "c\r\n" ∷ []
+ending_row : with_line (codes "# web\r\n" ∷ codes "B_b >=1 # pin\r\n" ∷ codes "a" ∷ []) (codes "c") ≡ codes "# web\r\n" ∷ codes "B_b >=1 # pin\r\n" ∷ codes "a\r\n" ∷ codes "c\r\n" ∷ []
 ending_row = refl
 
-empty_row : lines_after [] (codes "c") ≡ codes "c\n" ∷ []
+empty_row : with_line [] (codes "c") ≡ codes "c\n" ∷ []
 empty_row = refl
 
 -- a text with an LF can't be a line, nor can one that asks for nothing

@@ -26,5 +26,5 @@ last_ended ending (line ∷ []) = ended ending line ∷ []
 last_ended ending (line ∷ next ∷ rest) = line ∷ last_ended ending (next ∷ rest)
 
 -- the lines with the text as their last one; the text has no LF, so it gets the ending
-abbrev pub lines_after : List (List ℕ) → List ℕ → List (List ℕ)
-lines_after lines text = last_ended (usual_ending lines) lines ++ ended (usual_ending lines) text ∷ []
+abbrev pub with_line : List (List ℕ) → List ℕ → List (List ℕ)
+with_line lines text = last_ended (usual_ending lines) lines ++ ended (usual_ending lines) text ∷ []

@@ -1,19 +1,25 @@
 -- What edits lead to. All of it is reqlock's own rule.
-use Rattle.std.specs.Prelude.{◌≡◌, ℕ, List, [], Option, Some, None, Result, Ok, Err}
+use Rattle.std.specs.Prelude.{◌≡◌, ◌≢◌, ◌⊎◌, ℕ, not, List, [], map, filter, Option, Some, None, IsSomeAnd, Result, Ok, Err}
+use Rattle.std.specs.List.{list_any}
+use Rattle.std.specs.Option.{option_or}
+use Rattle.std.specs.Str.{bytes_eq}
 use Rattle.markers.specs.Environment.{Texts}
+use Rattle.markers.specs.Names.{normal_of}
 use Rattle.pep440.specs.Version.{Parts}
-use Rattle.pep508.specs.Requirement.{Wanted}
+use Rattle.pep508.specs.Parts.{trim}
 use Rattle.snapshot.specs.Packages.{Index}
 use Rattle.search.specs.Solutions.{HasNoSolution}
 use Rattle.resolve.specs.Given.{Given, requirements}
 use Rattle.resolve.specs.Rules.{rules_of}
-use Rattle.edits.specs.Adding.{asked_by, line_number, lines_after}
+use Rattle.edits.specs.Adding.{with_line}
 use Rattle.edits.specs.Content.{Content}
 use Rattle.edits.specs.Locking.{IsLockOf, versions_of}
+use Rattle.edits.specs.Naming.{with_set_on, without_line}
+use Rattle.edits.specs.Refused.{refused_by_lines, refused_by_lock}
 use Rattle.edits.specs.declared.request.Edit.{Edit}
-use Rattle.edits.specs.declared.request.Edit.TheVariants.{Add}
+use Rattle.edits.specs.declared.request.Edit.TheVariants.{Add, Constrain, Remove, Upgrade, UpgradeAll}
 use Rattle.edits.specs.declared.refusal.Refusal.{Refusal}
-use Rattle.edits.specs.declared.refusal.Refusal.TheVariants.{AlreadyPresent, BadText, NoSolution}
+use Rattle.edits.specs.declared.refusal.Refusal.TheVariants.{NoSolution, NothingChanges}
 
 -- the problem of lines in an environment over an index, with the versions that are kept
 abbrev pub given_of : List (List ℕ) → Texts → Index → List (List ℕ × Parts) → Given
@@ -25,26 +31,52 @@ pub record IsLocked (given : Given) (lines : List (List ℕ)) (state : Content) 
   pub environment : state.environment ≡ given.environment
   pub lock : IsLockOf given state.lock
 
--- an answer to lines in an environment over an index, with the versions that are kept: the state of the lines with their
--- lock, or that they have none
-abbrev pub Locks : List (List ℕ) → Texts → Index → List (List ℕ × Parts) → Result Content Refusal → Type 0
-Locks lines environment index kept (Ok state) = IsLocked (given_of lines environment index kept) lines state
-Locks lines environment index kept (Err refusal) = (refusal ≡ NoSolution) × HasNoSolution (rules_of (given_of lines environment index kept))
+-- the new state is another than the old one
+abbrev pub IsNew : Option Content → Content → Type 0
+IsNew old state = old ≢ Some state
 
--- what a history of these lines begins with: no version is kept
+-- what lines in an environment over an index lead to, with the versions that are kept and the old state, where there is one:
+-- the state of the lines with their lock; that they have none; or that this state is the old one, to the byte of each line,
+-- the index's digest and the text of each entry
+abbrev pub Locks : Option Content → List (List ℕ) → Texts → Index → List (List ℕ × Parts) → Result Content Refusal → Type 0
+Locks old lines environment index kept (Ok state) = IsLocked (given_of lines environment index kept) lines state × IsNew old state
+Locks old lines environment index kept (Err refusal) =
+    ((refusal ≡ NoSolution) × HasNoSolution (rules_of (given_of lines environment index kept)))
+    ⊎ ((refusal ≡ NothingChanges) × IsSomeAnd old (IsLocked (given_of lines environment index kept) lines))
+
+-- what a history of these lines begins with: there is no old state, and no version is kept
 abbrev pub InitResult : List (List ℕ) → Texts → Index → Result Content Refusal → Type 0
-InitResult lines environment index answer = Locks lines environment index [] answer
+InitResult lines environment index answer = Locks None lines environment index [] answer
 
--- the answer to an added line on a name, given the number of the line that is on this name already, active or not
-abbrev pub AddsUnless : Content → List ℕ → Index → Option ℕ → Result Content Refusal → Type 0
-AddsUnless state text index (Some number) answer = answer ≡ Err (AlreadyPresent number)
-AddsUnless state text index None answer = Locks (lines_after state.lines text) state.environment index (versions_of state.lock.entries) answer
+-- the first refusal that lines and lock alone give
+abbrev pub refusal_of : Content → Edit → Option Refusal
+refusal_of state edit = option_or (refused_by_lines state.lines edit) (refused_by_lock state.lock.entries edit)
 
--- the answer to an added text, given what it asks for
-abbrev pub Adds : Content → List ℕ → Index → Option Wanted → Result Content Refusal → Type 0
-Adds state text index None answer = answer ≡ Err BadText
-Adds state text index (Some wanted) answer = AddsUnless state text index (line_number wanted.name 1 state.lines) answer
+-- the lines after an edit
+abbrev pub lines_after : List (List ℕ) → Edit → List (List ℕ)
+lines_after lines (Add text) = with_line lines text
+lines_after lines (Remove name) = without_line (normal_of name) lines
+lines_after lines (Constrain name specifiers) = with_set_on (normal_of name) (trim specifiers) lines
+lines_after lines edit = lines
 
--- what an edit answers, memory aside: the first refusal that applies, else the new state
+-- the names with versions, without those named
+abbrev pub without_pins : List (List ℕ) → List (List ℕ × Parts) → List (List ℕ × Parts)
+without_pins names pins = filter (λ pin. not (list_any (bytes_eq pin.0) names)) pins
+
+-- what an edit keeps of the old lock's versions
+abbrev pub kept_pins : List (List ℕ × Parts) → Edit → List (List ℕ × Parts)
+kept_pins pins (Upgrade names) = without_pins (map normal_of names) pins
+kept_pins pins UpgradeAll = []
+kept_pins pins edit = pins
+
+-- this is answered where a refusal applies, and else what else is
+abbrev pub Unless : Option Refusal → (Result Content Refusal → Type 0) → Result Content Refusal → Type 0
+Unless (Some refusal) otherwise answer = answer ≡ Err refusal
+Unless None otherwise answer = otherwise answer
+
+-- what an edit answers, memory aside: the first refusal that lines and lock give, else what the edited lines lead to with the
+-- kept versions
 abbrev pub EditResult : Content → Edit → Index → Result Content Refusal → Type 0
-EditResult state (Add text) index answer = Adds state text index (asked_by text) answer
+EditResult state edit index answer =
+    Unless (refusal_of state edit)
+    (Locks (Some state) (lines_after state.lines edit) state.environment index (kept_pins (versions_of state.lock.entries) edit)) answer

@@ -5,4 +5,6 @@ pub mod Locking
 pub mod Dependencies
 pub mod Entries
 pub mod State
+pub mod Naming
+pub mod Refused
 pub mod Edits

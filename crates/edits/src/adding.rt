@@ -3,23 +3,18 @@
 ghost use Rattle.std.specs.Prelude.{◌≡◌, ◌==◌, IfOk, MatchOption, None, false};
 ghost use Rattle.std.specs.List.{list_any};
 ghost use Rattle.pep508.specs.Parts.{IsEnding};
-ghost use Rattle.edits.specs.Asking.{is_on, wanted_of};
-ghost use Rattle.edits.specs.Adding.{asked_by, line_number, lines_after, usual_ending};
+ghost use Rattle.edits.specs.Asking.{wanted_of};
+ghost use Rattle.edits.specs.Adding.{asked_by, line_number, usual_ending, with_line};
+ghost use Rattle.edits.specs.Refused.{or_refused, refused_addition};
+ghost use Rattle.edits.specs.declared.refusal.Refusal.TheVariants.{OutOfMemory};
+ghost use Rattle.lists.specs.Answers.{Answers};
 
+use crate::naming::is_on;
+use crate::refusal::Refusal;
 use lists::{Seq, Text};
 use pep508::laws::{a_file_reads_as_lines, lines_may_get_one_more};
 use pep508::{Cause, Line, Name, ReqFile};
 use std::alloc::{AllocError, Global};
-
-/// Whether the line is on the name.
-fn is_on(line: &Line, name: &Name) -> bool
-    ensures { result ≡ is_on name.now (wanted_of line.now) }
-{
-    match line.requirement() {
-        Some(requirement) => name.normal() == requirement.name().normal(),
-        None => false,
-    }
-}
 
 /// Whether an LF is among the bytes.
 fn has_line_feed(bytes: &[u8]) -> bool
@@ -29,7 +24,7 @@ fn has_line_feed(bytes: &[u8]) -> bool
 }
 
 /// The line that the text is, where it asks for something.
-pub(crate) fn asked_by(alloc: Global, text: &Text) -> Result<Option<Line>, AllocError>
+fn asked_by(alloc: Global, text: &Text) -> Result<Option<Line>, AllocError>
     ensures asked { IfOk result (λ found. MatchOption found (asked_by text.now ≡ None)
         (λ line. (line ≡ text.now) × (asked_by text.now ≡ wanted_of line))) }
     ensures one_line { IfOk result (λ found. MatchOption found Unit
@@ -46,7 +41,7 @@ pub(crate) fn asked_by(alloc: Global, text: &Text) -> Result<Option<Line>, Alloc
 }
 
 /// The number, from 1, of the first line on the name.
-pub(crate) fn line_number(lines: &[Line], name: &Name) -> Option<usize>
+fn line_number(lines: &[Line], name: &Name) -> Option<usize>
     ensures { result ≡ line_number name.now 1 lines.now }
 {
     for (place, line) in lines.iter().enumerate() {
@@ -71,8 +66,8 @@ fn usual_ending(lines: &[Line]) -> &'static str
 }
 
 /// The lines with one more as their last, each of them with an ending.
-fn with_line(alloc: Global, lines: &[Line], line: Line) -> Result<Seq<Line>, AllocError>
-    ensures { IfOk result (λ after. after ≡ lines_after lines.now line) }
+fn lines_with(alloc: Global, lines: &[Line], line: Line) -> Result<Seq<Line>, AllocError>
+    ensures { IfOk result (λ after. after ≡ with_line lines.now line) }
 {
     let ending = usual_ending(lines);
     let mut after = Vec::with_capacity(alloc, lines.len() + 1)?;
@@ -87,12 +82,29 @@ fn with_line(alloc: Global, lines: &[Line], line: Line) -> Result<Seq<Line>, All
 }
 
 /// The file with one more line as its last, each of its lines with an ending.
-pub(crate) fn lines_after(alloc: Global, file: &ReqFile, line: Line) -> Result<ReqFile, AllocError>
+fn with_line(alloc: Global, file: &ReqFile, line: Line) -> Result<ReqFile, AllocError>
     requires { list_any (λ b. b == 10) line ≡ false }
-    ensures { IfOk result (λ after. after ≡ lines_after file.now line) }
+    ensures { IfOk result (λ after. after ≡ with_line file.now line) }
 {
     a_file_reads_as_lines();
     lines_may_get_one_more();
     file.is_lawful();
-    Ok(ReqFile::from_lines(with_line(alloc, file.lines(), line)?))
+    Ok(ReqFile::from_lines(lines_with(alloc, file.lines(), line)?))
+}
+
+/// The file with the text as its last line.
+pub(crate) fn added(alloc: Global, file: &ReqFile, text: &Text) -> Result<ReqFile, Refusal>
+    ensures { Answers OutOfMemory
+        (or_refused (refused_addition file.now (asked_by text.now)) (with_line file.now text.now)) result }
+{
+    let Some(line) = asked_by(alloc, text)? else {
+        return Err(Refusal::BadText);
+    };
+    let Some(requirement) = line.requirement() else {
+        return Err(Refusal::BadText);
+    };
+    if let Some(number) = line_number(file.lines(), requirement.name()) {
+        return Err(Refusal::AlreadyPresent(number));
+    }
+    Ok(with_line(alloc, file, line)?)
 }

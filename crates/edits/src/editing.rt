@@ -1,14 +1,21 @@
 // Edits, and what they lead to.
 
-ghost use Rattle.std.specs.Prelude.{◌≡◌, ◌⊎◌, IfOk, IfErr, Ok, Err};
-ghost use Rattle.edits.specs.Edits.{EditResult, InitResult, Locks};
+ghost use Rattle.lists.specs.Answers.{Answers};
+ghost use Rattle.std.specs.Prelude.{◌≡◌, ◌⊎◌, IfOk, IfErr, None, Some, Ok, Err};
+ghost use Rattle.edits.specs.Edits.{EditResult, InitResult, Locks, kept_pins, lines_after};
+ghost use Rattle.edits.specs.Locking.{versions_of};
+ghost use Rattle.edits.specs.Refused.{or_refused, refused_by_lines, refused_by_lock};
+ghost use Rattle.edits.specs.declared.refusal.Refusal.TheVariants.{OutOfMemory};
 
-use crate::adding::{asked_by, line_number, lines_after};
+use crate::adding::added;
+use crate::constraining::constrained;
 use crate::locking::lock_of;
 use crate::refusal::Refusal;
+use crate::removing::removed;
 use crate::request::{Edit, Edited};
+use crate::same::has_same;
 use crate::state::State;
-use lists::Text;
+use crate::upgrading::upgraded;
 use pep440::Version;
 use pep440::laws::equal_versions_match_alike;
 use pep508::{Environment, Name, ReqFile};
@@ -26,9 +33,9 @@ fn with_lock<R: Resolver>(
     kept: BTreeMap<Name, Version>,
     resolver: &R,
 ) -> Result<State, Refusal>
-    ensures ok { IfOk result (λ state. Locks lines environment snapshot.now kept.entries (Ok state)) }
-    ensures err { IfErr result (λ refusal. (refusal ≡ Refusal.OutOfMemory)
-        ⊎ Locks lines environment snapshot.now kept.entries (Err refusal)) }
+    ensures ok { IfOk result (λ state. Locks None lines environment snapshot.now kept.entries (Ok state)) }
+    ensures err { IfErr result (λ refusal. (refusal ≡ OutOfMemory)
+        ⊎ Locks None lines environment snapshot.now kept.entries (Err refusal)) }
 {
     equal_versions_match_alike();
     lines.is_lawful();
@@ -52,11 +59,42 @@ pub fn init<R: Resolver>(
     resolver: &R,
 ) -> Result<State, Refusal>
     ensures ok { IfOk result (λ state. InitResult lines environment snapshot.now (Ok state)) }
-    ensures err { IfErr result (λ refusal. (refusal ≡ Refusal.OutOfMemory)
+    ensures err { IfErr result (λ refusal. (refusal ≡ OutOfMemory)
         ⊎ InitResult lines environment snapshot.now (Err refusal)) }
 {
     let kept = BTreeMap::new(alloc);
     with_lock(alloc, lines, environment, snapshot, kept, resolver)
+}
+
+/// The lines after the edit.
+fn lines_after(alloc: Global, lines: &ReqFile, edit: &Edit) -> Result<ReqFile, Refusal>
+    ensures { Answers OutOfMemory
+        (or_refused (refused_by_lines lines.now edit.now) (lines_after lines.now edit.now)) result }
+{
+    match edit {
+        Edit::Add(text) => added(alloc, lines, text),
+        Edit::Remove(name) => removed(alloc, lines, name),
+        Edit::Constrain(name, specifiers) => constrained(alloc, lines, name, specifiers),
+        Edit::Upgrade(_) | Edit::UpgradeAll | Edit::Relock => Ok(lines.clone()?),
+    }
+}
+
+/// The locked versions that the edit keeps.
+fn kept_pins(
+    alloc: Global,
+    state: &State,
+    edit: &Edit,
+) -> Result<BTreeMap<Name, Version>, Refusal>
+    ensures ok { IfOk result (λ kept. (refused_by_lock state.now.lock.entries edit.now ≡ None)
+        × (kept.entries ≡ kept_pins (versions_of state.now.lock.entries) edit.now)) }
+    ensures err { IfErr result (λ refusal. (refusal ≡ OutOfMemory)
+        ⊎ (refused_by_lock state.now.lock.entries edit.now ≡ Some refusal)) }
+{
+    match edit {
+        Edit::Upgrade(names) => upgraded(alloc, state, names.as_slice()),
+        Edit::UpgradeAll => Ok(BTreeMap::new(alloc)),
+        Edit::Add(_) | Edit::Remove(_) | Edit::Constrain(_, _) | Edit::Relock => Ok(state.kept()?),
+    }
 }
 
 /// What the edit of the state leads to, over the snapshot. The state stays.
@@ -68,38 +106,15 @@ pub fn edit<R: Resolver>(
     resolver: &R,
 ) -> Result<Edited, Refusal>
     ensures ok { IfOk result (λ edited. EditResult state.now edit.now snapshot.now (Ok edited.state)) }
-    ensures err { IfErr result (λ refusal. (refusal ≡ Refusal.OutOfMemory)
+    ensures err { IfErr result (λ refusal. (refusal ≡ OutOfMemory)
         ⊎ EditResult state.now edit.now snapshot.now (Err refusal)) }
 {
-    match edit {
-        Edit::Add(text) => add(alloc, state, text, snapshot, resolver),
-    }
-}
-
-/// What the state becomes with the text as its last line.
-fn add<R: Resolver>(
-    alloc: Global,
-    state: &State,
-    text: &Text,
-    snapshot: &Snapshot,
-    resolver: &R,
-) -> Result<Edited, Refusal>
-    ensures ok { IfOk result (λ edited. EditResult state.now (Edit.Add text.now) snapshot.now (Ok edited.state)) }
-    ensures err { IfErr result (λ refusal. (refusal ≡ Refusal.OutOfMemory)
-        ⊎ EditResult state.now (Edit.Add text.now) snapshot.now (Err refusal)) }
-{
-    let Some(line) = asked_by(alloc, text)? else {
-        return Err(Refusal::BadText);
-    };
-    let Some(requirement) = line.requirement() else {
-        return Err(Refusal::BadText);
-    };
-    if let Some(number) = line_number(state.lines().lines(), requirement.name()) {
-        return Err(Refusal::AlreadyPresent(number));
-    }
-    let lines = lines_after(alloc, state.lines(), line)?;
+    let lines = lines_after(alloc, state.lines(), edit)?;
+    let kept = kept_pins(alloc, state, edit)?;
     let environment = state.environment().clone()?;
-    let kept = state.kept()?;
-    let state = with_lock(alloc, lines, environment, snapshot, kept, resolver)?;
-    Ok(Edited { state })
+    let edited = with_lock(alloc, lines, environment, snapshot, kept, resolver)?;
+    if has_same(&edited, state) {
+        return Err(Refusal::NothingChanges);
+    }
+    Ok(Edited { state: edited })
 }

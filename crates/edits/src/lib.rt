@@ -2,17 +2,24 @@
 #![tactic(auto)]
 
 mod adding;
+mod constraining;
 mod dependencies;
+#[cfg(test)]
+mod edit_tests;
 mod editing;
 mod entry;
 #[cfg(test)]
 mod file_tests;
 mod locking;
+mod naming;
 mod refusal;
+mod removing;
 mod request;
+mod same;
 mod state;
 #[cfg(test)]
 mod tests;
+mod upgrading;
 
 pub use crate::editing::{edit, init};
 pub use crate::refusal::{Refusal, SavedFile};

@@ -1,14 +1,26 @@
 // What is asked of a state, and what it leads to.
 
 use crate::state::State;
-use lists::Text;
+use lists::{Seq, Text};
 
-/// An edit of the requirements file.
+/// An edit of the requirements file. Names, lines and specifiers are texts that are read when the edit
+/// is made.
 #[derive(Debug, Drop)]
 pub enum Edit {
     /// Puts the text behind the other lines. It has no LF and reads as a requirement; a comment may
     /// follow.
     Add(Text),
+    /// Takes out the one line of the name, with its ending.
+    Remove(Text),
+    /// Puts specifiers, the second text, in the place of those in the one line of the name, the first
+    /// text. They have no parentheses; where they are blank, the line asks for every version.
+    Constrain(Text, Text),
+    /// Drops the locked versions of these names and resolves again.
+    Upgrade(Seq<Text>),
+    /// Drops all locked versions and resolves again.
+    UpgradeAll,
+    /// Resolves again.
+    Relock,
 }
 
 /// What an accepted edit leads to.

@@ -81,7 +81,7 @@ fn write_package(json: &mut String, package: &str) -> Result<(), AllocError> {
 
 /// The index of packages with slashes between them. In `a 1@>=3.8 2|b<2/b 1 !2` the first release asks
 /// for Python `>=3.8`, the second depends on `b<2`, and the last is yanked.
-fn index_of(alloc: Global, packages: &str) -> Result<Snapshot, Fail> {
+pub(crate) fn index_of(alloc: Global, packages: &str) -> Result<Snapshot, Fail> {
     let mut json = String::from_str(alloc, "{\"snapshot\":1,\"packages\":[")?;
     let mut first = true;
     for package in packages.split('/') {
@@ -119,7 +119,7 @@ fn add(
 }
 
 /// Each name with its version, what is asked of Python, and behind a `>` each package that it needs.
-fn lock_text(alloc: Global, state: &State) -> Result<String, Fail> {
+pub(crate) fn lock_text(alloc: Global, state: &State) -> Result<String, Fail> {
     let mut text = String::new(alloc);
     for entry in state.lock().entries() {
         text.push_str(if text.is_empty() { "" } else { " " })?;
@@ -144,7 +144,7 @@ fn write_needs(text: &mut String, entry: &Entry) -> Result<(), AllocError> {
 }
 
 /// What is locked, or why nothing is.
-fn answer_text(alloc: Global, answer: Result<State, Refusal>) -> Result<String, Fail> {
+pub(crate) fn answer_text(alloc: Global, answer: Result<State, Refusal>) -> Result<String, Fail> {
     match answer {
         Ok(state) => lock_text(alloc, &state),
         Err(Refusal::OutOfMemory) => Err(Fail::from(AllocError)),
@@ -159,7 +159,7 @@ fn locked_of(alloc: Global, index: &str, lines: &str) -> Result<String, Fail> {
 }
 
 /// The answer to lines that have no lock.
-const NONE: &str = "no versions meet all requirements";
+pub(crate) const NONE: &str = "no versions meet all requirements";
 
 #[test]
 fn the_best_solution_is_locked(rt: HostRuntime) -> Result<(), Fail> {

@@ -55,7 +55,7 @@ content_of-ended line ending plain is =
     rw n (take_at line ending (length line) refl)
 
 -- what asks for something has no odd characters
-wanted_by-plain : (content : List ℕ) (wanted : Option Wanted) → wanted_by content ≡ Ok wanted → has_odd content ≡ false
+pub wanted_by-plain : (content : List ℕ) (wanted : Option Wanted) → wanted_by content ≡ Ok wanted → has_odd content ≡ false
 unfolding wanted_by
 wanted_by-plain content wanted reads = elim (cases_Bool (is_marked content)) [
   | inl marked ↦ cc (rw marked at reads)

@@ -48,7 +48,7 @@ lines_of-behind (b ∷ text) more (line ∷ lines) last cut = elim (cases_Bool (
 ]
 
 -- a text without LF is one line with the ending behind it
-lines_of-line : (text ending rest : List ℕ) → list_any (λ b. eqb b 10) text ≡ false → IsEnding ending
+pub lines_of-line : (text ending rest : List ℕ) → list_any (λ b. eqb b 10) text ≡ false → IsEnding ending
     → lines_of (text ++ (ending ++ rest)) ≡ (text ++ ending) ∷ lines_of rest
 unfolding lines_of
 lines_of-line [] ending rest none (inl lf) = rw lf refl
@@ -59,7 +59,7 @@ lines_of-line (b ∷ text) ending rest none is = elim (cases_Bool (eqb b 10)) [
 ]
 
 -- the last byte of a text is that of the text without its first
-last_byte : (b c : ℕ) (text : List ℕ) → slice_index (b ∷ c ∷ text) (length (b ∷ c ∷ text) - 1) ≡ slice_index (c ∷ text) (length (c ∷ text) - 1)
+pub last_byte : (b c : ℕ) (text : List ℕ) → slice_index (b ∷ c ∷ text) (length (b ∷ c ∷ text) - 1) ≡ slice_index (c ∷ text) (length (c ∷ text) - 1)
 last_byte b c text =
     let place : length (b ∷ c ∷ text) - 1 ≡ suc (length (c ∷ text) - 1) = omega arith in
     rw place refl
@@ -70,7 +70,7 @@ onto_first-one b [] c text e = cc e
 onto_first-one b (l ∷ cut) c text e = cc e
 
 -- a line that ends in LF stays a line
-lines_of-ended : (line rest : List ℕ) → lines_of line ≡ line ∷ [] → eqb (slice_index line (length line - 1)) 10 ≡ true
+pub lines_of-ended : (line rest : List ℕ) → lines_of line ≡ line ∷ [] → eqb (slice_index line (length line - 1)) 10 ≡ true
     → lines_of (line ++ rest) ≡ line ∷ lines_of rest
 unfolding lines_of
 lines_of-ended [] rest one lf = cc one

@@ -1,6 +1,8 @@
 pub mod AroundSet
 pub mod Comments
+pub mod EachLine
 pub mod Endings
+pub mod ExchangedLine
 pub mod Files
 pub mod FirstLine
 pub mod JoinedLines

@@ -183,7 +183,7 @@ slices_ask line = refl
 some_is : (one other : Wanted) → Some one ≡ Some other → one ≡ other
 some_is one other same = cc
 
-old_read : (s : Slices) (wanted : Wanted) → IsCut (joined s) s → requirement_of (joined s) ≡ Ok (Some wanted) → AreRead s wanted
+pub old_read : (s : Slices) (wanted : Wanted) → IsCut (joined s) s → requirement_of (joined s) ≡ Ok (Some wanted) → AreRead s wanted
 old_read s wanted c reads = elim (asks (joined s) (Some wanted) reads) [
   | inl blank ↦ absurd (let nothing : Some wanted ≡ None = blank.1 in cc)
   | inr some ↦
@@ -216,6 +216,7 @@ new_reads s text gap2 version gap3 gap4 wanted clauses c f v whole m set reads =
       extras = ap (λ (x : Slices). x.extras) slices;
       marker = ap (λ (x : Slices). x.marker) slices;
       comment = ap (λ (x : Slices). x.comment) slices;
+      end = ap (λ (x : Slices). x.end) slices;
     }
 
 -- a line without its set: the space before it goes to the next gap

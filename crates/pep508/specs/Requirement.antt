@@ -14,7 +14,7 @@ use Rattle.markers.specs.declared.fault.Cause.{Cause}
 use Rattle.markers.specs.declared.fault.Cause.TheVariants.{BadName, UrlRequirement, OptionLine, Continuation, OddCharacter, NotUtf8}
 use Rattle.markers.specs.declared.fault.Fault.{Fault}
 use Rattle.pep508.specs.Lines.{lines_of}
-use Rattle.pep508.specs.Parts.{begins_with, content_of, ends_with, has_odd, inside, is_marked, is_space, trim, trim_start}
+use Rattle.pep508.specs.Parts.{begins_with, content_of, ending_of, ends_with, has_odd, inside, is_marked, is_space, trim, trim_start}
 use Rattle.pep508.specs.Slices.{Slices, asking, slices_of, slices_with}
 
 -- a name and extras in their normal form, the clauses that a version has to match, and the marker, if there is one
@@ -143,13 +143,20 @@ cut slices (Err cause) = Err cause
 abbrev pub cut_line : List ℕ → Result Slices Cause
 cut_line line = cut (slices_of line) (requirement_of line)
 
--- a text reads as a line of the same name, extras, marker and comment, and asks for the same but for the clauses
+-- a text reads as a line of the same name, extras, marker, comment and ending, and asks for the same but for the clauses
 pub record ReadsWith (s : Slices) (wanted : Wanted) (clauses : List Clause) (text : List ℕ) : Type 0 where
   pub requirement : requirement_of text ≡ Ok (Some (record wanted { clauses = clauses }))
   pub name : (slices_of text).name ≡ s.name
   pub extras : (slices_of text).extras ≡ s.extras
   pub marker : (slices_of text).marker ≡ s.marker
   pub comment : (slices_of text).comment ≡ s.comment
+  pub end : (slices_of text).end ≡ s.end
+
+-- a line that may stand in the place of another: it asks for something, and ends as the other does
+pub record MayStandFor (old new : List ℕ) : Type 0 where
+  pub wanted : Wanted
+  pub reads : requirement_of new ≡ Ok (Some wanted)
+  pub end : ending_of new ≡ ending_of old
 
 -- the fault of a line, or of a later one
 abbrev pub fault_or : ℕ → Result (Option Wanted) Cause → Option Fault → Option Fault

@@ -1,15 +1,18 @@
 // Lines of a requirements file.
 
 ghost use Rattle.lists.specs.Answers.{Answers};
-ghost use Rattle.std.specs.Prelude.{◌≡◌, Ok, IfOk};
+ghost use Rattle.std.specs.Prelude.{◌≡◌, Ok, Some, IfOk};
 ghost use Rattle.std.specs.Option.{option_copied};
 ghost use Rattle.pep508.specs.Parts.{IsEnding, ended, ending_of};
-ghost use Rattle.pep508.specs.Requirement.{IsLine, checked_line, requirement_of, wanted_by};
+ghost use Rattle.pep508.specs.Requirement.{IsLine, Wanted, checked_line, requirement_of, wanted_by};
+ghost use Rattle.pep508.specs.Slices.{joined, slices_of, with_version};
 ghost use Rattle.markers.specs.declared.fault.Cause.TheVariants.{OutOfMemory};
 
 use crate::cuts::{cut_comment, trim_start};
 use crate::parts::{begins_with, cut_ending, ending_of, ends_with, is_refused};
+use crate::req_line::ReqLine;
 use crate::requirement::Requirement;
+use crate::specifier_text::SpecifierText;
 use lists::{Faithful, Text};
 use markers::Cause;
 use std::alloc::{AllocError, Global};
@@ -102,6 +105,27 @@ impl Line {
         } = self;
         text.push_str(ending)?;
         Ok(Line { text, requirement })
+    }
+
+    /// The line with these specifiers in the place of its version part, or directly behind name and
+    /// extras where it has none. All else stays as it is written.
+    pub fn with_specifier(
+        &self,
+        alloc: Global,
+        specifier: &SpecifierText,
+    ) -> Result<Line, AllocError>
+        requires { (wanted : Wanted) × (requirement_of self.now ≡ Ok (Some wanted)) }
+        ensures { IfOk result (λ line. line ≡ joined (with_version specifier.now (slices_of self.now))) }
+    {
+        // Both lines read, so that memory alone can be refused.
+        let Ok(slices) = ReqLine::read(alloc, self.text()) else {
+            return Err(AllocError);
+        };
+        let text = slices.with_specifier(alloc, specifier)?;
+        match Line::read(alloc, text.as_str()) {
+            Ok(line) => Ok(line),
+            Err(_) => Err(AllocError),
+        }
     }
 
     /// What the line asks for; none where it is blank or a comment.

@@ -1,6 +1,6 @@
 use Rattle.std.proofs.Common.{refl}
 use Rattle.edits.specs.Edits.{given_of}
-use Rattle.edits.proofs.LockFacts.{IsLocked-from}
+use Rattle.edits.proofs.LockFacts.{IsLocked-from, IsNew-none}
 use Rattle.edits.proofs.StateFacts.{IsState-from}
 use Rattle.edits.proofs.editing.with_lock.Goals as goal
 
@@ -21,4 +21,4 @@ returns-in_ok-lock-in-Solution-clause-ok g c =
     let best = rw problem at (rw c.in-Solution.is at c.in_ok-versions.ensures) in
     let made = c.in_ok-lock-in-Solution.ensures in
     rw c.new-in-Solution.ensures
-    (IsLocked-from given c.args.lines c.in-Solution.versions.entries c.in_ok-lock-in-Solution.lock best (rw problem at made.entries) made.environment made.snapshot)
+    (IsLocked-from given c.args.lines c.in-Solution.versions.entries c.in_ok-lock-in-Solution.lock best (rw problem at made.entries) made.environment made.snapshot, IsNew-none _)

@@ -1,0 +1,39 @@
+-- Lines of which one is left out, or gets other specifiers.
+use Rattle.std.proofs.Common.{◌≡◌, ◌⊎◌, ℕ, Bool, true, false, List, Contains, Option, Some, None, Result, Ok, Err, filter, map, refl, inl, inr}
+use Rattle.std.proofs.lemmas.Bool.{cases_Bool}
+use Rattle.markers.specs.declared.fault.Cause.{Cause}
+use Rattle.pep508.specs.Lines.{AreLines}
+use Rattle.pep508.specs.Requirement.{IsSpecifier, MayStandFor, Wanted, requirement_of}
+use Rattle.pep508.specs.Slices.{joined, slices_of, with_version}
+use Rattle.edits.specs.Asking.{asked, is_on, wanted_of}
+use Rattle.edits.specs.Naming.{line_with, with_set_on}
+
+-- a line that asks for something may stand for itself with other specifiers, and lines may be exchanged so
+abbrev pub MayGetSpecifiers : Type 0
+MayGetSpecifiers = (line specifiers : List ℕ) (wanted : Wanted) → requirement_of line ≡ Ok (Some wanted) → IsSpecifier specifiers
+    → MayStandFor line (joined (with_version specifiers (slices_of line)))
+
+abbrev pub MayBeExchanged : Type 0
+MayBeExchanged = (change : List ℕ → List ℕ) (lines : List (List ℕ)) → AreLines lines
+    → ((line : List ℕ) → Contains lines line → (change line ≡ line) ⊎ MayStandFor line (change line)) → AreLines (map change lines)
+
+-- a line on a name asks for something
+asks : (name : List ℕ) (read : Result (Option Wanted) Cause) → is_on name (asked read) ≡ true → (wanted : Wanted) × (read ≡ Ok (Some wanted))
+asks name (Ok None) on = cc
+asks name (Ok (Some wanted)) on = (wanted, refl)
+asks name (Err cause) on = cc
+
+pub asks_on : (name line : List ℕ) → is_on name (wanted_of line) ≡ true → (wanted : Wanted) × (requirement_of line ≡ Ok (Some wanted))
+asks_on name line on = asks name (requirement_of line) on
+
+-- a line stays, or asks for something with its specifiers
+stays : MayGetSpecifiers → (name specifiers line : List ℕ) → IsSpecifier specifiers
+    → (line_with name specifiers line ≡ line) ⊎ MayStandFor line (line_with name specifiers line)
+stays get name specifiers line set = elim (cases_Bool (is_on name (wanted_of line))) [
+  | inl on ↦ let found = asks_on name line on in inr (rw on (get line specifiers found.0 found.1 set))
+  | inr other ↦ inl (rw other refl)
+]
+
+pub AreLines-with_set : MayGetSpecifiers → MayBeExchanged → (name specifiers : List ℕ) (lines : List (List ℕ)) → IsSpecifier specifiers → AreLines lines
+    → AreLines (with_set_on name specifiers lines)
+AreLines-with_set get exchange name specifiers lines set are = exchange (line_with name specifiers) lines are (λ line there. stays get name specifiers line set)
