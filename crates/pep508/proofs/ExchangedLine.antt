@@ -1,6 +1,6 @@
 -- A line that got other specifiers may stand in its place.
 use Rattle.std.proofs.Common.{◌≡◌, ◌∙◌, ℕ, ◌<◌, List, [], ◌∷◌, length, is_ok, true, Result, Ok, Err, Option, Some, refl, sym, subst, arith}
-use Rattle.pep440.specs.Sets.{set_of}
+use Rattle.pep440.specs.Tied.Sets.{set_of}
 use Rattle.pep440.specs.declared.fault.Fault.{Fault}
 use Rattle.pep440.specs.declared.specifier.Clause.{Clause}
 use Rattle.markers.specs.Names.{name_of}
