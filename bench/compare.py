@@ -104,6 +104,12 @@ compare(
     f"{folder}/commands.txt",
 )
 compare(
+    "1,000 edits of every kind, 2,000 lines",
+    [program, "--dir", folder, "--index", index, "--env", environment, "try"],
+    [*peer, "try", folder],
+    f"{folder}/edits.txt",
+)
+compare(
     "requirements file of a million lines, read",
     [program, "--dir", long, "--index", f"{long}/index.json", "--env", environment, "try"],
     [*peer, "read", long, environment],

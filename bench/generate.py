@@ -2,7 +2,7 @@
 """Writes an index, a requirements file, commands and versions for a benchmark: generate.py SEED FOLDER.
 
 The index has 2,000 packages of 25 releases each, the file a line for each package, and the commands are 1,000 pairs of
-an addition and an undo. There are 1,000 versions and 1,000 sets. The folder `long` has a requirements file of a million
+an addition and an undo. `edits.txt` has 1,000 edits, 200 of each kind. There are 1,000 versions and 1,000 sets. The folder `long` has a requirements file of a million
 lines, none of which asks for anything: comments, blank lines and requirements whose marker doesn't hold. So its index
 has no packages, and reading is nearly all there is to do. `whole.json` is an index of 50 MB, whose 100,000 releases
 have all that a release may have. `lock-N.toml` is a lock of N packages. The folders `strayN` and `newestN` have a problem
@@ -18,6 +18,7 @@ from lock_peer import lock_text
 PACKAGES = 2_000
 RELEASES = 25
 PAIRS = 1_000
+ROUNDS = 200
 SPARE = 50
 VERSIONS = 1_000
 WHOLE_PACKAGES = 4_000
@@ -83,6 +84,19 @@ def line(rng, name, listed):
     if kind == 2:
         return f"{name}>={pick}"
     return f"{name}<={pick},!=99"
+
+
+def edits(rng, listed, present, spare):
+    """Rounds of five edits: a package is pinned, freed to be newer, upgraded with another and removed, and in between all
+    is relocked."""
+    for _ in range(ROUNDS):
+        added = rng.choice(spare)
+        pick = rng.choice(listed[added])
+        yield f"add {added}=={pick}  # for now"
+        yield f"constrain {added} >={pick}"
+        yield f"upgrade {added} {rng.choice(present)}"
+        yield "relock"
+        yield f"remove {added}"
 
 
 def version(rng):
@@ -233,6 +247,9 @@ def main():
             out.write(f"version {version(rng)}\n")
         for _ in range(VERSIONS):
             out.write(f"set {','.join(clause(rng) for _ in range(rng.randrange(1, 4)))}\n")
+    with open(f"{folder}/edits.txt", "w") as out:
+        for edit in edits(random.Random(int(sys.argv[1])), listed, names[:PACKAGES], names[PACKAGES:]):
+            out.write(f"{edit}\n")
     names = [f"package-{n:05}" for n in range(WHOLE_PACKAGES)]
     packages = [{"name": n, "releases": [whole_release(rng, n, v) for v in versions(rng)]} for n in names]
     with open(f"{folder}/whole.json", "w") as out:

@@ -1,8 +1,9 @@
 -- The lines of a batch, and what each asks for. All of it is reqlock's own rule.
-use Rattle.std.specs.Prelude.{ℕ, Bool, true, false, ◌≡◌, ◌==◌, ◌||◌, ◌-◌, nat_lt, if◌then◌else◌, List, [], ◌∷◌, Option, Some, None, length, slice_index, take, drop, codes}
-use Rattle.std.specs.List.{filter_map, before_first, position_or_len}
+use Rattle.std.specs.Prelude.{ℕ, Bool, true, false, ◌≡◌, ◌==◌, ◌||◌, ◌-◌, nat_lt, not, if◌then◌else◌, List, [], ◌∷◌, Option, Some, None, length, slice_index, take, drop, filter, codes}
+use Rattle.std.specs.List.{filter_map, before_first, position_or_len, slice_split, suffix_len}
 use Rattle.std.specs.Str.{is_utf8, bytes_eq}
-use Rattle.edits.specs.declared.request.Edit.TheVariants.{Add}
+use Rattle.edits.specs.declared.request.Edit.{Edit as EditValue}
+use Rattle.edits.specs.declared.request.Edit.TheVariants.{Add, Constrain, Relock, Remove, Upgrade, UpgradeAll}
 use Rattle.reqlock.specs.declared.command_line.Item.{Item}
 use Rattle.reqlock.specs.declared.command_line.Item.TheVariants.{Edit, Undo, Redo, BadCommand}
 
@@ -46,10 +47,42 @@ trimmed (b ∷ bs) = if is_space b then trimmed bs else b ∷ bs
 abbrev pub from_first : (ℕ → Bool) → List ℕ → List ℕ
 from_first test text = drop (position_or_len test text) text
 
--- an addition of this text, which is UTF-8 and not empty; a blank line and the other commands are ASCII, so any other line that isn't UTF-8 is a bad command too
+-- a text without the spaces and tabs at its end
+abbrev pub trimmed_end : List ℕ → List ℕ
+trimmed_end text = take (length text - suffix_len is_space text) text
+
+-- the first word of a text, up to a space or a tab, and what stands behind the space that follows it
+abbrev pub first_word : List ℕ → List ℕ
+first_word text = before_first is_space text
+
+abbrev pub behind_word : List ℕ → List ℕ
+behind_word text = trimmed (from_first is_space text)
+
+-- the words of a text: what stands between spaces and tabs
+abbrev pub words_of : List ℕ → List (List ℕ)
+words_of text = filter (λ word. not (length word == 0)) (slice_split is_space text)
+
+-- an edit that takes a text: it is not empty
+abbrev pub taking : (List ℕ → EditValue) → List ℕ → Item
+taking edit [] = BadCommand
+taking edit (b ∷ bs) = Edit (edit (b ∷ bs))
+
+-- the line that is to be added, as it stands to its end
 abbrev pub addition_of : List ℕ → Item
-addition_of [] = BadCommand
-addition_of (b ∷ bs) = if is_utf8 (b ∷ bs) then Edit (Add (b ∷ bs)) else BadCommand
+addition_of rest = taking Add rest
+
+-- the name that is to be removed
+abbrev pub removal_of : List ℕ → Item
+removal_of rest = taking (λ text. Remove (trimmed_end text)) rest
+
+-- a name and its specifiers, which may be missing
+abbrev pub constraint_of : List ℕ → Item
+constraint_of rest = taking (λ text. Constrain (first_word text) (behind_word text)) rest
+
+-- the names that are to be upgraded, or all where none is told
+abbrev pub upgrade_of : List (List ℕ) → Item
+upgrade_of [] = Edit UpgradeAll
+upgrade_of (name ∷ names) = Edit (Upgrade (name ∷ names))
 
 -- a command that takes no text
 abbrev pub plain : Item → List ℕ → Item
@@ -60,6 +93,10 @@ plain item (b ∷ bs) = BadCommand
 abbrev pub command_of : List ℕ → List ℕ → Item
 command_of word rest =
     if bytes_eq word (codes "add") then addition_of rest else
+    if bytes_eq word (codes "remove") then removal_of rest else
+    if bytes_eq word (codes "constrain") then constraint_of rest else
+    if bytes_eq word (codes "upgrade") then upgrade_of (words_of rest) else
+    if bytes_eq word (codes "relock") then plain (Edit Relock) rest else
     if bytes_eq word (codes "undo") then plain Undo rest else
     if bytes_eq word (codes "redo") then plain Redo rest else
     BadCommand
@@ -67,13 +104,17 @@ command_of word rest =
 -- what a trimmed text asks for: nothing where it is blank
 abbrev pub asked_by : List ℕ → Option Item
 asked_by [] = None
-asked_by (b ∷ bs) = Some (command_of (before_first is_space (b ∷ bs)) (trimmed (from_first is_space (b ∷ bs))))
+asked_by (b ∷ bs) = Some (command_of (first_word (b ∷ bs)) (behind_word (b ∷ bs)))
+
+-- what the text of a line asks for: one that isn't UTF-8 is a bad command
+abbrev pub asked_by_text : List ℕ → Option Item
+asked_by_text text = if is_utf8 text then asked_by (trimmed text) else Some BadCommand
 
 -- what a line asks for: a line that is too long is a bad command, whatever it holds
 abbrev pub item_of : Line → Option Item
-item_of line = if nat_lt longest_line (length line.bytes) then Some BadCommand else asked_by (trimmed (text_of line))
+item_of line = if nat_lt longest_line (length line.bytes) then Some BadCommand else asked_by_text (text_of line)
 
--- an edit, whose text has to be copied
+-- an edit, whose texts have to be copied
 abbrev pub IsEdit : Option Item → Type 0
 IsEdit None = ⊥
 IsEdit (Some (Edit edit)) = Unit {0}

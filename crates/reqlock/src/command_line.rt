@@ -1,12 +1,13 @@
 // One line of a batch, read as a command.
 
-ghost use Rattle.std.specs.Prelude.{◌≡◌, ◌≤◌, IfOk, OnErr, length, Some};
-ghost use Rattle.std.specs.List.{position, position_or_len};
-ghost use Rattle.reqlock.specs.CommandLine.{item_of, text_of, trimmed, is_space, asked_by, command_of, addition_of, plain, IsEdit};
+ghost use Rattle.std.specs.Prelude.{◌≡◌, IfOk, OnErr, Some};
+ghost use Rattle.reqlock.specs.CommandLine.{IsEdit, addition_of, asked_by, asked_by_text, command_of, constraint_of, item_of, plain, removal_of, text_of, upgrade_of, words_of};
 
+use crate::words::{cut_word, trim_end, trim_start};
 use edits::Edit;
-use lists::Text;
+use lists::{Seq, Text};
 use std::alloc::{AllocError, Global};
+use std::str;
 
 /// The most bytes of a line that is read as a command, its CR counted and its LF not.
 pub const LONGEST_LINE: usize = 65_536;
@@ -22,7 +23,7 @@ pub enum Item {
 }
 
 /// What a line asks for, and nothing where it is blank. `line` is without its LF, and `is_ended`
-/// says whether it had one. Memory is taken for the text of an edit alone.
+/// says whether it had one. Memory is taken for the texts of an edit alone.
 pub fn read_item(alloc: Global, line: &[u8], is_ended: bool) -> Result<Option<Item>, AllocError>
     ensures item { IfOk result (λ item.
         item ≡ item_of (record { bytes = line.now; is_ended = is_ended })) }
@@ -31,7 +32,7 @@ pub fn read_item(alloc: Global, line: &[u8], is_ended: bool) -> Result<Option<It
     if line.len() > LONGEST_LINE {
         return Ok(Some(Item::BadCommand));
     }
-    read_text(alloc, trim_start(line_text(line, is_ended)))
+    read_bytes(alloc, line_text(line, is_ended))
 }
 
 // A line without the CR before its LF.
@@ -45,71 +46,59 @@ fn line_text(line: &[u8], is_ended: bool) -> &[u8]
     }
 }
 
-fn is_space_or_tab(byte: u8) -> bool
-    ensures { result ≡ is_space byte }
+#[tactic(auto, using(crate::proofs::Texts::asked_utf8, crate::proofs::Texts::asked_other))]
+fn read_bytes(alloc: Global, bytes: &[u8]) -> Result<Option<Item>, AllocError>
+    ensures item { IfOk result (λ item. item ≡ asked_by_text bytes.now) }
+    ensures memory { OnErr result (IsEdit (asked_by_text bytes.now)) }
 {
-    byte == b' ' || byte == b'\t'
-}
-
-// A text without the spaces and tabs at its start.
-fn trim_start(text: &[u8]) -> &[u8]
-    ensures { result.now ≡ trimmed text.now }
-{
-    let mut rest = text;
-    while let Some((first, others)) = rest.split_first() {
-        if !is_space_or_tab(*first) {
-            return rest;
-        }
-        rest = others;
+    match str::from_utf8(bytes) {
+        Ok(text) => read_text(alloc, trim_start(text)),
+        Err(_) => Ok(Some(Item::BadCommand)),
     }
-    rest
 }
 
-// How long the first word is: up to a space or tab, or to the end.
-#[tactic(auto, using(crate::proofs::Texts::position_or))]
-fn word_length(text: &[u8]) -> usize
-    ensures value { result ≡ position_or_len is_space text.now }
-    ensures bound { result ≤ length text.now }
-{
-    first_space(text).unwrap_or(text.len())
-}
-
-fn first_space(text: &[u8]) -> Option<usize>
-    ensures { result ≡ position is_space text.now }
-{
-    text.iter().position(|byte| is_space_or_tab(*byte))
-}
-
-fn read_text(alloc: Global, text: &[u8]) -> Result<Option<Item>, AllocError>
+fn read_text(alloc: Global, text: &str) -> Result<Option<Item>, AllocError>
     ensures item { IfOk result (λ item. item ≡ asked_by text.now) }
     ensures memory { OnErr result (IsEdit (asked_by text.now)) }
 {
     if text.is_empty() {
         return Ok(None);
     }
-    let (word, rest) = text.split_at(word_length(text));
-    let item = read_command(alloc, word, trim_start(rest))?;
+    let (word, rest) = cut_word(text);
+    let item = read_command(alloc, word, rest)?;
     Ok(Some(item))
 }
 
-fn read_command(alloc: Global, word: &[u8], rest: &[u8]) -> Result<Item, AllocError>
+fn read_command(alloc: Global, word: &str, rest: &str) -> Result<Item, AllocError>
     ensures item { IfOk result (λ item. item ≡ command_of word.now rest.now) }
     ensures memory { OnErr result (IsEdit (Some (command_of word.now rest.now))) }
 {
-    if word == b"add".as_slice() {
+    if word == "add" {
         return read_addition(alloc, rest);
     }
-    if word == b"undo".as_slice() {
+    if word == "remove" {
+        return read_removal(alloc, rest);
+    }
+    if word == "constrain" {
+        return read_constraint(alloc, rest);
+    }
+    if word == "upgrade" {
+        return read_upgrade(alloc, rest);
+    }
+    if word == "relock" {
+        return Ok(alone(Item::Edit(Edit::Relock), rest));
+    }
+    if word == "undo" {
         return Ok(alone(Item::Undo, rest));
     }
-    if word == b"redo".as_slice() {
+    if word == "redo" {
         return Ok(alone(Item::Redo, rest));
     }
     Ok(Item::BadCommand)
 }
 
 // A command that takes no text.
-fn alone(item: Item, rest: &[u8]) -> Item
+fn alone(item: Item, rest: &str) -> Item
     ensures { result ≡ plain item rest.now }
 {
     if rest.is_empty() {
@@ -119,16 +108,61 @@ fn alone(item: Item, rest: &[u8]) -> Item
     }
 }
 
-#[tactic(auto, using(crate::proofs::Texts::addition_is, crate::proofs::Texts::addition_bad))]
-fn read_addition(alloc: Global, rest: &[u8]) -> Result<Item, AllocError>
+fn read_addition(alloc: Global, rest: &str) -> Result<Item, AllocError>
     ensures item { IfOk result (λ item. item ≡ addition_of rest.now) }
     ensures memory { OnErr result (IsEdit (Some (addition_of rest.now))) }
 {
     if rest.is_empty() {
         return Ok(Item::BadCommand);
     }
-    match str::from_utf8(rest) {
-        Ok(text) => Ok(Item::Edit(Edit::Add(Text::copy_of(alloc, text)?))),
-        Err(_) => Ok(Item::BadCommand),
+    Ok(Item::Edit(Edit::Add(Text::copy_of(alloc, rest)?)))
+}
+
+fn read_removal(alloc: Global, rest: &str) -> Result<Item, AllocError>
+    ensures item { IfOk result (λ item. item ≡ removal_of rest.now) }
+    ensures memory { OnErr result (IsEdit (Some (removal_of rest.now))) }
+{
+    if rest.is_empty() {
+        return Ok(Item::BadCommand);
     }
+    let name = Text::copy_of(alloc, trim_end(rest))?;
+    Ok(Item::Edit(Edit::Remove(name)))
+}
+
+fn read_constraint(alloc: Global, rest: &str) -> Result<Item, AllocError>
+    ensures item { IfOk result (λ item. item ≡ constraint_of rest.now) }
+    ensures memory { OnErr result (IsEdit (Some (constraint_of rest.now))) }
+{
+    if rest.is_empty() {
+        return Ok(Item::BadCommand);
+    }
+    let (name, specifiers) = cut_word(rest);
+    let name = Text::copy_of(alloc, name)?;
+    let specifiers = Text::copy_of(alloc, specifiers)?;
+    Ok(Item::Edit(Edit::Constrain(name, specifiers)))
+}
+
+fn read_upgrade(alloc: Global, rest: &str) -> Result<Item, AllocError>
+    ensures item { IfOk result (λ item. item ≡ upgrade_of (words_of rest.now)) }
+    ensures memory { OnErr result (IsEdit (Some (upgrade_of (words_of rest.now)))) }
+{
+    let names = words_of(alloc, rest)?;
+    if names.is_empty() {
+        return Ok(Item::Edit(Edit::UpgradeAll));
+    }
+    Ok(Item::Edit(Edit::Upgrade(names)))
+}
+
+// The words of a text.
+fn words_of(alloc: Global, text: &str) -> Result<Seq<Text>, AllocError>
+    ensures { IfOk result (λ words. words ≡ words_of text.now) }
+{
+    let mut words = Vec::new(alloc);
+    let mut rest = trim_start(text);
+    while !rest.is_empty() {
+        let (word, behind) = cut_word(rest);
+        words.push(Text::copy_of(alloc, word)?)?;
+        rest = behind;
+    }
+    Ok(Seq::from_vec(words))
 }

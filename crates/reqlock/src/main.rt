@@ -17,6 +17,7 @@ mod sink;
 mod source;
 #[cfg(test)]
 mod tests;
+mod words;
 
 use std::io;
 use std::process::ExitCode;

@@ -127,6 +127,77 @@ fn dependencies_are_resolved(rt: HostRuntime) -> Result<(), Fail> {
     Ok(())
 }
 
+// Two packages, the second with two releases.
+const A_B: &[Told] = &[("a", "1", ""), ("b", "1", ""), ("b", "2", "")];
+
+// One package with a separator in its name.
+const HYPHENED: &[Told] = &[("b-b", "1", ""), ("b-b", "2", "")];
+
+#[test]
+fn edits_are_tried(rt: HostRuntime) -> Result<(), Fail> {
+    let keep = "B.b (>=1) ; os_name==\"posix\" # keep";
+    let rows = [
+        (CYCLE, "p\n", "remove p\n", "ok 1\n"),
+        (CYCLE, "p\n", "remove p\nundo\n", "ok 1\nok 0\np\n"),
+        (
+            A_B,
+            "# top\nb==1\n\n# tail\na\n",
+            "remove b\nundo\nredo\n",
+            "ok 1\nok 0\nok 1\n# top\n\n# tail\na\n",
+        ),
+        (
+            HYPHENED,
+            keep,
+            "constrain b_B >=2\n",
+            "ok 1\nB.b >=2 ; os_name==\"posix\" # keep",
+        ),
+        (
+            A_B,
+            "a ; os_name==\"nt\"\n",
+            "constrain a >=2\n",
+            "ok 1\na>=2 ; os_name==\"nt\"\n",
+        ),
+        (
+            A_B,
+            "b==1\n",
+            "constrain b\nupgrade b\nupgrade b\nupgrade z\n",
+            "ok 1\nok 2\nsame\nrefused not-locked\nb\n",
+        ),
+        (
+            A_B,
+            "a\nA >=1\n",
+            "remove a\nremove b\nremove -\n",
+            "refused ambiguous\nrefused not-present\nrefused bad-text\na\nA >=1\n",
+        ),
+        (
+            A_B,
+            "a\nb",
+            "remove b\nundo\nremove a\n",
+            "ok 1\nok 0\nok 1\nb",
+        ),
+        (
+            A_B,
+            "a\n",
+            "constrain a >=9\nconstrain a (>=1)\nconstrain a >=1,\nconstrain a >=1,\nupgrade  \n",
+            "refused no-solution\nrefused bad-text\nok 1\nsame\nsame\na>=1,\n",
+        ),
+        (A_B, "", "relock\n", "same\n"),
+    ];
+    for (releases, file, input, wanted) in rows.iter() {
+        let index = index_of(rt.alloc(), releases)?;
+        let outcome = tried(
+            &rt,
+            "edits",
+            file.as_bytes(),
+            index.as_str().as_bytes(),
+            input.as_bytes(),
+        )?;
+        assert_eq!(rt; outcome.status, Status::Done);
+        assert_eq!(rt; outcome.output.as_slice(), wanted.as_bytes());
+    }
+    Ok(())
+}
+
 #[test]
 fn lines_that_conflict_have_status_3(rt: HostRuntime) -> Result<(), Fail> {
     let index = index_of(rt.alloc(), SHARED)?;

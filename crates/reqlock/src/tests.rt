@@ -11,7 +11,7 @@ use crate::source::Source;
 use edits::{Edit, Environment, Refusal, ReqFile, SavedFile, Snapshot};
 use journal::{Plain, Reply, Session};
 use lists::Text;
-use std::alloc::Global;
+use std::alloc::{AllocError, Global};
 use std::io;
 use std::process::Abort;
 use std::test::Fail;
@@ -77,14 +77,31 @@ fn has_a_word_for_each_refusal(rt: HostRuntime) {
     }
 }
 
+// The words of an upgrade, each behind a bar.
+fn upgraded(alloc: Global, names: &[Text]) -> Result<String, AllocError> {
+    let mut text = String::from_str(alloc, "(upgrade)")?;
+    for name in names {
+        text.push_str("|")?;
+        text.push_str(name.as_str())?;
+    }
+    Ok(text)
+}
+
 // What a line asks for, as a short text.
-fn asked(item: &Option<Item>) -> &str {
+fn asked(alloc: Global, item: &Option<Item>) -> Result<String, AllocError> {
     match item {
-        None => "",
-        Some(Item::Edit(Edit::Add(text))) => text.as_str(),
-        Some(Item::Undo) => "(undo)",
-        Some(Item::Redo) => "(redo)",
-        Some(Item::BadCommand) => "(bad)",
+        None => Ok(String::new(alloc)),
+        Some(Item::Edit(Edit::Add(text))) => String::from_str(alloc, text.as_str()),
+        Some(Item::Edit(Edit::Remove(name))) => format!(in alloc; "(remove)|{name}"),
+        Some(Item::Edit(Edit::Constrain(name, set))) => {
+            format!(in alloc; "(constrain)|{name}|{set}")
+        }
+        Some(Item::Edit(Edit::Upgrade(names))) => upgraded(alloc, names.as_slice()),
+        Some(Item::Edit(Edit::UpgradeAll)) => String::from_str(alloc, "(upgrade)"),
+        Some(Item::Edit(Edit::Relock)) => String::from_str(alloc, "(relock)"),
+        Some(Item::Undo) => String::from_str(alloc, "(undo)"),
+        Some(Item::Redo) => String::from_str(alloc, "(redo)"),
+        Some(Item::BadCommand) => String::from_str(alloc, "(bad)"),
     }
 }
 
@@ -105,14 +122,28 @@ fn reads_lines(rt: HostRuntime) -> Result<(), Fail> {
         (b"undo\r".as_slice(), false, "(bad)"),
         (b"undo x".as_slice(), true, "(bad)"),
         (b"redo".as_slice(), false, "(redo)"),
-        (b"relock".as_slice(), true, "(bad)"),
+        (b"remove  b \t\r".as_slice(), true, "(remove)|b"),
+        (b"remove a b".as_slice(), true, "(remove)|a b"),
+        (b"remove \t".as_slice(), true, "(bad)"),
+        (b"remove \xff".as_slice(), true, "(bad)"),
+        (b"constrain\ta \t >=1, <2 ".as_slice(), true, "(constrain)|a|>=1, <2 "),
+        (b"constrain a".as_slice(), true, "(constrain)|a|"),
+        (b"constrain a ".as_slice(), true, "(constrain)|a|"),
+        (b"constrain a>=1".as_slice(), true, "(constrain)|a>=1|"),
+        (b"constrain ".as_slice(), true, "(bad)"),
+        (b"upgrade".as_slice(), true, "(upgrade)"),
+        (b"upgrade  ".as_slice(), true, "(upgrade)"),
+        (b"upgrade a \t b ".as_slice(), true, "(upgrade)|a|b"),
+        (b"upgrades".as_slice(), true, "(bad)"),
+        (b"relock ".as_slice(), true, "(relock)"),
+        (b"relock a".as_slice(), true, "(bad)"),
         (b"".as_slice(), true, ""),
         (b"\r".as_slice(), true, ""),
         (b" \t ".as_slice(), true, ""),
     ];
     for (line, is_ended, wanted) in rows.iter() {
         let item = read_item(rt.alloc(), line, *is_ended)?;
-        assert_eq!(rt; asked(&item), *wanted);
+        assert_eq!(rt; asked(rt.alloc(), &item)?.as_str(), *wanted);
     }
     Ok(())
 }
@@ -121,9 +152,9 @@ fn reads_lines(rt: HostRuntime) -> Result<(), Fail> {
 fn refuses_a_line_that_is_too_long(rt: HostRuntime) -> Result<(), Fail> {
     let spaces = vec![in rt.alloc(); b' '; 65537]?;
     let item = read_item(rt.alloc(), spaces.as_slice(), true)?;
-    assert_eq!(rt; asked(&item), "(bad)");
+    assert_eq!(rt; asked(rt.alloc(), &item)?.as_str(), "(bad)");
     let item = read_item(rt.alloc(), &spaces.as_slice()[1..], true)?;
-    assert_eq!(rt; asked(&item), "");
+    assert_eq!(rt; asked(rt.alloc(), &item)?.as_str(), "");
     Ok(())
 }
 
