@@ -4,12 +4,8 @@
 mod adding;
 mod constraining;
 mod dependencies;
-#[cfg(test)]
-mod edit_tests;
 mod editing;
 mod entry;
-#[cfg(test)]
-mod file_tests;
 mod locking;
 mod naming;
 mod refusal;
@@ -17,8 +13,6 @@ mod removing;
 mod request;
 mod same;
 mod state;
-#[cfg(test)]
-mod tests;
 mod upgrading;
 
 pub use crate::editing::{edit, init};

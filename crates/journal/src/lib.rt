@@ -9,8 +9,6 @@ mod history;
 mod laws;
 mod running;
 mod session;
-#[cfg(test)]
-mod tests;
 mod whole;
 
 pub use crate::commands::{Command, Reply};

@@ -1,12 +1,20 @@
-//! Tests of the public calls of indexes and locks. There is nothing else here, so that nothing is proved twice for
-//! their sake.
+//! Tests of the public calls of indexes, locks, edits and sessions. There is nothing else here, so that nothing is proved
+//! twice for their sake.
 #![tactic(auto)]
 
+#[cfg(test)]
+mod edited_files;
+#[cfg(test)]
+mod every_edit;
 #[cfg(test)]
 mod indexes;
 #[cfg(test)]
 mod lock_shapes;
 #[cfg(test)]
+mod locked_files;
+#[cfg(test)]
 mod locks;
+#[cfg(test)]
+mod sessions;
 #[cfg(test)]
 mod texts;

@@ -1,7 +1,7 @@
 // The lock of a release with several files: what it lists, and that it is read back.
 
-use crate::tests::begin;
-use crate::{FileEntry, Lock, Snapshot};
+use crate::edited_files::begin;
+use edits::{FileEntry, Lock, Snapshot};
 use std::alloc::{AllocError, Global};
 use std::test::Fail;
 

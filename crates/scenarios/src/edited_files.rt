@@ -1,6 +1,6 @@
 // Small files and indexes: what is locked, what is refused, and each call that allocates once.
 
-use crate::{
+use edits::{
     Edit, Entry, Environment, Name, Plain, Refusal, ReqFile, SavedFile, Snapshot, State, edit, init,
 };
 use lists::Text;
@@ -8,7 +8,8 @@ use std::alloc::{AllocError, Global};
 use std::test::Fail;
 
 /// The environment of the tests, one with Linux.
-const ENVIRONMENT: &str = r##"{"implementation_name":"cpython","implementation_version":"3.12.3",
+pub const ENVIRONMENT: &str =
+    r##"{"implementation_name":"cpython","implementation_version":"3.12.3",
     "os_name":"posix","platform_machine":"x86_64","platform_python_implementation":"CPython",
     "platform_release":"6.1.0-13-amd64","platform_system":"Linux",
     "platform_version":"#1 SMP Debian 6.1.55-1","python_full_version":"3.12.3",

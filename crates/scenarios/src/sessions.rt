@@ -1,7 +1,8 @@
 // A history of a small file, each call that allocates once.
 
-use crate::{Command, History, Plain, Reply, Session, WholeHistory};
+use crate::edited_files::ENVIRONMENT;
 use edits::{Edit, Environment, Refusal, ReqFile, Snapshot};
+use journal::{Command, History, Plain, Reply, Session, WholeHistory};
 use lists::Text;
 use std::alloc::Global;
 use std::test::Fail;
@@ -12,13 +13,6 @@ const INDEX: &str = r#"{"snapshot":1,"packages":[
         "sha256":"0000000000000000000000000000000000000000000000000000000000000000"}]}]},
     {"name":"b","releases":[{"version":"1","files":[{"name":"b-1-py3-none-any.whl","url":"https://files.example/b-1-py3-none-any.whl","size":1000,
         "sha256":"0000000000000000000000000000000000000000000000000000000000000000"}]}]}]}"#;
-
-// The environment of the tests, one with Linux.
-const ENVIRONMENT: &str = r##"{"implementation_name":"cpython","implementation_version":"3.12.3",
-    "os_name":"posix","platform_machine":"x86_64","platform_python_implementation":"CPython",
-    "platform_release":"6.1.0-13-amd64","platform_system":"Linux",
-    "platform_version":"#1 SMP Debian 6.1.55-1","python_full_version":"3.12.3",
-    "python_version":"3.12","sys_platform":"linux"}"##;
 
 fn begin(alloc: Global, text: &str, snapshot: &Snapshot) -> Result<Session, Fail> {
     let lines = ReqFile::read(alloc, text.as_bytes())?;

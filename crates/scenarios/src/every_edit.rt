@@ -1,7 +1,7 @@
 // Edits of small files: what becomes of lines and lock, and why an edit is refused.
 
-use crate::tests::{NONE, answer_text, begin, index_of, lock_text};
-use crate::{Edit, Plain, Snapshot, State, edit};
+use crate::edited_files::{NONE, answer_text, begin, index_of, lock_text};
+use edits::{Edit, Plain, Snapshot, State, edit};
 use lists::{Seq, Text};
 use std::alloc::{AllocError, Global};
 use std::test::Fail;
