@@ -48,6 +48,15 @@ class Check(unittest.TestCase):
         status, lines, _ = self.check(rt=(good, 0), python3=("", 0))
         self.assertEqual((status, lines[-1]), (1, "1 passed, 1 failed"))
 
+    def test_holds_each_check_to_one_processor(self):
+        # (without nproc on the PATH one processor counts)
+        good = "1 passed, 0 failed\\n"
+        rt = self.folder / "rt"
+        rt.write_text(f'#!{self.folder}/bash\nprintf "%b" "jobs $RT_JOBS\\\\n{good}"\n', encoding="utf-8")
+        rt.chmod(0o755)
+        _, lines, _ = self.check(python3=(good, 0))
+        self.assertEqual(lines[0], "jobs 1")
+
     def test_stops_where_a_program_is_missing(self):
         status, lines, errors = self.check()
         self.assertEqual((status, lines, errors.count("\n")), (1, [], 1))

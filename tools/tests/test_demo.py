@@ -86,6 +86,7 @@ class Demo(unittest.TestCase):
     def test_each_crate_comes_behind_those_that_it_stands_on(self):
         self.give_rt()
         order = [call.split(":")[0] for call in self.demo()[3][:-1]]
+        self.assertEqual(order[-1], "reqlock")
         for line in (TOP / "crates.txt").read_text(encoding="utf-8").splitlines():
             name, below = line.split(":")
             for other in below.split():
