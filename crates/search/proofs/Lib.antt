@@ -15,3 +15,4 @@ pub mod Walks
 pub mod Fronts
 pub mod PictureFacts
 pub mod PictureLaw
+pub mod Refutations

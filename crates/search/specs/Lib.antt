@@ -1,5 +1,6 @@
 pub mod Rules
 pub mod Solutions
+pub mod Conflicts
 pub mod Table
 pub mod Search
 pub mod Ranges

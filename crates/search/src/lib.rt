@@ -7,6 +7,7 @@
 #![tactic(auto)]
 
 mod clash;
+mod conflict;
 mod front;
 pub mod laws;
 mod needed;
@@ -18,6 +19,7 @@ mod taken;
 #[cfg(test)]
 mod tests;
 
+pub use crate::conflict::NodeChoice;
 pub use crate::parts::{Choice, Requirement};
 pub use crate::search::best;
 pub use crate::table::Table;
