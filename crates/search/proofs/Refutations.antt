@@ -61,11 +61,11 @@ none-excluded {N} {X} {V} rules same law equal earlier conflict before f s sol h
     before k.0 k.1 s sol (λ member i. elim (k.2 member i) [
       | inl a ↦ same-lies rules same equal s member a.0 a.2 (h a.0 a.1)
       | inr b ↦ record {
-          needed = subst (λ node. Needed rules s node) (sym b.nodes) needed;
-          version = v.0;
-          chosen = ap (λ node. s (rules.on node)) b.nodes ∙ v.1;
-          versions = b.versions;
-        }
+        needed = subst (λ node. Needed rules s node) (sym b.nodes) needed;
+        version = v.0;
+        chosen = ap (λ node. s (rules.on node)) b.nodes ∙ v.1;
+        versions = b.versions;
+      }
     ])
 
 -- the law
