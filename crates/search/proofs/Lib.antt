@@ -15,3 +15,12 @@ pub mod Walks
 pub mod Fronts
 pub mod PictureFacts
 pub mod PictureLaw
+pub mod Refutations
+pub mod Sets
+pub mod Entries
+pub mod Holding
+pub mod LearnedSearch
+pub mod Asked
+pub mod Needs
+pub mod Learns
+pub mod LearnedWork

@@ -1,8 +1,9 @@
 -- How deep a search goes, and how much of the tree of choices is left.
 use Rattle.std.proofs.Common.{ℕ, zero, suc, List, [], ◌∷◌, ◌++◌, ◌≡◌, ◌<◌, ◌≤◌, ◌+◌, ◌-◌, ◌*◌, inl, inr, Contains, length, map, get_or, refl, sym, ◌∙◌, ap, subst, subst₂, arith, Some, None, true, length-append, mul-le-mul_right}
+use Rattle.std.proofs.lemmas.List.{length-map}
 use Rattle.search.proofs.Counts.{distinct-below}
 use Rattle.search.proofs.Least.{nat-order}
-use Rattle.search.proofs.Lists.{Contains-here, Contains-cons_cases, Contains-nil, Contains-map_of}
+use Rattle.search.proofs.Lists.{Contains-here, Contains-cons_cases, Contains-nil, Contains-map_of, map-append}
 use Rattle.search.proofs.Ranges.{nodes-own}
 use Rattle.search.proofs.Stack.{IsSearch-pop}
 use Rattle.search.proofs.Theory.{version_in-append_some, version_in-last}
@@ -69,32 +70,46 @@ power-pos base zero b = omega arith
 power-pos base (suc n) b = let k = power-pos base n b in let m : 1 * power base n ≤ base * power base n = mul-le-mul_right (power base n) b in omega arith
 
 -- base: more than any name's candidates. depth: how many names are left
-abbrev pub work_left : Rules ℕ ℕ ℕ ℕ → ℕ → ℕ → List Frame → ℕ
-work_left rules base depth [] = power base depth
-work_left rules base zero (f ∷ fs) = 0
-work_left rules base (suc depth) (f ∷ fs) = left_at rules f * power base depth + work_left rules base depth fs
+abbrev pub digits_left : ℕ → ℕ → List ℕ → ℕ
+digits_left base depth [] = power base depth
+digits_left base zero (d ∷ ds) = 0
+digits_left base (suc depth) (d ∷ ds) = d * power base depth + digits_left base depth ds
 
-pub work_left-pos : (rules : Rules ℕ ℕ ℕ ℕ) (base depth : ℕ) (fs : List Frame) → 0 < base → length fs ≤ depth → 0 < work_left rules base depth fs
-work_left-pos rules base depth [] b l = power-pos base depth b
-work_left-pos rules base zero (f ∷ fs) b l = absurd (omega arith)
-work_left-pos rules base (suc depth) (f ∷ fs) b l = let k = work_left-pos rules base depth fs b (omega arith) in omega arith
+pub digits_left-pos : (base depth : ℕ) (ds : List ℕ) → 0 < base → length ds ≤ depth → 0 < digits_left base depth ds
+digits_left-pos base depth [] b l = power-pos base depth b
+digits_left-pos base zero (d ∷ ds) b l = absurd (omega arith)
+digits_left-pos base (suc depth) (d ∷ ds) b l = let k = digits_left-pos base depth ds b (omega arith) in omega arith
 
 push-arith : (left base p : ℕ) → 0 < p → suc left < base → left * p + p < base * p
 push-arith left base p h b = let m : suc (suc left) * p ≤ base * p = mul-le-mul_right p b in omega arith
 
-pub work_left-push : (rules : Rules ℕ ℕ ℕ ℕ) (base depth : ℕ) (fs : List Frame) (f : Frame) → length fs < depth → suc (left_at rules f) < base → work_left rules base depth (fs ++ f ∷ []) < work_left rules base depth fs
-work_left-push rules base zero fs f l b = absurd (omega arith)
-work_left-push rules base (suc depth) [] f l b = push-arith (left_at rules f) base (power base depth) (power-pos base depth (omega arith)) b
-work_left-push rules base (suc depth) (g ∷ fs) f l b = let k = work_left-push rules base depth fs f (omega arith) b in omega arith
+-- one digit more
+pub digits_left-push : (base depth : ℕ) (ds : List ℕ) (d : ℕ) → length ds < depth → suc d < base → digits_left base depth (ds ++ d ∷ []) < digits_left base depth ds
+digits_left-push base zero ds d l b = absurd (omega arith)
+digits_left-push base (suc depth) [] d l b = push-arith d base (power base depth) (power-pos base depth (omega arith)) b
+digits_left-push base (suc depth) (e ∷ ds) d l b = let k = digits_left-push base depth ds d (omega arith) b in omega arith
 
 more-arith : (low high p q : ℕ) → low < high → 0 < q → low * p + p < high * p + q
 more-arith low high p q h k = let m : suc low * p ≤ high * p = mul-le-mul_right p h in omega arith
 
+-- a lesser digit, and none behind it
+pub digits_left-more : (base depth : ℕ) (ds : List ℕ) (d e : ℕ) (rest : List ℕ) → 0 < base → length (ds ++ d ∷ rest) ≤ depth → e < d → digits_left base depth (ds ++ e ∷ []) < digits_left base depth (ds ++ d ∷ rest)
+digits_left-more base zero [] d e rest b l h = absurd (omega arith)
+digits_left-more base zero (x ∷ ds) d e rest b l h = absurd (omega arith)
+digits_left-more base (suc depth) [] d e rest b l h = more-arith e d (power base depth) (digits_left base depth rest) h (digits_left-pos base depth rest b (omega arith))
+digits_left-more base (suc depth) (x ∷ ds) d e rest b l h = let k = digits_left-more base depth ds d e rest b (omega arith) h in omega arith
+
+abbrev pub work_left : Rules ℕ ℕ ℕ ℕ → ℕ → ℕ → List Frame → ℕ
+work_left rules base depth fs = digits_left base depth (map (left_at rules) fs)
+
+pub work_left-push : (rules : Rules ℕ ℕ ℕ ℕ) (base depth : ℕ) (fs : List Frame) (f : Frame) → length fs < depth → suc (left_at rules f) < base → work_left rules base depth (fs ++ f ∷ []) < work_left rules base depth fs
+work_left-push rules base depth fs f l b = subst (λ ds. digits_left base depth ds < work_left rules base depth fs) (sym (map-append (left_at rules) fs (f ∷ [])))
+    (digits_left-push base depth (map (left_at rules) fs) (left_at rules f) (subst (λ k. k < depth) (sym (length-map fs (left_at rules))) l) b)
+
 pub work_left-more : (rules : Rules ℕ ℕ ℕ ℕ) (base depth : ℕ) (fs : List Frame) (f g : Frame) (rest : List Frame) → 0 < base → length (fs ++ f ∷ rest) ≤ depth → left_at rules g < left_at rules f → work_left rules base depth (fs ++ g ∷ []) < work_left rules base depth (fs ++ f ∷ rest)
-work_left-more rules base zero [] f g rest b l h = absurd (omega arith)
-work_left-more rules base zero (x ∷ fs) f g rest b l h = absurd (omega arith)
-work_left-more rules base (suc depth) [] f g rest b l h = more-arith (left_at rules g) (left_at rules f) (power base depth) (work_left rules base depth rest) h (work_left-pos rules base depth rest b (omega arith))
-work_left-more rules base (suc depth) (x ∷ fs) f g rest b l h = let k = work_left-more rules base depth fs f g rest b (omega arith) h in omega arith
+work_left-more rules base depth fs f g rest b l h = subst₂ (λ ds es. digits_left base depth ds < digits_left base depth es) (sym (map-append (left_at rules) fs (g ∷ []))) (sym (map-append (left_at rules) fs (f ∷ rest)))
+    (digits_left-more base depth (map (left_at rules) fs) (left_at rules f) (left_at rules g) (map (left_at rules) rest) b
+    (subst (λ k. k ≤ depth) (sym (ap length (sym (map-append (left_at rules) fs (f ∷ rest))) ∙ length-map (fs ++ f ∷ rest) (left_at rules))) l) h)
 
 -- ---- the work that is left, at a table
 
@@ -120,13 +135,16 @@ candidates-counted (cs ∷ css) zero = omega arith
 candidates-counted (cs ∷ css) (suc n) = let k = candidates-counted css n in omega arith
 
 -- more than the candidates of any name
-abbrev base_of : Parts → ℕ
+abbrev pub base_of : Parts → ℕ
 base_of t = candidates_count t.candidates + 2
 
 abbrev pub work_of : Parts → List Frame → ℕ
 work_of t fs = work_left (rules_of t) (base_of t) (length t.candidates) fs
 
-candidates-bound : (t : Parts) (n : ℕ) → length (candidates_of t n) < base_of t
+pub candidates-room : (t : Parts) (n : ℕ) → suc (length (candidates_of t n)) < base_of t
+candidates-room t n = let k = candidates-counted t.candidates n in omega arith
+
+pub candidates-bound : (t : Parts) (n : ℕ) → length (candidates_of t n) < base_of t
 candidates-bound t n = let k = candidates-counted t.candidates n in omega arith
 
 pub depth-bound : (t : Parts) → in_range t ≡ true → (fs : List Frame) → IsSearch (rules_of t) [] fs → length fs ≤ length t.candidates

@@ -1,5 +1,11 @@
 pub mod Rules
 pub mod Solutions
+pub mod Gathering
+pub mod Trials
+pub mod Learned
+pub mod Asking
+pub mod Learning
+pub mod Conflicts
 pub mod Table
 pub mod Search
 pub mod Ranges

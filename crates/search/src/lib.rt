@@ -7,17 +7,26 @@
 #![tactic(auto)]
 
 mod clash;
+mod conflict;
+mod conflicts;
 mod front;
+mod held;
 pub mod laws;
+mod learning;
 mod needed;
+mod next;
 mod node_set;
 mod parts;
+mod refusal;
 mod search;
 mod table;
 mod taken;
 #[cfg(test)]
 mod tests;
+mod trial;
 
+pub use crate::conflict::NodeChoice;
+pub use crate::learning::learned_best;
 pub use crate::parts::{Choice, Requirement};
 pub use crate::search::best;
 pub use crate::table::Table;

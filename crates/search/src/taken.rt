@@ -41,7 +41,7 @@ pub fn taken_of(
 }
 
 /// What is taken, as choices in the order of their names.
-fn choices_taken(alloc: Global, taken: &[Option<usize>]) -> Result<Seq<Choice>, AllocError>
+pub fn choices_taken(alloc: Global, taken: &[Option<usize>]) -> Result<Seq<Choice>, AllocError>
     ensures same { IfOk result (λ choices. (n : ℕ) → place_in choices n ≡ taken_at taken.now n) }
     ensures ascending { IfOk result (λ choices. IsAscending choices) }
 {

@@ -1,5 +1,6 @@
 // Small tables by hand. Places count from the newest release on.
 
+use crate::learning::learned_best;
 use crate::parts::{Choice, Requirement};
 use crate::search::best;
 use crate::table::Table;
@@ -53,14 +54,26 @@ fn shown(alloc: Global, choices: Seq<Choice>) -> Result<Vec<usize>, AllocError> 
     Ok(made)
 }
 
-// Whether the best solution of a table is this one; `[9]` stands for none.
+// Whether an answer is this one; `[9]` stands for none.
+fn is_answer(
+    alloc: Global,
+    answer: Option<Seq<Choice>>,
+    wanted: &[usize],
+) -> Result<bool, AllocError> {
+    match answer {
+        None => Ok(wanted == [9].as_slice()),
+        Some(choices) => Ok(shown(alloc, choices)?.as_slice() == wanted),
+    }
+}
+
+// Whether both searches find this best solution of a table.
 fn is_best(alloc: Global, table: Option<Table>, wanted: &[usize]) -> Result<bool, AllocError> {
     match table {
         None => Ok(false),
-        Some(table) => match best(alloc, &table)? {
-            None => Ok(wanted == [9].as_slice()),
-            Some(choices) => Ok(shown(alloc, choices)?.as_slice() == wanted),
-        },
+        Some(table) => Ok(
+            is_answer(alloc, best(alloc, &table)?, wanted)?
+                && is_answer(alloc, learned_best(alloc, &table)?, wanted)?,
+        ),
     }
 }
 
@@ -146,5 +159,96 @@ fn follows_an_extra_and_a_cycle(rt: HostRuntime) -> Result<(), Fail> {
     let lines = numbers(alloc, &[0])?;
     let table = Table::new(nodes, asked, candidates, wants, lines);
     assert!(rt; is_best(alloc, table, &[0, 1, 1, 0])?);
+    Ok(())
+}
+
+// 40 names with two releases each, which nothing ties together, and behind them y and z: y 1 wants
+// z>=2, and there is only z 1. The lines ask for the 40, and for what is given besides. Where
+// `first_wants_y`, so does the newest release of the first name.
+fn far_conflict(
+    alloc: Global,
+    more_lines: &[usize],
+    first_wants_y: bool,
+) -> Result<Option<Table>, AllocError> {
+    let mut nodes = Vec::new(alloc);
+    let mut asked = Vec::new(alloc);
+    let mut candidates = Vec::new(alloc);
+    let mut wants = Vec::new(alloc);
+    let mut lines = Vec::new(alloc);
+    for name in 0..40 {
+        nodes.push(name)?;
+        asked.push(Requirement {
+            node: name,
+            more: numbers(alloc, &[])?,
+            admits: Seq::from_vec(Vec::from_slice(alloc, &[true, true])?),
+        })?;
+        candidates.push(numbers(alloc, &[0, 1])?)?;
+        let newest: &[usize] = if first_wants_y && name == 0 {
+            &[40]
+        } else {
+            &[]
+        };
+        wants.push(lists(alloc, &[newest, &[]])?)?;
+        lines.push(name)?;
+    }
+    nodes.push(40)?;
+    nodes.push(41)?;
+    candidates.push(numbers(alloc, &[0])?)?;
+    candidates.push(numbers(alloc, &[0])?)?;
+    asked.push(Requirement {
+        node: 40,
+        more: numbers(alloc, &[])?,
+        admits: Seq::from_vec(Vec::from_slice(alloc, &[true])?),
+    })?;
+    asked.push(Requirement {
+        node: 41,
+        more: numbers(alloc, &[])?,
+        admits: Seq::from_vec(Vec::from_slice(alloc, &[false])?),
+    })?;
+    wants.push(lists(alloc, &[&[41]])?)?;
+    wants.push(lists(alloc, &[&[]])?)?;
+    for line in more_lines {
+        lines.push(*line)?;
+    }
+    Ok(Table::new(
+        Seq::from_vec(nodes),
+        Seq::from_vec(asked),
+        Seq::from_vec(candidates),
+        Seq::from_vec(wants),
+        Seq::from_vec(lines),
+    ))
+}
+
+// Whether the search that learns finds this best solution.
+fn is_learned(alloc: Global, table: Option<Table>, wanted: &[usize]) -> Result<bool, AllocError> {
+    match table {
+        None => Ok(false),
+        Some(table) => is_answer(alloc, learned_best(alloc, &table)?, wanted),
+    }
+}
+
+#[test]
+fn learns_from_a_far_line(rt: HostRuntime) -> Result<(), Fail> {
+    let alloc = rt.alloc();
+    assert!(rt; is_learned(alloc, far_conflict(alloc, &[41], false)?, &[9])?);
+    Ok(())
+}
+
+#[test]
+fn learns_from_a_far_dependency(rt: HostRuntime) -> Result<(), Fail> {
+    let alloc = rt.alloc();
+    assert!(rt; is_learned(alloc, far_conflict(alloc, &[40], false)?, &[9])?);
+    Ok(())
+}
+
+#[test]
+fn goes_back_to_the_choice_that_needs_it(rt: HostRuntime) -> Result<(), Fail> {
+    let alloc = rt.alloc();
+    let mut wanted = Vec::new(alloc);
+    for name in 0..40 {
+        wanted.push(name)?;
+        wanted.push(if name == 0 { 1 } else { 0 })?;
+    }
+    assert!(rt; is_learned(alloc, far_conflict(alloc, &[], true)?, wanted.as_slice())?);
     Ok(())
 }

@@ -1,0 +1,171 @@
+-- What the steps of a search that learns keep.
+use Rattle.std.proofs.Common.{ℕ, zero, suc, List, [], ◌∷◌, ◌++◌, ◌≡◌, ◌≢◌, ◌<◌, ◌≤◌, ◌+◌, ◌⊎◌, inl, inr, Contains, length, get_or, take, map, refl, sym, ◌∙◌, ap, subst, arith, add-one, Some, None, Option, Bool, true, false, option_to_list, append_assoc, append-nil, length-append}
+use Rattle.std.proofs.lemmas.List.Elements.{Contains-append_left, Contains-push, Contains-push_cases}
+use Rattle.std.specs.Ordering.{nat_cmp}
+use Rattle.search.proofs.Asked.{leader-version}
+use Rattle.search.proofs.Entries.{eq-itself}
+use Rattle.search.proofs.Holding.{decisions-push}
+use Rattle.search.proofs.LearnedSearch.{AllHeld, IsLearning-push, IsLearning-pop, trial-more, learning-more, follows-excluded, learned-best, bool_is}
+use Rattle.search.proofs.Lists.{Contains-here, Contains-cons_cases, Contains-nil, Contains-take_suc, take-whole}
+use Rattle.search.proofs.Ranges.{lines-known, wants-known, nodes-known}
+use Rattle.search.proofs.Refutations.{empty-none}
+use Rattle.search.proofs.Work.{table-lawful}
+use Rattle.search.specs.declared.conflict.NodeChoice.{NodeChoice}
+use Rattle.search.specs.declared.held.Partial.{Partial}
+use Rattle.search.specs.declared.trial.Held.{Held}
+use Rattle.search.specs.declared.trial.Trial.{Trial}
+use Rattle.search.specs.Asking.{Clashes}
+use Rattle.search.specs.Conflicts.{IsSameChoice, Completes, NeedsNode, Follows, EachFollows, LiesInNone}
+use Rattle.search.specs.Gathering.{Gathers, IsCompleted, IsWithin, decision, places_eq}
+use Rattle.search.specs.Learned.{decision_of, decisions_of, names_held, leaders_held, IsInTurn, IsNeededBy, IsFree, IsTrial, FitsBefore, IsHeld, IsLearning, IsPartial, LastIsNew}
+use Rattle.search.specs.Learning.{IsLearned, version_of}
+use Rattle.search.specs.Rules.{Rules, IsLawful}
+use Rattle.search.specs.Solutions.{Needed, IsNext, HasNoSolution, version_in}
+use Rattle.search.specs.Table.{Parts, rules_of, name_of, candidates_of, in_range}
+use Rattle.search.specs.Trials.{IsRefused}
+
+-- ---- a candidate is refused
+
+completed-more : (conflicts : List (List (NodeChoice ℕ ℕ))) (old new : List (NodeChoice ℕ ℕ)) (last : NodeChoice ℕ ℕ) → ((c : NodeChoice ℕ ℕ) → Contains old c → Contains new c) → IsCompleted conflicts old last → IsCompleted conflicts new last
+completed-more conflicts old new last more h = (h.0, h.1, λ c i. elim (h.2 c i) [ inl a ↦ inl (more c a) | inr b ↦ inr b ])
+
+refused-completed : (conflicts : List (List (NodeChoice ℕ ℕ))) (old new conflict : List (NodeChoice ℕ ℕ)) (candidate : NodeChoice ℕ ℕ) → Contains conflicts conflict → Gathers old new conflict (candidate ∷ []) → IsCompleted conflicts new candidate
+refused-completed conflicts old new conflict candidate there g = (
+  conflict,
+  there,
+  λ c i. elim (g.added c i) [
+    | inl a ↦ inl a
+    | inr b ↦ elim (Contains-cons_cases candidate [] c b) [ inl e ↦ inr e | inr r ↦ absurd (Contains-nil c r) ]
+  ],
+)
+
+pub trial-refused : (rules : Rules ℕ ℕ ℕ ℕ) (conflicts : List (List (NodeChoice ℕ ℕ))) (before : List Held) (old new : Trial) (place : ℕ) (conflict : List (NodeChoice ℕ ℕ)) → IsTrial rules conflicts before old → IsRefused old new conflict (decision old.node place) → Contains conflicts conflict → IsWithin conflict (decisions_of before) (decision old.node place) → old.turn < length (rules.candidates (rules.on old.node)) → get_or (rules.candidates (rules.on old.node)) old.turn place ≡ place → IsTrial rules conflicts before new
+trial-refused rules conflicts before old new place conflict h r there within turn at = record {
+  in_turn = subst (λ n. IsInTurn rules (names_held rules before) n new.leads) (sym r.node) (subst (λ b. IsInTurn rules (names_held rules before) old.node b) (sym r.leads) h.in_turn);
+  needed = subst (λ n. Needed rules (version_in rules.compare (names_held rules before)) n) (sym r.node) h.needed;
+  by = subst (λ n. IsNeededBy rules (decisions_of before) n new.by) (sym r.node) (subst (λ (o : Option (NodeChoice ℕ ℕ)). IsNeededBy rules (decisions_of before) old.node o) (sym r.by) h.by);
+  free = subst (λ n. IsFree (decisions_of before) n) (sym r.node) h.free;
+  blamed = λ c i. elim (r.blame.only c i) [
+    | inl a ↦ h.blamed c a
+    | inr b ↦ elim (within c b.0) [
+      | inl x ↦ x
+      | inr y ↦ absurd (b.1 (subst (λ d. Contains (decision old.node place ∷ []) d) y (Contains-here (decision old.node place) [])))
+    ]
+  ];
+  refused = λ w i.
+      let k : Contains (take (suc old.turn) (rules.candidates (rules.on old.node))) w = subst (λ n. Contains (take n (rules.candidates (rules.on old.node))) w) (r.turn ∙ add-one old.turn) (subst (λ n. Contains (take new.turn (rules.candidates (rules.on n))) w) r.node i) in
+      subst (λ n. IsCompleted conflicts new.blame.items (decision n w)) (sym r.node)
+      (elim (Contains-take_suc (rules.candidates (rules.on old.node)) old.turn place w turn k) [
+        | inl low ↦ completed-more conflicts old.blame.items new.blame.items (decision old.node w) r.blame.kept (h.refused w low)
+        | inr here ↦ subst (λ v. IsCompleted conflicts new.blame.items (decision old.node v)) (sym at ∙ here) (refused-completed conflicts old.blame.items new.blame.items conflict (decision old.node place) there r.blame)
+      ]);
+}
+
+-- ---- a conflict is recorded
+
+each-push : (rules : Rules ℕ ℕ ℕ ℕ) (earlier cs : List (List (NodeChoice ℕ ℕ))) (c : List (NodeChoice ℕ ℕ)) → EachFollows rules places_eq earlier cs → Follows rules places_eq (earlier ++ cs) c → EachFollows rules places_eq earlier (cs ++ c ∷ [])
+each-push rules earlier [] c f g = (subst (λ xs. Follows rules places_eq xs c) (append-nil earlier) g, tt)
+each-push rules earlier (d ∷ cs) c f g = (f.0, each-push rules (earlier ++ d ∷ []) cs c f.1 (subst (λ xs. Follows rules places_eq xs c) (sym (append_assoc earlier (d ∷ []) cs)) g))
+
+pub learned-more : (t : Parts) (p : Partial) (conflicts : List (List (NodeChoice ℕ ℕ))) (c : List (NodeChoice ℕ ℕ)) → IsLearned t p conflicts → Follows (rules_of t) places_eq conflicts c → IsLearned t p (conflicts ++ c ∷ [])
+learned-more t p conflicts c h f = record {
+  partial = h.partial;
+  follows = each-push (rules_of t) [] conflicts c h.follows f;
+  learning = learning-more (rules_of t) conflicts (c ∷ []) [] p.held.items h.learning;
+}
+
+-- ---- where no candidate is left
+
+completes-same : (conflicts : List (List (NodeChoice ℕ ℕ))) (decisions : List (NodeChoice ℕ ℕ)) (last : NodeChoice ℕ ℕ) → IsCompleted conflicts decisions last → Completes places_eq conflicts decisions last
+completes-same conflicts decisions last h = (
+  h.0,
+  h.1,
+  λ c i. elim (h.2 c i) [
+    | inl a ↦ inl (c, a, record { nodes = refl; versions = eq-itself c.version })
+    | inr b ↦ inr (subst (λ d. IsSameChoice places_eq c d) (sym b) (record { nodes = refl; versions = eq-itself c.version }))
+  ],
+)
+
+needs-of : (rules : Rules ℕ ℕ ℕ ℕ) (decisions conflict : List (NodeChoice ℕ ℕ)) (node : ℕ) (by : Option (NodeChoice ℕ ℕ)) → IsNeededBy rules decisions node by → ((c : NodeChoice ℕ ℕ) → Contains (option_to_list by) c → Contains conflict c) → NeedsNode rules conflict node
+needs-of rules decisions conflict node None h k = inl (h.0, h.1, h.2)
+needs-of rules decisions conflict node (Some c) h k = inr (c, h.0, k c (Contains-here c []), h.2, h.3)
+
+by-held : (rules : Rules ℕ ℕ ℕ ℕ) (decisions : List (NodeChoice ℕ ℕ)) (node : ℕ) (by : Option (NodeChoice ℕ ℕ)) → IsNeededBy rules decisions node by → (c : NodeChoice ℕ ℕ) → Contains (option_to_list by) c → Contains decisions c
+by-held rules decisions node None h c i = absurd (Contains-nil c i)
+by-held rules decisions node (Some d) h c i = elim (Contains-cons_cases d [] c i) [ inl e ↦ subst (λ x. Contains decisions x) e h.1 | inr r ↦ absurd (Contains-nil c r) ]
+
+pub exhausted-follows : (rules : Rules ℕ ℕ ℕ ℕ) (conflicts : List (List (NodeChoice ℕ ℕ))) (before : List Held) (trial : Trial) (conflict : List (NodeChoice ℕ ℕ)) → IsTrial rules conflicts before trial → Gathers trial.blame.items conflict (option_to_list trial.by) [] → length (rules.candidates (rules.on trial.node)) ≤ trial.turn → Follows rules places_eq conflicts conflict
+exhausted-follows rules conflicts before trial conflict h g l = inr (inr (inr (record {
+  node = trial.node;
+  needs = needs-of rules (decisions_of before) conflict trial.node trial.by h.by (λ c i. elim (g.added c i) [ inl a ↦ a | inr b ↦ absurd (Contains-nil c b) ]);
+  each = λ v i. completes-same conflicts conflict (decision trial.node v) (completed-more conflicts trial.blame.items conflict (decision trial.node v) g.kept
+      (h.refused v (subst (λ xs. Contains xs v) (sym (take-whole (rules.candidates (rules.on trial.node)) trial.turn l)) i)));
+})))
+
+pub exhausted-within : (rules : Rules ℕ ℕ ℕ ℕ) (conflicts : List (List (NodeChoice ℕ ℕ))) (before : List Held) (trial : Trial) (conflict : List (NodeChoice ℕ ℕ)) → IsTrial rules conflicts before trial → Gathers trial.blame.items conflict (option_to_list trial.by) [] → (c : NodeChoice ℕ ℕ) → Contains conflict c → Contains (decisions_of before) c
+exhausted-within rules conflicts before trial conflict h g c i = elim (g.only c i) [
+  | inl a ↦ h.blamed c a
+  | inr b ↦ by-held rules (decisions_of before) trial.node trial.by h.by c b.0
+]
+
+pub last-recorded : {X : Type 0} (xs : List (List X)) (x d : List X) → get_or (xs ++ x ∷ []) (length xs) d ≡ x
+last-recorded [] x d = refl
+last-recorded (y ∷ ys) x d = last-recorded ys x d
+
+-- ---- choices are given back
+
+needed-known : (t : Parts) → in_range t ≡ true → (decisions : List (NodeChoice ℕ ℕ)) (node : ℕ) (by : Option (NodeChoice ℕ ℕ)) → IsNeededBy (rules_of t) decisions node by → node < length t.nodes
+needed-known t known decisions node None h = nodes-known t known h.0 (lines-known t known h.0 h.1) node h.2
+needed-known t known decisions node (Some c) h = nodes-known t known h.0 (wants-known t known c.node c.version h.0 h.2) node h.3
+
+pub trial-known : (t : Parts) → in_range t ≡ true → (conflicts : List (List (NodeChoice ℕ ℕ))) (before : List Held) (trial : Trial) → IsTrial (rules_of t) conflicts before trial → trial.node < length t.nodes
+trial-known t known conflicts before trial h = needed-known t known (decisions_of before) trial.node trial.by h.by
+
+version-none : (o : Option (NodeChoice ℕ ℕ)) → version_of o ≡ None → o ≡ None
+version-none None e = refl
+version-none (Some c) e = absurd (cc)
+
+-- where a trial leads, its name had no choice
+pub leads-first : (t : Parts) (conflicts : List (List (NodeChoice ℕ ℕ))) (before : List Held) (trial : Trial) → IsTrial (rules_of t) conflicts before trial → trial.leads ≡ true → version_in nat_cmp (leaders_held (rules_of t) before) (name_of t trial.node) ≡ None
+leads-first t conflicts before trial h leads =
+    let next : IsNext (rules_of t) (names_held (rules_of t) before) (name_of t trial.node) = subst (λ b. IsInTurn (rules_of t) (names_held (rules_of t) before) trial.node b) leads h.in_turn in
+    version-none (version_in nat_cmp (leaders_held (rules_of t) before) (name_of t trial.node)) (sym (leader-version (rules_of t) before (name_of t trial.node)) ∙ next.free)
+
+pub last-new : (t : Parts) → in_range t ≡ true → (conflicts : List (List (NodeChoice ℕ ℕ))) (hs : List Held) → IsLearning (rules_of t) conflicts [] hs → LastIsNew t hs
+last-new t known conflicts hs l front last e =
+    let k : IsLearning (rules_of t) conflicts [] front × IsHeld (rules_of t) conflicts front last = IsLearning-pop (rules_of t) conflicts [] front last (subst (λ xs. IsLearning (rules_of t) conflicts [] xs) e l) in
+    (trial-known t known conflicts front last.trial k.1.trial, leads-first t conflicts front last.trial k.1.trial)
+
+-- a conflict that lacks the last choice is held by those before it
+pub within-front : (hs : List Held) (h : Held) (conflict : List (NodeChoice ℕ ℕ)) → ((c : NodeChoice ℕ ℕ) → Contains conflict c → Contains (decisions_of (hs ++ h ∷ [])) c) → (Contains conflict (decision_of h) → ⊥) → (c : NodeChoice ℕ ℕ) → Contains conflict c → Contains (decisions_of hs) c
+within-front hs h conflict within lacks c i = elim (Contains-push_cases (decisions_of hs) (decision_of h) c (subst (λ cs. Contains cs c) (decisions-push hs h) (within c i))) [
+  | inl a ↦ a
+  | inr b ↦ absurd (lacks (subst (λ d. Contains conflict d) (sym b) i))
+]
+
+pub within-last : (hs : List Held) (h : Held) (conflict : List (NodeChoice ℕ ℕ)) → ((c : NodeChoice ℕ ℕ) → Contains conflict c → Contains (decisions_of (hs ++ h ∷ [])) c) → IsWithin conflict (decisions_of hs) (decision_of h)
+within-last hs h conflict within c i = Contains-push_cases (decisions_of hs) (decision_of h) c (subst (λ cs. Contains cs c) (decisions-push hs h) (within c i))
+
+-- where nothing is held, no conflict that is held by it lies in a solution
+pub nothing-held : (t : Parts) → in_range t ≡ true → (conflicts : List (List (NodeChoice ℕ ℕ))) (conflict : List (NodeChoice ℕ ℕ)) → EachFollows (rules_of t) places_eq [] conflicts → Contains conflicts conflict → ((c : NodeChoice ℕ ℕ) → Contains conflict c → Contains (decisions_of []) c) → HasNoSolution (rules_of t)
+nothing-held t known conflicts conflict f there within s sol = follows-excluded (rules_of t) (table-lawful t known) conflicts f conflict there s sol (λ c i. absurd (Contains-nil c (within c i)))
+
+pub member-at : {X : Type 0} (xs : List (List X)) (i : ℕ) → i < length xs → Contains xs (get_or xs i [])
+member-at [] i l = absurd (omega arith)
+member-at (x ∷ xs) zero l = Contains-here x xs
+member-at (x ∷ xs) (suc i) l = let k : Contains xs (get_or xs i []) = member-at xs i (omega arith) in (suc k.0, omega arith, k.2)
+
+-- a candidate that fits is held
+pub learned-push : (t : Parts) (p q : Partial) (conflicts : List (List (NodeChoice ℕ ℕ))) (trial : Trial) (place : ℕ) → IsLearned t p conflicts → IsPartial t q → q.held.items ≡ p.held.items ++ (record { trial = trial; place = place }) ∷ [] → IsTrial (rules_of t) conflicts p.held.items trial → trial.turn < length (candidates_of t (name_of t trial.node)) → get_or (candidates_of t (name_of t trial.node)) trial.turn place ≡ place → FitsBefore (rules_of t) p.held.items (decision trial.node place) → IsLearned t q conflicts
+learned-push t p q conflicts trial place h s held k turn at fits = record {
+  partial = s;
+  follows = h.follows;
+  learning = subst (λ xs. IsLearning (rules_of t) conflicts [] xs) (sym held) (IsLearning-push (rules_of t) conflicts [] p.held.items (record { trial = trial; place = place }) h.learning (record { trial = k; turn = turn; place = at; fits = fits }));
+}
+
+-- the conflict of a clash follows, and is held but for the candidate
+pub clash-within : (rules : Rules ℕ ℕ ℕ ℕ) (before : List Held) (candidate other : NodeChoice ℕ ℕ) (conflict : List (NodeChoice ℕ ℕ)) → Clashes rules before candidate other → ((c : NodeChoice ℕ ℕ) → Contains conflict c → (c ≡ candidate) ⊎ (c ≡ other)) → IsWithin conflict (decisions_of before) candidate
+clash-within rules before candidate other conflict h only c i = elim (only c i) [
+  | inl a ↦ inr (sym a)
+  | inr b ↦ elim h.held [ inl x ↦ inl (subst (λ d. Contains (decisions_of before) d) (sym b) x) | inr y ↦ inr (y ∙ sym b) ]
+]

@@ -1,0 +1,182 @@
+-- Which node comes next.
+use Rattle.std.proofs.Common.{ℕ, List, [], ◌∷◌, ◌++◌, ◌≡◌, ◌≢◌, ◌<◌, ◌≤◌, ◌+◌, ◌⊎◌, inl, inr, Contains, length, get_or, take, map, refl, sym, ◌∙◌, ap, subst, arith, add-one, Some, None, Option, MatchOption, Bool, true, false, is_some, nat_lt, Greater}
+use Rattle.std.proofs.lemmas.Bool.{ltb-true, ltb-false}
+use Rattle.std.proofs.lemmas.List.Elements.{Contains-append_left, Contains-push, Contains-push_cases}
+use Rattle.std.specs.Ordering.{nat_cmp}
+use Rattle.search.proofs.Asked.{AreFirst, IsAskedBy, asks-sound, asks-whole, first-some, first-none, first-version, leader-version}
+use Rattle.search.proofs.LearnedSearch.{AllHeld, Lies, held-lie}
+use Rattle.search.proofs.Least.{not_greater}
+use Rattle.search.proofs.Lists.{Contains-here, Contains-cons_cases, Contains-nil, Contains-take_suc, Contains-take_zero, take-whole, get_or-any}
+use Rattle.search.proofs.Nodes.{take-more}
+use Rattle.search.proofs.Theory.{option_cases, some-inj}
+use Rattle.search.specs.declared.conflict.NodeChoice.{NodeChoice}
+use Rattle.search.specs.declared.held.Ask.{Ask}
+use Rattle.search.specs.declared.next.Need.{Need}
+use Rattle.search.specs.declared.trial.Held.{Held}
+use Rattle.search.specs.declared.trial.Trial.{Trial}
+use Rattle.search.specs.Asking.{NoneTied, IsTied, IsLeastNeed, IsFoundNeed}
+use Rattle.search.specs.Gathering.{decision}
+use Rattle.search.specs.Learned.{decisions_of, names_held, chosen_held, ask_of, asks_of, IsFree, IsNeededBy, IsInTurn, IsTrial, IsLearning}
+use Rattle.search.specs.Learning.{version_of}
+use Rattle.search.specs.Rules.{Rules, IsLawful}
+use Rattle.search.specs.Solutions.{Needed, by_line, by_dependency, IsNext, IsNeededName, version_in}
+use Rattle.search.specs.Table.{Parts, rules_of}
+
+-- ---- the least name that has no version, one requirement more
+
+less-false : (a b : ℕ) → nat_lt a b ≡ false → b ≤ a
+less-false a b h = ltb-false a b h
+
+pub not_less : (found : Option Need) (name : ℕ) (on : ℕ → ℕ) (b : Bool) → b ≡ false → MatchOption found (b ≡ true) (λ need. b ≡ nat_lt name (on need.node)) → MatchOption found ⊥ (λ need. on need.node ≤ name)
+not_less None name on b off h = absurd (cc)
+not_less (Some need) name on b off h = less-false name (on need.node) (sym h ∙ off)
+
+pub is_less : (found : Option Need) (name : ℕ) (on : ℕ → ℕ) (b : Bool) → b ≡ true → MatchOption found (b ≡ true) (λ need. b ≡ nat_lt name (on need.node)) → MatchOption found (Unit {0}) (λ need. name ≤ on need.node)
+is_less None name on b yes_it h = tt
+is_less (Some need) name on b yes_it h = let l : name < on need.node = ltb-true name (on need.node) (sym h ∙ yes_it) in omega arith
+
+-- one that is taken, or on a name that is no less, changes nothing
+pub found-kept : (rules : Rules ℕ ℕ ℕ ℕ) (first : ℕ → Option (NodeChoice ℕ ℕ)) (asks : List Ask) (ask : Ask) (found : Option Need) → (first (rules.name ask.requirement) ≡ None → MatchOption found ⊥ (λ need. rules.on need.node ≤ rules.name ask.requirement)) → IsFoundNeed rules first asks found → IsFoundNeed rules first (asks ++ ask ∷ []) found
+found-kept rules first asks ask None k h = λ a i e. elim (Contains-push_cases asks ask a i) [
+  | inl x ↦ h a x e
+  | inr y ↦ k (ap (λ (b : Ask). first (rules.name b.requirement)) y ∙ e)
+]
+found-kept rules first asks ask (Some need) k h = record {
+  ask = h.ask;
+  there = Contains-append_left asks (ask ∷ []) h.ask h.there;
+  by = h.by;
+  node = h.node;
+  named = h.named;
+  free = h.free;
+  least = λ a i e. elim (Contains-push_cases asks ask a i) [
+    | inl x ↦ h.least a x e
+    | inr y ↦ subst (λ (b : Ask). rules.name h.ask.requirement ≤ rules.name b.requirement) y
+        (subst (λ n. n ≤ rules.name ask.requirement) h.named (k (ap (λ (b : Ask). first (rules.name b.requirement)) y ∙ e)))
+  ];
+}
+
+new-least : (rules : Rules ℕ ℕ ℕ ℕ) (first : ℕ → Option (NodeChoice ℕ ℕ)) (asks : List Ask) (n : ℕ) (found : Option Need) → MatchOption found (Unit {0}) (λ need. n ≤ rules.on need.node) → IsFoundNeed rules first asks found → (a : Ask) → Contains asks a → first (rules.name a.requirement) ≡ None → n ≤ rules.name a.requirement
+new-least rules first asks n None k h a i e = absurd (h a i e)
+new-least rules first asks n (Some need) k h a i e = let l = h.least a i e in let m = h.named in omega arith
+
+-- one on a lesser name is found
+pub found-new : (rules : Rules ℕ ℕ ℕ ℕ) (first : ℕ → Option (NodeChoice ℕ ℕ)) (asks : List Ask) (ask : Ask) (found : Option Need) (node : ℕ) → first (rules.name ask.requirement) ≡ None → Contains (rules.nodes ask.requirement) node → rules.on node ≡ rules.name ask.requirement → MatchOption found (Unit {0}) (λ need. rules.name ask.requirement ≤ rules.on need.node) → IsFoundNeed rules first asks found → IsLeastNeed rules first (asks ++ ask ∷ []) (record { node = node; by = ask.by })
+found-new rules first asks ask found node free there named k h = record {
+  ask = ask;
+  there = Contains-push asks ask;
+  by = refl;
+  node = there;
+  named = named;
+  free = free;
+  least = λ a i e. elim (Contains-push_cases asks ask a i) [
+    | inl x ↦ new-least rules first asks (rules.name ask.requirement) found k h a x e
+    | inr y ↦ subst (λ (b : Ask). rules.name ask.requirement ≤ rules.name b.requirement) y (omega arith)
+  ];
+}
+
+pub found-none : (rules : Rules ℕ ℕ ℕ ℕ) (first : ℕ → Option (NodeChoice ℕ ℕ)) (asks : List Ask) → IsFoundNeed rules first (take 0 asks) None
+found-none rules first asks a i e = Contains-take_zero asks a i
+
+pub found-more : (rules : Rules ℕ ℕ ℕ ℕ) (first : ℕ → Option (NodeChoice ℕ ℕ)) (asks : List Ask) (i : ℕ) (d : Ask) (found : Option Need) → i < length asks → IsFoundNeed rules first (take i asks ++ get_or asks i d ∷ []) found → IsFoundNeed rules first (take (i + 1) asks) found
+found-more rules first asks i d found l h = rw add-one (subst (λ xs. IsFoundNeed rules first xs found) (sym (take-more asks i (get_or asks i d) l (get_or-any asks i d (get_or asks i d) l))) h)
+
+pub found-end : (rules : Rules ℕ ℕ ℕ ℕ) (first : ℕ → Option (NodeChoice ℕ ℕ)) (asks : List Ask) (i : ℕ) (found : Option Need) → length asks ≤ i → IsFoundNeed rules first (take i asks) found → IsFoundNeed rules first asks found
+found-end rules first asks i found l h = subst (λ xs. IsFoundNeed rules first xs found) (take-whole asks i l) h
+
+-- ---- a node on a name that has a version
+
+pub tied-one : (rules : Rules ℕ ℕ ℕ ℕ) (first : ℕ → Option (NodeChoice ℕ ℕ)) (chosen : List (NodeChoice ℕ ℕ)) (ask : Ask) → ((d : NodeChoice ℕ ℕ) → first (rules.name ask.requirement) ≡ Some d → (node : ℕ) → Contains (rules.nodes ask.requirement) node → (v : ℕ) × Contains chosen (decision node v)) → NoneTied rules first chosen (ask ∷ [])
+tied-one rules first chosen ask h a d node i e j = elim (Contains-cons_cases ask [] a i) [
+  | inl x ↦ h d (ap (λ (b : Ask). first (rules.name b.requirement)) x ∙ e) node (subst (λ (b : Ask). Contains (rules.nodes b.requirement) node) (sym x) j)
+  | inr r ↦ absurd (Contains-nil a r)
+]
+
+-- ---- what is asked for is needed
+
+asked-needed : (rules : Rules ℕ ℕ ℕ ℕ) (law : IsLawful rules) (conflicts : List (List (NodeChoice ℕ ℕ))) (hs : List Held) → IsLearning rules conflicts [] hs → (r node : ℕ) (by : Option (NodeChoice ℕ ℕ)) → IsAskedBy rules (decisions_of hs) r by → Contains (rules.nodes r) node → Needed rules (chosen_held rules hs) node
+asked-needed rules law conflicts hs l r node None h i = by_line r node h i
+asked-needed rules law conflicts hs l r node (Some c) h i =
+    let k : Lies rules (chosen_held rules hs) c = held-lie rules law conflicts hs l c h.0 in
+    by_dependency c.node c.version r node k.needed k.chosen h.1 i
+
+needed-by : (rules : Rules ℕ ℕ ℕ ℕ) (decisions : List (NodeChoice ℕ ℕ)) (r node : ℕ) (by : Option (NodeChoice ℕ ℕ)) → IsAskedBy rules decisions r by → Contains (rules.nodes r) node → IsNeededBy rules decisions node by
+needed-by rules decisions r node None h i = (r, h, i)
+needed-by rules decisions r node (Some c) h i = (r, h.0, h.1, i)
+
+-- a needed node is asked for by a line or by what is held, where each tied node is chosen
+abbrev IsAskedFor : Rules ℕ ℕ ℕ ℕ → List Held → ℕ → Type 0
+IsAskedFor rules hs node = (r : ℕ) × (by : Option (NodeChoice ℕ ℕ)) × IsAskedBy rules (decisions_of hs) r by × Contains (rules.nodes r) node
+
+needed-asked : (t : Parts) (law : IsLawful (rules_of t)) (conflicts : List (List (NodeChoice ℕ ℕ))) (hs : List Held) (first : ℕ → Option (NodeChoice ℕ ℕ)) → AreFirst (rules_of t) hs first → IsLearning (rules_of t) conflicts [] hs → NoneTied (rules_of t) first (decisions_of hs) (asks_of (rules_of t) hs) → (node : ℕ) → Needed (rules_of t) (chosen_held (rules_of t) hs) node → IsAskedFor (rules_of t) hs node
+needed-asked t law conflicts hs first same l tied _ (by_line r node h i) = (r, None, h, i)
+needed-asked t law conflicts hs first same l tied _ (by_dependency link v r node k e w i) =
+    let a : IsAskedFor (rules_of t) hs link = needed-asked t law conflicts hs first same l tied link k in
+    let own : (rules_of t).on link ≡ (rules_of t).name a.0 = law.own a.0 link a.3 in
+    let d : (c : NodeChoice ℕ ℕ) × (first ((rules_of t).on link) ≡ Some c) × (c.version ≡ v) = first-some (rules_of t) hs first same ((rules_of t).on link) v e in
+    let u : (u : ℕ) × Contains (decisions_of hs) (decision link u) = tied (ask_of a.1 a.0) d.0 link (asks-whole (rules_of t) hs a.0 a.1 a.2) (sym (ap first own) ∙ d.1) a.3 in
+    let lies : Lies (rules_of t) (chosen_held (rules_of t) hs) (decision link u.0) = held-lie (rules_of t) law conflicts hs l (decision link u.0) u.1 in
+    let one : u.0 ≡ v = some-inj u.0 v (sym lies.chosen ∙ e) in
+    (r, Some (decision link v), (subst (λ x. Contains (decisions_of hs) (decision link x)) one u.1, w), i)
+
+-- so the trial of a tied node comes next
+pub tied-trial : (t : Parts) (law : IsLawful (rules_of t)) (conflicts any : List (List (NodeChoice ℕ ℕ))) (hs : List Held) (first : ℕ → Option (NodeChoice ℕ ℕ)) → AreFirst (rules_of t) hs first → IsLearning (rules_of t) conflicts [] hs → (need : Need) → IsTied (rules_of t) first (decisions_of hs) (asks_of (rules_of t) hs) need → (trial : Trial) → trial.node ≡ need.node → trial.by ≡ need.by → trial.leads ≡ false → trial.turn ≡ 0 → trial.blame.items ≡ [] → IsTrial (rules_of t) any hs trial
+tied-trial t law conflicts any hs first same l need h trial node by leads turn blame =
+    let rules : Rules ℕ ℕ ℕ ℕ = rules_of t in
+    let asked : IsAskedBy (rules_of t) (decisions_of hs) h.ask.requirement h.ask.by = asks-sound (rules_of t) hs h.ask h.there in
+    let own : (rules_of t).on need.node ≡ (rules_of t).name h.ask.requirement = law.own h.ask.requirement need.node h.node in
+    let named : version_in nat_cmp (names_held (rules_of t) hs) ((rules_of t).on trial.node) ≡ Some h.one.version =
+    ap (λ n. version_in nat_cmp (names_held (rules_of t) hs) ((rules_of t).on n)) node ∙ ap (version_in nat_cmp (names_held (rules_of t) hs)) own
+    ∙ first-version (rules_of t) hs first same ((rules_of t).name h.ask.requirement) ∙ ap version_of h.named in
+    record {
+      in_turn = subst (λ b. IsInTurn (rules_of t) (names_held (rules_of t) hs) trial.node b) (sym leads) (h.one.version, named);
+      needed = subst (λ n. Needed (rules_of t) (chosen_held (rules_of t) hs) n) (sym node) (asked-needed (rules_of t) law conflicts hs l h.ask.requirement need.node h.ask.by asked h.node);
+      by = subst (λ n. IsNeededBy (rules_of t) (decisions_of hs) n trial.by) (sym node) (subst (λ (o : Option (NodeChoice ℕ ℕ)). IsNeededBy (rules_of t) (decisions_of hs) need.node o) (sym (by ∙ h.by)) (needed-by (rules_of t) (decisions_of hs) h.ask.requirement need.node h.ask.by asked h.node));
+      free = subst (λ n. IsFree (decisions_of hs) n) (sym node) h.free;
+      blamed = λ c i. absurd (Contains-nil c (subst (λ xs. Contains xs c) blame i));
+      refused = λ w i. absurd (Contains-take_zero ((rules_of t).candidates ((rules_of t).on trial.node)) w (subst (λ k. Contains (take k ((rules_of t).candidates ((rules_of t).on trial.node))) w) turn i));
+    }
+
+-- and where none is tied, that of a node on the least name
+pub least-trial : (t : Parts) (law : IsLawful (rules_of t)) (conflicts any : List (List (NodeChoice ℕ ℕ))) (hs : List Held) (first : ℕ → Option (NodeChoice ℕ ℕ)) → AreFirst (rules_of t) hs first → IsLearning (rules_of t) conflicts [] hs → NoneTied (rules_of t) first (decisions_of hs) (asks_of (rules_of t) hs) → (need : Need) → IsLeastNeed (rules_of t) first (asks_of (rules_of t) hs) need → (trial : Trial) → trial.node ≡ need.node → trial.by ≡ need.by → trial.leads ≡ true → trial.turn ≡ 0 → trial.blame.items ≡ [] → IsTrial (rules_of t) any hs trial
+least-trial t law conflicts any hs first same l tied need h trial node by leads turn blame =
+    let asked : IsAskedBy (rules_of t) (decisions_of hs) h.ask.requirement h.ask.by = asks-sound (rules_of t) hs h.ask h.there in
+    let needed : Needed (rules_of t) (chosen_held (rules_of t) hs) need.node = asked-needed (rules_of t) law conflicts hs l h.ask.requirement need.node h.ask.by asked h.node in
+    let free : version_in nat_cmp (names_held (rules_of t) hs) ((rules_of t).on need.node) ≡ None =
+    ap (version_in nat_cmp (names_held (rules_of t) hs)) h.named ∙ first-version (rules_of t) hs first same ((rules_of t).name h.ask.requirement) ∙ ap version_of h.free in
+    let next : IsNext (rules_of t) (names_held (rules_of t) hs) ((rules_of t).on need.node) = record {
+      needed = (need.node, needed, refl);
+      free = free;
+      least = λ m k e.
+          let a : IsAskedFor (rules_of t) hs k.0 = needed-asked t law conflicts hs first same l tied k.0 k.1 in
+          let own : (rules_of t).name a.0 ≡ m = sym (law.own a.0 k.0 a.3) ∙ k.2 in
+          let low : (rules_of t).name h.ask.requirement ≤ (rules_of t).name a.0 = h.least (ask_of a.1 a.0) (asks-whole (rules_of t) hs a.0 a.1 a.2) (ap first own ∙ first-none (rules_of t) hs first same m e) in
+          not_greater ((rules_of t).on need.node) m (subst (λ x. x ≤ m) (sym h.named) (subst (λ x. (rules_of t).name h.ask.requirement ≤ x) own low));
+    } in
+    record {
+      in_turn = subst (λ b. IsInTurn (rules_of t) (names_held (rules_of t) hs) trial.node b) (sym leads) (subst (λ n. IsNext (rules_of t) (names_held (rules_of t) hs) ((rules_of t).on n)) (sym node) next);
+      needed = subst (λ n. Needed (rules_of t) (chosen_held (rules_of t) hs) n) (sym node) needed;
+      by = subst (λ n. IsNeededBy (rules_of t) (decisions_of hs) n trial.by) (sym node) (subst (λ (o : Option (NodeChoice ℕ ℕ)). IsNeededBy (rules_of t) (decisions_of hs) need.node o) (sym (by ∙ h.by)) (needed-by (rules_of t) (decisions_of hs) h.ask.requirement need.node h.ask.by asked h.node));
+      free = λ v i. let k : Lies (rules_of t) (chosen_held (rules_of t) hs) (decision trial.node v) = held-lie (rules_of t) law conflicts hs l (decision trial.node v) i in
+          absurd (let e : None ≡ Some v = sym free ∙ ap (λ n. version_in nat_cmp (names_held (rules_of t) hs) ((rules_of t).on n)) (sym node) ∙ k.chosen in cc);
+      blamed = λ c i. absurd (Contains-nil c (subst (λ xs. Contains xs c) blame i));
+      refused = λ w i. absurd (Contains-take_zero ((rules_of t).candidates ((rules_of t).on trial.node)) w (subst (λ k. Contains (take k ((rules_of t).candidates ((rules_of t).on trial.node))) w) turn i));
+    }
+
+-- where no name is without a version, each needed node is held
+pub none-free : (t : Parts) (law : IsLawful (rules_of t)) (conflicts : List (List (NodeChoice ℕ ℕ))) (hs : List Held) (first : ℕ → Option (NodeChoice ℕ ℕ)) → AreFirst (rules_of t) hs first → IsLearning (rules_of t) conflicts [] hs → NoneTied (rules_of t) first (decisions_of hs) (asks_of (rules_of t) hs) → IsFoundNeed (rules_of t) first (asks_of (rules_of t) hs) None → AllHeld (rules_of t) hs
+none-free t law conflicts hs first same l tied none node n =
+    let a : IsAskedFor (rules_of t) hs node = needed-asked t law conflicts hs first same l tied node n in
+    let there : Contains (asks_of (rules_of t) hs) (ask_of a.1 a.0) = asks-whole (rules_of t) hs a.0 a.1 a.2 in
+    elim (option_cases (first ((rules_of t).name a.0))) [
+      | inl e ↦ absurd (none (ask_of a.1 a.0) there e)
+      | inr d ↦ tied (ask_of a.1 a.0) d.0 node there d.1 a.3
+    ]
+
+pub tied-more : (rules : Rules ℕ ℕ ℕ ℕ) (first : ℕ → Option (NodeChoice ℕ ℕ)) (chosen : List (NodeChoice ℕ ℕ)) (asks : List Ask) (i : ℕ) (d : Ask) → i < length asks → NoneTied rules first chosen (take i asks) → NoneTied rules first chosen (get_or asks i d ∷ []) → NoneTied rules first chosen (take (i + 1) asks)
+tied-more rules first chosen asks i d l h k a one node j e n = elim (Contains-take_suc asks i d a l (rw add-one at j)) [
+  | inl x ↦ h a one node x e n
+  | inr y ↦ k a one node (subst (λ (b : Ask). Contains (get_or asks i d ∷ []) b) y (Contains-here (get_or asks i d) [])) e n
+]
+
+pub tied-end : (rules : Rules ℕ ℕ ℕ ℕ) (first : ℕ → Option (NodeChoice ℕ ℕ)) (chosen : List (NodeChoice ℕ ℕ)) (asks : List Ask) (i : ℕ) → length asks ≤ i → NoneTied rules first chosen (take i asks) → NoneTied rules first chosen asks
+tied-end rules first chosen asks i l h = subst (λ xs. NoneTied rules first chosen xs) (take-whole asks i l) h

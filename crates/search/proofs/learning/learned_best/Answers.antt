@@ -1,0 +1,35 @@
+use Rattle.std.proofs.Common.{ℕ, Option, List, ◌≡◌, ◌<◌, sym, subst}
+use Rattle.search.proofs.LearnedWork.{progress_work, work-onward}
+use Rattle.search.specs.declared.conflict.NodeChoice.{NodeChoice}
+use Rattle.search.specs.declared.held.Partial.{Partial}
+use Rattle.search.specs.declared.learning.Progress.{Progress}
+use Rattle.search.specs.declared.learning.Progress.TheVariants.{Trying, Solved}
+use Rattle.search.specs.Learned.{chosen_held}
+use Rattle.search.specs.Learning.{StandsAt}
+use Rattle.search.specs.Solutions.{IsBest}
+use Rattle.search.specs.Table.{Parts, rules_of, place_in}
+use Rattle.search.proofs.learning.learned_best.Goals as goal
+
+pub onward-progress-requires-clause-table : goal.onward-progress-requires-clause-table
+onward-progress-requires-clause-table c = c.in_ok-partial.ensures.known
+
+pub step-requires-clause-table : goal.step-requires-clause-table
+step-requires-clause-table c = c.in_ok-partial.ensures.known
+
+pub returns-in-Solved-clause-best : goal.returns-in-Solved-clause-best
+returns-in-Solved-clause-best c =
+    let t : Parts = c.args.table.now in
+    let p : Partial = c.search.partial in
+    let k : StandsAt t p c.search.conflicts.list.items Solved = subst (λ (x : Progress). StandsAt t p c.search.conflicts.list.items x) c.in-Solved.is c.search.invariant in
+    let same : (n : ℕ) → place_in c.in_ok-choices-in-Solved.choices n ≡ chosen_held (rules_of t) p.held.items n = c.in_ok-choices-in-Solved.ensures.best t k.0 in
+    let path : chosen_held (rules_of t) p.held.items ≡ place_in c.in_ok-choices-in-Solved.choices = λ i n. sym (same n) i in
+    subst (λ (s : ℕ → Option ℕ). IsBest (rules_of t) s) path k.1
+
+pub search-smaller : goal.search-smaller
+search-smaller c =
+    let t : Parts = c.args.table.now in
+    let p : Partial = c.search.partial in
+    let cs : List (List (NodeChoice ℕ ℕ)) = c.search.conflicts.list.items in
+    let k : StandsAt t p cs (Trying c.in-Trying.trial) = subst (λ (x : Progress). StandsAt t p cs x) c.in-Trying.is c.search.invariant in
+    subst (λ (x : Progress). progress_work t c.step.new.partial.held.items c.in_ok-progress-in-Trying.progress < progress_work t p.held.items x) (sym c.in-Trying.is)
+    (work-onward t c.in_ok-partial.ensures.known p c.step.new.partial cs c.step.new.conflicts.list.items c.in-Trying.trial c.in_ok-progress-in-Trying.progress k c.in_ok-progress-in-Trying.ensures.stands c.in_ok-progress-in-Trying.ensures.onward)

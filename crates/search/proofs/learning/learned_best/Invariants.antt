@@ -1,0 +1,9 @@
+use Rattle.search.proofs.LearnedWork.{progress_work}
+use Rattle.search.specs.Learning.{StandsAt}
+use Rattle.search.proofs.learning.learned_best.Given as goal
+
+abbrev pub invariant-search : goal.invariant-search
+invariant-search l = StandsAt l.table l.partial l.conflicts.list.items l.progress
+
+abbrev pub decreases-search : goal.decreases-search
+decreases-search l = progress_work l.table l.partial.held.items l.progress

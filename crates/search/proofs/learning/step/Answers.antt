@@ -1,0 +1,27 @@
+use Rattle.std.proofs.Common.{ℕ, List, ◌≡◌, ◌∙◌, ◌<◌, length, get_or, sym, ap, subst, arith}
+use Rattle.search.proofs.Lists.{get_or-any}
+use Rattle.search.proofs.Learns.{trial-known, leads-first, learned-push}
+use Rattle.search.specs.declared.trial.Trial.{Trial}
+use Rattle.search.specs.Gathering.{decision}
+use Rattle.search.specs.Learned.{FitsBefore, IsTrial}
+use Rattle.search.specs.Table.{Parts, rules_of, candidates_of, name_of}
+use Rattle.search.proofs.learning.step.Goals as goal
+
+pub push-requires-clause-known : goal.push-requires-clause-known
+push-requires-clause-known c = trial-known c.args.table.now c.requires.table c.refuse.new.conflicts.list.items c.args.partial.now.held.items c.refuse.new.trial c.in_ok-refuse.ensures.trial
+
+pub push-requires-clause-first : goal.push-requires-clause-first
+push-requires-clause-first c = leads-first c.args.table.now c.refuse.new.conflicts.list.items c.args.partial.now.held.items c.refuse.new.trial c.in_ok-refuse.ensures.trial
+
+pub onward-requires-clause-learned : goal.onward-requires-clause-learned
+onward-requires-clause-learned c =
+    let t : Parts = c.args.table.now in
+    let old : Trial = c.args.trial in
+    let place : ℕ = get_or c.candidates-candidates.result.now old.turn 0 in
+    let both : (c.refuse.new.trial ≡ old) × FitsBefore (rules_of t) c.args.partial.now.held.items (decision old.node place) = c.in_ok-refuse.ensures.fits c.if-branch.false in
+    let same : c.candidates-candidates.result.now ≡ candidates_of t (name_of t old.node) = c.candidates-candidates.ensures ∙ ap (candidates_of t) c.name_of.ensures.name in
+    let within : old.turn < length c.candidates-candidates.result.now = (let k = c.if-trial-count.false in omega arith) in
+    learned-push t c.args.partial.now c.push.new.self c.refuse.new.conflicts.list.items c.refuse.new.trial place c.in_ok-refuse.ensures.learned c.in_ok-push.ensures.partial c.in_ok-push.ensures.held c.in_ok-refuse.ensures.trial
+    (subst (λ (x : Trial). x.turn < length (candidates_of t (name_of t x.node))) (sym both.0) (subst (λ (xs : List ℕ). old.turn < length xs) same within))
+    (subst (λ (x : Trial). get_or (candidates_of t (name_of t x.node)) x.turn place ≡ place) (sym both.0) (subst (λ (xs : List ℕ). get_or xs old.turn place ≡ place) same (get_or-any c.candidates-candidates.result.now old.turn place 0 within)))
+    (subst (λ (x : Trial). FitsBefore (rules_of t) c.args.partial.now.held.items (decision x.node place)) (sym both.0) both.1)

@@ -1,0 +1,133 @@
+-- What a search that learns keeps true of its choices. No public clause speaks of it.
+use Rattle.std.specs.Prelude.{ℕ, List, [], ◌∷◌, ◌++◌, Option, Some, None, Bool, true, false, ◌≡◌, ◌≢◌, ◌<◌, ◌≤◌, ◌+◌, ◌==◌, ◌⊎◌, take, length, map}
+use Rattle.std.specs.List.{Contains, slice_index_or}
+use Rattle.std.specs.Ordering.{nat_cmp}
+use Rattle.search.specs.declared.conflict.NodeChoice.{NodeChoice}
+use Rattle.search.specs.declared.held.Ask.{Ask}
+use Rattle.search.specs.declared.held.Partial.{Partial}
+use Rattle.search.specs.declared.parts.Frame.{Frame}
+use Rattle.search.specs.declared.trial.Held.{Held}
+use Rattle.search.specs.declared.trial.Trial.{Trial}
+use Rattle.search.specs.Conflicts.{Follows}
+use Rattle.search.specs.Gathering.{IsCompleted, IsWithin, decision}
+use Rattle.search.specs.Rules.{Rules}
+use Rattle.search.specs.Search.{pins_of}
+use Rattle.search.specs.Solutions.{Pin, Needed, IsNext, version_in}
+use Rattle.search.specs.Table.{Parts, rules_of, name_of}
+
+abbrev pub decision_of : Held → NodeChoice ℕ ℕ
+decision_of h = decision h.trial.node h.place
+
+abbrev pub decisions_of : List Held → List (NodeChoice ℕ ℕ)
+decisions_of [] = []
+decisions_of (h ∷ hs) = decision_of h ∷ decisions_of hs
+
+-- the first choice on a name is a choice of the name
+abbrev pub with_frame : Rules ℕ ℕ ℕ ℕ → Bool → Held → List Frame → List Frame
+with_frame rules true h fs = record { name = rules.on h.trial.node; place = h.place; turn = h.trial.turn } ∷ fs
+with_frame rules false h fs = fs
+
+abbrev pub frames_held : Rules ℕ ℕ ℕ ℕ → List Held → List Frame
+frames_held rules [] = []
+frames_held rules (h ∷ hs) = with_frame rules h.trial.leads h (frames_held rules hs)
+
+-- the versions that the choices give to names
+abbrev pub names_held : Rules ℕ ℕ ℕ ℕ → List Held → List (Pin ℕ ℕ)
+names_held rules hs = pins_of (frames_held rules hs)
+
+abbrev pub chosen_held : Rules ℕ ℕ ℕ ℕ → List Held → ℕ → Option ℕ
+chosen_held rules hs = version_in rules.compare (names_held rules hs)
+
+-- for each name the first choice on it
+abbrev pub with_leader : Rules ℕ ℕ ℕ ℕ → Bool → Held → List (Pin ℕ (NodeChoice ℕ ℕ)) → List (Pin ℕ (NodeChoice ℕ ℕ))
+with_leader rules true h ps = record { name = rules.on h.trial.node; version = decision_of h } ∷ ps
+with_leader rules false h ps = ps
+
+abbrev pub leaders_held : Rules ℕ ℕ ℕ ℕ → List Held → List (Pin ℕ (NodeChoice ℕ ℕ))
+leaders_held rules [] = []
+leaders_held rules (h ∷ hs) = with_leader rules h.trial.leads h (leaders_held rules hs)
+
+-- the node is on the next name; or its name has a version
+abbrev pub IsInTurn : Rules ℕ ℕ ℕ ℕ → List (Pin ℕ ℕ) → ℕ → Bool → Type 0
+IsInTurn rules taken node true = IsNext rules taken (rules.on node)
+IsInTurn rules taken node false = (v : ℕ) × (version_in rules.compare taken (rules.on node) ≡ Some v)
+
+-- a line needs the node, or one of the choices, this one, does
+abbrev pub IsNeededBy : Rules ℕ ℕ ℕ ℕ → List (NodeChoice ℕ ℕ) → ℕ → Option (NodeChoice ℕ ℕ) → Type 0
+IsNeededBy rules decisions node None = (r : ℕ) × Contains rules.lines r × Contains (rules.nodes r) node
+IsNeededBy rules decisions node (Some c) = (r : ℕ) × Contains decisions c × Contains (rules.wants c.node c.version) r × Contains (rules.nodes r) node
+
+-- no choice is at the node
+abbrev pub IsFree : List (NodeChoice ℕ ℕ) → ℕ → Type 0
+IsFree decisions node = (v : ℕ) → Contains decisions (decision node v) → ⊥
+
+-- The node comes next behind the choices that are held. Each refused candidate completes a recorded conflict with choices that are held.
+pub record IsTrial (rules : Rules ℕ ℕ ℕ ℕ) (conflicts : List (List (NodeChoice ℕ ℕ))) (before : List Held) (trial : Trial) : Type 0 where
+  pub in_turn : IsInTurn rules (names_held rules before) trial.node trial.leads
+  pub needed : Needed rules (chosen_held rules before) trial.node
+  pub by : IsNeededBy rules (decisions_of before) trial.node trial.by
+  pub free : IsFree (decisions_of before) trial.node
+  pub blamed : (c : NodeChoice ℕ ℕ) → Contains trial.blame.items c → Contains (decisions_of before) c
+  pub refused : (w : ℕ) → Contains (take trial.turn (rules.candidates (rules.on trial.node))) w → IsCompleted conflicts trial.blame.items (decision trial.node w)
+
+-- what the one choice wants on the other's name admits the other's version
+abbrev pub ChoicesFit : Rules ℕ ℕ ℕ ℕ → NodeChoice ℕ ℕ → NodeChoice ℕ ℕ → Type 0
+ChoicesFit rules c d = (r : ℕ) → Contains (rules.wants c.node c.version) r → rules.name r ≡ rules.on d.node → rules.admits r d.version ≡ true
+
+abbrev pub LinesFit : Rules ℕ ℕ ℕ ℕ → NodeChoice ℕ ℕ → Type 0
+LinesFit rules c = (r : ℕ) → Contains rules.lines r → rules.name r ≡ rules.on c.node → rules.admits r c.version ≡ true
+
+-- a choice clashes neither with a line, nor with itself, nor with those before it; and its name has no other version
+pub record FitsBefore (rules : Rules ℕ ℕ ℕ ℕ) (before : List Held) (c : NodeChoice ℕ ℕ) : Type 0 where
+  pub lines : LinesFit rules c
+  pub own : ChoicesFit rules c c
+  pub to : (d : NodeChoice ℕ ℕ) → Contains (decisions_of before) d → ChoicesFit rules c d
+  pub from : (d : NodeChoice ℕ ℕ) → Contains (decisions_of before) d → ChoicesFit rules d c
+  pub tied : (v : ℕ) → chosen_held rules before (rules.on c.node) ≡ Some v → v ≡ c.version
+
+-- a choice is held: it has the candidate of its turn, and fits
+pub record IsHeld (rules : Rules ℕ ℕ ℕ ℕ) (conflicts : List (List (NodeChoice ℕ ℕ))) (before : List Held) (h : Held) : Type 0 where
+  pub trial : IsTrial rules conflicts before h.trial
+  pub turn : h.trial.turn < length (rules.candidates (rules.on h.trial.node))
+  pub place : slice_index_or (rules.candidates (rules.on h.trial.node)) h.trial.turn h.place ≡ h.place
+  pub fits : FitsBefore rules before (decision_of h)
+
+abbrev pub IsLearning : Rules ℕ ℕ ℕ ℕ → List (List (NodeChoice ℕ ℕ)) → List Held → List Held → Type 0
+IsLearning rules conflicts before [] = Unit {0}
+IsLearning rules conflicts before (h ∷ hs) = IsHeld rules conflicts before h × IsLearning rules conflicts (before ++ h ∷ []) hs
+
+-- ---- what the lists of a search hold
+
+abbrev pub ask_of : Option (NodeChoice ℕ ℕ) → ℕ → Ask
+ask_of by r = record { requirement = r; by = by }
+
+abbrev pub asks_by : Rules ℕ ℕ ℕ ℕ → Held → List Ask
+asks_by rules h = map (ask_of (Some (decision_of h))) (rules.wants h.trial.node h.place)
+
+abbrev pub asks_held : Rules ℕ ℕ ℕ ℕ → List Held → List Ask
+asks_held rules [] = []
+asks_held rules (h ∷ hs) = asks_by rules h ++ asks_held rules hs
+
+-- what lines ask for, and then what the choices do
+abbrev pub asks_of : Rules ℕ ℕ ℕ ℕ → List Held → List Ask
+asks_of rules hs = map (ask_of None) rules.lines ++ asks_held rules hs
+
+abbrev pub entry_of : Held → ℕ × ℕ
+entry_of h = (h.trial.node, h.place)
+
+abbrev pub entries_of : List Held → List (ℕ × ℕ)
+entries_of [] = []
+entries_of (h ∷ hs) = entry_of h ∷ entries_of hs
+
+abbrev pub first_at : List (Option (NodeChoice ℕ ℕ)) → ℕ → Option (NodeChoice ℕ ℕ)
+first_at taken n = slice_index_or taken n None
+
+pub record IsPartial (t : Parts) (p : Partial) : Type 0 where
+  pub choices : p.choices.entries ≡ entries_of p.held.items
+  pub room : length p.taken.items ≡ length t.candidates
+  pub taken : (n : ℕ) → first_at p.taken.items n ≡ version_in nat_cmp (leaders_held (rules_of t) p.held.items) n
+  pub asks : p.asks.items ≡ asks_of (rules_of t) p.held.items
+
+-- the last choice is at a node of the table; where it leads, its name had no choice before
+abbrev pub LastIsNew : Parts → List Held → Type 0
+LastIsNew t hs = (front : List Held) (last : Held) → hs ≡ front ++ last ∷ [] → (last.trial.node < length t.nodes) × (last.trial.leads ≡ true → version_in nat_cmp (leaders_held (rules_of t) front) (name_of t last.trial.node) ≡ None)

@@ -1,0 +1,76 @@
+-- The steps of a search that learns.
+use Rattle.std.specs.Prelude.{ℕ, List, [], ◌∷◌, ◌++◌, Option, Some, None, ◌≡◌, ◌<◌, ◌+◌, ◌⊎◌, length}
+use Rattle.std.specs.List.{Contains}
+use Rattle.search.specs.declared.conflict.NodeChoice.{NodeChoice}
+use Rattle.search.specs.declared.held.Partial.{Partial}
+use Rattle.search.specs.declared.learning.Progress.{Progress}
+use Rattle.search.specs.declared.learning.Progress.TheVariants.{Trying, Solved, Refuted}
+use Rattle.search.specs.declared.trial.Held.{Held}
+use Rattle.search.specs.declared.trial.Trial.{Trial}
+use Rattle.search.specs.Conflicts.{EachFollows}
+use Rattle.search.specs.Gathering.{decision, places_eq}
+use Rattle.search.specs.Learned.{IsLearning, IsPartial, IsTrial, chosen_held, decisions_of}
+use Rattle.search.specs.Rules.{Rules}
+use Rattle.search.specs.Solutions.{HasNoSolution, IsBest, Needed}
+use Rattle.search.specs.Table.{Parts, rules_of, candidates_of, name_of}
+use Rattle.search.specs.Trials.{IsRefused}
+
+-- each recorded conflict follows from those before it, and what is held is in keeping with them
+pub record IsLearned (t : Parts) (p : Partial) (conflicts : List (List (NodeChoice ℕ ℕ))) : Type 0 where
+  pub partial : IsPartial t p
+  pub follows : EachFollows (rules_of t) places_eq [] conflicts
+  pub learning : IsLearning (rules_of t) conflicts [] p.held.items
+
+abbrev pub version_of : Option (NodeChoice ℕ ℕ) → Option ℕ
+version_of None = None
+version_of (Some c) = Some c.version
+
+-- a candidate is refused for a clash with another choice, and their conflict is recorded
+pub record IsRefusedFor (old new : Trial) (before after : List (List (NodeChoice ℕ ℕ))) (candidate other : NodeChoice ℕ ℕ) : Type 0 where
+  pub conflict : List (NodeChoice ℕ ℕ)
+  pub recorded : after ≡ before ++ conflict ∷ []
+  pub one : Contains conflict candidate
+  pub two : Contains conflict other
+  pub only : (c : NodeChoice ℕ ℕ) → Contains conflict c → (c ≡ candidate) ⊎ (c ≡ other)
+  pub refused : IsRefused old new conflict candidate
+
+-- the choice of some node is given back, with those behind it, and its next candidate is tried
+pub record IsBack (old new : List Held) (trial : Trial) : Type 0 where
+  pub last : Held
+  pub rest : List Held
+  pub was : old ≡ new ++ last ∷ rest
+  pub node : trial.node ≡ last.trial.node
+  pub turn : trial.turn ≡ last.trial.turn + 1
+
+-- the next candidate of the same node is tried
+pub record IsRetried (t : Parts) (old new : List Held) (before after : Trial) : Type 0 where
+  pub held : new ≡ old
+  pub node : after.node ≡ before.node
+  pub turn : after.turn ≡ before.turn + 1
+  pub within : before.turn < length (candidates_of t (name_of t before.node))
+
+-- the node has a choice, and the next one is tried
+pub record IsEntered (t : Parts) (old new : List Held) (before after : Trial) : Type 0 where
+  pub place : ℕ
+  pub held : new ≡ old ++ (record { trial = before; place = place }) ∷ []
+  pub turn : after.turn ≡ 0
+
+abbrev pub IsOnward : Parts → List Held → List Held → Trial → Trial → Type 0
+IsOnward t old new before after = IsRetried t old new before after ⊎ (IsEntered t old new before after ⊎ IsBack old new after)
+
+-- what holds of a search as far as it has come
+abbrev pub StandsAt : Parts → Partial → List (List (NodeChoice ℕ ℕ)) → Progress → Type 0
+StandsAt t p conflicts (Trying trial) = IsLearned t p conflicts × IsTrial (rules_of t) conflicts p.held.items trial
+StandsAt t p conflicts Solved = IsPartial t p × IsBest (rules_of t) (chosen_held (rules_of t) p.held.items)
+StandsAt t p conflicts Refuted = HasNoSolution (rules_of t)
+
+abbrev pub GoesOnward : Parts → List Held → List Held → Trial → Progress → Type 0
+GoesOnward t old new before (Trying trial) = IsOnward t old new before trial
+GoesOnward t old new before Solved = Unit {0}
+GoesOnward t old new before Refuted = Unit {0}
+
+-- the first candidate of a node is tried, or the search is at its end
+abbrev pub IsFirst : Progress → Type 0
+IsFirst (Trying trial) = trial.turn ≡ 0
+IsFirst Solved = Unit {0}
+IsFirst Refuted = ⊥

@@ -1,0 +1,13 @@
+-- Candidates that are refused in turn.
+use Rattle.std.specs.Prelude.{ℕ, List, [], ◌∷◌, ◌≡◌, ◌+◌}
+use Rattle.search.specs.declared.conflict.NodeChoice.{NodeChoice}
+use Rattle.search.specs.declared.trial.Trial.{Trial}
+use Rattle.search.specs.Gathering.{Gathers}
+
+-- one candidate more is refused, for a conflict that it completes
+pub record IsRefused (old new : Trial) (conflict : List (NodeChoice ℕ ℕ)) (candidate : NodeChoice ℕ ℕ) : Type 0 where
+  pub node : new.node ≡ old.node
+  pub leads : new.leads ≡ old.leads
+  pub by : new.by ≡ old.by
+  pub turn : new.turn ≡ old.turn + 1
+  pub blame : Gathers old.blame.items new.blame.items conflict (candidate ∷ [])

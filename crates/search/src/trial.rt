@@ -1,0 +1,93 @@
+// The candidates of a node, tried in turn.
+
+ghost use Rattle.std.specs.Prelude.{◌≡◌, ◌<◌, [], IfOk, option_to_list};
+ghost use Rattle.search.specs.Gathering.{Gathers, decision};
+ghost use Rattle.search.specs.Trials.{IsRefused};
+
+use crate::conflict::{Decision, insert, insert_all};
+use std::alloc::AllocError;
+
+/// A node that needs a version, and what is known of its candidates.
+pub struct Trial {
+    pub node: usize,
+    /// Whether it is the first on its name.
+    pub leads: bool,
+    /// The choice that needs it; nothing where a line does.
+    pub by: Option<Decision>,
+    /// How many of the candidates are refused.
+    pub turn: usize,
+    /// The choices for which they are refused.
+    pub blame: Vec<Decision>,
+}
+
+impl Drop for Trial {
+    fn drop(self) {
+        let Trial {
+            node: _,
+            leads: _,
+            by: _,
+            turn: _,
+            blame: _,
+        } = self;
+    }
+}
+
+impl Trial {
+    /// Refuses the candidate of this turn, at this place, for a conflict that it completes.
+    pub fn refuse(
+        &mut self,
+        count: usize,
+        place: usize,
+        conflict: &[Decision],
+    ) -> Result<(), AllocError>
+        requires { self.old.turn < count }
+        ensures { IfOk result (λ _. IsRefused self.old self.new conflict.now (decision self.old.node place)) }
+    {
+        let candidate = Decision {
+            node: self.node,
+            version: place,
+        };
+        insert_all(&mut self.blame, conflict, candidate)?;
+        self.turn += 1;
+        Ok(())
+    }
+
+    /// The conflict that follows where no candidate is left.
+    pub fn into_conflict(self) -> Result<Vec<Decision>, AllocError>
+        ensures { IfOk result (λ conflict. Gathers self.blame.items conflict.items (option_to_list self.by) []) }
+    {
+        let Trial {
+            node: _,
+            leads: _,
+            by,
+            turn: _,
+            mut blame,
+        } = self;
+        if let Some(by) = by {
+            insert(&mut blame, by)?;
+        }
+        Ok(blame)
+    }
+}
+
+/// A choice that is held, and what is known of the candidates before it.
+pub struct Held {
+    pub trial: Trial,
+    pub place: usize,
+}
+
+impl Drop for Held {
+    fn drop(self) {
+        let Held { trial: _, place: _ } = self;
+    }
+}
+
+impl Held {
+    /// The candidates that were tried for it.
+    pub fn into_trial(self) -> Trial
+        ensures { result ≡ self.trial }
+    {
+        let Held { trial, place: _ } = self;
+        trial
+    }
+}
