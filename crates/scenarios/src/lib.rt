@@ -1,5 +1,5 @@
-//! Tests of the public calls of indexes, locks, edits and sessions. There is nothing else here, so that nothing is proved
-//! twice for their sake.
+//! Tests of the public calls of searches, indexes, locks, edits and sessions. There is nothing else here, so that nothing is
+//! proved twice for their sake.
 #![tactic(auto)]
 
 #[cfg(test)]
@@ -14,6 +14,8 @@ mod lock_shapes;
 mod locked_files;
 #[cfg(test)]
 mod locks;
+#[cfg(test)]
+mod searches;
 #[cfg(test)]
 mod sessions;
 #[cfg(test)]

@@ -21,8 +21,6 @@ mod refusal;
 mod search;
 mod table;
 mod taken;
-#[cfg(test)]
-mod tests;
 mod trial;
 
 pub use crate::conflict::NodeChoice;

@@ -1,10 +1,7 @@
 // Small tables by hand. Places count from the newest release on.
 
-use crate::learning::learned_best;
-use crate::parts::{Choice, Requirement};
-use crate::search::best;
-use crate::table::Table;
 use lists::Seq;
+use search::{Choice, Requirement, Table, best, learned_best};
 use std::alloc::{AllocError, Global};
 use std::test::Fail;
 
