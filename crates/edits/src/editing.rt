@@ -80,11 +80,7 @@ fn lines_after(alloc: Global, lines: &ReqFile, edit: &Edit) -> Result<ReqFile, R
 }
 
 /// The locked versions that the edit keeps.
-fn kept_pins(
-    alloc: Global,
-    state: &State,
-    edit: &Edit,
-) -> Result<BTreeMap<Name, Version>, Refusal>
+fn kept_pins(alloc: Global, state: &State, edit: &Edit) -> Result<BTreeMap<Name, Version>, Refusal>
     ensures ok { IfOk result (λ kept. (refused_by_lock state.now.lock.entries edit.now ≡ None)
         × (kept.entries ≡ kept_pins (versions_of state.now.lock.entries) edit.now)) }
     ensures err { IfErr result (λ refusal. (refusal ≡ OutOfMemory)

@@ -7,4 +7,4 @@ pub returns-in-Some-clause-err : goal.returns-in-Some-clause-err
 returns-in-Some-clause-err c =
     let k = read-so _ _ c.in_ok-names.names c.in_ok-names.ensures in
     inr (refused-first c.args.state.now.lock.entries c.args.texts.now c.in_ok-names.names c.in-Some.name.now c.in_ok-copy_of.field-0 k.0 k.1
-      (rw c.as_slice.ensures at c.in-Some.ensures) (c.in_ok-copy_of.ensures ∙ c.normal.ensures))
+    (rw c.as_slice.ensures at c.in-Some.ensures) (c.in_ok-copy_of.ensures ∙ c.normal.ensures))
