@@ -70,10 +70,10 @@ is_split : (text : List ℕ) → IsSplit text
 is_split [] = record { parts = []; is = refl; words = refl }
 is_split (b ∷ rest) = elim (cases_Bool (is_space b)) [
   | inl space ↦ record {
-      parts = slice_split is_space rest;
-      is = rw space refl;
-      words = rw space (rw space (sym (words_of-trimmed rest)));
-    }
+    parts = slice_split is_space rest;
+    is = rw space refl;
+    words = rw space (rw space (sym (words_of-trimmed rest)));
+  }
   | inr other ↦
       let more = is_split rest in
       record {

@@ -126,7 +126,11 @@ fn reads_lines(rt: HostRuntime) -> Result<(), Fail> {
         (b"remove a b".as_slice(), true, "(remove)|a b"),
         (b"remove \t".as_slice(), true, "(bad)"),
         (b"remove \xff".as_slice(), true, "(bad)"),
-        (b"constrain\ta \t >=1, <2 ".as_slice(), true, "(constrain)|a|>=1, <2 "),
+        (
+            b"constrain\ta \t >=1, <2 ".as_slice(),
+            true,
+            "(constrain)|a|>=1, <2 ",
+        ),
         (b"constrain a".as_slice(), true, "(constrain)|a|"),
         (b"constrain a ".as_slice(), true, "(constrain)|a|"),
         (b"constrain a>=1".as_slice(), true, "(constrain)|a>=1|"),
