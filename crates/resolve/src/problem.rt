@@ -8,6 +8,7 @@ ghost use Rattle.resolve.specs.Resolves.{AreNeeded, Resolves, version_in};
 ghost use Rattle.resolve.specs.Rules.{counts};
 
 use crate::answer::Answer;
+use crate::method::Method;
 use crate::node::Node;
 use crate::question::Question;
 use crate::solution::versions_of;
@@ -96,13 +97,13 @@ impl<'a> Problem<'a> {
     }
 
     /// The best solution, worked out on the table of the problem.
-    pub(crate) fn best(&self, alloc: Global) -> Result<Answer, AllocError>
+    pub(crate) fn best(&self, alloc: Global, method: Method) -> Result<Answer, AllocError>
         ensures { IfOk result (Resolves self.now) }
     {
         laws::a_picture_keeps_the_best_solution::<Name, Node, Version, Requirement>();
         let table = &self.tabled.table;
         let _count = table.name_count();
-        match search::best(alloc, table)? {
+        match method.best(alloc, table)? {
             None => Ok(Answer::NoSolution),
             Some(choices) => {
                 let names = self.tabled.names.as_slice();

@@ -4,6 +4,7 @@ ghost use Rattle.std.specs.Prelude.{IfOk};
 ghost use Rattle.resolve.specs.Resolves.{Resolves};
 
 use crate::answer::Answer;
+use crate::method::Method;
 use crate::problem::Problem;
 use std::alloc::{AllocError, Global};
 
@@ -20,6 +21,16 @@ pub struct Plain;
 
 impl Resolver for Plain {
     fn resolve(&self, alloc: Global, problem: &Problem<'_>) -> Result<Answer, AllocError> {
-        problem.best(alloc)
+        problem.best(alloc, Method::Plain)
+    }
+}
+
+/// A search that learns from its conflicts.
+#[derive(Debug, Drop)]
+pub struct Learning;
+
+impl Resolver for Learning {
+    fn resolve(&self, alloc: Global, problem: &Problem<'_>) -> Result<Answer, AllocError> {
+        problem.best(alloc, Method::Learning)
     }
 }

@@ -1,0 +1,34 @@
+// The ways to search a table.
+
+ghost use Rattle.std.specs.Prelude.{IfOk, MatchOption};
+ghost use Rattle.search.specs.Solutions.{HasNoSolution, IsBest};
+ghost use Rattle.search.specs.Table.{IsAscending, place_in, rules_of};
+
+use lists::Seq;
+use search::{Choice, Table};
+use std::alloc::{AllocError, Global};
+
+/// A way to search a table. Each finds the same.
+#[derive(Debug, Clone, Copy)]
+pub(crate) enum Method {
+    Plain,
+    Learning,
+}
+
+impl Method {
+    /// The best solution of a table, its choices in the order of their names; nothing where there is
+    /// no solution.
+    pub(crate) fn best(
+        self,
+        alloc: Global,
+        table: &Table,
+    ) -> Result<Option<Seq<Choice>>, AllocError>
+        ensures best { IfOk result (λ answer. MatchOption answer (HasNoSolution (rules_of table.now)) (λ choices. IsBest (rules_of table.now) (place_in choices))) }
+        ensures ascending { IfOk result (λ answer. MatchOption answer Unit (λ choices. IsAscending choices)) }
+    {
+        match self {
+            Method::Plain => search::best(alloc, table),
+            Method::Learning => search::learned_best(alloc, table),
+        }
+    }
+}
