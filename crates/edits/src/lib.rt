@@ -21,5 +21,5 @@ pub use crate::request::{Edit, Edited};
 pub use crate::state::State;
 pub use pep508::{Cause, Environment, Fault, Line, Name, ReqFile, Requirement};
 pub use pylock::{Entry, FileEntry, Lock};
-pub use resolve::{Plain, Resolver};
+pub use resolve::{Learning, Plain, Resolver};
 pub use snapshot::{Release, Snapshot};

@@ -19,4 +19,4 @@ pub use crate::laws::{
 pub use crate::running::{apply, run};
 pub use crate::session::Session;
 pub use crate::whole::WholeHistory;
-pub use edits::{Plain, Resolver};
+pub use edits::{Learning, Plain, Resolver};

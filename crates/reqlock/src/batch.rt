@@ -15,12 +15,12 @@ use crate::reply_text::ReplyText;
 use crate::sink::Sink;
 use crate::source::Source;
 use edits::Refusal;
-use journal::{Command, Plain, Reply, Session};
+use journal::{Command, Learning, Reply, Session};
 use snapshot::Snapshot;
 use std::alloc::{AllocError, Global};
 
 /// What finds each lock.
-pub(crate) const RESOLVER: Plain = Plain;
+pub(crate) const RESOLVER: Learning = Learning;
 
 // How many bytes one read asks for.
 const PIECE: usize = 8192;
