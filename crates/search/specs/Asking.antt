@@ -1,4 +1,4 @@
--- What is asked for, what clashes with it, and which node comes next.
+-- What is asked for, what clashes with it, and which node comes next. No public clause speaks of it.
 use Rattle.std.specs.Prelude.{ℕ, List, [], ◌∷◌, Option, Some, None, Bool, true, false, ◌≡◌, ◌≢◌, ◌<◌, ◌≤◌, ◌⊎◌, length}
 use Rattle.std.specs.List.{Contains}
 use Rattle.search.specs.declared.conflict.NodeChoice.{NodeChoice}

@@ -1,4 +1,4 @@
--- Lists of choices that are read as sets.
+-- Lists of choices that are read as sets. No public clause speaks of it.
 use Rattle.std.specs.Prelude.{ℕ, List, [], ◌∷◌, ◌≡◌, ◌+◌, ◌==◌, ◌⊎◌, Bool, map}
 use Rattle.std.specs.List.{Contains}
 use Rattle.search.specs.declared.conflict.NodeChoice.{NodeChoice}

@@ -1,4 +1,4 @@
--- The steps of a search that learns.
+-- The steps of a search that learns. No public clause speaks of it.
 use Rattle.std.specs.Prelude.{ℕ, List, [], ◌∷◌, ◌++◌, Option, Some, None, ◌≡◌, ◌<◌, ◌+◌, ◌⊎◌, length}
 use Rattle.std.specs.List.{Contains}
 use Rattle.search.specs.declared.conflict.NodeChoice.{NodeChoice}

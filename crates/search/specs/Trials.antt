@@ -1,4 +1,4 @@
--- Candidates that are refused in turn.
+-- Candidates that are refused in turn. No public clause speaks of it.
 use Rattle.std.specs.Prelude.{ℕ, List, [], ◌∷◌, ◌≡◌, ◌+◌}
 use Rattle.search.specs.declared.conflict.NodeChoice.{NodeChoice}
 use Rattle.search.specs.declared.trial.Trial.{Trial}

@@ -2,8 +2,10 @@
 //!
 //! `specs/Rules` and `specs/Solutions` say what a solution of rules is and which one is the best,
 //! whatever a name, a node, a version or a requirement is made of. A `Table` holds rules as
-//! numbers, and `best` searches it. `specs/Picture` says when the numbers of a table stand for
-//! other rules; `laws` carries the best solution over to those.
+//! numbers; `best` searches it plainly, and `learned_best` learns from its conflicts and finds the
+//! same. `specs/Conflicts` says what a conflict is and when it follows from others. `specs/Picture`
+//! says when the numbers of a table stand for other rules; `laws` carries the best solution over to
+//! those, and says that what follows from conflicts lies in no solution.
 #![tactic(auto)]
 
 mod clash;
