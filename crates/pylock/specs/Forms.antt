@@ -1,21 +1,16 @@
 -- TOML values of a wanted form.
-use Rattle.std.specs.Prelude.{◌≡◌, ◌⊎◌, ℕ, List, [], ◌∷◌, Option, Some, None, is_some, option_and_then, ℤ, pos, negsuc, Result, Ok, Err, if◌then◌else◌}
+use Rattle.std.specs.Prelude.{ℕ, List, [], ◌∷◌, Option, Some, None, is_some, option_and_then, ℤ, pos, negsuc, Result, Ok, Err, if◌then◌else◌}
 use Rattle.std.specs.Option.{option_map_or}
 use Rattle.std.specs.Str.{bytes_eq}
 use Rattle.toml.specs.Data.{Data, Items, no_items, item, Members, no_members, member, as_array, as_integer, as_str, as_table, get_member}
 use Rattle.pylock.specs.declared.fault.Flaw.{Flaw}
-use Rattle.pylock.specs.declared.fault.Flaw.TheVariants.{OtherForm, OutOfMemory}
+use Rattle.pylock.specs.declared.fault.Flaw.TheVariants.{OtherForm}
 
 infixl 10 ◌>>=◌
 -- the next step, unless this one has a fault
 abbrev pub ◌>>=◌ : {A B E : Type 0} → Result A E → (A → Result B E) → Result B E
 (Ok x) >>= f = f x
 (Err e) >>= f = Err e
-
--- what a call answers, seen by view, is what is expected, unless it found no memory
-abbrev pub Gives : {X Y : Type 0} → (X → Y) → Result Y Flaw → Result X Flaw → Type 0
-Gives view expected (Ok x) = expected ≡ Ok (view x)
-Gives view expected (Err e) = (e ≡ OutOfMemory) ⊎ (expected ≡ Err e)
 
 -- what is there
 abbrev pub found : {A : Type 0} → Option A → Result A Flaw
