@@ -10,3 +10,4 @@ pub mod DateFacts
 pub mod TextFacts
 pub mod KeyFacts
 pub mod ExactFacts
+pub mod LeastFacts
