@@ -18,8 +18,8 @@ pub fn a_table_is_that_of_its_lock()
     a_canonical_text_is_read();
 }
 
-/// Of a table, whose keys stand in the order of their bytes, the first unknown key is the least that
-/// isn't one of the known, which stand in order too.
+/// The first unknown key of a table is the least key that isn't one of the known. The keys of a
+/// table stand in the order of their bytes, and so do the known ones.
 pub fn the_first_unknown_key_is_the_least()
     ensures least { (known : List (List ℕ)) (ms : Members)
         → rises known ≡ true → rises (keys_of ms) ≡ true
