@@ -6,6 +6,8 @@ pub mod FormFacts
 pub mod ReadFacts
 pub mod BackFacts
 pub mod DepthFacts
+pub mod DateFacts
 pub mod TextFacts
 pub mod KeyFacts
 pub mod ExactFacts
+pub mod LeastFacts

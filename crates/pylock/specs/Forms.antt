@@ -1,10 +1,13 @@
 -- TOML values of a wanted form.
-use Rattle.std.specs.Prelude.{◌≡◌, ◌⊎◌, ℕ, List, [], ◌∷◌, Option, Some, None, is_some, option_and_then, ℤ, pos, negsuc, Result, Ok, Err, if◌then◌else◌}
+use Rattle.std.specs.Prelude.{ℕ, not, Bool, List, [], ◌∷◌, filter, Option, Some, None, is_some, option_and_then, ℤ, pos, negsuc, Result, Ok, Err, if◌then◌else◌}
+use Rattle.std.specs.Cmp.Lexicographic.{slice_cmp}
+use Rattle.std.specs.List.{list_any}
 use Rattle.std.specs.Option.{option_map_or}
+use Rattle.std.specs.Ordering.{is_lt, nat_cmp}
 use Rattle.std.specs.Str.{bytes_eq}
 use Rattle.toml.specs.Data.{Data, Items, no_items, item, Members, no_members, member, as_array, as_integer, as_str, as_table, get_member}
 use Rattle.pylock.specs.declared.fault.Flaw.{Flaw}
-use Rattle.pylock.specs.declared.fault.Flaw.TheVariants.{OtherForm, OutOfMemory}
+use Rattle.pylock.specs.declared.fault.Flaw.TheVariants.{OtherForm}
 
 infixl 10 ◌>>=◌
 -- the next step, unless this one has a fault
@@ -12,22 +15,39 @@ abbrev pub ◌>>=◌ : {A B E : Type 0} → Result A E → (A → Result B E) �
 (Ok x) >>= f = f x
 (Err e) >>= f = Err e
 
--- what a call answers, seen by view, is what is expected, unless it found no memory
-abbrev pub Gives : {X Y : Type 0} → (X → Y) → Result Y Flaw → Result X Flaw → Type 0
-Gives view expected (Ok x) = expected ≡ Ok (view x)
-Gives view expected (Err e) = (e ≡ OutOfMemory) ⊎ (expected ≡ Err e)
-
 -- what is there
 abbrev pub found : {A : Type 0} → Option A → Result A Flaw
 found None = Err OtherForm
 found (Some x) = Ok x
+
+-- the keys of a table
+abbrev pub keys_of : Members → List (List ℕ)
+keys_of no_members = []
+keys_of (member key d ms) = key ∷ keys_of ms
+
+-- the key is one of the known
+abbrev pub is_known : List (List ℕ) → List ℕ → Bool
+is_known known key = list_any (bytes_eq key) known
+
+-- the lesser of two texts, by their bytes
+abbrev pub lesser : List ℕ → List ℕ → List ℕ
+lesser t u = if is_lt (slice_cmp nat_cmp u t) then u else t
+
+-- the least of texts
+abbrev pub least : List (List ℕ) → Option (List ℕ)
+least [] = None
+least (t ∷ texts) = Some (option_map_or (lesser t) (least texts) t)
+
+-- the least key that isn't one of the known
+abbrev pub least_unknown : List (List ℕ) → Members → Option (List ℕ)
+least_unknown known ms = least (filter (λ key. not (is_known known key)) (keys_of ms))
 
 -- the known keys behind this one
 unfoldable pub after : List ℕ → List (List ℕ) → Option (List (List ℕ))
 after key [] = None
 after key (k ∷ ks) = if bytes_eq k key then Some ks else after key ks
 
--- the first key that isn't known; the known keys and those of a table stand in the order of their bytes
+-- the first key that isn't known, which is `least_unknown` by the law `the_first_unknown_key_is_the_least`
 unfoldable pub unknown_in : List (List ℕ) → Members → Option (List ℕ)
 unknown_in known no_members = None
 unknown_in known (member key d ms) = option_map_or (λ rest. unknown_in rest ms) (after key known) (Some key)

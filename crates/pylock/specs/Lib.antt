@@ -3,6 +3,6 @@ pub mod Files
 pub mod Packages
 pub mod Locks
 pub mod Tables
-pub mod Writing
 pub mod Forms
 pub mod Reading
+pub mod Tied

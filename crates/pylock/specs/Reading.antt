@@ -19,10 +19,14 @@ use Rattle.pylock.specs.Forms.{◌>>=◌, each, found, optionally, size_at, some
 use Rattle.pylock.specs.Locks.{Locked, are_entries}
 use Rattle.pylock.specs.Packages.{Package, entry_of}
 
+-- the keys of a file
+abbrev pub file_keys : List (List ℕ)
+file_keys = codes "hashes" ∷ codes "name" ∷ codes "size" ∷ codes "url" ∷ []
+
 -- a file
 unfoldable pub file_in : Data → Result FileEntry Flaw
 file_in d = do
-  ms ← table_with (codes "hashes" ∷ codes "name" ∷ codes "size" ∷ codes "url" ∷ []) d
+  ms ← table_with file_keys d
   hashes ← found (get_member (codes "hashes") ms)
   digests ← table_with (codes "sha256" ∷ []) hashes
   sha256 ← text_at (codes "sha256") digests

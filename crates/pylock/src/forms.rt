@@ -4,7 +4,8 @@ ghost use Rattle.std.specs.Prelude.{◌≡◌, Result, drop, map, option_and_the
 ghost use Rattle.std.specs.Option.{option_map};
 ghost use Rattle.toml.specs.Data.{Data, as_array, get_member};
 ghost use Rattle.toml.specs.View.{items_view, table_view, view};
-ghost use Rattle.pylock.specs.Forms.{Gives, after, each, found, not_empty, optionally, size_at, some_each, table_with, text_at, text_of, unknown_in};
+ghost use Rattle.pylock.specs.Forms.{after, each, found, not_empty, optionally, size_at, some_each, table_with, text_at, text_of, unknown_in};
+ghost use Rattle.pylock.specs.Tied.Views.{Gives};
 ghost use Rattle.pylock.specs.declared.fault.Flaw.{Flaw};
 
 use crate::fault::Flaw;

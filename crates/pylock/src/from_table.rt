@@ -4,7 +4,8 @@ ghost use Rattle.std.specs.Prelude.{◌≡◌, ◌⊎◌, IfOk, codes, option_an
 ghost use Rattle.lists.specs.Answers.{Answers};
 ghost use Rattle.toml.specs.Data.{as_array, as_str, get_member};
 ghost use Rattle.toml.specs.View.{items_view, table_view, view};
-ghost use Rattle.pylock.specs.Forms.{Gives, found, unknown_in};
+ghost use Rattle.pylock.specs.Forms.{found, unknown_in};
+ghost use Rattle.pylock.specs.Tied.Views.{Gives};
 ghost use Rattle.pylock.specs.Locks.{are_entries};
 ghost use Rattle.pylock.specs.Reading.{at_key, creator_in, digest_in, entries_in, environment_in, fault_at, format_of, if_known, in_order, lock_in, lock_keys, only_text, tool_in};
 ghost use Rattle.pylock.specs.Tables.{table_of};

@@ -1,9 +1,11 @@
 //! Laws of the table of a lock.
 
-ghost use Rattle.std.specs.Prelude.{◌≡◌, Ok};
+ghost use Rattle.std.specs.Prelude.{◌≡◌, Ok, ℕ, List, true};
 ghost use Rattle.toml.specs.Data.{Members};
+ghost use Rattle.pylock.specs.Forms.{keys_of, least_unknown, unknown_in};
 ghost use Rattle.pylock.specs.Locks.{IsLock, Locked};
-ghost use Rattle.pylock.specs.Reading.{lock_in};
+ghost use Rattle.pylock.specs.Order.{rises};
+ghost use Rattle.pylock.specs.Reading.{file_keys, lock_in, lock_keys, package_keys};
 ghost use Rattle.pylock.specs.Tables.{table_of};
 
 use pep440::laws::a_canonical_text_is_read;
@@ -15,3 +17,14 @@ pub fn a_table_is_that_of_its_lock()
 {
     a_canonical_text_is_read();
 }
+
+/// The first unknown key of a table is the least key that isn't one of the known. The keys of a
+/// table stand in the order of their bytes, and so do the known ones.
+pub fn the_first_unknown_key_is_the_least()
+    ensures least { (known : List (List ℕ)) (ms : Members)
+        → rises known ≡ true → rises (keys_of ms) ≡ true
+        → unknown_in known ms ≡ least_unknown known ms }
+    ensures of_a_lock { rises lock_keys ≡ true }
+    ensures of_a_package { rises package_keys ≡ true }
+    ensures of_a_file { rises file_keys ≡ true }
+{}

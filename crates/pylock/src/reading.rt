@@ -1,6 +1,6 @@
 // The entries that TOML values are.
 
-ghost use Rattle.pylock.specs.Forms.{Gives};
+ghost use Rattle.pylock.specs.Tied.Views.{Gives};
 ghost use Rattle.pylock.specs.Reading.{dependency_in, file_in, normal_in, package_in, version_in};
 
 use crate::entry::Entry;

@@ -53,7 +53,8 @@ impl Lock {
                 is_utf8(text.as_str());
                 Ok(text)
             }
-            Err(_) => Err(AllocError),
+            Err(toml::ser::Error::OutOfMemory) => Err(AllocError),
+            Err(toml::ser::Error::DateInvalid) => unreachable!(),
         }
     }
 

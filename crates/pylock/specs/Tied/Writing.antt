@@ -1,4 +1,5 @@
 -- How a table is put together, key by key.
+-- Tied to `table_of` by the contract of `Lock::to_table`; need not be read.
 use Rattle.std.specs.Prelude.{ℕ, List, Option, Some, None}
 use Rattle.std.specs.Cmp.Lexicographic.{slice_cmp}
 use Rattle.std.specs.Ordering.{match_ordering, nat_cmp}
