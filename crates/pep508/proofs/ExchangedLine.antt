@@ -44,7 +44,7 @@ stands own line specifiers wanted reads set =
     let clauses = set_there (set_of specifiers) set.reads in
     let same = sym cut.joins in
     let r = reads_with s specifiers wanted clauses.0 (subst (λ (l : List ℕ). IsCut l s) same cut) (named line s wanted cut reads)
-        (own specifiers clauses.0 clauses.1 set) (subst (λ (l : List ℕ). requirement_of l ≡ Ok (Some wanted)) same reads) clauses.1 in
+    (own specifiers clauses.0 clauses.1 set) (subst (λ (l : List ℕ). requirement_of l ≡ Ok (Some wanted)) same reads) clauses.1 in
     record {
       wanted = record wanted { clauses = clauses.0 };
       reads = r.requirement;
