@@ -1,4 +1,5 @@
 -- The names of other packages that a package needs, as they are gathered node by node.
+-- Tied to `IsLockOf` by the contracts of `init` and `edit`; need not be read.
 use Rattle.std.specs.Prelude.{ℕ, ◌&&◌, not, Bool, List, [], map, filter, Option, Some, None, option_and_then, if◌then◌else◌}
 use Rattle.std.specs.BTreeMap.{BTreeMap, get}
 use Rattle.std.specs.BTreeSet.{BTreeSet, insert_key}

@@ -1,4 +1,5 @@
 -- The entries of the names of a solution, as they are put together.
+-- Tied to `IsLockOf` by the contracts of `init` and `edit`; need not be read.
 use Rattle.std.specs.Prelude.{◌≡◌, ◌≢◌, ℕ, List, map, Option, Some}
 use Rattle.std.specs.Cmp.Lexicographic.{slice_cmp}
 use Rattle.std.specs.List.{Contains}

@@ -1,4 +1,5 @@
 -- What is gathered for a table.
+-- Tied to `rules_of` by the contract of `Resolver::resolve`; need not be read.
 use Rattle.std.specs.Prelude.{◌≡◌, ℕ, List, map}
 use Rattle.std.specs.List.{AllZip}
 use Rattle.pep508.specs.Requirement.{Wanted}

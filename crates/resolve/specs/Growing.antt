@@ -1,4 +1,5 @@
 -- Lists of nodes that grow.
+-- Tied to `AreNeeded` by the contract of `Problem::needed`; need not be read.
 use Rattle.std.specs.Prelude.{◌≡◌, ◌⊎◌, List, [], ◌++◌, Option, Some, None}
 use Rattle.std.specs.List.{Contains, flat_map}
 use Rattle.pep440.specs.Version.{Parts}

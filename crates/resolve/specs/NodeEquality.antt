@@ -1,4 +1,5 @@
 -- Whether nodes are the same, by the bytes of their names.
+-- Tied to `rules_of` by the contract of `Resolver::resolve`; need not be read.
 use Rattle.std.specs.Prelude.{ℕ, ◌&&◌, Bool, true, false, List, Option, Some, None}
 use Rattle.std.specs.Str.{bytes_eq}
 use Rattle.resolve.specs.declared.node.Node.{Node}

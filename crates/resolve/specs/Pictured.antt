@@ -1,4 +1,5 @@
 -- When a table of numbers stands for a problem.
+-- Tied to `rules_of` by the contract of `Resolver::resolve`; need not be read.
 use Rattle.std.specs.Prelude.{◌≡◌, ◌<◌, ℕ, List, [], Option, None, length}
 use Rattle.std.specs.Cmp.Lexicographic.{slice_cmp}
 use Rattle.std.specs.Ordering.{nat_cmp}

@@ -1,4 +1,5 @@
 -- Releases by their places among those of their name, which are newest first.
+-- Tied to `rules_of` by the contract of `Resolver::resolve`; need not be read.
 use Rattle.std.specs.Prelude.{◌≡◌, ℕ, ◌<◌, List, [], None, length, map}
 use Rattle.std.specs.List.{Contains, slice_index_or}
 use Rattle.pep440.specs.Version.{Parts}

@@ -1,4 +1,5 @@
 -- Numbers that stand for what a list has at their places.
+-- Tied to `rules_of` by the contract of `Resolver::resolve`; need not be read.
 use Rattle.std.specs.Prelude.{◌≡◌, ◌⊎◌, ℕ, List, [], ◌∷◌, ◌++◌, Some}
 use Rattle.std.specs.List.{AllZip, slice_get}
 

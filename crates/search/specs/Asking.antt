@@ -1,4 +1,5 @@
--- What is asked for, what clashes with it, and which node comes next. No public clause speaks of it.
+-- What is asked for, what clashes with it, and which node comes next.
+-- Tied to `IsBest` by the contract of `learned_best`; need not be read.
 use Rattle.std.specs.Prelude.{ℕ, List, [], ◌∷◌, Option, Some, None, Bool, true, false, ◌≡◌, ◌≢◌, ◌<◌, ◌≤◌, ◌⊎◌, length}
 use Rattle.std.specs.List.{Contains}
 use Rattle.search.specs.declared.conflict.NodeChoice.{NodeChoice}

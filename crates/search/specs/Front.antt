@@ -1,4 +1,5 @@
 -- What a search knows of its choices while it goes forward.
+-- Tied to `IsBest` by the contract of `best`; need not be read.
 use Rattle.std.specs.Prelude.{ℕ, List, Option, ◌≡◌, ◌≢◌, ◌≤◌, false, take, length}
 use Rattle.std.specs.List.{Contains, list_any}
 use Rattle.std.specs.Ordering.{nat_cmp}

@@ -1,4 +1,5 @@
--- Lists of choices that are read as sets. No public clause speaks of it.
+-- Lists of choices that are read as sets.
+-- Tied to `Follows` by the contract of `learned_best`; need not be read.
 use Rattle.std.specs.Prelude.{ℕ, List, [], ◌∷◌, ◌≡◌, ◌+◌, ◌==◌, ◌⊎◌, Bool, map}
 use Rattle.std.specs.List.{Contains}
 use Rattle.search.specs.declared.conflict.NodeChoice.{NodeChoice}

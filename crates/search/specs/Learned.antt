@@ -1,4 +1,5 @@
--- What a search that learns keeps true of its choices. No public clause speaks of it.
+-- What a search that learns keeps true of its choices.
+-- Tied to `IsBest` by the contract of `learned_best`; need not be read.
 use Rattle.std.specs.Prelude.{ℕ, List, [], ◌∷◌, ◌++◌, Option, Some, None, Bool, true, false, ◌≡◌, ◌≢◌, ◌<◌, ◌≤◌, ◌+◌, ◌==◌, ◌⊎◌, take, length, map}
 use Rattle.std.specs.List.{Contains, slice_index_or}
 use Rattle.std.specs.Ordering.{nat_cmp}

@@ -1,4 +1,5 @@
--- The steps of a search that learns. No public clause speaks of it.
+-- The steps of a search that learns.
+-- Tied to `IsBest` by the contract of `learned_best`; need not be read.
 use Rattle.std.specs.Prelude.{ℕ, List, [], ◌∷◌, ◌++◌, Option, Some, None, ◌≡◌, ◌<◌, ◌+◌, ◌⊎◌, length}
 use Rattle.std.specs.List.{Contains}
 use Rattle.search.specs.declared.conflict.NodeChoice.{NodeChoice}

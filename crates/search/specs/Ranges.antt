@@ -1,4 +1,5 @@
 -- Numbers below a bound.
+-- Tied to `in_range` by the contracts of private functions; need not be read.
 use Rattle.std.specs.Prelude.{ℕ, List, ◌<◌}
 use Rattle.std.specs.List.{Contains}
 

@@ -1,4 +1,5 @@
 -- The steps of a search.
+-- Tied to `IsBest` by the contract of `best`; need not be read.
 use Rattle.std.specs.Prelude.{ℕ, List, [], ◌∷◌, ◌++◌, Option, Some, None, ◌≢◌, Bool, true, false, ◌≡◌, ◌<◌, ◌≤◌, ◌+◌, length}
 use Rattle.std.specs.List.{Contains, slice_index_or}
 use Rattle.search.specs.declared.parts.Frame.{Frame}

@@ -1,4 +1,5 @@
--- Candidates that are refused in turn. No public clause speaks of it.
+-- Candidates that are refused in turn.
+-- Tied to `Follows` by the contract of `learned_best`; need not be read.
 use Rattle.std.specs.Prelude.{ℕ, List, [], ◌∷◌, ◌≡◌, ◌+◌}
 use Rattle.search.specs.declared.conflict.NodeChoice.{NodeChoice}
 use Rattle.search.specs.declared.trial.Trial.{Trial}
