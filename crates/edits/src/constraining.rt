@@ -17,7 +17,8 @@ use std::alloc::{AllocError, Global};
 
 /// The specifiers that the text is.
 fn specifiers_in(alloc: Global, text: &Text) -> Result<SpecifierText, Refusal>
-    ensures { Answers OutOfMemory (if is_specifier text.now then Ok (trim text.now) else Err BadText) result }
+    ensures { Answers OutOfMemory (if is_specifier text.now then Ok (trim text.now) else Err
+        BadText) result }
 {
     match SpecifierText::parse(alloc, text.as_str()) {
         Ok(specifiers) => Ok(specifiers),

@@ -33,7 +33,8 @@ fn with_lock<R: Resolver>(
     kept: BTreeMap<Name, Version>,
     resolver: &R,
 ) -> Result<State, Refusal>
-    ensures ok { IfOk result (λ state. Locks None lines environment snapshot.now kept.entries (Ok state)) }
+    ensures ok { IfOk result
+        (λ state. Locks None lines environment snapshot.now kept.entries (Ok state)) }
     ensures err { IfErr result (λ refusal. (refusal ≡ OutOfMemory)
         ⊎ Locks None lines environment snapshot.now kept.entries (Err refusal)) }
 {
@@ -101,7 +102,8 @@ pub fn edit<R: Resolver>(
     snapshot: &Snapshot,
     resolver: &R,
 ) -> Result<Edited, Refusal>
-    ensures ok { IfOk result (λ edited. EditResult state.now edit.now snapshot.now (Ok edited.state)) }
+    ensures ok { IfOk result
+        (λ edited. EditResult state.now edit.now snapshot.now (Ok edited.state)) }
     ensures err { IfErr result (λ refusal. (refusal ≡ OutOfMemory)
         ⊎ EditResult state.now edit.now snapshot.now (Err refusal)) }
 {

@@ -71,7 +71,8 @@ fn entry_with(
     dependencies: Seq<Name>,
 ) -> Result<Entry, AllocError>
     requires { are_dependencies name dependencies ≡ true }
-    ensures entry { IfOk result (λ entry. entry ≡ entry_with (name, version) dependencies (Some release.now)) }
+    ensures entry { IfOk result
+        (λ entry. entry ≡ entry_with (name, version) dependencies (Some release.now)) }
     ensures lawful { IfOk result (λ _. IsRelease release.now) }
 {
     name.is_lawful();

@@ -59,13 +59,16 @@ fn entries(
     versions: &BTreeMap<Name, Version>,
     mut gathered: BTreeMap<Name, BTreeSet<Name>>,
 ) -> Result<Seq<Entry>, AllocError>
-    requires released { (name : List ℕ) (version : Parts) → version_in versions.now.entries name ≡ Some version
+    requires released { (name : List ℕ) (version : Parts)
+        → version_in versions.now.entries name ≡ Some version
         → IsSome (release_at problem.now name version) }
     requires needs { (own : List ℕ) → AreNeeds own (names_in gathered own) }
     ensures entries { IfOk result (λ lock. lock
         ≡ map (entry_of problem.now (names_in gathered)) versions.now.entries) }
-    ensures rising { IfOk result (λ _. IsStrictlySortedBy (slice_cmp nat_cmp) (keys_of versions.now.entries)) }
-    ensures releases { IfOk result (λ lock. (e : Package) → Contains lock e → HasRelease problem.now e.name e.version) }
+    ensures rising { IfOk result
+        (λ _. IsStrictlySortedBy (slice_cmp nat_cmp) (keys_of versions.now.entries)) }
+    ensures releases { IfOk result (λ lock. (e : Package) → Contains lock e
+        → HasRelease problem.now e.name e.version) }
 {
     let mut lock = Vec::new(alloc);
     for (name, version) in versions {
@@ -98,7 +101,8 @@ pub(crate) fn lock_of(
     versions: &BTreeMap<Name, Version>,
 ) -> Result<Lock, AllocError>
     requires { IsBest (rules_of problem.now) (version_in versions.now.entries) }
-    ensures entries { IfOk result (λ lock. AreEntries problem.now versions.now.entries lock.entries) }
+    ensures entries { IfOk result
+        (λ lock. AreEntries problem.now versions.now.entries lock.entries) }
     ensures environment { IfOk result (λ lock. lock.environment ≡ marker_text environment.now) }
     ensures snapshot { IfOk result (λ lock. lock.snapshot ≡ snapshot.now.digest) }
 {

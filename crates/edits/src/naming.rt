@@ -32,7 +32,8 @@ fn count_on(lines: &[Line], name: &Name) -> usize
 
 /// The name that the text is.
 pub(crate) fn name_in(alloc: Global, text: &Text) -> Result<Name, Refusal>
-    ensures { Answers OutOfMemory (if is_name text.now then Ok (normal_of text.now) else Err BadText) result }
+    ensures { Answers OutOfMemory (if is_name text.now then Ok (normal_of text.now) else Err
+        BadText) result }
 {
     match Name::read(alloc, text.as_str()) {
         Ok(name) => Ok(name),
@@ -43,7 +44,8 @@ pub(crate) fn name_in(alloc: Global, text: &Text) -> Result<Name, Refusal>
 
 /// The name that the text is, where just one line is on it.
 pub(crate) fn name_of_one(alloc: Global, lines: &[Line], text: &Text) -> Result<Name, Refusal>
-    ensures { Answers OutOfMemory (or_refused (refused_name lines.now text.now) (normal_of text.now)) result }
+    ensures { Answers OutOfMemory (or_refused (refused_name lines.now text.now) (normal_of
+        text.now)) result }
 {
     let name = name_in(alloc, text)?;
     match count_on(lines, &name) {

@@ -127,7 +127,8 @@ impl Same for Lock {
 
 /// Whether a state has the lines and the lock of another.
 pub(crate) fn has_same(state: &State, other: &State) -> bool
-    ensures { IsTrue result ↔ ((state.now.lines ≡ other.now.lines) × (state.now.lock ≡ other.now.lock)) }
+    ensures { IsTrue result ↔ ((state.now.lines ≡ other.now.lines)
+        × (state.now.lock ≡ other.now.lock)) }
 {
     are_same(state.lines().lines(), other.lines().lines()) && state.lock().is_same(other.lock())
 }

@@ -52,7 +52,11 @@ impl State {
         lock: Lock,
         versions: BTreeMap<Name, Version>,
     ) -> State
-        requires lawful { IsState (record { lines = lines; environment = environment; lock = lock }) }
+        requires lawful { IsState (record {
+          lines = lines;
+          environment = environment;
+          lock = lock;
+        }) }
         requires versions { versions.entries ≡ versions_of lock.entries }
         ensures { result ≡ record { lines = lines; environment = environment; lock = lock } }
     {

@@ -22,7 +22,8 @@ use std::collections::BTreeMap;
 
 /// The names that the texts are.
 fn names_in(alloc: Global, texts: &[Text]) -> Result<Seq<Name>, Refusal>
-    ensures { Answers OutOfMemory (if list_all is_name texts.now then Ok (map normal_of texts.now) else Err BadText) result }
+    ensures { Answers OutOfMemory (if list_all is_name texts.now then Ok (map normal_of texts.now)
+        else Err BadText) result }
 {
     let mut names = Vec::with_capacity(alloc, texts.len())?;
     for text in texts {
@@ -33,7 +34,8 @@ fn names_in(alloc: Global, texts: &[Text]) -> Result<Seq<Name>, Refusal>
 
 /// The first name that isn't locked.
 fn not_locked<'a>(state: &State, names: &'a [Name]) -> Option<&'a Name>
-    ensures { option_copied result ≡ find (λ name. not (is_locked state.now.lock.entries name)) names.now }
+    ensures { option_copied result ≡ find
+        (λ name. not (is_locked state.now.lock.entries name)) names.now }
 {
     names.iter().find(|name| state.locked(name).is_none())
 }

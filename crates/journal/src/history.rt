@@ -25,19 +25,22 @@ pub trait History {
     /// Cuts what follows the present state, puts the new one behind it and moves there. Where
     /// memory is refused, the new state is dropped and the history is what it was.
     fn push(&mut self, edited: Edited) -> Result<(), AllocError>
-        ensures past { past self.new ≡ (if is_ok result then pushed (past self.old) edited.state else past self.old) };
+        ensures past { past self.new
+            ≡ (if is_ok result then pushed (past self.old) edited.state else past self.old) };
 
     /// Goes back to the state before the present one.
     fn undo(&mut self) -> Result<(), Refusal>
         ensures undone { OnOk result (IsUndone (past self.old) (past self.new)) }
         ensures at_start { IsErrOf result Refusal.NothingToUndo ↔ IsAtStart (past self.old) }
-        ensures refusals { IfErr result (λ r. (r ≡ Refusal.NothingToUndo) ⊎ (r ≡ Refusal.OutOfMemory)) }
+        ensures refusals { IfErr result (λ r. (r ≡ Refusal.NothingToUndo)
+            ⊎ (r ≡ Refusal.OutOfMemory)) }
         ensures kept { OnErr result (past self.new ≡ past self.old) };
 
     /// Goes on to the state behind the present one.
     fn redo(&mut self) -> Result<(), Refusal>
         ensures redone { OnOk result (IsRedone (past self.old) (past self.new)) }
         ensures at_end { IsErrOf result Refusal.NothingToRedo ↔ IsAtEnd (past self.old) }
-        ensures refusals { IfErr result (λ r. (r ≡ Refusal.NothingToRedo) ⊎ (r ≡ Refusal.OutOfMemory)) }
+        ensures refusals { IfErr result (λ r. (r ≡ Refusal.NothingToRedo)
+            ⊎ (r ≡ Refusal.OutOfMemory)) }
         ensures kept { OnErr result (past self.new ≡ past self.old) };
 }

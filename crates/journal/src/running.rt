@@ -33,7 +33,8 @@ fn apply_edit<H: History, R: Resolver>(
     snapshot: &Snapshot,
     resolver: &R,
 ) -> Reply
-    ensures step { Step (H.past history.old) (Editing edit.now snapshot.now) result (H.past history.new) }
+    ensures step { Step (H.past history.old) (Editing edit.now snapshot.now) result (H.past
+        history.new) }
 {
     match edits::edit(alloc, history.state(), edit, snapshot, resolver) {
         Ok(edited) => match history.push(edited) {
@@ -72,7 +73,9 @@ pub fn run<H: History, R: Resolver>(
     commands: &[Command<'_>],
     resolver: &R,
 ) -> Result<Seq<Reply>, AllocError>
-    ensures run { IfOk result (λ replies. Run (H.past history.old) (map asked_of commands.now) replies (H.past history.new)) }
+    ensures run { IfOk result
+        (λ replies. Run (H.past history.old) (map asked_of commands.now) replies (H.past
+        history.new)) }
     ensures kept { OnErr result (H.past history.new ≡ H.past history.old) }
 {
     let mut replies = Vec::with_capacity(alloc, commands.len())?;

@@ -91,7 +91,8 @@ impl Session {
         commands: &[Command<'_>],
         resolver: &R,
     ) -> Result<Seq<Reply>, AllocError>
-        ensures run { IfOk result (λ replies. Run self.old (map asked_of commands.now) replies self.new) }
+        ensures run { IfOk result
+            (λ replies. Run self.old (map asked_of commands.now) replies self.new) }
         ensures kept { OnErr result (self.new ≡ self.old) }
     {
         running::run(alloc, &mut self.history, commands, resolver)

@@ -24,14 +24,16 @@ pub fn a_file_reads_as_lines()
 pub fn lines_may_get_one_more()
     ensures first { (line ending : List ℕ) → list_any (λ b. b == 10) line ≡ false → IsEnding ending
         → AreLines (ended ending line ∷ []) }
-    ensures next { (lines : List (List ℕ)) (last line ending : List ℕ) → AreLines (lines ++ last ∷ [])
+    ensures next { (lines : List (List ℕ)) (last line ending : List ℕ)
+        → AreLines (lines ++ last ∷ [])
         → list_any (λ b. b == 10) line ≡ false → IsEnding ending
         → AreLines (lines ++ ended ending last ∷ ended ending line ∷ []) }
 {}
 
 /// A line that asks for something may get other specifiers, and then stand where it stood.
 pub fn a_line_may_get_specifiers()
-    ensures { (line specifiers : List ℕ) (wanted : Wanted) → requirement_of line ≡ Ok (Some wanted) → IsSpecifier specifiers
+    ensures { (line specifiers : List ℕ) (wanted : Wanted) → requirement_of line ≡ Ok (Some wanted)
+        → IsSpecifier specifiers
         → MayStandFor line (joined (with_version specifiers (slices_of line))) }
 {
     a_set_has_its_bytes();
@@ -39,7 +41,8 @@ pub fn a_line_may_get_specifiers()
 
 /// Lines may be left out.
 pub fn lines_may_be_left_out()
-    ensures { (keeps : List ℕ → Bool) (lines : List (List ℕ)) → AreLines lines → AreLines (filter keeps lines) }
+    ensures { (keeps : List ℕ → Bool) (lines : List (List ℕ)) → AreLines lines
+        → AreLines (filter keeps lines) }
 {}
 
 /// Lines may be exchanged for others that ask for something and end alike.

@@ -115,7 +115,8 @@ impl Line {
         specifier: &SpecifierText,
     ) -> Result<Line, AllocError>
         requires { (wanted : Wanted) × (requirement_of self.now ≡ Ok (Some wanted)) }
-        ensures { IfOk result (λ line. line ≡ joined (with_version specifier.now (slices_of self.now))) }
+        ensures { IfOk result
+            (λ line. line ≡ joined (with_version specifier.now (slices_of self.now))) }
     {
         // Both lines read, so that memory alone can be refused.
         let Ok(slices) = ReqLine::read(alloc, self.text()) else {

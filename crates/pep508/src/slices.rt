@@ -48,7 +48,8 @@ impl<'a> Model for Slices<'a> {
 impl Slices<'_> {
     /// The slices joined, with another version part.
     pub(crate) fn joined_with(&self, alloc: Global, version: &str) -> Result<Text, AllocError>
-        ensures { IfOk result (λ text. text ≡ spec.joined (spec.with_version version.now self.now)) }
+        ensures { IfOk result
+            (λ text. text ≡ spec.joined (spec.with_version version.now self.now)) }
     {
         let mut text = Text::new(alloc);
         text.push_str(self.lead)?;

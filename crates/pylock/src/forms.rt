@@ -34,7 +34,8 @@ impl Read for Text {
 
 /// The place behind this key among the known ones.
 fn place_behind(key: &str, known: &[&str], from: usize) -> Option<usize>
-    ensures { option_map (λ p. map (λ k. k.now) (drop p known.now)) result ≡ after key.now (map (λ k. k.now) (drop from known.now)) }
+    ensures { option_map (λ p. map (λ k. k.now) (drop p known.now)) result
+        ≡ after key.now (map (λ k. k.now) (drop from known.now)) }
 {
     for place in from..known.len() {
         let name = known[place];
@@ -47,7 +48,8 @@ fn place_behind(key: &str, known: &[&str], from: usize) -> Option<usize>
 
 /// The first key that isn't known, both in the order of their bytes.
 pub(crate) fn unknown_key<'t>(known: &[&str], table: &'t Table) -> Option<&'t str>
-    ensures { option_map (λ key. key.now) result ≡ unknown_in (map (λ k. k.now) known.now) (table_view table.now) }
+    ensures { option_map (λ key. key.now) result
+        ≡ unknown_in (map (λ k. k.now) known.now) (table_view table.now) }
 {
     let mut from = 0;
     for (key, _value) in table.iter() {
@@ -61,7 +63,8 @@ pub(crate) fn unknown_key<'t>(known: &[&str], table: &'t Table) -> Option<&'t st
 
 /// The table that a value is, where each of its keys is known.
 pub(crate) fn table_with<'v>(known: &[&str], value: &'v Value) -> Result<&'v Table, Flaw>
-    ensures { Gives (λ t. table_view t.now) (table_with (map (λ k. k.now) known.now) (view value.now)) result }
+    ensures { Gives (λ t. table_view t.now) (table_with (map
+        (λ k. k.now) known.now) (view value.now)) result }
 {
     let Some(table) = value.as_table() else {
         return Err(Flaw::OtherForm);
@@ -115,7 +118,8 @@ pub(crate) fn optionally<T: Read>(
     key: &str,
     table: &Table,
 ) -> Result<Option<T>, Flaw>
-    ensures { Gives (λ o. o) (optionally T.reading (get_member key.now (table_view table.now))) result }
+    ensures { Gives (λ o. o) (optionally T.reading (get_member key.now (table_view table.now)))
+        result }
 {
     match value_at(key, table) {
         Some(value) => Ok(Some(T::from_value(alloc, value)?)),
@@ -137,7 +141,8 @@ pub(crate) fn each<T: Read>(alloc: Global, values: &[Value]) -> Result<Vec<T>, F
 
 /// The items of an array of one item at least.
 fn some_items(value: &Value) -> Result<&[Value], Flaw>
-    ensures { Gives (λ vs. items_view vs.now) (found (option_and_then not_empty (as_array (view value.now)))) result }
+    ensures { Gives (λ vs. items_view vs.now) (found (option_and_then not_empty (as_array (view
+        value.now)))) result }
 {
     let Some(values) = value.as_array() else {
         return Err(Flaw::OtherForm);
@@ -151,7 +156,8 @@ fn some_items(value: &Value) -> Result<&[Value], Flaw>
 
 /// The items of the list at a key, which is absent where it is empty.
 pub(crate) fn some_each<T: Read>(alloc: Global, key: &str, table: &Table) -> Result<Vec<T>, Flaw>
-    ensures { Gives (λ xs. xs.items) (some_each T.reading (get_member key.now (table_view table.now))) result }
+    ensures { Gives (λ xs. xs.items) (some_each T.reading (get_member key.now (table_view
+        table.now))) result }
 {
     match value_at(key, table) {
         Some(value) => each(alloc, some_items(value)?),

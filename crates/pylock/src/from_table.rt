@@ -46,7 +46,8 @@ fn at_key<T>(alloc: Global, key: &str, read: Result<T, Flaw>) -> Result<T, Fault
 
 /// Asks for version 1.0 of the format.
 fn check_format(alloc: Global, table: &Table) -> Result<(), Fault>
-    ensures { Answers faults.OutOfMemory (format_of (option_and_then as_str (get_member (codes "lock-version") (table_view table.now)))) result }
+    ensures { Answers faults.OutOfMemory (format_of (option_and_then as_str (get_member (codes
+        "lock-version") (table_view table.now)))) result }
 {
     match value_at("lock-version", table).and_then(Value::as_str) {
         Some("1.0") => Ok(()),
@@ -57,7 +58,8 @@ fn check_format(alloc: Global, table: &Table) -> Result<(), Fault>
 
 /// Asks for the name of this tool.
 fn creator_at(table: &Table) -> Result<(), Flaw>
-    ensures { Gives (λ u. u) (creator_in (get_member (codes "created-by") (table_view table.now))) result }
+    ensures { Gives (λ u. u) (creator_in (get_member (codes "created-by") (table_view table.now)))
+        result }
 {
     match value_at("created-by", table).and_then(Value::as_str) {
         Some("reqlock") => Ok(()),
@@ -67,7 +69,8 @@ fn creator_at(table: &Table) -> Result<(), Flaw>
 
 /// The items of the array at `key`.
 fn array_at<'t>(key: &str, table: &'t Table) -> Result<&'t [Value], Flaw>
-    ensures { Gives (λ vs. items_view vs.now) (found (option_and_then as_array (get_member key.now (table_view table.now)))) result }
+    ensures { Gives (λ vs. items_view vs.now) (found (option_and_then as_array (get_member key.now
+        (table_view table.now)))) result }
 {
     match value_at(key, table).and_then(Value::as_array) {
         Some(values) => Ok(values.as_slice()),
@@ -88,7 +91,8 @@ fn only_text(values: &[Value]) -> Option<&str>
 /// The text of the lock's environment.
 #[tactic(auto, unfolding(crate::specs::Reading::environment_in))]
 fn environment_at(alloc: Global, table: &Table) -> Result<Text, Flaw>
-    ensures { Gives (λ t. t) (environment_in (get_member (codes "environments") (table_view table.now))) result }
+    ensures { Gives (λ t. t) (environment_in (get_member (codes "environments") (table_view
+        table.now))) result }
 {
     match only_text(array_at("environments", table)?) {
         Some(text) => Ok(Text::copy_of(alloc, text)?),
@@ -99,7 +103,8 @@ fn environment_at(alloc: Global, table: &Table) -> Result<Text, Flaw>
 /// The entries, in the order of their names.
 #[tactic(auto, unfolding(crate::specs::Reading::entries_in))]
 fn entries_at(alloc: Global, table: &Table) -> Result<Seq<Entry>, Flaw>
-    ensures entries { Gives (λ es. es) (entries_in (get_member (codes "packages") (table_view table.now))) result }
+    ensures entries { Gives
+        (λ es. es) (entries_in (get_member (codes "packages") (table_view table.now))) result }
     ensures order { IfOk result (λ es. are_entries es ≡ true) }
 {
     let entries: Vec<Entry> = each(alloc, array_at("packages", table)?)?;
@@ -137,7 +142,8 @@ fn snapshot_at(alloc: Global, table: &Table) -> Result<[u8; 32], Flaw>
 
 /// Asks that no other key is there.
 fn check_keys(alloc: Global, table: &Table) -> Result<(), Fault>
-    ensures { Answers faults.OutOfMemory (if_known (unknown_in lock_keys (table_view table.now))) result }
+    ensures { Answers faults.OutOfMemory (if_known (unknown_in lock_keys (table_view table.now)))
+        result }
 {
     match unknown_key(
         &[

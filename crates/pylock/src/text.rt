@@ -42,7 +42,8 @@ fn is_utf8(text: &str)
 impl Lock {
     /// The TOML text of the lock. It is read back as this lock; the order of its keys is no promise.
     pub fn print(&self, alloc: Global) -> Result<String, AllocError>
-        ensures table { IfOk result (λ text. parse_document (string_bytes text) ≡ Some (table_of self.now)) }
+        ensures table { IfOk result
+            (λ text. parse_document (string_bytes text) ≡ Some (table_of self.now)) }
         ensures reads_back { IfOk result (λ text. lock_in_text (string_bytes text) ≡ Ok self.now) }
     {
         self.is_lawful();

@@ -38,7 +38,8 @@ pub(crate) fn put(
     key: &str,
     value: Value,
 ) -> Result<(), AllocError>
-    ensures { OnOk result (table_view table.new ≡ with_member key.now (view value) (table_view table.old)) }
+    ensures { OnOk result (table_view table.new
+        ≡ with_member key.now (view value) (table_view table.old)) }
 {
     let key = String::from_str(alloc, key)?;
     drop(table.insert(key, value)?);
@@ -52,7 +53,8 @@ pub(crate) fn put_some(
     key: &str,
     value: Option<Value>,
 ) -> Result<(), AllocError>
-    ensures { OnOk result (table_view table.new ≡ with_optional key.now (option_map view value) (table_view table.old)) }
+    ensures { OnOk result (table_view table.new
+        ≡ with_optional key.now (option_map view value) (table_view table.old)) }
 {
     match value {
         Some(value) => put(alloc, table, key, value),

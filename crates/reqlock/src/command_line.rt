@@ -27,7 +27,10 @@ pub enum Item {
 pub fn read_item(alloc: Global, line: &[u8], is_ended: bool) -> Result<Option<Item>, AllocError>
     ensures item { IfOk result (λ item.
         item ≡ item_of (record { bytes = line.now; is_ended = is_ended })) }
-    ensures memory { OnErr result (IsEdit (item_of (record { bytes = line.now; is_ended = is_ended }))) }
+    ensures memory { OnErr result (IsEdit (item_of (record {
+      bytes = line.now;
+      is_ended = is_ended;
+    }))) }
 {
     if line.len() > LONGEST_LINE {
         return Ok(Some(Item::BadCommand));

@@ -42,14 +42,16 @@ fn is_on(wanted: &Requirement, line: &Requirement) -> bool
 
 /// Whether one of the lines, on the requirement's name, names a pre-release.
 fn some_line_names_pre(lines: &[Requirement], wanted: &Requirement) -> bool
-    ensures { result ≡ list_any (λ line. bytes_eq line.name wanted.now.name && clauses.names_pre line.clauses) lines.now }
+    ensures { result ≡ list_any
+        (λ line. bytes_eq line.name wanted.now.name && clauses.names_pre line.clauses) lines.now }
 {
     lines.iter().any(|line| is_on(wanted, line) && line.specifiers().names_pre())
 }
 
 /// Whether one of the lines, on the requirement's name, pins a version.
 fn some_line_pins(lines: &[Requirement], wanted: &Requirement) -> bool
-    ensures { result ≡ list_any (λ line. bytes_eq line.name wanted.now.name && clauses.pins line.clauses) lines.now }
+    ensures { result ≡ list_any
+        (λ line. bytes_eq line.name wanted.now.name && clauses.pins line.clauses) lines.now }
 {
     lines
         .iter()
@@ -133,7 +135,9 @@ fn admitted(
     yanked: bool,
     releases: &[Release],
 ) -> Result<Seq<bool>, AllocError>
-    ensures { IfOk result (λ admits. admits ≡ map (spec.admits_where environment.now wanted.now pre yanked) releases.now) }
+    ensures { IfOk result
+        (λ admits. admits
+        ≡ map (spec.admits_where environment.now wanted.now pre yanked) releases.now) }
 {
     let mut admits = Vec::with_capacity(alloc, releases.len())?;
     for release in releases {
@@ -150,7 +154,10 @@ pub(crate) fn admissions(
     question: &Question<'_>,
     wanted: &Requirement,
 ) -> Result<Seq<bool>, AllocError>
-    ensures { IfOk result (λ admits. admits ≡ map (spec.admits_release question.now wanted.now) (releases_on question.now wanted.now.name)) }
+    ensures { IfOk result
+        (λ admits. admits
+        ≡ map (spec.admits_release question.now wanted.now) (releases_on question.now
+        wanted.now.name)) }
 {
     let releases = question.releases(wanted.name());
     let pre = has_pre(releases) && takes_pre(question, wanted);

@@ -27,7 +27,8 @@ fn place_of(releases: &[Release], version: &Version) -> Option<usize>
 
 /// The place of the release that has the version kept for the name.
 fn kept_place(question: &Question<'_>, name: &Name) -> Option<usize>
-    ensures version { option_map (version_at (releases_on question.now name.now)) result ≡ kept_version question.now name.now }
+    ensures version { option_map (version_at (releases_on question.now name.now)) result
+        ≡ kept_version question.now name.now }
     ensures within { IfSome result (λ place. place < length (releases_on question.now name.now)) }
 {
     match question.kept.get(name) {

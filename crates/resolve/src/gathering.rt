@@ -56,7 +56,9 @@ fn extras_of(
     wanted: &Requirement,
 ) -> Result<Seq<usize>, AllocError>
     ensures longer { IfOk result (λ _. IsLonger nodes.old nodes.new) }
-    ensures numbers { IfOk result (λ numbers. AllStand nodes.new numbers (map (with_extra wanted.now.name) wanted.now.extras)) }
+    ensures numbers { IfOk result
+        (λ numbers. AllStand nodes.new numbers (map (with_extra wanted.now.name)
+        wanted.now.extras)) }
 {
     let extras = wanted.extras();
     let mut numbers = Vec::with_capacity(alloc, extras.len())?;
@@ -107,7 +109,8 @@ impl<'q> Gathering<'q> {
     ) -> Result<Seq<usize>, AllocError>
         requires entries { AreEntries question.now self.old }
         ensures entries { IfOk result (λ _. AreEntries question.now self.new) }
-        ensures numbers { IfOk result (λ numbers. AllStand self.new.asked numbers question.now.active) }
+        ensures numbers { IfOk result
+            (λ numbers. AllStand self.new.asked numbers question.now.active) }
     {
         let lines = question.active.as_slice();
         let mut numbers = Vec::with_capacity(alloc, lines.len())?;
@@ -129,7 +132,9 @@ impl<'q> Gathering<'q> {
         requires entries { AreEntries question.now self.old }
         ensures entries { IfOk result (λ _. AreEntries question.now self.new) }
         ensures grown { IfOk result (λ _. IsGrown self.old self.new) }
-        ensures numbers { IfOk result (λ numbers. AllStand self.new.asked numbers (wants_of question.now.environment (option_copied extra.entry) release.now)) }
+        ensures numbers { IfOk result
+            (λ numbers. AllStand self.new.asked numbers (wants_of question.now.environment
+            (option_copied extra.entry) release.now)) }
     {
         let dependencies = release.dependencies();
         let mut numbers = Vec::new(alloc);
@@ -154,7 +159,9 @@ impl<'q> Gathering<'q> {
         requires entries { AreEntries question.now self.old }
         ensures entries { IfOk result (λ _. AreEntries question.now self.new) }
         ensures grown { IfOk result (λ _. IsGrown self.old self.new) }
-        ensures rows { IfOk result (λ rows. AreWants self.new.asked rows (map (wants_of question.now.environment node.now.extra) releases.now)) }
+        ensures rows { IfOk result
+            (λ rows. AreWants self.new.asked rows (map (wants_of question.now.environment
+            node.now.extra) releases.now)) }
     {
         let mut rows = Vec::with_capacity(alloc, releases.len())?;
         for release in releases {
@@ -175,7 +182,8 @@ impl<'q> Gathering<'q> {
         requires entries { AreEntries question.now self.old }
         ensures entries { IfOk result (λ _. AreEntries question.now self.new) }
         ensures grown { IfOk result (λ _. IsGrown self.old self.new) }
-        ensures rows { IfOk result (λ rows. (node : _) → Stands self.old.nodes number node → IsWanted question.now self.new.asked rows node) }
+        ensures rows { IfOk result (λ rows. (node : _) → Stands self.old.nodes number node
+            → IsWanted question.now self.new.asked rows node) }
     {
         let node = self.nodes.as_slice()[number].clone()?;
         let releases = question.releases(&node.name);
@@ -191,7 +199,8 @@ impl<'q> Gathering<'q> {
         requires entries { AreEntries question.now self.old }
         ensures entries { IfOk result (λ _. AreEntries question.now self.new) }
         ensures grown { IfOk result (λ _. IsGrown self.old self.new) }
-        ensures wants { IfOk result (λ wants. AllZip (IsWanted question.now self.new.asked) wants self.new.nodes) }
+        ensures wants { IfOk result
+            (λ wants. AllZip (IsWanted question.now self.new.asked) wants self.new.nodes) }
     {
         let mut wants = Vec::new(alloc);
         'nodes: while wants.len() < self.nodes.as_slice().len() {

@@ -23,8 +23,11 @@ impl Method {
         alloc: Global,
         table: &Table,
     ) -> Result<Option<Seq<Choice>>, AllocError>
-        ensures best { IfOk result (λ answer. MatchOption answer (HasNoSolution (rules_of table.now)) (λ choices. IsBest (rules_of table.now) (place_in choices))) }
-        ensures ascending { IfOk result (λ answer. MatchOption answer Unit (λ choices. IsAscending choices)) }
+        ensures best { IfOk result
+            (λ answer. MatchOption answer (HasNoSolution (rules_of table.now))
+            (λ choices. IsBest (rules_of table.now) (place_in choices))) }
+        ensures ascending { IfOk result
+            (λ answer. MatchOption answer Unit (λ choices. IsAscending choices)) }
     {
         match self {
             Method::Plain => search::best(alloc, table),

@@ -26,7 +26,8 @@ fn names_on(alloc: Global, nodes: &[Node]) -> Result<Vec<Name>, AllocError>
 /// The names of the nodes, each once, in the order of their bytes.
 pub(crate) fn names_of(alloc: Global, nodes: &[Node]) -> Result<Seq<Name>, AllocError>
     ensures rising { IfOk result (λ names. IsStrictlySortedBy (slice_cmp nat_cmp) names) }
-    ensures whole { IfOk result (λ names. (node : _) → Contains nodes.now node → Contains names node.name) }
+    ensures whole { IfOk result (λ names. (node : _) → Contains nodes.now node
+        → Contains names node.name) }
 {
     let mut names = names_on(alloc, nodes)?;
     names.sort_unstable();
@@ -54,7 +55,8 @@ pub(crate) fn numbers_of(
 ) -> Result<Seq<usize>, AllocError>
     requires rising { IsStrictlySortedBy (slice_cmp nat_cmp) names.now }
     requires whole { (node : _) → Contains nodes.now node → Contains names.now node.name }
-    ensures { IfOk result (λ numbers. AllStand names.now numbers (map (λ node. node.name) nodes.now)) }
+    ensures { IfOk result
+        (λ numbers. AllStand names.now numbers (map (λ node. node.name) nodes.now)) }
 {
     let mut numbers = Vec::with_capacity(alloc, nodes.len())?;
     for node in nodes {

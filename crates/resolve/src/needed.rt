@@ -59,7 +59,9 @@ fn add_dependencies(
     extra: Option<&Name>,
     dependencies: &[Requirement],
 ) -> Result<(), AllocError>
-    ensures { IfOk result (λ _. Grows nodes.old nodes.new (nodes_asked (filter (counts environment.now (option_copied extra.entry)) dependencies.now))) }
+    ensures { IfOk result
+        (λ _. Grows nodes.old nodes.new (nodes_asked (filter (counts environment.now (option_copied
+        extra.entry)) dependencies.now))) }
 {
     for wanted in dependencies {
         if counts(environment, extra, wanted) {
@@ -77,7 +79,9 @@ fn follow(
     nodes: &mut Nodes,
     node: &Node,
 ) -> Result<(), AllocError>
-    ensures { IfOk result (λ _. Grows nodes.old nodes.new (nodes_linked question.now node.now (version_in versions.now.entries node.now.name))) }
+    ensures { IfOk result
+        (λ _. Grows nodes.old nodes.new (nodes_linked question.now node.now (version_in
+        versions.now.entries node.now.name))) }
 {
     let Some(version) = versions.get(&node.name) else {
         return Ok(());

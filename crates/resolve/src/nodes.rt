@@ -92,7 +92,9 @@ impl Nodes {
 
     /// Whether the node of this number is the one that is looked for.
     fn is_at(&self, number: usize, name: &Name, extra: Option<&Name>) -> bool
-        ensures { result ≡ option_map_or (λ node. is_node node name.now (option_copied extra.entry)) (slice_get self.now number) false }
+        ensures { result ≡ option_map_or
+            (λ node. is_node node name.now (option_copied extra.entry)) (slice_get self.now number)
+            false }
     {
         match self.nodes.get(number) {
             Some(node) => is_node(node, name, extra),
@@ -102,7 +104,12 @@ impl Nodes {
 
     /// The number of a node that is there.
     fn find(&self, name: &Name, extra: Option<&Name>) -> Option<usize>
-        ensures { IfSome result (λ number. Stands self.now number (record { name = name.now; extra = option_copied extra.entry })) }
+        ensures { IfSome result
+            (λ number. Stands self.now number (record {
+              name = name.now;
+              extra = option_copied
+                  extra.entry;
+            })) }
     {
         for number in self.by_name.get(name)? {
             if self.is_at(*number, name, extra) {
@@ -135,8 +142,15 @@ impl Nodes {
         extra: Option<&Name>,
     ) -> Result<usize, AllocError>
         ensures longer { IfOk result (λ _. IsLonger self.old self.new) }
-        ensures number { IfOk result (λ number. Stands self.new number (record { name = name.now; extra = option_copied extra.entry })) }
-        ensures only { IfOk result (λ _. IsWith (record { name = name.now; extra = option_copied extra.entry }) self.old self.new) }
+        ensures number { IfOk result
+            (λ number. Stands self.new number (record {
+              name = name.now;
+              extra = option_copied
+                  extra.entry;
+            })) }
+        ensures only { IfOk result
+            (λ _. IsWith (record { name = name.now; extra = option_copied extra.entry }) self.old
+            self.new) }
     {
         if let Some(number) = self.find(name, extra) {
             return Ok(number);

@@ -64,7 +64,15 @@ impl<'a> Problem<'a> {
         snapshot: &'a Snapshot,
         kept: BTreeMap<Name, Version>,
     ) -> Result<Problem<'a>, AllocError>
-        ensures { IfOk result (λ problem. problem ≡ record { active = requirements environment.now lines.now; environment = environment.now; index = snapshot.now; kept = kept.entries }) }
+        ensures { IfOk result
+            (λ problem. problem
+            ≡ record {
+              active = requirements environment.now lines.now;
+              environment =
+                  environment.now;
+              index = snapshot.now;
+              kept = kept.entries;
+            }) }
     {
         let question = Question::new(alloc, lines, environment, snapshot, kept)?;
         let tabled = table_of(alloc, &question)?;
@@ -91,7 +99,8 @@ impl<'a> Problem<'a> {
         alloc: Global,
         versions: &BTreeMap<Name, Version>,
     ) -> Result<Seq<Node>, AllocError>
-        ensures { IfOk result (λ nodes. AreNeeded self.now (version_in versions.now.entries) nodes) }
+        ensures { IfOk result
+            (λ nodes. AreNeeded self.now (version_in versions.now.entries) nodes) }
     {
         needed::needed(alloc, &self.question, versions)
     }

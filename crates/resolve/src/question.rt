@@ -51,7 +51,8 @@ impl<'a> Model for Question<'a> {
 
 /// What a line asks for, where it counts in the environment.
 fn active<'l>(environment: &Environment, line: &'l Line) -> Option<&'l Requirement>
-    ensures { option_to_list (option_copied result) ≡ active_in environment.now (requirement_of line.now) }
+    ensures { option_to_list (option_copied result)
+        ≡ active_in environment.now (requirement_of line.now) }
 {
     let requirement = line.requirement()?;
     if requirement.is_active(environment) {
@@ -87,7 +88,15 @@ impl<'a> Question<'a> {
         snapshot: &'a Snapshot,
         kept: BTreeMap<Name, Version>,
     ) -> Result<Question<'a>, AllocError>
-        ensures { IfOk result (λ question. question ≡ record { active = requirements environment.now lines.now; environment = environment.now; index = snapshot.now; kept = kept.entries }) }
+        ensures { IfOk result
+            (λ question. question
+            ≡ record {
+              active = requirements environment.now lines.now;
+              environment =
+                  environment.now;
+              index = snapshot.now;
+              kept = kept.entries;
+            }) }
     {
         let active = requirements(alloc, environment, lines.lines())?;
         let environment = environment.clone()?;

@@ -25,7 +25,9 @@ fn put(
     versions: &mut BTreeMap<Name, Version>,
 ) -> Result<(), AllocError>
     requires { IsKnown question.now names.now choice }
-    ensures { OnOk result (Updates (slice_cmp nat_cmp) versions.old versions.new (name_at names.now choice.name) (Some (version_at (releases_on question.now (name_at names.now choice.name)) choice.place))) }
+    ensures { OnOk result (Updates (slice_cmp nat_cmp) versions.old versions.new (name_at names.now
+        choice.name) (Some (version_at (releases_on question.now (name_at names.now choice.name))
+        choice.place))) }
 {
     let name = &names[choice.name];
     let releases = question.releases(name);
@@ -42,7 +44,8 @@ pub(crate) fn versions_of(
     choices: &[Choice],
 ) -> Result<BTreeMap<Name, Version>, AllocError>
     requires { AreKnown question.now names.now choices.now }
-    ensures { IfOk result (λ versions. (name : List ℕ) → version_in versions.entries name ≡ chosen question.now names.now choices.now name) }
+    ensures { IfOk result (λ versions. (name : List ℕ)
+        → version_in versions.entries name ≡ chosen question.now names.now choices.now name) }
 {
     let mut versions = BTreeMap::new(alloc);
     let mut left = choices.len();

@@ -31,7 +31,8 @@ fn does_now_clash(
     name: usize,
 ) -> bool
     requires known { requirement < length table.now.requirements }
-    requires fits { is_known ≡ true → (rules_of table.now).name requirement ≢ name → clash_in (rules_of table.now) (taken_at taken.now) requirement ≡ false }
+    requires fits { is_known ≡ true → (rules_of table.now).name requirement ≢ name
+        → clash_in (rules_of table.now) (taken_at taken.now) requirement ≡ false }
     ensures { result ≡ clash_in (rules_of table.now) (taken_at taken.now) requirement }
 {
     if is_known && table.name_asked(requirement) != name {
@@ -57,7 +58,8 @@ pub fn do_any_clash(table: &Table, taken: &[Option<usize>], asked: &[usize], sin
 
 /// The lesser of a name and what was found so far.
 fn lesser(found: Option<usize>, name: usize) -> usize
-    ensures { MatchOption found (result ≡ name) (λ other. result ≡ (if nat_lt name other then name else other)) }
+    ensures { MatchOption found (result ≡ name)
+        (λ other. result ≡ (if nat_lt name other then name else other)) }
 {
     match found {
         None => name,
@@ -68,7 +70,8 @@ fn lesser(found: Option<usize>, name: usize) -> usize
 /// The least name of the nodes that is not taken.
 pub fn least_free(table: &Table, taken: &[Option<usize>], nodes: &[usize]) -> Option<usize>
     requires { EachBelow (length table.now.nodes) nodes.now }
-    ensures { MatchOption result (NoneFree (rules_of table.now) (taken_at taken.now) nodes.now) (λ n. IsLeastFree (rules_of table.now) (taken_at taken.now) nodes.now n) }
+    ensures { MatchOption result (NoneFree (rules_of table.now) (taken_at taken.now) nodes.now)
+        (λ n. IsLeastFree (rules_of table.now) (taken_at taken.now) nodes.now n) }
 {
     let mut found = None;
     for node in nodes {

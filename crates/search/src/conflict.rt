@@ -39,7 +39,8 @@ pub fn has(decisions: &[Decision], decision: Decision) -> bool
 
 /// Puts a decision behind the others, unless it is one of them.
 pub fn insert(decisions: &mut Vec<Decision>, decision: Decision) -> Result<(), AllocError>
-    ensures { IfOk result (λ _. Gathers decisions.old.items decisions.new.items (decision ∷ []) []) }
+    ensures { IfOk result
+        (λ _. Gathers decisions.old.items decisions.new.items (decision ∷ []) []) }
 {
     if !has(decisions.as_slice(), decision) {
         decisions.push(decision)?;
@@ -53,7 +54,8 @@ fn insert_unless(
     decision: Decision,
     left_out: Decision,
 ) -> Result<(), AllocError>
-    ensures { IfOk result (λ _. Gathers decisions.old.items decisions.new.items (decision ∷ []) (left_out ∷ [])) }
+    ensures { IfOk result
+        (λ _. Gathers decisions.old.items decisions.new.items (decision ∷ []) (left_out ∷ [])) }
 {
     if is_same(decision, left_out) {
         return Ok(());
@@ -68,7 +70,8 @@ pub fn insert_all(
     conflict: &[Decision],
     left_out: Decision,
 ) -> Result<(), AllocError>
-    ensures { IfOk result (λ _. Gathers decisions.old.items decisions.new.items conflict.now (left_out ∷ [])) }
+    ensures { IfOk result
+        (λ _. Gathers decisions.old.items decisions.new.items conflict.now (left_out ∷ [])) }
 {
     for decision in conflict {
         insert_unless(decisions, *decision, left_out)?;

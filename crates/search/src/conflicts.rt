@@ -74,7 +74,8 @@ impl Conflicts {
 
     /// Records a conflict behind the others.
     pub fn record(&mut self, conflict: Vec<Decision>) -> Result<(), AllocError>
-        ensures { IfOk result (λ _. self.new.list.items ≡ self.old.list.items ++ conflict.items ∷ []) }
+        ensures { IfOk result
+            (λ _. self.new.list.items ≡ self.old.list.items ++ conflict.items ∷ []) }
     {
         let at = self.list.len();
         self.link_all(conflict.as_slice(), at)?;
@@ -99,14 +100,18 @@ impl Conflicts {
         place: usize,
         candidate: Decision,
     ) -> bool
-        ensures { IsTrue result → (place < length self.now.list.items) × IsWithin (slice_index_or self.now.list.items place []) (map choice_at choices.now.entries) candidate }
+        ensures { IsTrue result → (place < length self.now.list.items)
+            × IsWithin (slice_index_or self.now.list.items place []) (map choice_at
+            choices.now.entries) candidate }
     {
         place < self.list.len() && is_completed(choices, self.at(place), candidate)
     }
 
     /// The place of a recorded conflict that the choices hold but for the candidate.
     pub fn completed(&self, choices: &IndexMap<usize, usize>, candidate: Decision) -> Option<usize>
-        ensures { MatchOption result Unit (λ k. (k < length self.now.list.items) × IsWithin (slice_index_or self.now.list.items k []) (map choice_at choices.now.entries) candidate) }
+        ensures { MatchOption result Unit (λ k. (k < length self.now.list.items)
+            × IsWithin (slice_index_or self.now.list.items k []) (map choice_at
+            choices.now.entries) candidate) }
     {
         let mut bound = self.links.len();
         let mut at = match self.last.get(&(candidate.node, candidate.version)) {

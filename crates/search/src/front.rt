@@ -41,7 +41,8 @@ impl Front {
     pub fn of(alloc: Global, table: &Table, frames: &[Frame]) -> Result<Front, AllocError>
         requires { AreKnown (length table.now.candidates) frames.now }
         ensures front { IfOk result (λ front. IsFront table.now front) }
-        ensures same { IfOk result (λ front. (n : ℕ) → taken_at front.taken.items n ≡ version_in nat_cmp (pins_of frames.now) n) }
+        ensures same { IfOk result (λ front. (n : ℕ)
+            → taken_at front.taken.items n ≡ version_in nat_cmp (pins_of frames.now) n) }
     {
         let taken = taken_of(alloc, table, frames)?;
         let mut needed = NodeSet::new(alloc, table.node_count())?;
@@ -72,7 +73,10 @@ impl Front {
     /// The least name of the needed nodes that is not taken.
     pub fn least_free(&self, table: &Table) -> Option<usize>
         requires { IsFront table.now self.now }
-        ensures { MatchOption result (NoneFree (rules_of table.now) (taken_at self.now.taken.items) self.now.needed.members) (λ n. IsLeastFree (rules_of table.now) (taken_at self.now.taken.items) self.now.needed.members n) }
+        ensures { MatchOption result (NoneFree (rules_of table.now) (taken_at self.now.taken.items)
+            self.now.needed.members)
+            (λ n. IsLeastFree (rules_of table.now) (taken_at self.now.taken.items)
+            self.now.needed.members n) }
     {
         least_free(table, self.taken.as_slice(), self.needed.as_slice())
     }
@@ -83,7 +87,8 @@ impl Front {
         requires front { IsFront table.now self.old }
         requires fits { self.old.clashes ≡ false }
         ensures front { IfOk result (λ _. IsFront table.now self.new) }
-        ensures taken { IfOk result (λ _. TakesFirst self.old.taken.items self.new.taken.items frame) }
+        ensures taken { IfOk result
+            (λ _. TakesFirst self.old.taken.items self.new.taken.items frame) }
     {
         let since = Since {
             name: frame.name,

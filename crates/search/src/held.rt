@@ -23,7 +23,8 @@ pub struct Ask {
 
 /// Whether a node has a choice.
 pub fn is_chosen(choices: &IndexMap<usize, usize>, node: usize) -> bool
-    ensures chosen { IsTrue result → (v : ℕ) × Contains (map choice_at choices.now.entries) (decision node v) }
+    ensures chosen { IsTrue result → (v : ℕ)
+        × Contains (map choice_at choices.now.entries) (decision node v) }
     ensures free { IsFalse result → IsFree (map choice_at choices.now.entries) node }
 {
     choices.get(&node).is_some()
@@ -41,7 +42,8 @@ fn is_held(choices: &IndexMap<usize, usize>, decision: Decision) -> bool
 
 /// Whether a choice is held or is the candidate.
 fn is_covered(choices: &IndexMap<usize, usize>, decision: Decision, candidate: Decision) -> bool
-    ensures { IsTrue result → IsWithin (decision ∷ []) (map choice_at choices.now.entries) candidate }
+    ensures { IsTrue result
+        → IsWithin (decision ∷ []) (map choice_at choices.now.entries) candidate }
 {
     is_same(candidate, decision) || is_held(choices, decision)
 }
@@ -88,7 +90,8 @@ fn add_asks(
     requirements: &[usize],
     by: Option<Decision>,
 ) -> Result<(), AllocError>
-    ensures { IfOk result (λ _. asks.new.items ≡ asks.old.items ++ map (ask_of by) requirements.now) }
+    ensures { IfOk result
+        (λ _. asks.new.items ≡ asks.old.items ++ map (ask_of by) requirements.now) }
 {
     for requirement in requirements {
         asks.push(Ask {
@@ -133,9 +136,13 @@ impl Partial {
         requires partial { IsPartial table.now self.old }
         requires known { trial.node < length table.now.nodes }
         requires free { IsFree (decisions_of self.old.held.items) trial.node }
-        requires first { trial.leads ≡ true → version_in nat_cmp (leaders_held (rules_of table.now) self.old.held.items) (name_of table.now trial.node) ≡ None }
+        requires first { trial.leads ≡ true
+            → version_in nat_cmp (leaders_held (rules_of table.now) self.old.held.items) (name_of
+            table.now trial.node) ≡ None }
         ensures partial { IfOk result (λ _. IsPartial table.now self.new) }
-        ensures held { IfOk result (λ _. self.new.held.items ≡ self.old.held.items ++ (record { trial = trial; place = place }) ∷ []) }
+        ensures held { IfOk result
+            (λ _. self.new.held.items ≡ self.old.held.items
+            ++ (record { trial = trial; place = place }) ∷ []) }
     {
         let node = trial.node;
         let leads = trial.leads;
@@ -156,7 +163,8 @@ impl Partial {
     pub fn pop(&mut self, table: &Table) -> Option<Held>
         requires partial { IsPartial table.now self.old }
         requires last { LastIsNew table.now self.old.held.items }
-        ensures popped { MatchOption result (self.old.held.items ≡ []) (λ h. self.old.held.items ≡ self.new.held.items ++ h ∷ []) }
+        ensures popped { MatchOption result (self.old.held.items ≡ [])
+            (λ h. self.old.held.items ≡ self.new.held.items ++ h ∷ []) }
         ensures partial { MatchOption result Unit (λ _. IsPartial table.now self.new) }
     {
         let held = self.held.pop()?;

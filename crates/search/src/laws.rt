@@ -12,23 +12,41 @@ ghost use Rattle.search.specs.declared.parts.Choice.{Choice};
 
 /// There is at most one best solution, and no solution is better.
 pub fn the_best_solution_is_unique<N, X, V, R>()
-    ensures unique { (rules : Rules N X V R) → IsOrder rules.compare → (s t : N → Option V) → IsBest rules s → IsBest rules t → (n : N) → t n ≡ s n }
-    ensures unbeaten { (rules : Rules N X V R) → IsOrder rules.compare → (s t : N → Option V) → IsBest rules s → Solution rules t → IsBetter rules t s → ⊥ }
+    ensures unique { (rules : Rules N X V R) → IsOrder rules.compare → (s t : N → Option V)
+        → IsBest rules s → IsBest rules t → (n : N) → t n ≡ s n }
+    ensures unbeaten { (rules : Rules N X V R) → IsOrder rules.compare → (s t : N → Option V)
+        → IsBest rules s → Solution rules t → IsBetter rules t s → ⊥ }
 {}
 
 /// Where a table pictures other rules, a best solution of the table stands for the best solution
 /// of the rules, and either both have a solution or neither has.
 pub fn a_picture_keeps_the_best_solution<N, X, V, R>()
-    ensures best { (t : Parts) (picture : Picture N X V R) (rules : Rules N X V R) → in_range t ≡ true → IsOrder rules.compare → IsPicture t picture rules → (choices : List Choice) → IsBest (rules_of t) (place_in choices) → IsBest rules (version_in rules.compare (pictured picture choices)) }
-    ensures none { (t : Parts) (picture : Picture N X V R) (rules : Rules N X V R) → in_range t ≡ true → IsOrder rules.compare → IsPicture t picture rules → HasNoSolution (rules_of t) → HasNoSolution rules }
-    ensures none_there { (t : Parts) (picture : Picture N X V R) (rules : Rules N X V R) → in_range t ≡ true → IsOrder rules.compare → IsPicture t picture rules → HasNoSolution rules → HasNoSolution (rules_of t) }
+    ensures best { (t : Parts) (picture : Picture N X V R) (rules : Rules N X V R)
+        → in_range t ≡ true → IsOrder rules.compare → IsPicture t picture rules
+        → (choices : List Choice) → IsBest (rules_of t) (place_in choices)
+        → IsBest rules (version_in rules.compare (pictured picture choices)) }
+    ensures none { (t : Parts) (picture : Picture N X V R) (rules : Rules N X V R)
+        → in_range t ≡ true → IsOrder rules.compare → IsPicture t picture rules
+        → HasNoSolution (rules_of t) → HasNoSolution rules }
+    ensures none_there { (t : Parts) (picture : Picture N X V R) (rules : Rules N X V R)
+        → in_range t ≡ true → IsOrder rules.compare → IsPicture t picture rules
+        → HasNoSolution rules → HasNoSolution (rules_of t) }
 {}
 
 /// A conflict that follows from conflicts which lie in no solution lies in none. So each conflict
 /// of a list in which each follows from those before it lies in none, and where such a list ends
 /// in the empty conflict no solution exists.
 pub fn what_follows_lies_in_no_solution<N, X, V, R>()
-    ensures follows { (rules : Rules N X V R) (same : V → V → Bool) → IsLawful rules → IsVersionEquality rules same → (earlier : List (List (NodeChoice X V))) (conflict : List (NodeChoice X V)) → ((old : List (NodeChoice X V)) → Contains earlier old → LiesInNone rules same old) → Follows rules same earlier conflict → LiesInNone rules same conflict }
-    ensures each { (rules : Rules N X V R) (same : V → V → Bool) → IsLawful rules → IsVersionEquality rules same → (conflicts : List (List (NodeChoice X V))) → EachFollows rules same [] conflicts → (conflict : List (NodeChoice X V)) → Contains conflicts conflict → LiesInNone rules same conflict }
-    ensures none { (rules : Rules N X V R) (same : V → V → Bool) → IsLawful rules → IsVersionEquality rules same → (conflicts : List (List (NodeChoice X V))) → IsRefutation rules same conflicts → HasNoSolution rules }
+    ensures follows { (rules : Rules N X V R) (same : V → V → Bool) → IsLawful rules
+        → IsVersionEquality rules same
+        → (earlier : List (List (NodeChoice X V))) (conflict : List (NodeChoice X V))
+        → ((old : List (NodeChoice X V)) → Contains earlier old → LiesInNone rules same old)
+        → Follows rules same earlier conflict → LiesInNone rules same conflict }
+    ensures each { (rules : Rules N X V R) (same : V → V → Bool) → IsLawful rules
+        → IsVersionEquality rules same → (conflicts : List (List (NodeChoice X V)))
+        → EachFollows rules same [] conflicts → (conflict : List (NodeChoice X V))
+        → Contains conflicts conflict → LiesInNone rules same conflict }
+    ensures none { (rules : Rules N X V R) (same : V → V → Bool) → IsLawful rules
+        → IsVersionEquality rules same → (conflicts : List (List (NodeChoice X V)))
+        → IsRefutation rules same conflicts → HasNoSolution rules }
 {}

@@ -41,7 +41,9 @@ fn refuse_for(
     other: Decision,
 ) -> Result<(), AllocError>
     requires { trial.old.turn < count }
-    ensures { IfOk result (λ _. IsRefusedFor trial.old trial.new conflicts.old.list.items conflicts.new.list.items (decision trial.old.node place) other) }
+    ensures { IfOk result
+        (λ _. IsRefusedFor trial.old trial.new conflicts.old.list.items conflicts.new.list.items
+        (decision trial.old.node place) other) }
 {
     let candidate = Decision {
         node: trial.node,
@@ -66,14 +68,20 @@ fn refuse(
 ) -> Result<bool, AllocError>
     requires table { in_range table.now ≡ true }
     requires learned { IsLearned table.now partial.now conflicts.old.list.items }
-    requires trial { IsTrial (rules_of table.now) conflicts.old.list.items partial.now.held.items trial.old }
+    requires trial { IsTrial (rules_of table.now) conflicts.old.list.items partial.now.held.items
+        trial.old }
     requires count { count ≡ length (candidates_of table.now (name_of table.now trial.old.node)) }
     requires turn { trial.old.turn < count }
-    requires place { slice_index_or (candidates_of table.now (name_of table.now trial.old.node)) trial.old.turn place ≡ place }
+    requires place { slice_index_or (candidates_of table.now (name_of table.now trial.old.node))
+        trial.old.turn place ≡ place }
     ensures learned { IfOk result (λ _. IsLearned table.now partial.now conflicts.new.list.items) }
-    ensures trial { IfOk result (λ _. IsTrial (rules_of table.now) conflicts.new.list.items partial.now.held.items trial.new) }
-    ensures refused { IfOk result (λ refused. IsTrue refused → (trial.new.node ≡ trial.old.node) × (trial.new.turn ≡ trial.old.turn + 1)) }
-    ensures fits { IfOk result (λ refused. IsFalse refused → (trial.new ≡ trial.old) × FitsBefore (rules_of table.now) partial.now.held.items (decision trial.old.node place)) }
+    ensures trial { IfOk result
+        (λ _. IsTrial (rules_of table.now) conflicts.new.list.items partial.now.held.items
+        trial.new) }
+    ensures refused { IfOk result (λ refused. IsTrue refused → (trial.new.node ≡ trial.old.node)
+        × (trial.new.turn ≡ trial.old.turn + 1)) }
+    ensures fits { IfOk result (λ refused. IsFalse refused → (trial.new ≡ trial.old)
+        × FitsBefore (rules_of table.now) partial.now.held.items (decision trial.old.node place)) }
 {
     let candidate = Decision {
         node: trial.node,
@@ -103,9 +111,16 @@ fn cut_back(
     requires table { in_range table.now ≡ true }
     requires learned { IsLearned table.now partial.old conflicts.now.list.items }
     requires at { at < length conflicts.now.list.items }
-    requires within { (c : NodeChoice ℕ ℕ) → Contains (slice_index_or conflicts.now.list.items at []) c → Contains (decisions_of partial.old.held.items) c }
-    ensures none { IfOk result (λ found. MatchOption found (HasNoSolution (rules_of table.now)) (λ trial. IsBack partial.old.held.items partial.new.held.items trial)) }
-    ensures learned { IfOk result (λ found. MatchOption found Unit (λ trial. IsLearned table.now partial.new conflicts.now.list.items × IsTrial (rules_of table.now) conflicts.now.list.items partial.new.held.items trial)) }
+    requires within { (c : NodeChoice ℕ ℕ)
+        → Contains (slice_index_or conflicts.now.list.items at []) c
+        → Contains (decisions_of partial.old.held.items) c }
+    ensures none { IfOk result
+        (λ found. MatchOption found (HasNoSolution (rules_of table.now))
+        (λ trial. IsBack partial.old.held.items partial.new.held.items trial)) }
+    ensures learned { IfOk result
+        (λ found. MatchOption found Unit
+        (λ trial. IsLearned table.now partial.new conflicts.now.list.items
+        × IsTrial (rules_of table.now) conflicts.now.list.items partial.new.held.items trial)) }
 {
     let conflict = conflicts.at(at);
     while let Some(held) = partial.pop(table) {
@@ -133,10 +148,14 @@ fn learn(
 ) -> Result<Progress, AllocError>
     requires table { in_range table.now ≡ true }
     requires learned { IsLearned table.now partial.old conflicts.old.list.items }
-    requires trial { IsTrial (rules_of table.now) conflicts.old.list.items partial.old.held.items trial }
+    requires trial { IsTrial (rules_of table.now) conflicts.old.list.items partial.old.held.items
+        trial }
     requires none { length (candidates_of table.now (name_of table.now trial.node)) ≤ trial.turn }
-    ensures stands { IfOk result (λ progress. StandsAt table.now partial.new conflicts.new.list.items progress) }
-    ensures onward { IfOk result (λ progress. GoesOnward table.now partial.old.held.items partial.new.held.items trial progress) }
+    ensures stands { IfOk result
+        (λ progress. StandsAt table.now partial.new conflicts.new.list.items progress) }
+    ensures onward { IfOk result
+        (λ progress. GoesOnward table.now partial.old.held.items partial.new.held.items trial
+        progress) }
 {
     let conflict = trial.into_conflict()?;
     let at = conflicts.list.len();
@@ -171,9 +190,13 @@ fn step(
 ) -> Result<Progress, AllocError>
     requires table { in_range table.now ≡ true }
     requires learned { IsLearned table.now partial.old conflicts.old.list.items }
-    requires trial { IsTrial (rules_of table.now) conflicts.old.list.items partial.old.held.items trial }
-    ensures stands { IfOk result (λ progress. StandsAt table.now partial.new conflicts.new.list.items progress) }
-    ensures onward { IfOk result (λ progress. GoesOnward table.now partial.old.held.items partial.new.held.items trial progress) }
+    requires trial { IsTrial (rules_of table.now) conflicts.old.list.items partial.old.held.items
+        trial }
+    ensures stands { IfOk result
+        (λ progress. StandsAt table.now partial.new conflicts.new.list.items progress) }
+    ensures onward { IfOk result
+        (λ progress. GoesOnward table.now partial.old.held.items partial.new.held.items trial
+        progress) }
 {
     let candidates = table.candidates(table.name_of(trial.node));
     let count = candidates.len();
@@ -213,7 +236,8 @@ fn places_of(alloc: Global, taken: &[Option<Decision>]) -> Result<Vec<Option<usi
 
 /// The choices of the names, in their order.
 fn choices_of(alloc: Global, partial: &Partial) -> Result<Seq<Choice>, AllocError>
-    ensures best { IfOk result (λ choices. (t : Parts) → IsPartial t partial.now → (n : ℕ) → place_in choices n ≡ chosen_held (rules_of t) partial.now.held.items n) }
+    ensures best { IfOk result (λ choices. (t : Parts) → IsPartial t partial.now → (n : ℕ)
+        → place_in choices n ≡ chosen_held (rules_of t) partial.now.held.items n) }
     ensures ascending { IfOk result (λ choices. IsAscending choices) }
 {
     let places = places_of(alloc, partial.taken.as_slice())?;
@@ -224,8 +248,11 @@ fn choices_of(alloc: Global, partial: &Partial) -> Result<Seq<Choice>, AllocErro
 /// The best solution of a table, its choices in the order of their names; nothing where there is
 /// no solution. The search learns from its conflicts.
 pub fn learned_best(alloc: Global, table: &Table) -> Result<Option<Seq<Choice>>, AllocError>
-    ensures best { IfOk result (λ answer. MatchOption answer (HasNoSolution (rules_of table.now)) (λ choices. IsBest (rules_of table.now) (place_in choices))) }
-    ensures ascending { IfOk result (λ answer. MatchOption answer Unit (λ choices. IsAscending choices)) }
+    ensures best { IfOk result
+        (λ answer. MatchOption answer (HasNoSolution (rules_of table.now))
+        (λ choices. IsBest (rules_of table.now) (place_in choices))) }
+    ensures ascending { IfOk result
+        (λ answer. MatchOption answer Unit (λ choices. IsAscending choices)) }
 {
     let mut partial = Partial::new(alloc, table)?;
     let mut conflicts = Conflicts::new(alloc);

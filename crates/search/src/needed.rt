@@ -27,7 +27,8 @@ pub fn place_of(taken: &[Option<usize>], name: usize) -> Option<usize>
 fn add_nodes(table: &Table, nodes: &mut NodeSet, requirement: usize) -> Result<(), AllocError>
     requires known { requirement < length table.now.requirements }
     requires room { nodes.old.room ≡ length table.now.nodes }
-    ensures { IfOk result (λ _. IsGrown nodes.old nodes.new (nodes_of (requirement_at table.now requirement))) }
+    ensures { IfOk result
+        (λ _. IsGrown nodes.old nodes.new (nodes_of (requirement_at table.now requirement))) }
 {
     let asked = table.requirement(requirement);
     nodes.insert(asked.node)?;
@@ -39,7 +40,8 @@ fn add_nodes(table: &Table, nodes: &mut NodeSet, requirement: usize) -> Result<(
 fn add_asked(table: &Table, nodes: &mut NodeSet, asked: &[usize]) -> Result<(), AllocError>
     requires known { EachBelow (length table.now.requirements) asked.now }
     requires room { nodes.old.room ≡ length table.now.nodes }
-    ensures { IfOk result (λ _. IsGrown nodes.old nodes.new (nodes_asked (rules_of table.now) asked.now)) }
+    ensures { IfOk result
+        (λ _. IsGrown nodes.old nodes.new (nodes_asked (rules_of table.now) asked.now)) }
 {
     for requirement in asked {
         add_nodes(table, nodes, *requirement)?;
@@ -57,7 +59,8 @@ pub fn ask(
     requires known { EachBelow (length table.now.requirements) more.now }
     requires room { nodes.old.room ≡ length table.now.nodes }
     requires asked_room { asked.old.room ≡ length table.now.requirements }
-    ensures nodes { IfOk result (λ _. IsGrown nodes.old nodes.new (nodes_asked (rules_of table.now) more.now)) }
+    ensures nodes { IfOk result
+        (λ _. IsGrown nodes.old nodes.new (nodes_asked (rules_of table.now) more.now)) }
     ensures asked { IfOk result (λ _. IsGrown asked.old asked.new more.now) }
 {
     asked.insert_all(more)?;
@@ -77,8 +80,12 @@ fn follow(
     requires known { node < length table.now.nodes }
     requires room { nodes.old.room ≡ length table.now.nodes }
     requires asked_room { asked.old.room ≡ length table.now.requirements }
-    ensures nodes { IfOk result (λ _. IsGrown nodes.old nodes.new (nodes_linked (rules_of table.now) node (taken_at taken.now (name_of table.now node)))) }
-    ensures asked { IfOk result (λ _. IsGrown asked.old asked.new (wants_linked (rules_of table.now) node (taken_at taken.now (name_of table.now node)))) }
+    ensures nodes { IfOk result
+        (λ _. IsGrown nodes.old nodes.new (nodes_linked (rules_of table.now) node (taken_at
+        taken.now (name_of table.now node)))) }
+    ensures asked { IfOk result
+        (λ _. IsGrown asked.old asked.new (wants_linked (rules_of table.now) node (taken_at
+        taken.now (name_of table.now node)))) }
 {
     match place_of(taken, table.name_of(node)) {
         None => Ok(()),
@@ -99,12 +106,15 @@ fn follow_at(
     requires within { at < length nodes.old.members }
     requires room { nodes.old.room ≡ length table.now.nodes }
     requires asked_room { asked.old.room ≡ length table.now.requirements }
-    requires followed { IsFollowed (rules_of table.now) (taken_at taken.now) nodes.old.members asked.old.members since at }
+    requires followed { IsFollowed (rules_of table.now) (taken_at taken.now) nodes.old.members
+        asked.old.members since at }
     ensures grown { IfOk result (λ _. length nodes.old.members ≤ length nodes.new.members) }
     ensures room { IfOk result (λ _. nodes.new.room ≡ nodes.old.room) }
     ensures asked_room { IfOk result (λ _. asked.new.room ≡ asked.old.room) }
     ensures kept { IfOk result (λ _. Extends asked.old.members asked.new.members) }
-    ensures followed { IfOk result (λ _. IsFollowed (rules_of table.now) (taken_at taken.now) nodes.new.members asked.new.members since (at + 1)) }
+    ensures followed { IfOk result
+        (λ _. IsFollowed (rules_of table.now) (taken_at taken.now) nodes.new.members
+        asked.new.members since (at + 1)) }
 {
     let node = nodes.at(at);
     if at < since.nodes && table.name_of(node) != since.name {
@@ -124,12 +134,15 @@ pub fn follow_all(
 ) -> Result<(), AllocError>
     requires room { nodes.old.room ≡ length table.now.nodes }
     requires asked_room { asked.old.room ≡ length table.now.requirements }
-    requires followed { IsFollowed (rules_of table.now) (taken_at taken.now) nodes.old.members asked.old.members since 0 }
+    requires followed { IsFollowed (rules_of table.now) (taken_at taken.now) nodes.old.members
+        asked.old.members since 0 }
     ensures room { IfOk result (λ _. nodes.new.room ≡ length table.now.nodes) }
     ensures asked_room { IfOk result (λ _. asked.new.room ≡ length table.now.requirements) }
     ensures kept { IfOk result (λ _. Extends asked.old.members asked.new.members) }
-    ensures needed { IfOk result (λ _. AreNeeded (rules_of table.now) (taken_at taken.now) nodes.new.members) }
-    ensures asked { IfOk result (λ _. AreAsked (rules_of table.now) (taken_at taken.now) asked.new.members) }
+    ensures needed { IfOk result
+        (λ _. AreNeeded (rules_of table.now) (taken_at taken.now) nodes.new.members) }
+    ensures asked { IfOk result
+        (λ _. AreAsked (rules_of table.now) (taken_at taken.now) asked.new.members) }
 {
     let mut at = 0;
     while at < nodes.len() {

@@ -27,7 +27,9 @@ pub struct Need {
 
 /// The first of these nodes that is not chosen.
 fn first_free(choices: &IndexMap<usize, usize>, nodes: &[usize]) -> Option<usize>
-    ensures { MatchOption result ((node : ℕ) → Contains nodes.now node → (v : ℕ) × Contains (map choice_at choices.now.entries) (decision node v)) (λ node. Contains nodes.now node × IsFree (map choice_at choices.now.entries) node) }
+    ensures { MatchOption result ((node : ℕ) → Contains nodes.now node → (v : ℕ)
+        × Contains (map choice_at choices.now.entries) (decision node v))
+        (λ node. Contains nodes.now node × IsFree (map choice_at choices.now.entries) node) }
 {
     for node in nodes {
         if !is_chosen(choices, *node) {
@@ -44,7 +46,11 @@ fn first_free_of(
     requirement: usize,
 ) -> Option<usize>
     requires { requirement < length table.now.requirements }
-    ensures { MatchOption result ((node : ℕ) → Contains (nodes_of (requirement_at table.now requirement)) node → (v : ℕ) × Contains (map choice_at choices.now.entries) (decision node v)) (λ node. Contains (nodes_of (requirement_at table.now requirement)) node × IsFree (map choice_at choices.now.entries) node) }
+    ensures { MatchOption result ((node : ℕ)
+        → Contains (nodes_of (requirement_at table.now requirement)) node → (v : ℕ)
+        × Contains (map choice_at choices.now.entries) (decision node v))
+        (λ node. Contains (nodes_of (requirement_at table.now requirement)) node
+        × IsFree (map choice_at choices.now.entries) node) }
 {
     let asked = table.requirement(requirement);
     if !is_chosen(choices, asked.node) {
@@ -61,7 +67,10 @@ fn tied_at(
     ask: Ask,
 ) -> Option<Need>
     requires { ask.requirement < length table.now.requirements }
-    ensures { MatchOption result (NoneTied (rules_of table.now) (first_at taken.now) (map choice_at choices.now.entries) (ask ∷ [])) (λ need. IsTied (rules_of table.now) (first_at taken.now) (map choice_at choices.now.entries) (ask ∷ []) need) }
+    ensures { MatchOption result (NoneTied (rules_of table.now) (first_at taken.now) (map choice_at
+        choices.now.entries) (ask ∷ []))
+        (λ need. IsTied (rules_of table.now) (first_at taken.now) (map choice_at
+        choices.now.entries) (ask ∷ []) need) }
 {
     first_on(taken, table.name_asked(ask.requirement))?;
     let node = first_free_of(table, choices, ask.requirement)?;
@@ -76,7 +85,10 @@ fn tied_need(
     asks: &[Ask],
 ) -> Option<Need>
     requires { AreKnownAsks (length table.now.requirements) asks.now }
-    ensures { MatchOption result (NoneTied (rules_of table.now) (first_at taken.now) (map choice_at choices.now.entries) asks.now) (λ need. IsTied (rules_of table.now) (first_at taken.now) (map choice_at choices.now.entries) asks.now need) }
+    ensures { MatchOption result (NoneTied (rules_of table.now) (first_at taken.now) (map choice_at
+        choices.now.entries) asks.now)
+        (λ need. IsTied (rules_of table.now) (first_at taken.now) (map choice_at
+        choices.now.entries) asks.now need) }
 {
     for ask in asks {
         if let Some(need) = tied_at(table, taken, choices, *ask) {
@@ -89,7 +101,8 @@ fn tied_need(
 /// Whether a name is less than that of what was found.
 fn is_less(table: &Table, name: usize, found: Option<Need>) -> bool
     requires { MatchOption found Unit (λ need. need.node < length table.now.nodes) }
-    ensures { MatchOption found (result ≡ true) (λ need. result ≡ nat_lt name ((rules_of table.now).on need.node)) }
+    ensures { MatchOption found (result ≡ true)
+        (λ need. result ≡ nat_lt name ((rules_of table.now).on need.node)) }
 {
     match found {
         None => true,
@@ -108,7 +121,9 @@ fn lesser_need(
     requires table { in_range table.now ≡ true }
     requires known { ask.requirement < length table.now.requirements }
     requires found { MatchOption found Unit (λ need. need.node < length table.now.nodes) }
-    ensures found { (asks : List AskValue) → IsFoundNeed (rules_of table.now) (first_at taken.now) asks found → IsFoundNeed (rules_of table.now) (first_at taken.now) (asks ++ ask ∷ []) result }
+    ensures found { (asks : List AskValue)
+        → IsFoundNeed (rules_of table.now) (first_at taken.now) asks found
+        → IsFoundNeed (rules_of table.now) (first_at taken.now) (asks ++ ask ∷ []) result }
     ensures known { MatchOption result Unit (λ need. need.node < length table.now.nodes) }
 {
     let name = table.name_asked(ask.requirement);
@@ -137,7 +152,8 @@ fn free_need(table: &Table, taken: &[Option<Decision>], asks: &[Ask]) -> Option<
 
 /// The candidates of a node, none of them tried.
 fn trial_of(alloc: Global, need: Need, leads: bool) -> Trial
-    ensures { (result.node ≡ need.node) × (result.by ≡ need.by) × (result.leads ≡ leads) × (result.turn ≡ 0) × (result.blame.items ≡ []) }
+    ensures { (result.node ≡ need.node) × (result.by ≡ need.by) × (result.leads ≡ leads)
+        × (result.turn ≡ 0) × (result.blame.items ≡ []) }
 {
     Trial {
         node: need.node,
@@ -152,8 +168,15 @@ fn trial_of(alloc: Global, need: Need, leads: bool) -> Trial
 pub fn next(alloc: Global, table: &Table, partial: &Partial) -> Option<Trial>
     requires table { in_range table.now ≡ true }
     requires partial { IsPartial table.now partial.now }
-    requires learning { (conflicts : List (List (NodeChoice ℕ ℕ))) × IsLearning (rules_of table.now) conflicts [] partial.now.held.items }
-    ensures { MatchOption result ((node : ℕ) → Needed (rules_of table.now) (chosen_held (rules_of table.now) partial.now.held.items) node → (v : ℕ) × Contains (decisions_of partial.now.held.items) (decision node v)) (λ trial. (trial.turn ≡ 0) × ((conflicts : List (List (NodeChoice ℕ ℕ))) → IsTrial (rules_of table.now) conflicts partial.now.held.items trial)) }
+    requires learning { (conflicts : List (List (NodeChoice ℕ ℕ)))
+        × IsLearning (rules_of table.now) conflicts [] partial.now.held.items }
+    ensures { MatchOption result ((node : ℕ)
+        → Needed (rules_of table.now) (chosen_held (rules_of table.now) partial.now.held.items)
+        node → (v : ℕ)
+        × Contains (decisions_of partial.now.held.items) (decision node v))
+        (λ trial. (trial.turn ≡ 0)
+        × ((conflicts : List (List (NodeChoice ℕ ℕ)))
+        → IsTrial (rules_of table.now) conflicts partial.now.held.items trial)) }
 {
     let taken = partial.taken.as_slice();
     let asks = partial.asks.as_slice();

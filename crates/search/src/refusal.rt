@@ -39,7 +39,8 @@ fn asker(by: Option<Decision>, candidate: Decision) -> Decision
 fn asked_clash(table: &Table, asks: &[Ask], candidate: Decision) -> Option<Decision>
     requires node { candidate.node < length table.now.nodes }
     requires known { AreKnownAsks (length table.now.requirements) asks.now }
-    ensures { MatchOption result (AsksFit (rules_of table.now) asks.now candidate) (λ other. AskClashes (rules_of table.now) asks.now candidate other) }
+    ensures { MatchOption result (AsksFit (rules_of table.now) asks.now candidate)
+        (λ other. AskClashes (rules_of table.now) asks.now candidate other) }
 {
     let name = table.name_of(candidate.node);
     for ask in asks {
@@ -61,8 +62,10 @@ fn choice_on(
 ) -> Option<Decision>
     requires node { candidate.node < length table.now.nodes }
     requires known { requirement < length table.now.requirements }
-    ensures own { (rules_of table.now).name requirement ≡ (rules_of table.now).on candidate.node → result ≡ Some candidate }
-    ensures other { (rules_of table.now).name requirement ≢ (rules_of table.now).on candidate.node → result ≡ first_at taken.now ((rules_of table.now).name requirement) }
+    ensures own { (rules_of table.now).name requirement ≡ (rules_of table.now).on candidate.node
+        → result ≡ Some candidate }
+    ensures other { (rules_of table.now).name requirement ≢ (rules_of table.now).on candidate.node
+        → result ≡ first_at taken.now ((rules_of table.now).name requirement) }
 {
     let name = table.name_asked(requirement);
     if name == table.name_of(candidate.node) {
@@ -80,7 +83,9 @@ fn wanted_clash_with(
 ) -> Option<Decision>
     requires node { candidate.node < length table.now.nodes }
     requires known { requirement < length table.now.requirements }
-    ensures { MatchOption result (WantedFits (rules_of table.now) (first_at taken.now) candidate requirement) (λ other. WantedClashes (rules_of table.now) (first_at taken.now) candidate requirement other) }
+    ensures { MatchOption result (WantedFits (rules_of table.now) (first_at taken.now) candidate
+        requirement) (λ other. WantedClashes (rules_of table.now) (first_at taken.now) candidate
+        requirement other) }
 {
     let other = choice_on(table, taken, candidate, requirement)?;
     if table.does_admit(requirement, other.version) {
@@ -98,7 +103,10 @@ fn wanted_clash(
 ) -> Option<Decision>
     requires node { candidate.node < length table.now.nodes }
     requires known { EachBelow (length table.now.requirements) wants.now }
-    ensures { MatchOption result ((r : ℕ) → Contains wants.now r → WantedFits (rules_of table.now) (first_at taken.now) candidate r) (λ other. (r : ℕ) × Contains wants.now r × WantedClashes (rules_of table.now) (first_at taken.now) candidate r other) }
+    ensures { MatchOption result ((r : ℕ) → Contains wants.now r
+        → WantedFits (rules_of table.now) (first_at taken.now) candidate r) (λ other. (r : ℕ)
+        × Contains wants.now r
+        × WantedClashes (rules_of table.now) (first_at taken.now) candidate r other) }
 {
     for requirement in wants {
         if let Some(other) = wanted_clash_with(table, taken, candidate, *requirement) {
@@ -111,7 +119,11 @@ fn wanted_clash(
 /// The choice on the same name that has another version.
 fn tied_clash(table: &Table, taken: &[Option<Decision>], candidate: Decision) -> Option<Decision>
     requires { candidate.node < length table.now.nodes }
-    ensures { MatchOption result ((d : NodeChoice ℕ ℕ) → first_at taken.now (name_of table.now candidate.node) ≡ Some d → d.version ≡ candidate.version) (λ other. (first_at taken.now (name_of table.now candidate.node) ≡ Some other) × (other.version ≢ candidate.version)) }
+    ensures { MatchOption result ((d : NodeChoice ℕ ℕ)
+        → first_at taken.now (name_of table.now candidate.node) ≡ Some d
+        → d.version ≡ candidate.version)
+        (λ other. (first_at taken.now (name_of table.now candidate.node) ≡ Some other)
+        × (other.version ≢ candidate.version)) }
 {
     match first_on(taken, table.name_of(candidate.node)) {
         None => None,
@@ -129,8 +141,10 @@ pub fn clash(table: &Table, partial: &Partial, candidate: Decision) -> Option<De
     requires table { in_range table.now ≡ true }
     requires node { candidate.node < length table.now.nodes }
     requires partial { IsPartial table.now partial.now }
-    requires learning { (conflicts : List (List (NodeChoice ℕ ℕ))) × IsLearning (rules_of table.now) conflicts [] partial.now.held.items }
-    ensures { MatchOption result (FitsBefore (rules_of table.now) partial.now.held.items candidate) (λ other. Clashes (rules_of table.now) partial.now.held.items candidate other) }
+    requires learning { (conflicts : List (List (NodeChoice ℕ ℕ)))
+        × IsLearning (rules_of table.now) conflicts [] partial.now.held.items }
+    ensures { MatchOption result (FitsBefore (rules_of table.now) partial.now.held.items candidate)
+        (λ other. Clashes (rules_of table.now) partial.now.held.items candidate other) }
 {
     let taken = partial.taken.as_slice();
     if let Some(other) = tied_clash(table, taken, candidate) {
@@ -151,7 +165,8 @@ pub fn conflict_of(
 ) -> Result<Vec<Decision>, AllocError>
     ensures one { IfOk result (λ conflict. Contains conflict.items one) }
     ensures other { IfOk result (λ conflict. Contains conflict.items other) }
-    ensures only { IfOk result (λ conflict. (c : NodeChoice ℕ ℕ) → Contains conflict.items c → (c ≡ one) ⊎ (c ≡ other)) }
+    ensures only { IfOk result (λ conflict. (c : NodeChoice ℕ ℕ) → Contains conflict.items c
+        → (c ≡ one) ⊎ (c ≡ other)) }
 {
     let mut conflict = Vec::new(alloc);
     conflict.push(other)?;

@@ -23,7 +23,8 @@ fn try_turn(
     name: usize,
     turn: usize,
 ) -> Result<bool, AllocError>
-    ensures { IfOk result (λ found. IsTried table.now name turn frames.old.items frames.new.items found) }
+    ensures { IfOk result
+        (λ found. IsTried table.now name turn frames.old.items frames.new.items found) }
 {
     let candidates = table.candidates(name);
     if turn >= candidates.len() {
@@ -36,7 +37,9 @@ fn try_turn(
 
 /// Takes the name of a frame with its next candidate, if it has one.
 fn try_next(table: &Table, frames: &mut Vec<Frame>, last: Frame) -> Result<bool, AllocError>
-    ensures { IfOk result (λ found. IsTried table.now last.name (last.turn + 1) frames.old.items frames.new.items found) }
+    ensures { IfOk result
+        (λ found. IsTried table.now last.name (last.turn + 1) frames.old.items frames.new.items
+        found) }
 {
     let count = table.candidates(last.name).len();
     if count == 0 || last.turn >= count - 1 {
@@ -50,8 +53,10 @@ fn retreat(table: &Table, frames: &mut Vec<Frame>) -> Result<bool, AllocError>
     requires known { in_range table.now ≡ true }
     requires search { IsSearch (rules_of table.now) [] frames.old.items }
     requires refuted { IsRefuted (rules_of table.now) (pins_of frames.old.items) }
-    ensures search { IfOk result (λ found. IsTrue found → IsSearch (rules_of table.now) [] frames.new.items) }
-    ensures forward { IfOk result (λ found. IsTrue found → IsForward frames.old.items frames.new.items) }
+    ensures search { IfOk result (λ found. IsTrue found
+        → IsSearch (rules_of table.now) [] frames.new.items) }
+    ensures forward { IfOk result (λ found. IsTrue found
+        → IsForward frames.old.items frames.new.items) }
     ensures none { IfOk result (λ found. IsFalse found → HasNoSolution (rules_of table.now)) }
 {
     while let Some(last) = frames.pop() {
@@ -83,7 +88,8 @@ fn enter(
     requires fits { front.old.clashes ≡ false }
     requires next { IsNext (rules_of table.now) (pins_of frames.old.items) name }
     ensures step { IfOk result (λ step. IsStep table.now frames.old.items frames.new.items step) }
-    ensures stands { IfOk result (λ step. step ≡ Entered → IsFrontOf table.now frames.new.items front.new) }
+    ensures stands { IfOk result (λ step. step ≡ Entered
+        → IsFrontOf table.now frames.new.items front.new) }
 {
     if !try_turn(table, frames, name, 0)? {
         return Ok(Step::Refuted);
@@ -98,7 +104,8 @@ fn advance(table: &Table, frames: &mut Vec<Frame>, front: &mut Front) -> Result<
     requires search { IsSearch (rules_of table.now) [] frames.old.items }
     requires stands { IsFrontOf table.now frames.old.items front.old }
     ensures step { IfOk result (λ step. IsStep table.now frames.old.items frames.new.items step) }
-    ensures stands { IfOk result (λ step. step ≡ Entered → IsFrontOf table.now frames.new.items front.new) }
+    ensures stands { IfOk result (λ step. step ≡ Entered
+        → IsFrontOf table.now frames.new.items front.new) }
 {
     if front.clashes() {
         return Ok(Step::Refuted);
@@ -112,8 +119,11 @@ fn advance(table: &Table, frames: &mut Vec<Frame>, front: &mut Front) -> Result<
 /// The best solution of a table, its choices in the order of their names; nothing where there is
 /// no solution.
 pub fn best(alloc: Global, table: &Table) -> Result<Option<Seq<Choice>>, AllocError>
-    ensures best { IfOk result (λ answer. MatchOption answer (HasNoSolution (rules_of table.now)) (λ choices. IsBest (rules_of table.now) (place_in choices))) }
-    ensures ascending { IfOk result (λ answer. MatchOption answer Unit (λ choices. IsAscending choices)) }
+    ensures best { IfOk result
+        (λ answer. MatchOption answer (HasNoSolution (rules_of table.now))
+        (λ choices. IsBest (rules_of table.now) (place_in choices))) }
+    ensures ascending { IfOk result
+        (λ answer. MatchOption answer Unit (λ choices. IsAscending choices)) }
 {
     let mut frames = Vec::with_capacity(alloc, table.name_count())?;
     let mut front = Front::of(alloc, table, frames.as_slice())?;

@@ -117,7 +117,14 @@ impl Table {
         wants: Seq<Seq<Seq<usize>>>,
         lines: Seq<usize>,
     ) -> Option<Table>
-        ensures { let parts : Parts = record { nodes = nodes; requirements = requirements; candidates = candidates; wants = wants; lines = lines } in result ≡ (if in_range parts then Some parts else None) }
+        ensures { let parts : Parts = record {
+          nodes = nodes;
+          requirements = requirements;
+          candidates = candidates;
+          wants = wants;
+          lines = lines;
+        } in result
+            ≡ (if in_range parts then Some parts else None) }
     {
         let bound = requirements.len();
         let holds = are_below(candidates.len(), nodes.as_slice())
@@ -180,7 +187,8 @@ impl Table {
     pub fn requirement(&self, requirement: usize) -> &Requirement
         requires { requirement < length self.now.requirements }
         ensures requirement { result.now ≡ requirement_at self.now requirement }
-        ensures known { EachBelow (length self.now.nodes) (nodes_of (requirement_at self.now requirement)) }
+        ensures known { EachBelow (length self.now.nodes) (nodes_of (requirement_at self.now
+            requirement)) }
     {
         let requirements = self.requirements.as_slice();
         &requirements[requirement]

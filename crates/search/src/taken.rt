@@ -30,7 +30,8 @@ pub fn taken_of(
     frames: &[Frame],
 ) -> Result<Vec<Option<usize>>, AllocError>
     requires { AreKnown (length table.now.candidates) frames.now }
-    ensures same { IfOk result (λ taken. (n : ℕ) → taken_at taken.items n ≡ version_in nat_cmp (pins_of frames.now) n) }
+    ensures same { IfOk result (λ taken. (n : ℕ)
+        → taken_at taken.items n ≡ version_in nat_cmp (pins_of frames.now) n) }
     ensures room { IfOk result (λ taken. length taken.items ≡ length table.now.candidates) }
 {
     let mut taken = vec![in alloc; None; table.name_count()]?;
@@ -57,7 +58,8 @@ pub fn choices_taken(alloc: Global, taken: &[Option<usize>]) -> Result<Seq<Choic
 /// The choices of a search in the order of their names.
 pub fn choices_of(alloc: Global, table: &Table, frames: &[Frame]) -> Result<Seq<Choice>, AllocError>
     requires { AreKnown (length table.now.candidates) frames.now }
-    ensures same { IfOk result (λ choices. (n : ℕ) → place_in choices n ≡ version_in nat_cmp (pins_of frames.now) n) }
+    ensures same { IfOk result (λ choices. (n : ℕ)
+        → place_in choices n ≡ version_in nat_cmp (pins_of frames.now) n) }
     ensures ascending { IfOk result (λ choices. IsAscending choices) }
 {
     let taken = taken_of(alloc, table, frames)?;

@@ -41,7 +41,8 @@ impl Trial {
         conflict: &[Decision],
     ) -> Result<(), AllocError>
         requires { self.old.turn < count }
-        ensures { IfOk result (λ _. IsRefused self.old self.new conflict.now (decision self.old.node place)) }
+        ensures { IfOk result
+            (λ _. IsRefused self.old self.new conflict.now (decision self.old.node place)) }
     {
         let candidate = Decision {
             node: self.node,
@@ -54,7 +55,8 @@ impl Trial {
 
     /// The conflict that follows where no candidate is left.
     pub fn into_conflict(self) -> Result<Vec<Decision>, AllocError>
-        ensures { IfOk result (λ conflict. Gathers self.blame.items conflict.items (option_to_list self.by) []) }
+        ensures { IfOk result
+            (λ conflict. Gathers self.blame.items conflict.items (option_to_list self.by) []) }
     {
         let Trial {
             node: _,
