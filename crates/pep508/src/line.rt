@@ -1,7 +1,7 @@
 // Lines of a requirements file.
 
 ghost use Rattle.lists.specs.Answers.{Answers};
-ghost use Rattle.std.specs.Prelude.{◌≡◌, Ok, Some, IfOk};
+ghost use Rattle.std.specs.Prelude.{◌≡◌, ◌++◌, Ok, Some, IfOk};
 ghost use Rattle.std.specs.Option.{option_copied};
 ghost use Rattle.pep508.specs.Parts.{IsEnding, ended, ending_of};
 ghost use Rattle.pep508.specs.Requirement.{IsLine, Wanted, checked_line, requirement_of, wanted_by};
@@ -17,20 +17,53 @@ use lists::{Faithful, Text};
 use markers::Cause;
 use std::alloc::{AllocError, Global};
 use std::marker::Model;
+use std::rc::Rc;
 
-/// A line with its ending, if it has one: blank, a comment, or a requirement. In a clause it is its
-/// bytes, which tell the requirement.
-pub struct Line {
+/// The text of a line, and what was read of it.
+struct Content {
     text: Text,
     requirement: Option<Requirement>,
 }
 
-impl Drop for Line {
+impl Drop for Content {
     fn drop(self) {
-        let Line {
+        let Content {
             text: _,
             requirement: _,
         } = self;
+    }
+}
+
+impl Clone for Content {
+    ghost is_clone = { λ c k. k ≡ c };
+
+    fn clone(&self) -> Result<Content, AllocError> {
+        let text = self.text.clone()?;
+        let requirement = self.requirement.clone()?;
+        Ok(Content { text, requirement })
+    }
+}
+
+/// Puts `more` behind the text of a content. Where others share it they keep the old one.
+fn put_behind(shared: &mut Rc<Content>, more: &str) -> Result<(), AllocError>
+    ensures text { IfOk result
+        (λ _. shared.new.value.text ≡ shared.old.value.text ++ more.now) }
+    ensures requirement { IfOk result
+        (λ _. shared.new.value.requirement ≡ shared.old.value.requirement) }
+{
+    let content = Rc::make_mut(shared)?;
+    content.text.push_str(more)
+}
+
+/// A line with its ending, if it has one: blank, a comment, or a requirement. In a clause it is its
+/// bytes, which tell the requirement. Clones of a line share it.
+pub struct Line {
+    shared: Rc<Content>,
+}
+
+impl Drop for Line {
+    fn drop(self) {
+        let Line { shared: _ } = self;
     }
 }
 
@@ -40,9 +73,9 @@ impl Model for Line {
 
     ghost Value = { List ℕ };
 
-    ghost view = { λ l. l.text };
+    ghost view = { λ l. l.shared.value.text };
 
-    ghost invariant = { λ l. requirement_of l.text ≡ Ok l.requirement };
+    ghost invariant = { λ l. requirement_of l.shared.value.text ≡ Ok l.shared.value.requirement };
 }
 
 /// What the content of a line asks for: nothing where it is blank or a comment.
@@ -74,24 +107,25 @@ impl Line {
     {
         let requirement = wanted_by(alloc, cut_ending(line).0)?;
         let text = Text::copy_of(alloc, line)?;
-        Ok(Line { text, requirement })
+        let shared = Rc::new(alloc, Content { text, requirement })?;
+        Ok(Line { shared })
     }
 
     /// The line with its ending.
     pub fn text(&self) -> &str
         ensures { result.now ≡ self.now }
     {
-        self.text.as_str()
+        self.shared.as_ref().text.as_str()
     }
 
     /// How the line ends: LF, CR and LF, or nothing.
     pub fn ending(&self) -> &'static str
         ensures { result.now ≡ ending_of self.now }
     {
-        ending_of(self.text.as_str())
+        ending_of(self.text())
     }
 
-    /// The line, with this ending where it has none.
+    /// The line, with this ending where it has none. Other lines that share its content stay.
     pub fn ended(self, ending: &str) -> Result<Line, AllocError>
         requires { IsEnding ending.now }
         ensures { IfOk result (λ line. line ≡ ended ending.now self) }
@@ -99,12 +133,9 @@ impl Line {
         if !self.ending().is_empty() {
             return Ok(self);
         }
-        let Line {
-            mut text,
-            requirement,
-        } = self;
-        text.push_str(ending)?;
-        Ok(Line { text, requirement })
+        let Line { mut shared } = self;
+        put_behind(&mut shared, ending)?;
+        Ok(Line { shared })
     }
 
     /// The line with these specifiers in the place of its version part, or directly behind name and
@@ -133,14 +164,14 @@ impl Line {
     pub fn requirement(&self) -> Option<&Requirement>
         ensures { requirement_of self.now ≡ Ok (option_copied result) }
     {
-        self.requirement.as_ref()
+        self.shared.as_ref().requirement.as_ref()
     }
 
     /// What holds of every line: it is UTF-8, and not refused.
     pub fn is_lawful(&self)
         ensures { IsLine self.now }
     {
-        let _text = self.text.as_str();
+        let _text = self.shared.as_ref().text.as_str();
     }
 }
 
@@ -148,9 +179,8 @@ impl Clone for Line {
     ghost is_clone = { λ l k. k ≡ l };
 
     fn clone(&self) -> Result<Line, AllocError> {
-        let text = self.text.clone()?;
-        let requirement = self.requirement.clone()?;
-        Ok(Line { text, requirement })
+        let shared = self.shared.clone()?;
+        Ok(Line { shared })
     }
 }
 

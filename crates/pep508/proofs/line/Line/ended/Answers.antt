@@ -6,6 +6,8 @@ use Rattle.pep508.proofs.line.Line.ended.Goals as goal
 
 pub invariant_of-result : goal.invariant_of-result
 invariant_of-result c =
+    let content = c.self.inside.shared.value in
     let none : length c.ending.result.now ≡ 0 = eqb-true _ _ (sym c.is_empty.ensures ∙ c.if-not-is_empty.false) in
-    let bare : length (ending_of c.self.inside.text) ≡ 0 = rw (c.self.view_is, ← c.ending.ensures) none in
-    rw c.in_ok-push_str.ensures (requirement_of-ended c.self.inside.text _ c.self.inside.requirement bare c.requires c.self.invariant)
+    let bare : length (ending_of content.text) ≡ 0 = rw (c.self.view_is, ← c.ending.ensures) none in
+    rw (c.in_ok-put_behind.ensures.text, c.in_ok-put_behind.ensures.requirement)
+    (requirement_of-ended content.text _ content.requirement bare c.requires c.self.invariant)
