@@ -1,66 +1,20 @@
 -- Lines one by one: some are left out, or exchanged for others that end alike.
 use Rattle.std.proofs.Common.{◌≡◌, ℕ, zero, suc, arith, ◌-◌, ◌∙◌, ◌⊎◌, Bool, List, [], ◌∷◌, ◌++◌, length, eqb, slice_index, true, false, ap, sym, refl, subst, inl, inr, append-nil, map, filter, Contains, Some, Ok}
 use Rattle.std.proofs.lemmas.Bool.{cases_Bool, eqb-true}
-use Rattle.std.specs.List.{concat, list_any, onto_first}
+use Rattle.std.specs.List.{list_any}
 use Rattle.pep508.specs.Lines.{AreLines, lines_of}
 use Rattle.pep508.specs.Parts.{IsEnding, comment_place, content_of, ending_of, has_odd, is_odd}
 use Rattle.pep508.specs.Requirement.{MayStandFor, Wanted, requirement_of, wanted_by}
 use Rattle.pep508.proofs.Endings.{wanted_by-plain}
-use Rattle.pep508.proofs.JoinedLines.{last_byte, lines_of-ended, lines_of-line}
+use Rattle.pep508.proofs.JoinedLines.{lines_of-line}
 use Rattle.pep508.proofs.LineCut.{line_parts}
+use Rattle.pep508.proofs.LinesAreCut.{AreLines-from, AreOneByOne, Leads, Leads-lf, OneByOne-from}
 use Rattle.pep508.proofs.OddFacts.{ending_cases}
 use Rattle.pep508.proofs.Slicewise.{line_asks}
 
 -- LF is the last byte
 abbrev EndsInLf : List ℕ → Type 0
 EndsInLf line = eqb (slice_index line (length line - 1)) 10 ≡ true
-
--- where a line follows, LF is the last byte
-abbrev Leads : List ℕ → List (List ℕ) → Type 0
-Leads line [] = Unit {0}
-Leads line (next ∷ rest) = EndsInLf line
-
--- each is one line, and each but the last ends in LF
-abbrev AreOneByOne : List (List ℕ) → Type 0
-AreOneByOne [] = Unit {0}
-AreOneByOne (line ∷ rest) = (lines_of line ≡ line ∷ []) × Leads line rest × AreOneByOne rest
-
-Leads-lf : (line : List ℕ) (rest : List (List ℕ)) → EndsInLf line → Leads line rest
-Leads-lf line [] lf = tt
-Leads-lf line (next ∷ rest) lf = lf
-
--- a byte before a line leaves its end
-Leads-onto : (b : ℕ) (line : List ℕ) (rest : List (List ℕ)) → lines_of line ≡ line ∷ [] → Leads line rest → Leads (b ∷ line) rest
-unfolding lines_of
-Leads-onto b line [] one leads = tt
-Leads-onto b [] (next ∷ rest) one leads = cc one
-Leads-onto b (c ∷ line) (next ∷ rest) one leads = rw (last_byte b c line) leads
-
-OneByOne-onto : (b : ℕ) (cut : List (List ℕ)) → eqb b 10 ≡ false → AreOneByOne cut → AreOneByOne (onto_first b cut)
-unfolding lines_of
-OneByOne-onto b [] other are = (rw other refl, tt, tt)
-OneByOne-onto b (line ∷ rest) other are = (rw (other, are.0) refl, Leads-onto b line rest are.0 are.1, are.2)
-
-OneByOne-lines_of : (text : List ℕ) → AreOneByOne (lines_of text)
-unfolding lines_of
-OneByOne-lines_of [] = tt
-OneByOne-lines_of (b ∷ rest) = elim (cases_Bool (eqb b 10)) [
-  | inl lf ↦
-      let one : lines_of (b ∷ []) ≡ (b ∷ []) ∷ [] = rw lf refl in
-      rw lf (one, Leads-lf (b ∷ []) (lines_of rest) lf, OneByOne-lines_of rest)
-  | inr other ↦ rw other (OneByOne-onto b (lines_of rest) other (OneByOne-lines_of rest))
-]
-
--- lines are lines one by one
-OneByOne-from : (lines : List (List ℕ)) → AreLines lines → AreOneByOne lines
-OneByOne-from lines are = subst AreOneByOne are (OneByOne-lines_of (concat lines))
-
-AreLines-from : (lines : List (List ℕ)) → AreOneByOne lines → AreLines lines
-unfolding lines_of
-AreLines-from [] are = refl
-AreLines-from (line ∷ []) are = rw append-nil are.0
-AreLines-from (line ∷ next ∷ rest) are =
-    lines_of-ended line (concat (next ∷ rest)) are.0 are.1 ∙ ap (λ (ls : List (List ℕ)). line ∷ ls) (AreLines-from (next ∷ rest) are.2)
 
 -- ---- left out
 

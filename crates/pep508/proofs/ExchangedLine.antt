@@ -1,10 +1,9 @@
 -- A line that got other specifiers may stand in its place.
-use Rattle.std.proofs.Common.{◌≡◌, ◌∙◌, ℕ, ◌<◌, List, [], ◌∷◌, length, is_ok, true, Result, Ok, Err, Option, Some, refl, sym, subst, arith}
+use Rattle.std.proofs.Common.{◌≡◌, ◌∙◌, ℕ, ◌<◌, List, [], ◌∷◌, length, is_ok, true, Result, Ok, Err, Some, refl, sym, subst, arith}
 use Rattle.pep440.specs.Tied.Sets.{set_of}
 use Rattle.pep440.specs.declared.fault.Fault.{Fault}
 use Rattle.pep440.specs.declared.specifier.Clause.{Clause}
 use Rattle.markers.specs.Names.{name_of}
-use Rattle.markers.specs.declared.fault.Cause.{Cause}
 use Rattle.pep508.specs.Parts.{ending_of}
 use Rattle.pep508.specs.Requirement.{IsSpecifier, MayStandFor, Wanted, requirement_of}
 use Rattle.pep508.specs.Slices.{IsCut, Slices, joined, slices_of, slices_with, with_version}

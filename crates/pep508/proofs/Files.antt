@@ -4,7 +4,7 @@ use Rattle.std.proofs.lemmas.Bool.{cases_Bool}
 use Rattle.std.proofs.lemmas.Str.{IsUtf8-append, IsUtf8-nil, is_utf8-from_IsUtf8}
 use Rattle.std.specs.List.{AllByRecursion, concat, onto_first}
 use Rattle.std.specs.Str.{IsUtf8}
-use Rattle.pep508.specs.Lines.{AreLines, lines_of}
+use Rattle.pep508.specs.Lines.{lines_of}
 use Rattle.lists.specs.Answers.{Answers}
 use Rattle.markers.specs.Faults.{fault_of, memory_fault}
 use Rattle.pep508.specs.Requirement.{IsLine, Wanted, checked, fault_or, file_of, first_fault, lines_read, requirement_of, unless}
@@ -92,6 +92,6 @@ concat-utf8 [] all = IsUtf8-nil
 concat-utf8 (line ∷ rest) all = IsUtf8-append line (concat rest) all.0.utf8 (concat-utf8 rest all.1)
 
 -- lines as a text is cut into them are read where they are joined
-pub file_of-joined : (lines : List (List ℕ)) → AllByRecursion IsLine lines → AreLines lines → file_of (concat lines) ≡ Ok lines
-file_of-joined lines all are =
-    rw (is_utf8-from_IsUtf8 (concat lines) (concat-utf8 lines all), are, first_fault-none 1 lines all) refl
+pub file_of-joined : (lines : List (List ℕ)) → AllByRecursion IsLine lines → lines_of (concat lines) ≡ lines → file_of (concat lines) ≡ Ok lines
+file_of-joined lines all cut =
+    rw (is_utf8-from_IsUtf8 (concat lines) (concat-utf8 lines all), cut, first_fault-none 1 lines all) refl

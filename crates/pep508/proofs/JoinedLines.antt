@@ -1,25 +1,10 @@
 -- Lines that are joined and cut again.
-use Rattle.std.proofs.Common.{◌≡◌, ℕ, suc, ◌-◌, ◌∙◌, List, [], ◌∷◌, ◌++◌, length, Ok, eqb, slice_index, true, false, ap, sym, refl, inl, inr, arith, append_assoc, append-nil}
+use Rattle.std.proofs.Common.{◌≡◌, ℕ, suc, ◌-◌, ◌∙◌, List, [], ◌∷◌, ◌++◌, length, eqb, slice_index, true, false, ap, sym, refl, inl, inr, arith, append_assoc, append-nil}
 use Rattle.std.proofs.lemmas.Bool.{cases_Bool}
-use Rattle.std.proofs.lemmas.List.{append_cancel_left}
-use Rattle.std.proofs.lemmas.List.Folds.{concat-append}
 use Rattle.std.specs.List.{concat, list_any, onto_first}
-use Rattle.std.specs.Str.{is_utf8}
-use Rattle.pep508.specs.Lines.{AreLines, lines_of}
+use Rattle.pep508.specs.Lines.{lines_of}
 use Rattle.pep508.specs.Parts.{IsEnding, ended}
-use Rattle.pep508.specs.Requirement.{file_of, first_fault}
-use Rattle.pep508.proofs.Files.{concat-lines_of, unless-Ok}
-
--- the lines of a text are as a text is cut into them
-pub AreLines-lines_of : (text : List ℕ) → AreLines (lines_of text)
-AreLines-lines_of text = ap lines_of (concat-lines_of text)
-
--- what is read of a file are lines
-pub AreLines-file_of : (bytes : List ℕ) (lines : List (List ℕ)) → file_of bytes ≡ Ok lines → AreLines lines
-AreLines-file_of bytes lines reads = elim (cases_Bool (is_utf8 bytes)) [
-  | inl utf8 ↦ rw (unless-Ok (lines_of bytes) lines (first_fault 1 (lines_of bytes)) (rw utf8 at reads)) (AreLines-lines_of bytes)
-  | inr other ↦ cc (rw other at reads)
-]
+use Rattle.pep508.proofs.Files.{concat-lines_of}
 
 -- a byte before the first of lines, some more of them behind it
 onto_first-first : (b : ℕ) (cut lines : List (List ℕ)) (line last : List ℕ) → onto_first b cut ≡ line ∷ (lines ++ last ∷ [])
@@ -29,7 +14,7 @@ onto_first-first b [] (x ∷ lines) line last e = cc e
 onto_first-first b (l ∷ cut) lines line last e = (l, (cc e, cc e))
 
 -- what follows a text follows its last line
-lines_of-behind : (text more : List ℕ) (lines : List (List ℕ)) (last : List ℕ) → lines_of text ≡ lines ++ last ∷ []
+pub lines_of-behind : (text more : List ℕ) (lines : List (List ℕ)) (last : List ℕ) → lines_of text ≡ lines ++ last ∷ []
     → lines_of (text ++ more) ≡ lines ++ lines_of (last ++ more)
 unfolding lines_of
 lines_of-behind text more [] last cut =
@@ -65,7 +50,7 @@ last_byte b c text =
     rw place refl
 
 -- a line without its first byte is a line
-onto_first-one : (b : ℕ) (cut : List (List ℕ)) (c : ℕ) (text : List ℕ) → onto_first b cut ≡ (b ∷ c ∷ text) ∷ [] → cut ≡ (c ∷ text) ∷ []
+pub onto_first-one : (b : ℕ) (cut : List (List ℕ)) (c : ℕ) (text : List ℕ) → onto_first b cut ≡ (b ∷ c ∷ text) ∷ [] → cut ≡ (c ∷ text) ∷ []
 onto_first-one b [] c text e = cc e
 onto_first-one b (l ∷ cut) c text e = cc e
 
@@ -118,14 +103,14 @@ ended-given : (ending line : List ℕ) → eqb (slice_index line (length line - 
 ended-given ending line bare = rw bare refl
 
 -- what a line is given stands behind it
-ended-behind : (ending line : List ℕ) → (added : List ℕ) × (ended ending line ≡ line ++ added)
+pub ended-behind : (ending line : List ℕ) → (added : List ℕ) × (ended ending line ≡ line ++ added)
 ended-behind ending line = elim (cases_Bool (eqb (slice_index line (length line - 1)) 10)) [
   | inl lf ↦ ([], ended-kept ending line lf ∙ sym (append-nil line))
   | inr bare ↦ (ending, ended-given ending line bare)
 ]
 
 -- a line with an ending, its own or the one that it is given, stays a line
-lines_of-given : (ending line rest : List ℕ) → lines_of line ≡ line ∷ [] → IsEnding ending
+pub lines_of-given : (ending line rest : List ℕ) → lines_of line ≡ line ∷ [] → IsEnding ending
     → lines_of (ended ending line ++ rest) ≡ ended ending line ∷ lines_of rest
 lines_of-given ending line rest one is = elim (cases_Bool (eqb (slice_index line (length line - 1)) 10)) [
   | inl lf ↦ rw (ended-kept ending line lf) (lines_of-ended line rest one lf)
@@ -133,35 +118,8 @@ lines_of-given ending line rest one is = elim (cases_Bool (eqb (slice_index line
 ]
 
 -- a text without LF is a line with the ending that it is given
-lines_of-text : (ending text : List ℕ) → list_any (λ b. eqb b 10) text ≡ false → IsEnding ending → lines_of (ended ending text) ≡ ended ending text ∷ []
+pub lines_of-text : (ending text : List ℕ) → list_any (λ b. eqb b 10) text ≡ false → IsEnding ending → lines_of (ended ending text) ≡ ended ending text ∷ []
 unfolding lines_of
 lines_of-text ending text none is =
     let line = lines_of-line text ending [] none is in
     rw (ended-given ending text (bare-last text none)) (rw append-nil at line)
-
-pub AreLines-first : (line ending : List ℕ) → list_any (λ b. eqb b 10) line ≡ false → IsEnding ending → AreLines (ended ending line ∷ [])
-AreLines-first line ending none is = rw append-nil (lines_of-text ending line none is)
-
--- the last of lines is a line
-last-one : (lines : List (List ℕ)) (last : List ℕ) → AreLines (lines ++ last ∷ []) → lines_of last ≡ last ∷ []
-last-one lines last are =
-    let text = concat (lines ++ last ∷ []) in
-    let again : lines_of (text ++ []) ≡ lines ++ lines_of (last ++ []) = lines_of-behind text [] lines last are in
-    append_cancel_left lines (lines_of last) (last ∷ []) (sym (rw (append-nil text, append-nil last, are) at again))
-
--- lines stay lines with a text behind them, where the last of them and the text have an ending, or are given one
-pub AreLines-next : (lines : List (List ℕ)) (last line ending : List ℕ) → AreLines (lines ++ last ∷ []) → list_any (λ b. eqb b 10) line ≡ false
-    → IsEnding ending → AreLines (lines ++ ended ending last ∷ ended ending line ∷ [])
-AreLines-next lines last line ending are none is =
-    let added = ended-behind ending last in
-    let next = ended ending line in
-    let text = concat (lines ++ last ∷ []) in
-    let old : text ≡ concat lines ++ last = concat-append lines (last ∷ []) ∙ ap (λ (t : List ℕ). concat lines ++ t) (append-nil last) in
-    let tail : last ++ (added.0 ++ next) ≡ ended ending last ++ next = sym (append_assoc last added.0 next) ∙ ap (λ (t : List ℕ). t ++ next) (sym added.1) in
-    let whole : concat (lines ++ ended ending last ∷ next ∷ []) ≡ text ++ (added.0 ++ next) =
-    concat-append lines (ended ending last ∷ next ∷ []) ∙ ap (λ (t : List ℕ). concat lines ++ (ended ending last ++ t)) (append-nil next)
-    ∙ ap (λ (t : List ℕ). concat lines ++ t) (sym tail) ∙ sym (append_assoc (concat lines) last (added.0 ++ next)) ∙ ap (λ (t : List ℕ). t ++ (added.0 ++ next)) (sym old) in
-    let cut : lines_of (text ++ (added.0 ++ next)) ≡ lines ++ lines_of (last ++ (added.0 ++ next)) = lines_of-behind text (added.0 ++ next) lines last are in
-    let behind : lines_of (ended ending last ++ next) ≡ ended ending last ∷ next ∷ [] =
-    lines_of-given ending last next (last-one lines last are) is ∙ ap (λ (ls : List (List ℕ)). ended ending last ∷ ls) (lines_of-text ending line none is) in
-    ap lines_of whole ∙ cut ∙ ap (λ (t : List ℕ). lines ++ lines_of t) tail ∙ ap (λ (ls : List (List ℕ)). lines ++ ls) behind

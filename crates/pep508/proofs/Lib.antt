@@ -1,4 +1,5 @@
 pub mod AroundSet
+pub mod CommentPlace
 pub mod Comments
 pub mod EachLine
 pub mod Endings
@@ -7,9 +8,11 @@ pub mod Files
 pub mod FirstLine
 pub mod JoinedLines
 pub mod LineCut
+pub mod LinesAreCut
 pub mod Names
 pub mod OddFacts
 pub mod OneCut
+pub mod OneLineMore
 pub mod Places
 pub mod Runs
 pub mod SetText

@@ -1,5 +1,5 @@
 -- The parts of a line of a requirements file (pip, "Requirements File Format").
-use Rattle.std.specs.Prelude.{◌≡◌, ◌⊎◌, ℕ, suc, ◌-◌, ◌==◌, ◌&&◌, ◌||◌, nat_le, nat_lt, not, Bool, true, false, List, [], ◌∷◌, ◌++◌, length, take, drop, slice_index, Option, Some, None, if◌then◌else◌}
+use Rattle.std.specs.Prelude.{◌≡◌, ◌⊎◌, ℕ, zero, suc, ◌-◌, ◌<◌, ◌==◌, ◌&&◌, ◌||◌, nat_le, nat_lt, not, Bool, true, false, List, [], ◌∷◌, ◌++◌, length, take, drop, slice_index, Option, Some, None, if◌then◌else◌}
 use Rattle.std.specs.List.{prefix_len, suffix_len, position_or_len, take_while}
 
 -- a space or a tab
@@ -77,7 +77,18 @@ has_odd (b ∷ rest) = is_odd b rest || has_odd rest
 abbrev pub is_marked : List ℕ → Bool
 is_marked text = (slice_index text 0 == 239) && ((slice_index text 1 == 187) && (slice_index text 2 == 191))
 
--- the place of the first `#` at the start or after a space or a tab; before the text stands a start where at_start says so
+-- a comment may begin at the place: a `#` stands there, at the start or behind a space or a tab
+abbrev pub opens_comment : List ℕ → ℕ → Bool
+opens_comment content zero = slice_index content 0 == 35
+opens_comment content (suc k) = (slice_index content (suc k) == 35) && is_space (slice_index content k)
+
+-- where the comment begins: at the first place where it may, or behind the content where it may at none
+pub record IsCommentPlace (content : List ℕ) (place : ℕ) : Type 0 where
+  pub before : (k : ℕ) → k < place → opens_comment content k ≡ false
+  pub here : (place ≡ length content) ⊎ ((place < length content) × (opens_comment content place ≡ true))
+
+-- the reading of that place from the left, where before the text stands a start or not; tied to `IsCommentPlace` by the law
+-- `a_comment_begins_where_it_first_may`
 unfoldable pub comment_place : Bool → List ℕ → ℕ
 comment_place at_start [] = 0
 comment_place at_start (b ∷ bs) = if at_start && (b == 35) then 0 else suc (comment_place (is_space b) bs)

@@ -1,9 +1,9 @@
 //! Laws of the lines of a file, and of the slices of a line.
 
-ghost use Rattle.std.specs.Prelude.{◌≡◌, ◌⊎◌, ◌==◌, ◌∷◌, ◌++◌, [], ℕ, Bool, List, Some, Ok, false, filter, map};
-ghost use Rattle.std.specs.List.{Contains, list_any};
-ghost use Rattle.pep508.specs.Lines.{AreLines};
-ghost use Rattle.pep508.specs.Parts.{IsEnding, ended};
+ghost use Rattle.std.specs.Prelude.{◌≡◌, ◌⊎◌, ◌==◌, ◌∷◌, ◌++◌, [], ℕ, Bool, List, Some, Ok, true, false, filter, map};
+ghost use Rattle.std.specs.List.{Contains, concat, list_any};
+ghost use Rattle.pep508.specs.Lines.{AreLines, lines_of};
+ghost use Rattle.pep508.specs.Parts.{IsCommentPlace, IsEnding, comment_place, ended};
 ghost use Rattle.pep508.specs.Requirement.{IsSpecifier, MayStandFor, Wanted, file_of, requirement_of};
 ghost use Rattle.pep508.specs.Slices.{IsCut, Slices, joined, slices_of, with_version};
 
@@ -12,6 +12,22 @@ use pep440::laws::a_set_has_its_bytes;
 /// A line has at most one cut: its slices.
 pub fn a_line_has_one_cut()
     ensures { (line : List ℕ) (slices : Slices) → IsCut line slices → slices_of line ≡ slices }
+{}
+
+/// A comment begins at the first `#` that stands at the start or behind a space or a tab. There is one
+/// such place; without such a `#` it is the end.
+pub fn a_comment_begins_where_it_first_may()
+    ensures is { (content : List ℕ) → IsCommentPlace content (comment_place true content) }
+    ensures one { (content : List ℕ) (place : ℕ)
+        → IsCommentPlace content place → comment_place true content ≡ place }
+{}
+
+/// A text has its lines: they join to the text, and there is one such list.
+pub fn a_text_has_its_lines()
+    ensures lines { (text : List ℕ) → AreLines (lines_of text) }
+    ensures joined { (text : List ℕ) → concat (lines_of text) ≡ text }
+    ensures one { (text : List ℕ) (lines : List (List ℕ))
+        → AreLines lines → concat lines ≡ text → lines ≡ lines_of text }
 {}
 
 /// What is read of a file are lines.

@@ -177,4 +177,13 @@ impl<'a> ReqLine<'a> {
     {
         self.requirement.as_ref()
     }
+
+    /// What holds of every line that was read: its slices join to a line that isn't refused, and are the
+    /// slices of that line.
+    pub fn is_lawful(&self)
+        ensures reads { cut_line (joined self.now) ≡ Ok self.now }
+        ensures cut { IsCut (joined self.now) self.now }
+    {
+        let _slices = &self.slices;
+    }
 }

@@ -4,7 +4,7 @@ use Rattle.std.proofs.lemmas.List.{nil_from_length, length_push}
 use Rattle.pep508.specs.Lines.{lines_of}
 use Rattle.pep508.specs.Requirement.{first_fault, unless, requirement_of}
 use Rattle.pep508.proofs.Files.{checked-Ok, checked-Err, first_fault-passed, first_fault-found, first_fault-nil, lines_of-done, lines_of-nil}
-use Rattle.pep508.proofs.JoinedLines.{AreLines-lines_of}
+use Rattle.pep508.proofs.LinesAreCut.{AreLines-lines_of}
 use Rattle.pep508.proofs.file.read_lines.Goals as goal
 
 pub is_empty-requires-text-self : goal.is_empty-requires-text-self

@@ -1,4 +1,4 @@
-use Rattle.pep508.proofs.JoinedLines.{AreLines-first, AreLines-next}
+use Rattle.pep508.proofs.OneLineMore.{AreLines-first, AreLines-next}
 use Rattle.pep508.proofs.laws.lines_may_get_one_more.Goals as goal
 
 pub returns-clause-first : goal.returns-clause-first
