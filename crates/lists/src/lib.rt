@@ -1,11 +1,19 @@
-//! Texts and sequences that a contract sees as lists.
+//! Texts and sequences that a contract sees as lists, and what isn't of the domain.
 //!
 //! `Text` holds a `String` and `Seq<T>` a `Vec<T>`. In a clause each of them is the list of its
 //! contents, so two values are equal where their contents are, whatever their capacities.
 #![tactic(auto)]
 
+mod copying;
+mod rising;
 mod seq;
+mod spaces;
 mod text;
 
+pub use crate::copying::copied;
+pub use crate::rising::{Named, rises};
 pub use crate::seq::{Faithful, Seq};
+pub use crate::spaces::{
+    cut_lead, cut_tail, is_blank, is_space_or_tab, trim, trim_end, trim_start,
+};
 pub use crate::text::Text;

@@ -35,7 +35,7 @@ impl<T> Model for Seq<T> {
 }
 
 impl<T> Seq<T> {
-    /// The empty sequence. It takes no memory.
+    /// The empty sequence. It has no refusal.
     pub fn new(alloc: Global) -> Seq<T>
         ensures { result ≡ [] }
     {
@@ -44,14 +44,14 @@ impl<T> Seq<T> {
         }
     }
 
-    /// The items of `items`, in their order. It takes no memory.
+    /// The items of `items`, in their order. It has no refusal.
     pub fn from_vec(items: Vec<T>) -> Seq<T>
         ensures { result ≡ items.items }
     {
         Seq { items }
     }
 
-    /// The vector of the items. It takes no memory.
+    /// The vector of the items. It has no refusal.
     pub fn into_vec(self) -> Vec<T>
         ensures { result.items ≡ self }
     {

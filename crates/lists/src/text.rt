@@ -30,7 +30,7 @@ impl Model for Text {
 }
 
 impl Text {
-    /// The empty text. It takes no memory.
+    /// The empty text. It has no refusal.
     pub fn new(alloc: Global) -> Text
         ensures { result ≡ [] }
     {
@@ -48,14 +48,14 @@ impl Text {
         })
     }
 
-    /// The text that `text` holds. It takes no memory.
+    /// The text that `text` holds. It has no refusal.
     pub fn from_string(text: String) -> Text
         ensures { result ≡ string_bytes text }
     {
         Text { text }
     }
 
-    /// The string that the text was made of. It takes no memory.
+    /// The string that the text was made of. It has no refusal.
     pub fn into_string(self) -> String
         ensures { string_bytes result ≡ self }
     {

@@ -4,7 +4,7 @@ use Rattle.std.specs.Prelude.{ok_or, option_and_then}
 use Rattle.std.specs.Option.{option_map}
 use Rattle.lists.specs.Answers.{Answers}
 use Rattle.markers.specs.Tied.MarkerReading.{step, tree_behind}
-use Rattle.pep440.specs.Text.{is_blank}
+use Rattle.lists.specs.Spaces.{is_space_or_tab}
 use Rattle.markers.specs.Tied.MarkerTokens.{token_at, tokens_from}
 use Rattle.markers.specs.MarkerTree.{Tree}
 use Rattle.markers.specs.declared.fault.Cause.{Cause}
@@ -38,7 +38,7 @@ tokens_from-drop zero (b ∷ rest) = refl
 tokens_from-drop (suc k) [] = refl
 tokens_from-drop (suc k) (b ∷ rest) = tokens_from-drop k rest
 
-pub tree_in-space : (r : Reader) (b : ℕ) (rest : List ℕ) → is_blank b ≡ true → tree_in r (tokens_from 0 (b ∷ rest)) ≡ tree_in r (tokens_from 0 rest)
+pub tree_in-space : (r : Reader) (b : ℕ) (rest : List ℕ) → is_space_or_tab b ≡ true → tree_in r (tokens_from 0 (b ∷ rest)) ≡ tree_in r (tokens_from 0 rest)
 unfolding tokens_from
 tree_in-space r b rest space = rw space refl
 
@@ -46,13 +46,13 @@ tree_in-first : (r s : Reader) (t : Token) (found : Option (List Token)) → ste
 tree_in-first r s t None taken = refl
 tree_in-first r s t (Some rest) taken = rw taken refl
 
-pub tree_in-token : (r s : Reader) (b : ℕ) (rest : List ℕ) (t : Token) (k : ℕ) → is_blank b ≡ false → token_at (b ∷ rest) ≡ Some (t, k) → step r t ≡ Some s
+pub tree_in-token : (r s : Reader) (b : ℕ) (rest : List ℕ) (t : Token) (k : ℕ) → is_space_or_tab b ≡ false → token_at (b ∷ rest) ≡ Some (t, k) → step r t ≡ Some s
     → tree_in r (tokens_from 0 (b ∷ rest)) ≡ tree_in s (tokens_from 0 (drop k rest))
 unfolding tokens_from
 tree_in-token r s b rest t k solid found taken =
     rw (solid, found) (tree_in-first r s t (tokens_from k rest) taken ∙ ap (tree_in s) (tokens_from-drop k rest))
 
-pub tree_in-no_token : (r : Reader) (b : ℕ) (rest : List ℕ) → is_blank b ≡ false → token_at (b ∷ rest) ≡ None → tree_in r (tokens_from 0 (b ∷ rest)) ≡ None
+pub tree_in-no_token : (r : Reader) (b : ℕ) (rest : List ℕ) → is_space_or_tab b ≡ false → token_at (b ∷ rest) ≡ None → tree_in r (tokens_from 0 (b ∷ rest)) ≡ None
 unfolding tokens_from
 tree_in-no_token r b rest solid missing = rw (solid, missing) refl
 
@@ -60,7 +60,7 @@ tree_in-no_step : (r : Reader) (t : Token) (found : Option (List Token)) → ste
 tree_in-no_step r t None stuck = refl
 tree_in-no_step r t (Some rest) stuck = rw stuck refl
 
-pub tree_in-bad_token : (r : Reader) (b : ℕ) (rest : List ℕ) (t : Token) (k : ℕ) → is_blank b ≡ false → token_at (b ∷ rest) ≡ Some (t, k) → step r t ≡ None
+pub tree_in-bad_token : (r : Reader) (b : ℕ) (rest : List ℕ) (t : Token) (k : ℕ) → is_space_or_tab b ≡ false → token_at (b ∷ rest) ≡ Some (t, k) → step r t ≡ None
     → tree_in r (tokens_from 0 (b ∷ rest)) ≡ None
 unfolding tokens_from
 tree_in-bad_token r b rest t k solid found stuck = rw (solid, found) (tree_in-no_step r t (tokens_from k rest) stuck)

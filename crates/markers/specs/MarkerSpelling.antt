@@ -4,7 +4,7 @@ use Rattle.std.specs.Char.{is_ascii_alphabetic}
 use Rattle.std.specs.List.{list_all}
 use Rattle.markers.specs.Comparisons.{sign}
 use Rattle.markers.specs.MarkerGrammar.{AreMarkerTokens}
-use Rattle.pep440.specs.Text.{is_blank}
+use Rattle.lists.specs.Spaces.{is_space_or_tab}
 use Rattle.markers.specs.MarkerTree.{Tree}
 use Rattle.markers.specs.Variables.{variable_name}
 use Rattle.markers.specs.declared.comparison.Comparison.TheVariants as comparisons
@@ -76,9 +76,9 @@ goes_on tokens.Close rest = false
 
 -- the text is these tokens, with spaces and tabs before each and behind the last
 abbrev pub AreTokens : List ℕ → List Token → Type 0
-AreTokens text [] = list_all is_blank text ≡ true
+AreTokens text [] = list_all is_space_or_tab text ≡ true
 AreTokens text (t ∷ ts) =
-    (spaces : List ℕ) × (first : List ℕ) × (rest : List ℕ) × (text ≡ spaces ++ (first ++ rest)) × (list_all is_blank spaces ≡ true)
+    (spaces : List ℕ) × (first : List ℕ) × (rest : List ℕ) × (text ≡ spaces ++ (first ++ rest)) × (list_all is_space_or_tab spaces ≡ true)
     × IsToken first t × (goes_on t rest ≡ false) × AreTokens rest ts
 
 -- the text spells the marker

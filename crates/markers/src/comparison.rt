@@ -112,7 +112,7 @@ fn compare_texts(comparison: Comparison, left: &str, right: &str) -> bool
     }
 }
 
-/// Whether the left text compares so with the right one. It takes no memory.
+/// Whether the left text compares so with the right one. It has no refusal.
 pub(crate) fn compare(comparison: Comparison, left: Left, right: Right) -> bool
     requires left_reads { option_copied left.version ≡ version_read left.text.now }
     requires right_reads { option_copied right.clauses ≡ clauses_read comparison right.text.now }

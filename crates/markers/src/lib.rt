@@ -22,3 +22,4 @@ pub use crate::fault::{Cause, Fault};
 pub use crate::marker::Marker;
 pub use crate::name::{Name, is_name_byte};
 pub use crate::variable::Variable;
+pub use pep440::{Clause, Fault as VersionFault, LocalPart, Operator, Pre, SpecifierSet, Version};

@@ -117,7 +117,7 @@ impl Marker {
         }
     }
 
-    /// Whether the marker holds in an environment, with an extra or none. It takes no memory, and
+    /// Whether the marker holds in an environment, with an extra or none. It has no refusal, and
     /// goes no deeper than the parentheses nest.
     #[cycle(holds)]
     pub fn holds(&self, environment: &Environment, extra: Option<&Name>) -> bool

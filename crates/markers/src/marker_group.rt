@@ -16,7 +16,7 @@ pub(crate) struct Group {
 }
 
 impl Group {
-    /// The group with nothing in it. It takes no memory.
+    /// The group with nothing in it. It has no refusal.
     pub(crate) fn new(alloc: Global) -> Group
         ensures { result ≡ empty_group }
     {

@@ -16,6 +16,7 @@ use crate::marker_stack::Stack;
 use crate::marker_token;
 use crate::marker_token::{Side, Token};
 use crate::name::Name;
+use lists::is_space_or_tab;
 use std::alloc::{AllocError, Global};
 
 /// What is to follow.
@@ -211,7 +212,7 @@ fn join(alloc: Global, outer: Stack<Group>, group: Group, token: Token) -> Resul
 }
 
 impl Reader {
-    /// Nothing read. It takes no memory.
+    /// Nothing read. It has no refusal.
     fn new(alloc: Global) -> Reader
         ensures { result ≡ start }
     {
@@ -286,7 +287,7 @@ pub(crate) fn tree_of(alloc: Global, text: &[u8]) -> Result<Marker, Cause>
     let mut reader = Reader::new(alloc);
     let mut left = text;
     'tokens: while let Some((first, rest)) = split_first(left) {
-        if marker_token::is_blank(first) {
+        if is_space_or_tab(first) {
             left = rest;
             continue;
         }

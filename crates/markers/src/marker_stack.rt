@@ -20,7 +20,7 @@ impl<T> Model for Stack<T> {
 }
 
 impl<T: Drop> Stack<T> {
-    /// The empty stack. It takes no memory.
+    /// The empty stack. It has no refusal.
     pub(crate) fn new(alloc: Global) -> Stack<T>
         ensures { result ≡ [] }
     {

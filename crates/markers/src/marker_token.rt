@@ -3,7 +3,6 @@
 ghost use Rattle.lists.specs.Answers.{Answers};
 ghost use Rattle.std.specs.Prelude.{◌≡◌, ok_or, option_copied};
 ghost use Rattle.std.specs.Str.{IsAscii};
-ghost use Rattle.pep440.specs.Text.{is_blank};
 ghost use Rattle.markers.specs.MarkerDepth.{is_too_deep, quote_after};
 ghost use Rattle.markers.specs.MarkerSpelling.{is_quotable, is_quote, is_word_byte, starts_equal};
 ghost use Rattle.markers.specs.Tied.MarkerTokens.{double_sign, quoted_at, quoted_text, sign_at, single_sign, token_at, word_at, word_of, word_token};
@@ -45,12 +44,6 @@ fn is_quote(byte: u8) -> bool
     ensures { result ≡ is_quote byte }
 {
     byte == b'"' || byte == b'\''
-}
-
-pub(crate) fn is_blank(byte: u8) -> bool
-    ensures { result ≡ is_blank byte }
-{
-    byte == b' ' || byte == b'\t'
 }
 
 /// The quote that encloses what follows a byte, where one does.

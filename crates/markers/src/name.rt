@@ -9,7 +9,7 @@ ghost use Rattle.markers.specs.Names.{is_name, is_name_byte, is_normal, is_separ
 ghost use Rattle.markers.specs.Tied.Names.{normal_byte, starts_separated};
 
 use crate::fault::{Cause, Fault};
-use lists::{Faithful, Text};
+use lists::{Faithful, Named, Text};
 use std::alloc::{AllocError, Global};
 use std::marker::Model;
 
@@ -160,4 +160,12 @@ impl Clone for Name {
 
 impl Faithful for Name {
     ghost clone_is_source = { λ x y h. h };
+}
+
+impl Named for Name {
+    ghost named = { λ n. n };
+
+    fn text(&self) -> &str {
+        self.normal()
+    }
 }

@@ -5,7 +5,7 @@ ghost use Rattle.std.specs.Option.{option_copied};
 ghost use Rattle.markers.specs.Comparisons.{clauses_read, version_read};
 
 use crate::comparison::{Comparison, read_clauses, read_version};
-use lists::{Faithful, Text};
+use lists::{Faithful, Text, copied};
 use pep440::{SpecifierSet, Version};
 use std::alloc::{AllocError, Global};
 use std::fmt;
@@ -41,16 +41,6 @@ impl Readings {
             below: read_clauses(alloc, Comparison::Below, text)?,
             above: read_clauses(alloc, Comparison::Above, text)?,
         })
-    }
-}
-
-/// A copy of what may be there.
-fn copied<T: Faithful>(source: &Option<T>) -> Result<Option<T>, AllocError>
-    ensures { IfOk result (λ copy. copy ≡ source.now) }
-{
-    match source {
-        Some(found) => Ok(Some(found.clone()?)),
-        None => Ok(None),
     }
 }
 

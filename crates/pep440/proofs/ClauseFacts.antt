@@ -15,23 +15,24 @@ use Rattle.pep440.specs.declared.specifier.Clause.{Clause}
 use Rattle.pep440.specs.Version.{Parts, fits}
 use Rattle.pep440.specs.Grammar.{IsVersionText}
 use Rattle.pep440.specs.Tied.Reading.{Spans, bare_parts, parts_in, spans_of}
-use Rattle.pep440.specs.Text.{is_blank, trim_front}
+use Rattle.lists.specs.Spaces.{is_space_or_tab}
+use Rattle.pep440.specs.Text.{trim_front}
 use Rattle.pep440.specs.SetGrammar.{takes, IsClause, sign, star}
 use Rattle.pep440.specs.Tied.Sets.{clause_behind, clause_for, clause_of, clause_text, double_of, ends_in_star, is_arbitrary, operator_of, single_of, star_operator, version_text, with_rest}
 use Rattle.pep440.proofs.ByteFacts.{Covers, version-pass}
 use Rattle.pep440.proofs.ReleaseReads.{is_start, spells-read, starts_version, version-start}
 use Rattle.pep440.proofs.CutFacts.{chosen}
-use Rattle.pep440.proofs.SoundFacts.{read-spells}
+use Rattle.pep440.proofs.ReadIsSpelled.{read-spells}
 
 -- ---- what stands behind the operator
 
-start-no_blank : (b : ℕ) → is_start b ≡ true → is_blank b ≡ false
+start-no_blank : (b : ℕ) → is_start b ≡ true → is_space_or_tab b ≡ false
 start-no_blank b h = grind (arith, nat_tests)
 
 start-no_equals : (b : ℕ) → is_start b ≡ true → eqb b 61 ≡ false
 start-no_equals b h = grind (arith, nat_tests)
 
-blank-no_equals : (b : ℕ) → is_blank b ≡ true → eqb b 61 ≡ false
+blank-no_equals : (b : ℕ) → is_space_or_tab b ≡ true → eqb b 61 ≡ false
 blank-no_equals b h = grind (arith, nat_tests)
 
 -- no `=` begins the text
@@ -39,15 +40,15 @@ abbrev no_equals : List ℕ → Bool
 no_equals [] = true
 no_equals (b ∷ rest) = not (eqb b 61)
 
-behind-no_equals : (blanks version rest : List ℕ) → list_all is_blank blanks ≡ true → starts_version version ≡ true → no_equals (blanks ++ (version ++ rest)) ≡ true
+behind-no_equals : (blanks version rest : List ℕ) → list_all is_space_or_tab blanks ≡ true → starts_version version ≡ true → no_equals (blanks ++ (version ++ rest)) ≡ true
 behind-no_equals [] [] rest h g = absurd cc
 behind-no_equals [] (b ∷ version) rest h g = rw (start-no_equals b g) refl
-behind-no_equals (b ∷ blanks) version rest h g = rw (blank-no_equals b (first_so (is_blank b) (list_all is_blank blanks) h)) refl
+behind-no_equals (b ∷ blanks) version rest h g = rw (blank-no_equals b (first_so (is_space_or_tab b) (list_all is_space_or_tab blanks) h)) refl
 
-trimmed : (blanks version rest : List ℕ) → list_all is_blank blanks ≡ true → starts_version version ≡ true → trim_front is_blank (blanks ++ (version ++ rest)) ≡ version ++ rest
+trimmed : (blanks version rest : List ℕ) → list_all is_space_or_tab blanks ≡ true → starts_version version ≡ true → trim_front is_space_or_tab (blanks ++ (version ++ rest)) ≡ version ++ rest
 trimmed [] [] rest h g = absurd cc
 trimmed [] (b ∷ version) rest h g = rw (start-no_blank b g) refl
-trimmed (b ∷ blanks) version rest h g = rw (first_so (is_blank b) (list_all is_blank blanks) h) (trimmed blanks version rest (second_so (is_blank b) (list_all is_blank blanks) h) g)
+trimmed (b ∷ blanks) version rest h g = rw (first_so (is_space_or_tab b) (list_all is_space_or_tab blanks) h) (trimmed blanks version rest (second_so (is_space_or_tab b) (list_all is_space_or_tab blanks) h) g)
 
 not-true : (b : Bool) → not b ≡ true → b ≡ false
 not-true true h = absurd cc
@@ -177,7 +178,7 @@ clause-reads k piece c h =
     let clear = behind-no_equals h.blanks h.version (star c.operator) h.are_blank start in
     let usual : is_arbitrary piece ≡ false = ap is_arbitrary h.whole ∙ sign-usual c.operator behind clear in
     let cut : operator_of piece ≡ Some (base c.operator, behind) = ap operator_of h.whole ∙ sign-read c.operator behind clear in
-    let rest : trim_front is_blank behind ≡ h.version ++ star c.operator = trimmed h.blanks h.version (star c.operator) h.are_blank start in
+    let rest : trim_front is_space_or_tab behind ≡ h.version ++ star c.operator = trimmed h.blanks h.version (star c.operator) h.are_blank start in
     let s = starred c.operator h.version c.version h.spells in
     let parts : bare_parts h.version ≡ Some c.version = spells-read h.version c.version h.spells in
     let text : clause_text k (base c.operator) (h.version ++ star c.operator) ≡ cond (fits c.version) (Ok c) (Err NumberTooLarge) = rw (s.0, s.1, parts, h.taken) refl in
@@ -263,12 +264,12 @@ operator-cut (a ∷ b ∷ rest) p h = elim (chosen (eqb b 61) (with_rest (double
 
 record BlankCut (text : List ℕ) : Type 0 where
   blanks : List ℕ
-  whole : text ≡ blanks ++ trim_front is_blank text
-  are_blank : list_all is_blank blanks ≡ true
+  whole : text ≡ blanks ++ trim_front is_space_or_tab text
+  are_blank : list_all is_space_or_tab blanks ≡ true
 
 blank-cut : (text : List ℕ) → BlankCut text
 blank-cut [] = record { blanks = []; whole = refl; are_blank = refl }
-blank-cut (b ∷ text) = elim (cases_Bool (is_blank b)) [
+blank-cut (b ∷ text) = elim (cases_Bool (is_space_or_tab b)) [
   | inl blank ↦ let r = blank-cut text in record { blanks = b ∷ r.blanks; whole = rw blank (ap (λ (t : List ℕ). b ∷ t) r.whole); are_blank = rw (blank, r.are_blank) refl }
   | inr other ↦ record { blanks = []; whole = rw other refl; are_blank = refl }
 ]
@@ -355,12 +356,12 @@ bare-spells text v h = let m = map-some (spans_of text) v h in subst (λ (w : Pa
 
 -- what was found behind the operator is a clause of the grammar
 found-clause : (piece : List ℕ) (p : Operator × List ℕ) (c : Clause) → operator_of piece ≡ Some p
-    → ForCut (star_operator (ends_in_star (trim_front is_blank p.1)) p.0) (bare_parts (version_text (ends_in_star (trim_front is_blank p.1)) (trim_front is_blank p.1))) c
+    → ForCut (star_operator (ends_in_star (trim_front is_space_or_tab p.1)) p.0) (bare_parts (version_text (ends_in_star (trim_front is_space_or_tab p.1)) (trim_front is_space_or_tab p.1))) c
     → IsClause piece c
 found-clause piece p c e f =
     let s = operator-cut piece p e in
     let b = blank-cut p.1 in
-    let text = trim_front is_blank p.1 in
+    let text = trim_front is_space_or_tab p.1 in
     let d = ended (ends_in_star text) p.0 c.operator text refl s.usual f.operator in
     let version = version_text (ends_in_star text) text in
     record {
@@ -375,7 +376,7 @@ found-clause piece p c e f =
 behind-cut : (k : ℕ) (piece : List ℕ) (o : Option (Operator × List ℕ)) (c : Clause) → operator_of piece ≡ o → clause_behind k o ≡ Ok c → IsClause piece c × (fits c.version ≡ true)
 behind-cut k piece None c e h = absurd cc
 behind-cut k piece (Some p) c e h =
-    let text = trim_front is_blank p.1 in
+    let text = trim_front is_space_or_tab p.1 in
     let f = for-cut k (star_operator (ends_in_star text) p.0) (bare_parts (version_text (ends_in_star text) text)) c h in
     (found-clause piece p c e f.0, f.1)
 
@@ -383,7 +384,7 @@ pub behind-fault : (k : ℕ) (piece : List ℕ) (o : Option (Operator × List �
     → (e ≡ BadClause k) ⊎ ((e ≡ NumberTooLarge) × ((c : Clause) × IsClause piece c × (fits c.version ≡ false)))
 behind-fault k piece None e s h = inl cc
 behind-fault k piece (Some p) e s h =
-    let text = trim_front is_blank p.1 in
+    let text = trim_front is_space_or_tab p.1 in
     elim (for-fault k (star_operator (ends_in_star text) p.0) (bare_parts (version_text (ends_in_star text) text)) e h) [
       | inl bad ↦ inl bad
       | inr large ↦ let found = large.1 in inr (large.0, (found.0, found-clause piece p found.0 s found.1, found.2))

@@ -6,7 +6,8 @@ use Rattle.std.proofs.lemmas.Bool.Decides.{nat_tests}
 use Rattle.pep440.specs.declared.fault.Fault.{Fault}
 use Rattle.pep440.specs.declared.specifier.Clause.{Clause}
 use Rattle.pep440.specs.SetGrammar.{AreClauses, PieceAnswers, SetAnswers, clause_texts, counted, without_end}
-use Rattle.pep440.specs.Text.{is_blank, pieces, trim_blank}
+use Rattle.lists.specs.Spaces.{is_space_or_tab}
+use Rattle.pep440.specs.Text.{pieces, trim_blank}
 use Rattle.pep440.specs.Tied.Sets.{◌>>=◌, clause_of, clauses_from, set_of}
 use Rattle.pep440.proofs.PieceAnswersOnce.{piece-answers, piece-read}
 
@@ -23,7 +24,7 @@ later k h = grind (arith, nat_tests)
 behind-first : (k : ℕ) (ps : List (List ℕ)) → ltb 1 k ≡ true → clauses_from k ps ≡ each_clause k (without_end ps)
 unfolding clauses_from each_clause
 behind-first k [] h = refl
-behind-first k (piece ∷ []) h = elim (cases_Bool (list_all is_blank piece)) [
+behind-first k (piece ∷ []) h = elim (cases_Bool (list_all is_space_or_tab piece)) [
   | inl blank ↦ rw (h, blank) refl
   | inr other ↦ rw (h, other) refl
 ]
@@ -39,7 +40,7 @@ from-first (piece ∷ next ∷ rest) =
 
 set-each : (text : List ℕ) → set_of text ≡ each_clause 1 (clause_texts text)
 unfolding each_clause
-set-each text = elim (cases_Bool (list_all is_blank text)) [
+set-each text = elim (cases_Bool (list_all is_space_or_tab text)) [
   | inl blank ↦ rw blank refl
   | inr other ↦ rw other (from-first (pieces text))
 ]

@@ -10,7 +10,8 @@ use Rattle.pep440.specs.declared.specifier.Operator.{Operator}
 use Rattle.pep440.specs.declared.specifier.Operator.TheVariants as operators
 use Rattle.pep440.specs.SetGrammar.{IsClause, begins_operator, is_set_byte, sign, star}
 use Rattle.pep440.specs.Tied.Sets.{◌>>=◌, clause_of, clauses_from, set_of}
-use Rattle.pep440.specs.Text.{is_blank, pieces, trim_blank, trim_end, trim_front}
+use Rattle.lists.specs.Spaces.{is_space_or_tab}
+use Rattle.pep440.specs.Text.{pieces, trim_blank, trim_end, trim_front}
 use Rattle.pep440.proofs.ByteFacts.{Covers, all-append, all-weaker, version-pass}
 use Rattle.pep440.proofs.ClauseFacts.{read-clause}
 
@@ -25,11 +26,11 @@ covers = record {
   plus = refl;
 }
 
-blank-byte : (b : ℕ) → is_blank b ≡ true → is_set_byte b ≡ true
+blank-byte : (b : ℕ) → is_space_or_tab b ≡ true → is_set_byte b ≡ true
 blank-byte b h = grind (arith, nat_tests)
 
-blank-pass : (text : List ℕ) → list_all is_blank text ≡ true → list_all is_set_byte text ≡ true
-blank-pass text h = all-weaker is_blank is_set_byte text blank-byte h
+blank-pass : (text : List ℕ) → list_all is_space_or_tab text ≡ true → list_all is_set_byte text ≡ true
+blank-pass text h = all-weaker is_space_or_tab is_set_byte text blank-byte h
 
 sign-pass : (o : Operator) → list_all is_set_byte (sign o) ≡ true
 sign-pass operators.Compatible = refl
@@ -62,24 +63,24 @@ clause-pass piece c h =
 
 -- ---- the space around a piece
 
-front-pass : (text : List ℕ) → list_all is_set_byte (trim_front is_blank text) ≡ true → list_all is_set_byte text ≡ true
+front-pass : (text : List ℕ) → list_all is_set_byte (trim_front is_space_or_tab text) ≡ true → list_all is_set_byte text ≡ true
 front-pass [] h = refl
-front-pass (b ∷ rest) h = elim (cases_Bool (is_blank b)) [
+front-pass (b ∷ rest) h = elim (cases_Bool (is_space_or_tab b)) [
   | inl blank ↦ rw (blank-byte b blank) (front-pass rest (rw blank at h))
   | inr other ↦ rw other at h
 ]
 
-end-pass : (text : List ℕ) → list_all is_set_byte (trim_end is_blank text) ≡ true → list_all is_set_byte text ≡ true
+end-pass : (text : List ℕ) → list_all is_set_byte (trim_end is_space_or_tab text) ≡ true → list_all is_set_byte text ≡ true
 end-pass [] h = refl
-end-pass (b ∷ rest) h = elim (cases_Bool (list_all is_blank (b ∷ rest))) [
+end-pass (b ∷ rest) h = elim (cases_Bool (list_all is_space_or_tab (b ∷ rest))) [
   | inl blank ↦ blank-pass (b ∷ rest) blank
   | inr other ↦
       let kept = rw other at h in
-      rw (first_so (is_set_byte b) (list_all is_set_byte (trim_end is_blank rest)) kept) (end-pass rest (second_so (is_set_byte b) (list_all is_set_byte (trim_end is_blank rest)) kept))
+      rw (first_so (is_set_byte b) (list_all is_set_byte (trim_end is_space_or_tab rest)) kept) (end-pass rest (second_so (is_set_byte b) (list_all is_set_byte (trim_end is_space_or_tab rest)) kept))
 ]
 
 piece-pass : (piece : List ℕ) (c : Clause) → IsClause (trim_blank piece) c → list_all is_set_byte piece ≡ true
-piece-pass piece c h = front-pass piece (end-pass (trim_front is_blank piece) (clause-pass (trim_blank piece) c h))
+piece-pass piece c h = front-pass piece (end-pass (trim_front is_space_or_tab piece) (clause-pass (trim_blank piece) c h))
 
 -- ---- all pieces
 
@@ -93,8 +94,8 @@ passes piece = list_all is_set_byte piece
 pieces-pass : (k : ℕ) (ps : List (List ℕ)) (cs : List Clause) → clauses_from k ps ≡ Ok cs → list_all passes ps ≡ true
 unfolding clauses_from
 pieces-pass k [] cs reads = refl
-pieces-pass k (piece ∷ []) cs reads = elim (cases_Bool (ltb 1 k && list_all is_blank piece)) [
-  | inl blank ↦ rw (blank-pass piece (second_so (ltb 1 k) (list_all is_blank piece) blank)) refl
+pieces-pass k (piece ∷ []) cs reads = elim (cases_Bool (ltb 1 k && list_all is_space_or_tab piece)) [
+  | inl blank ↦ rw (blank-pass piece (second_so (ltb 1 k) (list_all is_space_or_tab piece) blank)) refl
   | inr other ↦
       let b = bound (clause_of k (trim_blank piece)) (λ c. Ok (c ∷ [])) cs (rw other at reads) in
       rw (piece-pass piece b.0 (read-clause k (trim_blank piece) b.0 b.1).0) refl
@@ -123,7 +124,7 @@ text-pass (b ∷ rest) h = elim (cases_Bool (eqb b 44)) [
 
 -- the bytes of a text that reads as a set
 pub set-bytes : (text : List ℕ) (clauses : List Clause) → set_of text ≡ Ok clauses → list_all is_set_byte text ≡ true
-set-bytes text clauses reads = elim (cases_Bool (list_all is_blank text)) [
+set-bytes text clauses reads = elim (cases_Bool (list_all is_space_or_tab text)) [
   | inl blank ↦ blank-pass text blank
   | inr other ↦ text-pass text (pieces-pass 1 (pieces text) clauses (rw other at reads))
 ]
@@ -159,17 +160,17 @@ no-clause : (c : Clause) → clause_of 1 [] ≡ Ok c → ⊥
 no-clause c h = cc
 
 -- the first byte that is no blank begins an operator
-piece-begins : (b : ℕ) (piece : List ℕ) (c : Clause) → is_blank b ≡ false → clause_of 1 (trim_blank (b ∷ piece)) ≡ Ok c → begins_operator b ≡ true
+piece-begins : (b : ℕ) (piece : List ℕ) (c : Clause) → is_space_or_tab b ≡ false → clause_of 1 (trim_blank (b ∷ piece)) ≡ Ok c → begins_operator b ≡ true
 piece-begins b piece c other h =
-    let trimmed : trim_blank (b ∷ piece) ≡ b ∷ trim_end is_blank piece = rw (other, other) refl in
-    clause-begins b (trim_end is_blank piece) c (read-clause 1 (b ∷ trim_end is_blank piece) c (rw trimmed at h)).0
+    let trimmed : trim_blank (b ∷ piece) ≡ b ∷ trim_end is_space_or_tab piece = rw (other, other) refl in
+    clause-begins b (trim_end is_space_or_tab piece) c (read-clause 1 (b ∷ trim_end is_space_or_tab piece) c (rw trimmed at h)).0
 
-onto-begins : (b : ℕ) (ps : List (List ℕ)) (cs : List Clause) → is_blank b ≡ false → clauses_from 1 (onto_first b ps) ≡ Ok cs → begins_operator b ≡ true
+onto-begins : (b : ℕ) (ps : List (List ℕ)) (cs : List Clause) → is_space_or_tab b ≡ false → clauses_from 1 (onto_first b ps) ≡ Ok cs → begins_operator b ≡ true
 onto-begins b [] cs other reads = let f = first-clause (b ∷ []) [] cs reads in piece-begins b [] f.0 other f.1
 onto-begins b (p ∷ ps) cs other reads = let f = first-clause (b ∷ p) ps cs reads in piece-begins b p f.0 other f.1
 
 -- an operator begins a text that reads as a set, where no space does
-pub set-begins : (text : List ℕ) (clauses : List Clause) → set_of text ≡ Ok clauses → is_blank (get_or text 0 0) ≡ false → (text ≡ []) ⊎ (begins_operator (get_or text 0 0) ≡ true)
+pub set-begins : (text : List ℕ) (clauses : List Clause) → set_of text ≡ Ok clauses → is_space_or_tab (get_or text 0 0) ≡ false → (text ≡ []) ⊎ (begins_operator (get_or text 0 0) ≡ true)
 set-begins [] clauses reads other = inl refl
 set-begins (b ∷ rest) clauses reads other =
     let from : clauses_from 1 (pieces (b ∷ rest)) ≡ Ok clauses = rw other at reads in

@@ -8,7 +8,8 @@ use Rattle.pep440.specs.declared.fault.Fault.TheVariants.{ArbitraryEquality, Bad
 use Rattle.pep440.specs.declared.specifier.Clause.{Clause}
 use Rattle.pep440.specs.Answers.{Fails}
 use Rattle.pep440.specs.Tied.Sets.{◌>>=◌, clause_of, clauses_from}
-use Rattle.pep440.specs.Text.{is_blank, pieces, trim_blank}
+use Rattle.lists.specs.Spaces.{is_space_or_tab}
+use Rattle.pep440.specs.Text.{pieces, trim_blank}
 
 -- ---- the parts between commas
 
@@ -83,29 +84,29 @@ stops OutOfMemory front k text piece rest total cut read so_far = tt
 -- ---- the last piece
 
 -- a blank last piece behind a clause
-pub ends_blank : (front : List Clause) (k : ℕ) (text : List ℕ) (total : Result (List Clause) Fault) → (ltb 1 k && list_all is_blank text) ≡ true → pieces text ≡ text ∷ []
+pub ends_blank : (front : List Clause) (k : ℕ) (text : List ℕ) (total : Result (List Clause) Fault) → (ltb 1 k && list_all is_space_or_tab text) ≡ true → pieces text ≡ text ∷ []
     → with_front front (clauses_from k (pieces text)) ≡ total → total ≡ Ok front
 unfolding clauses_from
 ends_blank front k text total end cut so_far =
     sym so_far ∙ ap (λ ps. with_front front (clauses_from k ps)) cut ∙ rw end (ap (λ (cs : List Clause). Ok cs) (append-nil front))
 
-last-same : (k : ℕ) (text : List ℕ) → (ltb 1 k && list_all is_blank text) ≡ false → clauses_from k (text ∷ []) ≡ (clause_of k (trim_blank text) >>= λ c. Ok (c ∷ []))
+last-same : (k : ℕ) (text : List ℕ) → (ltb 1 k && list_all is_space_or_tab text) ≡ false → clauses_from k (text ∷ []) ≡ (clause_of k (trim_blank text) >>= λ c. Ok (c ∷ []))
 unfolding clauses_from
 last-same k text h = rw h refl
 
 -- a last piece that is a clause
-pub ends_clause : (front : List Clause) (k : ℕ) (text : List ℕ) (c : Clause) (total : Result (List Clause) Fault) → (ltb 1 k && list_all is_blank text) ≡ false → pieces text ≡ text ∷ []
+pub ends_clause : (front : List Clause) (k : ℕ) (text : List ℕ) (c : Clause) (total : Result (List Clause) Fault) → (ltb 1 k && list_all is_space_or_tab text) ≡ false → pieces text ≡ text ∷ []
     → clause_of k (trim_blank text) ≡ Ok c → with_front front (clauses_from k (pieces text)) ≡ total → total ≡ Ok (front ++ c ∷ [])
 ends_clause front k text c total is_no_end cut read so_far =
     sym so_far ∙ ap (λ ps. with_front front (clauses_from k ps)) cut ∙ rw (last-same k text is_no_end, read) refl
 
-ends_err : (front : List Clause) (k : ℕ) (text : List ℕ) (e : Fault) (total : Result (List Clause) Fault) → (ltb 1 k && list_all is_blank text) ≡ false → pieces text ≡ text ∷ []
+ends_err : (front : List Clause) (k : ℕ) (text : List ℕ) (e : Fault) (total : Result (List Clause) Fault) → (ltb 1 k && list_all is_space_or_tab text) ≡ false → pieces text ≡ text ∷ []
     → clause_of k (trim_blank text) ≡ Err e → with_front front (clauses_from k (pieces text)) ≡ total → total ≡ Err e
 ends_err front k text e total is_no_end cut read so_far =
     sym so_far ∙ ap (λ ps. with_front front (clauses_from k ps)) cut ∙ rw (last-same k text is_no_end, read) refl
 
 -- a last piece that is none
-pub ends_fault : (e : Fault) (front : List Clause) (k : ℕ) (text : List ℕ) (total : Result (List Clause) Fault) → (ltb 1 k && list_all is_blank text) ≡ false → pieces text ≡ text ∷ []
+pub ends_fault : (e : Fault) (front : List Clause) (k : ℕ) (text : List ℕ) (total : Result (List Clause) Fault) → (ltb 1 k && list_all is_space_or_tab text) ≡ false → pieces text ≡ text ∷ []
     → Fails e (clause_of k (trim_blank text)) → with_front front (clauses_from k (pieces text)) ≡ total → Fails e total
 ends_fault BadVersion front k text total is_no_end cut read so_far = ends_err front k text BadVersion total is_no_end cut read so_far
 ends_fault NumberTooLarge front k text total is_no_end cut read so_far = ends_err front k text NumberTooLarge total is_no_end cut read so_far

@@ -11,7 +11,7 @@ use Rattle.pep440.specs.Text.{trim_end, trim_front}
 use Rattle.pep440.specs.Tied.Reading.{Spans, parts_of, trim_space, bare_parts, parts_in, spans_of}
 use Rattle.pep440.proofs.ByteFacts.{Covers, version-pass}
 use Rattle.pep440.proofs.ReleaseReads.{spells-read}
-use Rattle.pep440.proofs.SoundFacts.{read-spells}
+use Rattle.pep440.proofs.ReadIsSpelled.{read-spells}
 
 abbrev clear : List ℕ → Bool
 clear text = list_all (λ b. not (is_space b)) text

@@ -8,7 +8,8 @@ use Rattle.pep440.specs.declared.fault.Fault.TheVariants.{ArbitraryEquality, Bad
 use Rattle.pep440.specs.declared.specifier.Operator.{Operator}
 use Rattle.pep440.specs.declared.specifier.Operator.TheVariants as operators
 use Rattle.pep440.specs.declared.specifier.Clause.{Clause}
-use Rattle.pep440.specs.Text.{is_blank, pieces, trim_blank}
+use Rattle.lists.specs.Spaces.{is_space_or_tab}
+use Rattle.pep440.specs.Text.{pieces, trim_blank}
 use Rattle.pep440.specs.Version.{Parts, fits}
 use Rattle.pep440.specs.Grammar.{IsVersionText, is_separator}
 
@@ -18,7 +19,7 @@ begins_operator b = (b == 33) || ((b == 60) || ((b == 61) || ((b == 62) || (b ==
 
 -- a byte of a set: a letter, a digit, a separator, a space or a tab, `*`, `+`, `,`, or one that begins an operator
 abbrev pub is_set_byte : ℕ → Bool
-is_set_byte b = is_ascii_alphanumeric b || (is_separator b || (is_blank b || ((b == 42) || ((b == 43) || ((b == 44) || begins_operator b)))))
+is_set_byte b = is_ascii_alphanumeric b || (is_separator b || (is_space_or_tab b || ((b == 42) || ((b == 43) || ((b == 44) || begins_operator b)))))
 
 -- how an operator is written before its version
 abbrev pub sign : Operator → List ℕ
@@ -67,9 +68,14 @@ pub record IsClause (piece : List ℕ) (c : Clause) : Type 0 where
   pub blanks : List ℕ
   pub version : List ℕ
   pub whole : piece ≡ sign c.operator ++ (blanks ++ (version ++ star c.operator))
-  pub are_blank : list_all is_blank blanks ≡ true
+  pub are_blank : list_all is_space_or_tab blanks ≡ true
   pub spells : IsVersionText version c.version
   pub taken : takes c.operator c.version ≡ true
+
+-- what holds of each clause of a `SpecifierSet`: its operator takes its version, and the numbers fit
+pub record IsLawfulClause (c : Clause) : Type 0 where
+  pub taken : takes c.operator c.version ≡ true
+  pub numbers : fits c.version ≡ true
 
 -- the piece begins with `===` (PEP 440, "Arbitrary equality")
 abbrev pub IsArbitrary : List ℕ → Type 0
@@ -88,7 +94,7 @@ PieceAnswers place piece (Err OutOfMemory) = ⊥
 -- pieces without a blank one at their end
 abbrev pub without_end : List (List ℕ) → List (List ℕ)
 without_end [] = []
-without_end (piece ∷ []) = if list_all is_blank piece then [] else piece ∷ []
+without_end (piece ∷ []) = if list_all is_space_or_tab piece then [] else piece ∷ []
 without_end (piece ∷ next ∷ rest) = piece ∷ without_end (next ∷ rest)
 
 -- the first piece, and the others without a blank one at their end
@@ -99,7 +105,7 @@ counted (piece ∷ rest) = piece ∷ without_end rest
 -- the pieces of a text that have to be clauses: those between its commas, of which one may stand behind the
 -- last clause; a blank text has none
 abbrev pub clause_texts : List ℕ → List (List ℕ)
-clause_texts text = if list_all is_blank text then [] else counted (pieces text)
+clause_texts text = if list_all is_space_or_tab text then [] else counted (pieces text)
 
 -- each piece is its clause, spaces and tabs around it or not, and the numbers fit
 abbrev pub AreClauses : List (List ℕ) → List Clause → Type 0

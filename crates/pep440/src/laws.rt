@@ -3,7 +3,7 @@
 ghost use Rattle.std.specs.Prelude.{◌≡◌, ℕ, List, Ok, Result, Some, true, ◌⊎◌, [], false, slice_index};
 ghost use Rattle.std.specs.List.{list_all};
 ghost use Rattle.std.specs.declared.cmp.Ordering.TheVariants.{Equal};
-ghost use Rattle.pep440.specs.Text.{is_blank};
+ghost use Rattle.lists.specs.Spaces.{is_space_or_tab};
 ghost use Rattle.pep440.specs.Canonical.{canonical};
 ghost use Rattle.pep440.specs.Grammar.{IsVersionText, Spells};
 ghost use Rattle.pep440.specs.Matching.{matches};
@@ -67,7 +67,7 @@ pub fn a_set_has_its_bytes()
     ensures bytes { (text : List ℕ) (clauses : List Clause)
         → set_of text ≡ Ok clauses → list_all is_set_byte text ≡ true }
     ensures first { (text : List ℕ) (clauses : List Clause)
-        → set_of text ≡ Ok clauses → is_blank (slice_index text 0) ≡ false
+        → set_of text ≡ Ok clauses → is_space_or_tab (slice_index text 0) ≡ false
         → (text ≡ []) ⊎ (begins_operator (slice_index text 0) ≡ true) }
 {}
 

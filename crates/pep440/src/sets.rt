@@ -7,32 +7,27 @@ ghost use Rattle.pep440.specs.Tied.Reading.{parts_in};
 ghost use Rattle.pep440.specs.SetGrammar.{is_release_alone, takes};
 ghost use Rattle.pep440.specs.Tied.Sets.{clause_of, clauses_from, double_of, clause_text, ends_in_star, is_arbitrary, operator_of, set_of, single_of, star_operator, version_text};
 ghost use Rattle.pep440.specs.Tied.Views.{operator_view, span_view};
-ghost use Rattle.pep440.specs.Text.{is_blank, pieces, trim_blank, trim_end, trim_front};
+ghost use Rattle.lists.specs.Spaces.{is_space_or_tab};
+ghost use Rattle.pep440.specs.Text.{pieces, trim_blank, trim_end, trim_front};
 
 use crate::fault::Fault;
 use crate::spans::SpannedText;
 use crate::specifier::{Clause, Operator, SpecifierSet};
 use crate::{reading, spans, text};
-use lists::Seq;
+use lists::{Seq, is_space_or_tab};
 use std::alloc::Global;
 
-fn is_blank(byte: u8) -> bool
-    ensures { result ≡ is_blank byte }
-{
-    byte == b' ' || byte == b'\t'
-}
-
 fn are_blank(text: &[u8]) -> bool
-    ensures { result ≡ list_all is_blank text.now }
+    ensures { result ≡ list_all is_space_or_tab text.now }
 {
-    text.iter().all(|byte| is_blank(*byte))
+    text.iter().all(|byte| is_space_or_tab(*byte))
 }
 
 fn trim_front(text: &[u8]) -> &[u8]
-    ensures { result.now ≡ trim_front is_blank text.now }
+    ensures { result.now ≡ trim_front is_space_or_tab text.now }
 {
     for i in 0..text.len() {
-        if !is_blank(text[i]) {
+        if !is_space_or_tab(text[i]) {
             return &text[i..];
         }
     }
@@ -40,10 +35,10 @@ fn trim_front(text: &[u8]) -> &[u8]
 }
 
 fn trim_end(text: &[u8]) -> &[u8]
-    ensures { result.now ≡ trim_end is_blank text.now }
+    ensures { result.now ≡ trim_end is_space_or_tab text.now }
 {
     let mut len = text.len();
-    while len > 0 && is_blank(text[len - 1]) {
+    while len > 0 && is_space_or_tab(text[len - 1]) {
         len -= 1;
     }
     &text[..len]
@@ -216,7 +211,7 @@ fn clause_at(alloc: Global, piece: &[u8], place: usize) -> Result<Clause, Fault>
 
 // Whether the last piece is what may stand behind a trailing comma.
 fn is_end(piece: &[u8], place: usize) -> bool
-    ensures { result ≡ (nat_lt 1 place && list_all is_blank piece.now) }
+    ensures { result ≡ (nat_lt 1 place && list_all is_space_or_tab piece.now) }
 {
     place > 1 && are_blank(piece)
 }

@@ -1,6 +1,8 @@
 // Specifiers, and sets of them.
 
 ghost use Rattle.std.specs.Prelude.{◌≡◌};
+ghost use Rattle.std.specs.List.{AllByRecursion};
+ghost use Rattle.pep440.specs.SetGrammar.{IsLawfulClause};
 
 use crate::version::Version;
 use lists::{Faithful, Seq};
@@ -75,11 +77,15 @@ impl Drop for SpecifierSet {
 
 impl Model for SpecifierSet {
     ghost use Rattle.std.specs.Prelude.{List};
+    ghost use Rattle.std.specs.List.{AllByRecursion};
+    ghost use Rattle.pep440.specs.SetGrammar.{IsLawfulClause};
     ghost use Rattle.pep440.specs.declared.specifier.Clause.{Clause};
 
     ghost Value = { List Clause };
 
     ghost view = { λ s. s.clauses };
+
+    ghost invariant = { λ s. AllByRecursion IsLawfulClause s.clauses };
 }
 
 impl SpecifierSet {
@@ -87,6 +93,13 @@ impl SpecifierSet {
         ensures { result.now ≡ self.now }
     {
         self.clauses.as_slice()
+    }
+
+    /// What holds of every set that was read: each operator takes its version, and numbers fit.
+    pub fn is_lawful(&self)
+        ensures { AllByRecursion IsLawfulClause self.now }
+    {
+        let _clauses = self.clauses.as_slice();
     }
 }
 

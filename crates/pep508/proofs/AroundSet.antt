@@ -7,7 +7,7 @@ use Rattle.std.proofs.lemmas.List.Sums.{passes_at_first}
 use Rattle.std.specs.Cmp.{first_so}
 use Rattle.std.specs.List.{list_all}
 use Rattle.markers.specs.Names.{is_name_byte}
-use Rattle.pep508.specs.Parts.{begins_with, comment_place, ends_with, has_odd, is_marked, is_space, place_of}
+use Rattle.pep508.specs.Parts.{begins_with, comment_place, ends_with, has_odd, is_marked, is_space_or_tab, place_of}
 use Rattle.pep508.specs.Slices.{IsCut, IsExtras, IsMarker, Slices, behind, joined, with_version}
 use Rattle.pep508.proofs.Comments.{Opens, clear_append, clear_parts, clear_plain, clear_same, opens_append, opens_behind, opens_last}
 use Rattle.pep508.proofs.LineCut.{all_at}
@@ -39,7 +39,7 @@ pub record Closes (b : ℕ) : Type 0 where
   pub ascii : b < 128
   pub whole : eqb b 92 ≡ false
 
-pub space_closes : (b : ℕ) → is_space b ≡ true → Closes b
+pub space_closes : (b : ℕ) → is_space_or_tab b ≡ true → Closes b
 space_closes b h = record { ascii = grind (arith, nat_tests); whole = grind (arith, nat_tests) }
 
 pub name_closes : (b : ℕ) → is_name_byte b ≡ true → Closes b
@@ -79,10 +79,10 @@ facts s c some = record {
 
 pub before_closes : (s : Slices) → IsCut (joined s) s → Facts s → Closes (get_or (before_set s) (length (before_set s) - 1) 0)
 before_closes s c f =
-    join_closes s.lead (s.name ++ (s.gap1 ++ (s.extras ++ s.gap2))) (run_closes is_space s.lead space_closes f.spaces.lead)
+    join_closes s.lead (s.name ++ (s.gap1 ++ (s.extras ++ s.gap2))) (run_closes is_space_or_tab s.lead space_closes f.spaces.lead)
     (join_closes s.name (s.gap1 ++ (s.extras ++ s.gap2)) (run_closes is_name_byte s.name name_closes f.named)
-    (join_closes s.gap1 (s.extras ++ s.gap2) (run_closes is_space s.gap1 space_closes f.spaces.gap1)
-    (join_closes s.extras s.gap2 (extras_closes s.extras (extras_last s.extras c.extras)) (run_closes is_space s.gap2 space_closes f.spaces.gap2))))
+    (join_closes s.gap1 (s.extras ++ s.gap2) (run_closes is_space_or_tab s.gap1 space_closes f.spaces.gap1)
+    (join_closes s.extras s.gap2 (extras_closes s.extras (extras_last s.extras c.extras)) (run_closes is_space_or_tab s.gap2 space_closes f.spaces.gap2))))
 
 -- ---- odd characters
 
@@ -102,10 +102,10 @@ odd_with s version c f v plain =
 marked_ascii : (b : ℕ) (rest : List ℕ) → b < 128 → is_marked (b ∷ rest) ≡ false
 marked_ascii b rest ascii = grind (arith, nat_tests)
 
-pub marked_front : (lead name rest : List ℕ) → list_all is_space lead ≡ true → list_all is_name_byte name ≡ true → 0 < length name → is_marked (lead ++ (name ++ rest)) ≡ false
+pub marked_front : (lead name rest : List ℕ) → list_all is_space_or_tab lead ≡ true → list_all is_name_byte name ≡ true → 0 < length name → is_marked (lead ++ (name ++ rest)) ≡ false
 marked_front [] [] rest space named some = absurd (omega arith)
 marked_front [] (b ∷ name) rest space named some = marked_ascii b (name ++ rest) (name_closes b (first_so (is_name_byte b) (list_all is_name_byte name) named)).ascii
-marked_front (b ∷ lead) name rest space named some = marked_ascii b (lead ++ (name ++ rest)) (space_closes b (first_so (is_space b) (list_all is_space lead) space)).ascii
+marked_front (b ∷ lead) name rest space named some = marked_ascii b (lead ++ (name ++ rest)) (space_closes b (first_so (is_space_or_tab b) (list_all is_space_or_tab lead) space)).ascii
 
 -- the text behind the lead begins with the name
 pub begins_name : (byte : ℕ) (name one other : List ℕ) → 0 < length name → begins_with byte (name ++ one) ≡ false → begins_with byte (name ++ other) ≡ false
@@ -129,23 +129,23 @@ ends_with_set front one (b ∷ other) [] closes v ends =
 
 -- ---- the comment
 
-space_no_hash : (b : ℕ) → is_space b ≡ true → eqb b 35 ≡ false
+space_no_hash : (b : ℕ) → is_space_or_tab b ≡ true → eqb b 35 ≡ false
 space_no_hash b h = grind (arith, nat_tests)
 
-pub first_no_hash : (gap marker tail : List ℕ) → list_all is_space gap ≡ true → IsMarker marker → list_all is_space tail ≡ true → eqb (get_or (gap ++ (marker ++ tail)) 0 0) 35 ≡ false
-first_no_hash (b ∷ gap) marker tail space m more = space_no_hash b (first_so (is_space b) (list_all is_space gap) space)
+pub first_no_hash : (gap marker tail : List ℕ) → list_all is_space_or_tab gap ≡ true → IsMarker marker → list_all is_space_or_tab tail ≡ true → eqb (get_or (gap ++ (marker ++ tail)) 0 0) 35 ≡ false
+first_no_hash (b ∷ gap) marker tail space m more = space_no_hash b (first_so (is_space_or_tab b) (list_all is_space_or_tab gap) space)
 first_no_hash [] [] [] space m more = refl
-first_no_hash [] [] (b ∷ tail) space m more = space_no_hash b (first_so (is_space b) (list_all is_space tail) more)
+first_no_hash [] [] (b ∷ tail) space m more = space_no_hash b (first_so (is_space_or_tab b) (list_all is_space_or_tab tail) more)
 first_no_hash [] (b ∷ marker) tail space (inl empty) more = absurd (omega (arith, ap length empty))
 first_no_hash [] (b ∷ marker) tail space (inr begins) more = rw (eqb-true b 59 begins.0) refl
 
-name_no_space : (b : ℕ) → is_name_byte b ≡ true → is_space b ≡ false
+name_no_space : (b : ℕ) → is_name_byte b ≡ true → is_space_or_tab b ≡ false
 name_no_space b h = grind (arith, nat_tests)
 
 -- no space ends what stands up to the version part
 pub closed_end : (lead name gap1 extras gap2 version : List ℕ) → list_all is_name_byte name ≡ true → 0 < length name → (extras ≡ []) ⊎ (get_or extras (length extras - 1) 0 ≡ 93)
-    → is_space (get_or version (length version - 1) 0) ≡ false → (extras ≡ [] → gap1 ≡ []) → (version ≡ [] → gap2 ≡ [])
-    → is_space (get_or ((lead ++ (name ++ (gap1 ++ (extras ++ gap2)))) ++ version) (length ((lead ++ (name ++ (gap1 ++ (extras ++ gap2)))) ++ version) - 1) 0) ≡ false
+    → is_space_or_tab (get_or version (length version - 1) 0) ≡ false → (extras ≡ [] → gap1 ≡ []) → (version ≡ [] → gap2 ≡ [])
+    → is_space_or_tab (get_or ((lead ++ (name ++ (gap1 ++ (extras ++ gap2)))) ++ version) (length ((lead ++ (name ++ (gap1 ++ (extras ++ gap2)))) ++ version) - 1) 0) ≡ false
 closed_end lead name gap1 extras gap2 (v ∷ version) named some ends last no_extras no_version =
     rw (last_behind (lead ++ (name ++ (gap1 ++ (extras ++ gap2)))) (v ∷ version) (omega arith)) last
 closed_end lead name gap1 [] gap2 [] named some ends last no_extras no_version =
@@ -162,7 +162,7 @@ unfolding comment_place
 closed_comment [] none = refl
 closed_comment (c ∷ comment) none = absurd (omega (arith, none))
 
-still_opens : (before old new rest comment : List ℕ) → 0 < length (before ++ old) → is_space (get_or (before ++ old) (length (before ++ old) - 1) 0) ≡ false
+still_opens : (before old new rest comment : List ℕ) → 0 < length (before ++ old) → is_space_or_tab (get_or (before ++ old) (length (before ++ old) - 1) 0) ≡ false
     → comment_place (opens_behind true (before ++ (old ++ rest))) comment ≡ 0 → comment_place (opens_behind true (before ++ (new ++ rest))) comment ≡ 0
 unfolding comment_place
 still_opens before old new [] comment some closed opens =
@@ -175,7 +175,7 @@ still_opens before old new (b ∷ rest) comment some closed opens =
 
 -- a comment opens behind a new version part as behind the old one
 pub opens_with : (before old new rest comment : List ℕ) → eqb (get_or rest 0 0) 35 ≡ false → list_all (λ b. not (b == 35)) new ≡ true → 0 < length (before ++ old)
-    → is_space (get_or (before ++ old) (length (before ++ old) - 1) 0) ≡ false → Opens (before ++ (old ++ rest)) comment → Opens (before ++ (new ++ rest)) comment
+    → is_space_or_tab (get_or (before ++ old) (length (before ++ old) - 1) 0) ≡ false → Opens (before ++ (old ++ rest)) comment → Opens (before ++ (new ++ rest)) comment
 opens_with before old new rest comment first plain some closed o =
     let front = clear_parts true before (old ++ rest) o.plain in
     let back = clear_parts (opens_behind true before) old rest front.1 in

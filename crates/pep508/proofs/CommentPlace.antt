@@ -1,12 +1,12 @@
 -- A comment begins where it first may.
 use Rattle.std.proofs.Common.{◌≡◌, ℕ, zero, suc, ◌<◌, ◌⊎◌, ◌∙◌, ◌&&◌, ◌==◌, Bool, true, false, List, [], ◌∷◌, length, slice_index, refl, sym, inl, inr, arith}
 use Rattle.std.proofs.lemmas.Bool.{cases_Bool}
-use Rattle.pep508.specs.Parts.{IsCommentPlace, comment_place, is_space, opens_comment}
+use Rattle.pep508.specs.Parts.{IsCommentPlace, comment_place, is_space_or_tab, opens_comment}
 
 -- whether a comment may begin at the place of a text; before the text stands a start or not
 abbrev opens : Bool → List ℕ → ℕ → Bool
 opens at_start text zero = at_start && (slice_index text 0 == 35)
-opens at_start text (suc k) = (slice_index text (suc k) == 35) && is_space (slice_index text k)
+opens at_start text (suc k) = (slice_index text (suc k) == 35) && is_space_or_tab (slice_index text k)
 
 turned : (one other : Bool) → (one && other) ≡ (other && one)
 turned true true = refl
@@ -15,8 +15,8 @@ turned false true = refl
 turned false false = refl
 
 -- behind the first byte it may where it may in the rest
-opens-more : (at_start : Bool) (b : ℕ) (rest : List ℕ) (k : ℕ) → opens at_start (b ∷ rest) (suc k) ≡ opens (is_space b) rest k
-opens-more at_start b rest zero = turned (slice_index rest 0 == 35) (is_space b)
+opens-more : (at_start : Bool) (b : ℕ) (rest : List ℕ) (k : ℕ) → opens at_start (b ∷ rest) (suc k) ≡ opens (is_space_or_tab b) rest k
+opens-more at_start b rest zero = turned (slice_index rest 0 == 35) (is_space_or_tab b)
 opens-more at_start b rest (suc k) = refl
 
 opens-start : (text : List ℕ) (k : ℕ) → opens true text k ≡ opens_comment text k
@@ -28,12 +28,12 @@ record IsFirst (at_start : Bool) (text : List ℕ) (place : ℕ) : Type 0 where
   before : (k : ℕ) → k < place → opens at_start text k ≡ false
   here : (place ≡ length text) ⊎ ((place < length text) × (opens at_start text place ≡ true))
 
-before-more : (at_start : Bool) (b : ℕ) (rest : List ℕ) (place : ℕ) → opens at_start (b ∷ rest) 0 ≡ false → IsFirst (is_space b) rest place
+before-more : (at_start : Bool) (b : ℕ) (rest : List ℕ) (place : ℕ) → opens at_start (b ∷ rest) 0 ≡ false → IsFirst (is_space_or_tab b) rest place
     → (k : ℕ) → k < suc place → opens at_start (b ∷ rest) k ≡ false
 before-more at_start b rest place none first zero below = none
 before-more at_start b rest place none first (suc k) below = opens-more at_start b rest k ∙ first.before k (omega arith)
 
-here-more : (at_start : Bool) (b : ℕ) (rest : List ℕ) (place : ℕ) → (place ≡ length rest) ⊎ ((place < length rest) × (opens (is_space b) rest place ≡ true))
+here-more : (at_start : Bool) (b : ℕ) (rest : List ℕ) (place : ℕ) → (place ≡ length rest) ⊎ ((place < length rest) × (opens (is_space_or_tab b) rest place ≡ true))
     → (suc place ≡ length (b ∷ rest)) ⊎ ((suc place < length (b ∷ rest)) × (opens at_start (b ∷ rest) (suc place) ≡ true))
 here-more at_start b rest place (inl end) = inl (omega arith)
 here-more at_start b rest place (inr found) = inr (omega (arith, found.0), opens-more at_start b rest place ∙ found.1)
@@ -44,8 +44,8 @@ first-place at_start [] = record { before = λ k below. absurd (omega arith); he
 first-place at_start (b ∷ rest) = elim (cases_Bool (at_start && (b == 35))) [
   | inl now ↦ rw now (record { before = λ k below. absurd (omega arith); here = inr (omega arith, now) })
   | inr later ↦
-      let next = first-place (is_space b) rest in
-      let place = comment_place (is_space b) rest in
+      let next = first-place (is_space_or_tab b) rest in
+      let place = comment_place (is_space_or_tab b) rest in
       let first : IsFirst at_start (b ∷ rest) (suc place) = record {
         before = before-more at_start b rest place later next;
         here = here-more at_start b rest place next.here;

@@ -8,7 +8,7 @@ use Rattle.std.proofs.lemmas.List.Sums.{fails_before_first}
 use Rattle.std.specs.Cmp.{first_so, second_so}
 use Rattle.std.specs.List.{list_all, prefix_len, suffix_len, take_while}
 use Rattle.markers.specs.Names.{is_name_byte}
-use Rattle.pep508.specs.Parts.{begins_with, before_comment, comment_of, comment_place, content_of, ending_of, ends_with, is_space, lead_of, place_of, tail_of, trim_end, trim_start}
+use Rattle.pep508.specs.Parts.{begins_with, before_comment, comment_of, comment_place, content_of, ending_of, ends_with, is_space_or_tab, lead_of, place_of, tail_of, trim_end, trim_start}
 use Rattle.pep508.specs.Requirement.{Wanted, asked_in, extras_of, requirement_of}
 use Rattle.pep508.specs.Slices.{IsCut, IsExtras, IsMarker, Slices, asking, behind, behind_extras, extras_gap, extras_part, has_extras, marker_field, slices_of, slices_with, version_field}
 use Rattle.pep508.proofs.OneCut.{joined_parts, last_behind}
@@ -61,7 +61,7 @@ not_empty xs = grind (arith, nat_tests)
 
 trimmed_join : (text : List ℕ) → (lead_of (trim_end text) ++ trim_start (trim_end text)) ++ tail_of text ≡ text
 trimmed_join text =
-    ap (λ (x : List ℕ). x ++ tail_of text) (front_cut is_space (trim_end text)) ∙ take-append-drop (length text - suffix_len is_space text) text
+    ap (λ (x : List ℕ). x ++ tail_of text) (front_cut is_space_or_tab (trim_end text)) ∙ take-append-drop (length text - suffix_len is_space_or_tab text) text
 
 regroup : (a b c d : List ℕ) → a ++ (b ++ (c ++ d)) ≡ ((a ++ b) ++ c) ++ d
 regroup a b c d = simp append_assoc
@@ -77,39 +77,39 @@ fields_join version (m ∷ marker) =
     rw some
     (regroup (lead_of (trim_end version)) (trim_start (trim_end version)) (tail_of version) (trim_end (m ∷ marker) ++ tail_of (m ∷ marker))
     ∙ ap (λ (x : List ℕ). x ++ (trim_end (m ∷ marker) ++ tail_of (m ∷ marker))) (trimmed_join version)
-    ∙ ap (λ (x : List ℕ). version ++ x) (take-append-drop (length (m ∷ marker) - suffix_len is_space (m ∷ marker)) (m ∷ marker)))
+    ∙ ap (λ (x : List ℕ). version ++ x) (take-append-drop (length (m ∷ marker) - suffix_len is_space_or_tab (m ∷ marker)) (m ∷ marker)))
 
 extended_join : (text : List ℕ) → extras_gap text ++ (extras_part text ++ behind_extras text) ≡ text
 extended_join text = elim (cases_Bool (has_extras text)) [
-  | inl some ↦ rw some (ap (λ (x : List ℕ). lead_of text ++ x) (take-append-drop (suc (place_of 93 (trim_start text))) (trim_start text)) ∙ front_cut is_space text)
+  | inl some ↦ rw some (ap (λ (x : List ℕ). lead_of text ++ x) (take-append-drop (suc (place_of 93 (trim_start text))) (trim_start text)) ∙ front_cut is_space_or_tab text)
   | inr none ↦ rw none refl
 ]
 
 -- ---- what each slice is
 
 -- gaps are space
-tail_space : (text : List ℕ) → list_all is_space (tail_of text) ≡ true
-tail_space text = let e = end_cut is_space text refl in rw e.run_is e.passes
+tail_space : (text : List ℕ) → list_all is_space_or_tab (tail_of text) ≡ true
+tail_space text = let e = end_cut is_space_or_tab text refl in rw e.run_is e.passes
 
-either_space : (test : Bool) (xs ys : List ℕ) → list_all is_space xs ≡ true → list_all is_space ys ≡ true → list_all is_space (cond test xs ys) ≡ true
+either_space : (test : Bool) (xs ys : List ℕ) → list_all is_space_or_tab xs ≡ true → list_all is_space_or_tab ys ≡ true → list_all is_space_or_tab (cond test xs ys) ≡ true
 either_space true xs ys one other = one
 either_space false xs ys one other = other
 
 -- the last of a text without space at its end is none, also behind its lead
-trimmed_last : (text : List ℕ) → is_space (get_or (trim_end text) (length (trim_end text) - 1) 0) ≡ false
-trimmed_last text = let e = end_cut is_space text refl in rw e.before_is e.stops
+trimmed_last : (text : List ℕ) → is_space_or_tab (get_or (trim_end text) (length (trim_end text) - 1) 0) ≡ false
+trimmed_last text = let e = end_cut is_space_or_tab text refl in rw e.before_is e.stops
 
-behind_lead_last : (lead rest : List ℕ) → is_space (get_or (lead ++ rest) (length (lead ++ rest) - 1) 0) ≡ false → is_space (get_or rest (length rest - 1) 0) ≡ false
+behind_lead_last : (lead rest : List ℕ) → is_space_or_tab (get_or (lead ++ rest) (length (lead ++ rest) - 1) 0) ≡ false → is_space_or_tab (get_or rest (length rest - 1) 0) ≡ false
 behind_lead_last lead [] last = refl
 behind_lead_last lead (b ∷ rest) last = rw (last_behind lead (b ∷ rest) (omega arith)) at last
 
 -- a text freed of space neither begins nor ends with it
-pub trim_last : (text : List ℕ) → is_space (get_or (trim_start (trim_end text)) (length (trim_start (trim_end text)) - 1) 0) ≡ false
+pub trim_last : (text : List ℕ) → is_space_or_tab (get_or (trim_start (trim_end text)) (length (trim_start (trim_end text)) - 1) 0) ≡ false
 trim_last text =
-    behind_lead_last (lead_of (trim_end text)) (trim_start (trim_end text)) (rw (front_cut is_space (trim_end text)) (trimmed_last text))
+    behind_lead_last (lead_of (trim_end text)) (trim_start (trim_end text)) (rw (front_cut is_space_or_tab (trim_end text)) (trimmed_last text))
 
-pub trim_first : (text : List ℕ) → is_space (get_or (trim_start (trim_end text)) 0 0) ≡ false
-trim_first text = stops_first is_space (trim_start (trim_end text)) refl (front_stops is_space (trim_end text))
+pub trim_first : (text : List ℕ) → is_space_or_tab (get_or (trim_start (trim_end text)) 0 0) ≡ false
+trim_first text = stops_first is_space_or_tab (trim_start (trim_end text)) refl (front_stops is_space_or_tab (trim_end text))
 
 -- all of a text is all of its parts
 part_all : (p : ℕ → Bool) (xs ys : List ℕ) → list_all p (xs ++ ys) ≡ true → (list_all p xs ≡ true) × (list_all p ys ≡ true)
@@ -131,25 +131,25 @@ all_at p (x ∷ xs) zero within all = first_so (p x) (list_all p xs) all
 all_at p (x ∷ xs) (suc k) within all = all_at p xs k (omega arith) (second_so (p x) (list_all p xs) all)
 
 -- where no part is left, there was no space before it
-no_lead : (text : List ℕ) → is_space (get_or text (length text - 1) 0) ≡ false → trim_start text ≡ [] → lead_of text ≡ []
+no_lead : (text : List ℕ) → is_space_or_tab (get_or text (length text - 1) 0) ≡ false → trim_start text ≡ [] → lead_of text ≡ []
 no_lead [] last none = refl
 no_lead (b ∷ rest) last none =
     let text = b ∷ rest in
-    let whole : lead_of text ≡ text = sym (append-nil (lead_of text)) ∙ ap (λ (x : List ℕ). lead_of text ++ x) (sym none) ∙ front_cut is_space text in
-    let space : is_space (get_or text (length text - 1) 0) ≡ true = all_at is_space text (length text - 1) (omega arith) (rw whole at (front_passes is_space text)) in
+    let whole : lead_of text ≡ text = sym (append-nil (lead_of text)) ∙ ap (λ (x : List ℕ). lead_of text ++ x) (sym none) ∙ front_cut is_space_or_tab text in
+    let space : is_space_or_tab (get_or text (length text - 1) 0) ≡ true = all_at is_space_or_tab text (length text - 1) (omega arith) (rw whole at (front_passes is_space_or_tab text)) in
     absurd (let no = sym last ∙ space in cc)
 
 -- a marker's field begins with `;` also without the space at its end
-begins_before : (before run text : List ℕ) → before ++ run ≡ text → list_all is_space run ≡ true → begins_with 59 text ≡ true → begins_with 59 before ≡ true
+begins_before : (before run text : List ℕ) → before ++ run ≡ text → list_all is_space_or_tab run ≡ true → begins_with 59 text ≡ true → begins_with 59 before ≡ true
 begins_before [] [] text whole space begins = absurd (let b = rw (← whole) at begins in cc)
 begins_before [] (r ∷ run) text whole space begins =
     let semicolon : eqb r 59 ≡ true = rw (← whole) at begins in
-    let first = first_so (is_space r) (list_all is_space run) space in
+    let first = first_so (is_space_or_tab r) (list_all is_space_or_tab run) space in
     absurd (let no = rw (eqb-true r 59 semicolon) at first in cc)
 begins_before (b ∷ before) run text whole space begins = rw (← whole) at begins
 
 marked : (text : List ℕ) → begins_with 59 text ≡ true → begins_with 59 (trim_end text) ≡ true
-marked text begins = let e = end_cut is_space text refl in rw e.before_is (begins_before e.before e.run text e.whole e.passes begins)
+marked text begins = let e = end_cut is_space_or_tab text refl in rw e.before_is (begins_before e.before e.run text e.whole e.passes begins)
 
 field_begins : (text : List ℕ) → (text ≡ []) ⊎ (begins_with 59 text ≡ true) → IsMarker (trim_end text)
 field_begins [] either = inl refl
@@ -223,10 +223,10 @@ no_extras_has text none = elim (cases_Bool (has_extras text)) [
   | inr bare ↦ bare
 ]
 
-no_bracket : (lead version rest text : List ℕ) → lead ++ (version ++ rest) ≡ text → list_all is_space lead ≡ true → Stops is_space version → has_extras text ≡ false → begins_with 91 version ≡ false
+no_bracket : (lead version rest text : List ℕ) → lead ++ (version ++ rest) ≡ text → list_all is_space_or_tab lead ≡ true → Stops is_space_or_tab version → has_extras text ≡ false → begins_with 91 version ≡ false
 no_bracket lead [] rest text whole space stops none = refl
 no_bracket lead (v ∷ version) rest text whole space stops none =
-    let from : trim_start text ≡ (v ∷ version) ++ rest = ap trim_start (sym whole) ∙ behind_front is_space lead ((v ∷ version) ++ rest) space stops in
+    let from : trim_start text ≡ (v ∷ version) ++ rest = ap trim_start (sym whole) ∙ behind_front is_space_or_tab lead ((v ∷ version) ++ rest) space stops in
     rw from at none
 
 version_no_bracket : (text : List ℕ) → extras_part text ≡ [] → begins_with 91 (trim_start (trim_end (version_field (behind_extras text)))) ≡ false
@@ -238,14 +238,14 @@ version_no_bracket text none =
     regroup (lead_of (trim_end field)) (trim_start (trim_end field)) (tail_of field) (marker_field text)
     ∙ ap (λ (x : List ℕ). x ++ marker_field text) (trimmed_join field) ∙ take-append-drop (place_of 59 text) text in
     ap (λ (x : List ℕ). begins_with 91 (trim_start (trim_end (version_field x)))) rest
-    ∙ no_bracket (lead_of (trim_end field)) (trim_start (trim_end field)) (tail_of field ++ marker_field text) text whole (front_passes is_space (trim_end field)) (front_stops is_space (trim_end field)) has
+    ∙ no_bracket (lead_of (trim_end field)) (trim_start (trim_end field)) (tail_of field ++ marker_field text) text whole (front_passes is_space_or_tab (trim_end field)) (front_stops is_space_or_tab (trim_end field)) has
 
 -- ---- the whole line
 
-pub all_gaps : (a b c d e : List ℕ) → list_all is_space a ≡ true → list_all is_space b ≡ true → list_all is_space c ≡ true → list_all is_space d ≡ true → list_all is_space e ≡ true
-    → list_all is_space (a ++ (b ++ (c ++ (d ++ e)))) ≡ true
+pub all_gaps : (a b c d e : List ℕ) → list_all is_space_or_tab a ≡ true → list_all is_space_or_tab b ≡ true → list_all is_space_or_tab c ≡ true → list_all is_space_or_tab d ≡ true → list_all is_space_or_tab e ≡ true
+    → list_all is_space_or_tab (a ++ (b ++ (c ++ (d ++ e)))) ≡ true
 all_gaps a b c d e one two three four five =
-    rw (list_all-append is_space a (b ++ (c ++ (d ++ e))), list_all-append is_space b (c ++ (d ++ e)), list_all-append is_space c (d ++ e), list_all-append is_space d e, one, two, three, four, five) refl
+    rw (list_all-append is_space_or_tab a (b ++ (c ++ (d ++ e))), list_all-append is_space_or_tab b (c ++ (d ++ e)), list_all-append is_space_or_tab c (d ++ e), list_all-append is_space_or_tab d e, one, two, three, four, five) refl
 
 -- what the reading of a line says of its text: it is empty, or it has a name, and its extras end with `]`
 record IsAsked (text : List ℕ) : Type 0 where
@@ -298,11 +298,11 @@ line_cut line wanted reads =
     let marker = stops_marker (marker_field rest) (front_stops (λ b. not (b == 59)) rest) in
     let named : s.name ++ behind s ≡ text = ap (λ (x : List ℕ). s.name ++ x) t.behind_is ∙ front_cut is_name_byte text in
     record {
-      joins = joined_parts s ∙ ap (λ (x : List ℕ). ((s.lead ++ x) ++ s.comment) ++ s.end) named ∙ ap (λ (x : List ℕ). (x ++ s.comment) ++ s.end) (front_cut is_space head)
+      joins = joined_parts s ∙ ap (λ (x : List ℕ). ((s.lead ++ x) ++ s.comment) ++ s.end) named ∙ ap (λ (x : List ℕ). (x ++ s.comment) ++ s.end) (front_cut is_space_or_tab head)
           ∙ ap (λ (x : List ℕ). x ++ s.end) (take-append-drop (comment_place true content) content) ∙ line_parts line;
       end = refl;
       comment = refl;
-      gaps = all_gaps s.lead s.gap1 s.gap2 s.gap3 s.gap4 (front_passes is_space head) (either_space (has_extras from) (lead_of from) [] (front_passes is_space from) refl) (front_passes is_space (trim_end field))
+      gaps = all_gaps s.lead s.gap1 s.gap2 s.gap3 s.gap4 (front_passes is_space_or_tab head) (either_space (has_extras from) (lead_of from) [] (front_passes is_space_or_tab from) refl) (front_passes is_space_or_tab (trim_end field))
           (either_space (eqb (length (marker_field rest)) 0) [] (tail_of field) refl (tail_space field)) (either_space (eqb (length (marker_field rest)) 0) (tail_of field) (tail_of (marker_field rest)) (tail_space field) (tail_space (marker_field rest)));
       name = ap (take_while is_name_byte) (sym named);
       extras = extras_shape from asked.extras;

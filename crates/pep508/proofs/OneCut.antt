@@ -7,7 +7,7 @@ use Rattle.std.proofs.lemmas.List.Folds.{list_all-append}
 use Rattle.std.specs.Cmp.{first_so, second_so}
 use Rattle.std.specs.List.{list_all, prefix_len, take_while}
 use Rattle.markers.specs.Names.{is_name_byte}
-use Rattle.pep508.specs.Parts.{begins_with, before_comment, comment_of, comment_place, content_of, ending_of, is_space, lead_of, place_of, tail_of, trim_end, trim_start}
+use Rattle.pep508.specs.Parts.{begins_with, before_comment, comment_of, comment_place, content_of, ending_of, is_space_or_tab, lead_of, place_of, tail_of, trim_end, trim_start}
 use Rattle.pep508.specs.Slices.{IsCut, IsExtras, IsMarker, IsVersion, Slices, asking, behind, behind_extras, extras_gap, extras_part, has_extras, joined, marker_field, slices_of, slices_with, version_field}
 use Rattle.pep508.proofs.Runs.{Stops, before_end, behind_front, end_is, front_cut, front_is, front_passes, run_front}
 
@@ -47,34 +47,34 @@ pub record IsField (gap version tail : List ℕ) : Type 0 where
   pub gap_is : lead_of (gap ++ version) ≡ gap
   pub version_is : trim_start (gap ++ version) ≡ version
 
-field_last : (gap version : List ℕ) → (version ≡ [] → gap ≡ []) → is_space (get_or version (length version - 1) 0) ≡ false
-    → is_space (get_or (gap ++ version) (length (gap ++ version) - 1) 0) ≡ false
+field_last : (gap version : List ℕ) → (version ≡ [] → gap ≡ []) → is_space_or_tab (get_or version (length version - 1) 0) ≡ false
+    → is_space_or_tab (get_or (gap ++ version) (length (gap ++ version) - 1) 0) ≡ false
 field_last gap [] none last = rw (none refl) refl
 field_last gap (v ∷ version) none last = rw (last_behind gap (v ∷ version) (omega arith)) last
 
-field_first : (version : List ℕ) → is_space (get_or version 0 0) ≡ false → Stops is_space version
+field_first : (version : List ℕ) → is_space_or_tab (get_or version 0 0) ≡ false → Stops is_space_or_tab version
 field_first [] first = tt
 field_first (v ∷ version) first = first
 
-pub field_is : (gap version tail : List ℕ) → list_all is_space gap ≡ true → list_all is_space tail ≡ true → (version ≡ [] → gap ≡ [])
-    → is_space (get_or version 0 0) ≡ false → is_space (get_or version (length version - 1) 0) ≡ false → IsField gap version tail
+pub field_is : (gap version tail : List ℕ) → list_all is_space_or_tab gap ≡ true → list_all is_space_or_tab tail ≡ true → (version ≡ [] → gap ≡ [])
+    → is_space_or_tab (get_or version 0 0) ≡ false → is_space_or_tab (get_or version (length version - 1) 0) ≡ false → IsField gap version tail
 field_is gap version tail gap_space tail_space none first last =
     let stops = field_last gap version none last in
     record {
-      before = rw (← append_assoc gap version tail) (before_end is_space (gap ++ version) tail tail_space stops);
-      tail_is = rw (← append_assoc gap version tail) (end_is is_space (gap ++ version) tail tail_space stops);
-      gap_is = front_is is_space gap version gap_space (field_first version first);
-      version_is = behind_front is_space gap version gap_space (field_first version first);
+      before = rw (← append_assoc gap version tail) (before_end is_space_or_tab (gap ++ version) tail tail_space stops);
+      tail_is = rw (← append_assoc gap version tail) (end_is is_space_or_tab (gap ++ version) tail tail_space stops);
+      gap_is = front_is is_space_or_tab gap version gap_space (field_first version first);
+      version_is = behind_front is_space_or_tab gap version gap_space (field_first version first);
     }
 
 -- ---- what stands behind name and extras
 
 -- spaces and tabs are not another byte
-pub spaces_not : (byte : ℕ) (xs : List ℕ) → is_space byte ≡ false → list_all is_space xs ≡ true → list_all (λ b. not (b == byte)) xs ≡ true
+pub spaces_not : (byte : ℕ) (xs : List ℕ) → is_space_or_tab byte ≡ false → list_all is_space_or_tab xs ≡ true → list_all (λ b. not (b == byte)) xs ≡ true
 spaces_not byte [] other all = refl
 spaces_not byte (x ∷ xs) other all = elim (cases_Bool (eqb x byte)) [
-  | inl same ↦ absurd (let first = first_so (is_space x) (list_all is_space xs) all in let here = rw (eqb-true x byte same) at first in cc)
-  | inr differs ↦ rw differs (spaces_not byte xs other (second_so (is_space x) (list_all is_space xs) all))
+  | inl same ↦ absurd (let first = first_so (is_space_or_tab x) (list_all is_space_or_tab xs) all in let here = rw (eqb-true x byte same) at first in cc)
+  | inr differs ↦ rw differs (spaces_not byte xs other (second_so (is_space_or_tab x) (list_all is_space_or_tab xs) all))
 ]
 
 -- the parts from the version's gap on
@@ -85,8 +85,8 @@ pub record IsRest (gap2 version gap3 marker gap4 text : List ℕ) : Type 0 where
   pub marker_is : trim_end (marker_field text) ≡ marker
   pub tail : cond (eqb (length (marker_field text)) 0) (tail_of (version_field text)) (tail_of (marker_field text)) ≡ gap4
 
-rest_bare : (gap2 version gap4 : List ℕ) → list_all is_space gap2 ≡ true → list_all is_space gap4 ≡ true → (version ≡ [] → gap2 ≡ [])
-    → list_all (λ b. not (b == 59)) version ≡ true → is_space (get_or version 0 0) ≡ false → is_space (get_or version (length version - 1) 0) ≡ false
+rest_bare : (gap2 version gap4 : List ℕ) → list_all is_space_or_tab gap2 ≡ true → list_all is_space_or_tab gap4 ≡ true → (version ≡ [] → gap2 ≡ [])
+    → list_all (λ b. not (b == 59)) version ≡ true → is_space_or_tab (get_or version 0 0) ≡ false → is_space_or_tab (get_or version (length version - 1) 0) ≡ false
     → IsRest gap2 version [] [] gap4 (gap2 ++ (version ++ gap4))
 rest_bare gap2 version gap4 space2 space4 none ends first last =
     let whole = gap2 ++ (version ++ gap4) in
@@ -107,9 +107,9 @@ rest_bare gap2 version gap4 space2 space4 none ends first last =
 marked_some : (m : ℕ) (marker gap4 : List ℕ) → eqb (length ((m ∷ marker) ++ gap4)) 0 ≡ false
 marked_some m marker gap4 = grind (arith, nat_tests)
 
-rest_marked : (gap2 version gap3 : List ℕ) (m : ℕ) (marker gap4 : List ℕ) → list_all is_space gap2 ≡ true → list_all is_space gap3 ≡ true → list_all is_space gap4 ≡ true
-    → (version ≡ [] → gap2 ≡ []) → list_all (λ b. not (b == 59)) version ≡ true → is_space (get_or version 0 0) ≡ false → is_space (get_or version (length version - 1) 0) ≡ false
-    → m ≡ 59 → is_space (get_or (m ∷ marker) (length (m ∷ marker) - 1) 0) ≡ false
+rest_marked : (gap2 version gap3 : List ℕ) (m : ℕ) (marker gap4 : List ℕ) → list_all is_space_or_tab gap2 ≡ true → list_all is_space_or_tab gap3 ≡ true → list_all is_space_or_tab gap4 ≡ true
+    → (version ≡ [] → gap2 ≡ []) → list_all (λ b. not (b == 59)) version ≡ true → is_space_or_tab (get_or version 0 0) ≡ false → is_space_or_tab (get_or version (length version - 1) 0) ≡ false
+    → m ≡ 59 → is_space_or_tab (get_or (m ∷ marker) (length (m ∷ marker) - 1) 0) ≡ false
     → IsRest gap2 version gap3 (m ∷ marker) gap4 (gap2 ++ (version ++ (gap3 ++ ((m ∷ marker) ++ gap4))))
 rest_marked gap2 version gap3 m marker gap4 space2 space3 space4 none ends first last begins closes =
     let front = gap2 ++ (version ++ gap3) in
@@ -128,12 +128,12 @@ rest_marked gap2 version gap3 m marker gap4 space2 space3 space4 none ends first
       version_is = ap (λ (x : List ℕ). trim_start (trim_end x)) field ∙ ap trim_start f.before ∙ f.version_is;
       marker_gap = ap (λ (x : List ℕ). cond (eqb (length x) 0) [] (tail_of (version_field whole))) marked
           ∙ ap (λ t. cond t [] (tail_of (version_field whole))) (marked_some m marker gap4) ∙ ap tail_of field ∙ f.tail_is;
-      marker_is = ap trim_end marked ∙ before_end is_space (m ∷ marker) gap4 space4 closes;
+      marker_is = ap trim_end marked ∙ before_end is_space_or_tab (m ∷ marker) gap4 space4 closes;
       tail = ap (λ (x : List ℕ). cond (eqb (length x) 0) (tail_of (version_field whole)) (tail_of x)) marked
-          ∙ ap (λ t. cond t (tail_of (version_field whole)) (tail_of back)) (marked_some m marker gap4) ∙ end_is is_space (m ∷ marker) gap4 space4 closes;
+          ∙ ap (λ t. cond t (tail_of (version_field whole)) (tail_of back)) (marked_some m marker gap4) ∙ end_is is_space_or_tab (m ∷ marker) gap4 space4 closes;
     }
 
-pub rest_is : (gap2 version gap3 marker gap4 extras : List ℕ) → list_all is_space gap2 ≡ true → list_all is_space gap3 ≡ true → list_all is_space gap4 ≡ true
+pub rest_is : (gap2 version gap3 marker gap4 extras : List ℕ) → list_all is_space_or_tab gap2 ≡ true → list_all is_space_or_tab gap3 ≡ true → list_all is_space_or_tab gap4 ≡ true
     → (version ≡ [] → gap2 ≡ []) → IsVersion extras version → IsMarker marker → (marker ≡ [] → gap3 ≡ [])
     → IsRest gap2 version gap3 marker gap4 (gap2 ++ (version ++ (gap3 ++ (marker ++ gap4))))
 rest_is gap2 version gap3 [] gap4 extras space2 space3 space4 none v m no_marker =
@@ -145,7 +145,7 @@ rest_is gap2 version gap3 (b ∷ marker) gap4 extras space2 space3 space4 none v
 -- ---- extras
 
 -- a byte of a name is no space
-name_byte_no_space : (b : ℕ) → is_name_byte b ≡ true → is_space b ≡ false
+name_byte_no_space : (b : ℕ) → is_name_byte b ≡ true → is_space_or_tab b ≡ false
 name_byte_no_space b name = grind (arith, nat_tests)
 
 -- the space before extras, the extras, and what follows
@@ -154,7 +154,7 @@ pub record IsExtended (gap extras rest text : List ℕ) : Type 0 where
   pub extras_is : extras_part text ≡ extras
   pub rest_is : behind_extras text ≡ rest
 
-bracket_no_space : (xs : List ℕ) → begins_with 91 xs ≡ true → Stops is_space xs
+bracket_no_space : (xs : List ℕ) → begins_with 91 xs ≡ true → Stops is_space_or_tab xs
 bracket_no_space [] begins = tt
 bracket_no_space (x ∷ xs) begins = rw (eqb-true x 91 begins) refl
 
@@ -166,13 +166,13 @@ stops_left : (p : ℕ → Bool) (xs ys : List ℕ) → 0 < length xs → Stops p
 stops_left p [] ys some stops = absurd (omega arith)
 stops_left p (x ∷ xs) ys some stops = stops
 
-extended_some : (gap extras rest : List ℕ) → list_all is_space gap ≡ true → begins_with 91 extras ≡ true → suc (place_of 93 extras) ≡ length extras
+extended_some : (gap extras rest : List ℕ) → list_all is_space_or_tab gap ≡ true → begins_with 91 extras ≡ true → suc (place_of 93 extras) ≡ length extras
     → IsExtended gap extras rest (gap ++ (extras ++ rest))
 extended_some gap extras rest space begins ends =
     let some : 0 < length extras = omega arith in
-    let stops = stops_left is_space extras rest some (bracket_no_space extras begins) in
-    let lead = front_is is_space gap (extras ++ rest) space stops in
-    let from = behind_front is_space gap (extras ++ rest) space stops in
+    let stops = stops_left is_space_or_tab extras rest some (bracket_no_space extras begins) in
+    let lead = front_is is_space_or_tab gap (extras ++ rest) space stops in
+    let from = behind_front is_space_or_tab gap (extras ++ rest) space stops in
     let has : has_extras (gap ++ (extras ++ rest)) ≡ true = ap (begins_with 91) from ∙ begins_left 91 extras rest some begins in
     let place : length extras ≡ suc (place_of 93 (extras ++ rest)) = omega (arith, place_before 93 extras rest (omega arith)) in
     record {
@@ -184,43 +184,43 @@ extended_some gap extras rest space begins ends =
 extended_none : (rest : List ℕ) → has_extras rest ≡ false → IsExtended [] [] rest rest
 extended_none rest none = record { gap_is = rw none refl; extras_is = rw none refl; rest_is = rw none refl }
 
-space_no_bracket : (xs : List ℕ) → list_all is_space xs ≡ true → has_extras xs ≡ false
-space_no_bracket xs all = ap (begins_with 91) (rw (append-nil xs) at (behind_front is_space xs [] all tt))
+space_no_bracket : (xs : List ℕ) → list_all is_space_or_tab xs ≡ true → has_extras xs ≡ false
+space_no_bracket xs all = ap (begins_with 91) (rw (append-nil xs) at (behind_front is_space_or_tab xs [] all tt))
 
 -- a text in which no `[` follows the space
-no_extras_marker : (gap3 marker gap4 : List ℕ) → list_all is_space gap3 ≡ true → list_all is_space gap4 ≡ true → IsMarker marker → (marker ≡ [] → gap3 ≡ [])
+no_extras_marker : (gap3 marker gap4 : List ℕ) → list_all is_space_or_tab gap3 ≡ true → list_all is_space_or_tab gap4 ≡ true → IsMarker marker → (marker ≡ [] → gap3 ≡ [])
     → has_extras (gap3 ++ (marker ++ gap4)) ≡ false
 no_extras_marker gap3 [] gap4 space3 space4 m none = rw (none refl) (space_no_bracket gap4 space4)
 no_extras_marker gap3 (b ∷ marker) gap4 space3 space4 (inl empty) none = absurd cc
 no_extras_marker gap3 (b ∷ marker) gap4 space3 space4 (inr m) none =
     let semicolon = eqb-true b 59 m.0 in
-    let stops : is_space b ≡ false = rw semicolon refl in
-    ap (begins_with 91) (behind_front is_space gap3 ((b ∷ marker) ++ gap4) space3 stops) ∙ rw semicolon refl
+    let stops : is_space_or_tab b ≡ false = rw semicolon refl in
+    ap (begins_with 91) (behind_front is_space_or_tab gap3 ((b ∷ marker) ++ gap4) space3 stops) ∙ rw semicolon refl
 
-no_extras_version : (gap2 version gap3 marker gap4 : List ℕ) → list_all is_space gap2 ≡ true → list_all is_space gap3 ≡ true → list_all is_space gap4 ≡ true
+no_extras_version : (gap2 version gap3 marker gap4 : List ℕ) → list_all is_space_or_tab gap2 ≡ true → list_all is_space_or_tab gap3 ≡ true → list_all is_space_or_tab gap4 ≡ true
     → (version ≡ [] → gap2 ≡ []) → IsVersion [] version → IsMarker marker → (marker ≡ [] → gap3 ≡ [])
     → has_extras (gap2 ++ (version ++ (gap3 ++ (marker ++ gap4)))) ≡ false
 no_extras_version gap2 [] gap3 marker gap4 space2 space3 space4 none v m no_marker =
     rw (none refl) (no_extras_marker gap3 marker gap4 space3 space4 m no_marker)
 no_extras_version gap2 (b ∷ version) gap3 marker gap4 space2 space3 space4 none v m no_marker =
-    ap (begins_with 91) (behind_front is_space gap2 ((b ∷ version) ++ (gap3 ++ (marker ++ gap4))) space2 v.first) ∙ v.no_extras refl
+    ap (begins_with 91) (behind_front is_space_or_tab gap2 ((b ∷ version) ++ (gap3 ++ (marker ++ gap4))) space2 v.first) ∙ v.no_extras refl
 
 -- ---- the whole line
 
 -- what the gaps being space says of each of them
 pub record AreSpace (s : Slices) : Type 0 where
-  pub lead : list_all is_space s.lead ≡ true
-  pub gap1 : list_all is_space s.gap1 ≡ true
-  pub gap2 : list_all is_space s.gap2 ≡ true
-  pub gap3 : list_all is_space s.gap3 ≡ true
-  pub gap4 : list_all is_space s.gap4 ≡ true
+  pub lead : list_all is_space_or_tab s.lead ≡ true
+  pub gap1 : list_all is_space_or_tab s.gap1 ≡ true
+  pub gap2 : list_all is_space_or_tab s.gap2 ≡ true
+  pub gap3 : list_all is_space_or_tab s.gap3 ≡ true
+  pub gap4 : list_all is_space_or_tab s.gap4 ≡ true
 
-pub both : (xs ys : List ℕ) → list_all is_space (xs ++ ys) ≡ true → (list_all is_space xs ≡ true) × (list_all is_space ys ≡ true)
+pub both : (xs ys : List ℕ) → list_all is_space_or_tab (xs ++ ys) ≡ true → (list_all is_space_or_tab xs ≡ true) × (list_all is_space_or_tab ys ≡ true)
 both xs ys all =
-    let h = rw (list_all-append is_space xs ys) at all in
-    (first_so (list_all is_space xs) (list_all is_space ys) h, second_so (list_all is_space xs) (list_all is_space ys) h)
+    let h = rw (list_all-append is_space_or_tab xs ys) at all in
+    (first_so (list_all is_space_or_tab xs) (list_all is_space_or_tab ys) h, second_so (list_all is_space_or_tab xs) (list_all is_space_or_tab ys) h)
 
-pub are_space : (s : Slices) → list_all is_space (s.lead ++ (s.gap1 ++ (s.gap2 ++ (s.gap3 ++ s.gap4)))) ≡ true → AreSpace s
+pub are_space : (s : Slices) → list_all is_space_or_tab (s.lead ++ (s.gap1 ++ (s.gap2 ++ (s.gap3 ++ s.gap4)))) ≡ true → AreSpace s
 are_space s all =
     let a = both s.lead (s.gap1 ++ (s.gap2 ++ (s.gap3 ++ s.gap4))) all in
     let b = both s.gap1 (s.gap2 ++ (s.gap3 ++ s.gap4)) a.1 in
@@ -251,7 +251,7 @@ head_is head comment content whole is =
     (whole ∙ sym (take-append-drop (comment_place true content) content) ∙ ap (λ (x : List ℕ). before_comment content ++ x) (sym is)))
 
 -- the lead stops where the name begins
-pub name_space : (name rest : List ℕ) → list_all is_name_byte name ≡ true → (name ≡ [] → rest ≡ []) → Stops is_space (name ++ rest)
+pub name_space : (name rest : List ℕ) → list_all is_name_byte name ≡ true → (name ≡ [] → rest ≡ []) → Stops is_space_or_tab (name ++ rest)
 name_space [] rest all none = rw (none refl) tt
 name_space (b ∷ name) rest all none = name_byte_no_space b (first_so (is_name_byte b) (list_all is_name_byte name) all)
 
@@ -295,7 +295,7 @@ one_cut line s c =
     let head : before_comment (content_of line) ≡ s.lead ++ text = head_is (s.lead ++ text) s.comment (content_of line) (sym content) c.comment in
     let named : list_all is_name_byte s.name ≡ true = rw (← c.name) at (front_passes is_name_byte text) in
     let stops = name_space s.name (behind s) named c.no_name in
-    let lead : lead_of (before_comment (content_of line)) ≡ s.lead = ap lead_of head ∙ front_is is_space s.lead text spaces.lead stops in
-    let asks : asking (content_of line) ≡ text = ap trim_start head ∙ behind_front is_space s.lead text spaces.lead stops in
+    let lead : lead_of (before_comment (content_of line)) ≡ s.lead = ap lead_of head ∙ front_is is_space_or_tab s.lead text spaces.lead stops in
+    let asks : asking (content_of line) ≡ text = ap trim_start head ∙ behind_front is_space_or_tab s.lead text spaces.lead stops in
     let parts : slices_of line ≡ slices_with s.lead text s.comment s.end = λ i. slices_with (lead i) (asks i) (sym c.comment i) (sym c.end i) in
     parts ∙ text_is s c.name spaces c.extras c.version c.marker c.no_extras c.no_version c.no_marker

@@ -7,11 +7,7 @@ use Rattle.std.proofs.lemmas.List.Sums.{passes_at_first, prefix_len-le-length}
 use Rattle.std.proofs.lemmas.Str.{IsCharBoundary-after_ascii, IsCharBoundary-before_ascii, IsCharBoundary-end}
 use Rattle.std.specs.Str.{IsCharBoundary, IsUtf8}
 use Rattle.markers.specs.Names.{is_name_byte}
-use Rattle.pep508.specs.Parts.{begins_with, comment_place, is_space, place_of}
-
--- a space or a tab is ASCII
-pub is_space-ascii : (b : ℕ) → is_space b ≡ true → b < 128
-is_space-ascii b e = grind (arith, nat_tests)
+use Rattle.pep508.specs.Parts.{begins_with, comment_place, is_space_or_tab, place_of}
 
 -- a byte of a name is ASCII
 pub is_name_byte-ascii : (b : ℕ) → is_name_byte b ≡ true → b < 128
@@ -19,7 +15,7 @@ is_name_byte-ascii b e = grind (arith, nat_tests)
 
 -- no comment begins here, so its place lies one further
 pub comment_place-more : (at_start : Bool) (text : List ℕ) (i : ℕ) → i < length text → at_start && (get_or text i 0 == 35) ≡ false
-    → comment_place at_start (drop i text) ≡ 1 + comment_place (is_space (get_or text i 0)) (drop (i + 1) text)
+    → comment_place at_start (drop i text) ≡ 1 + comment_place (is_space_or_tab (get_or text i 0)) (drop (i + 1) text)
 unfolding comment_place
 comment_place-more at_start text i within other = at_drop_more (comment_place at_start) text i 0 within ∙ rw other (omega arith)
 

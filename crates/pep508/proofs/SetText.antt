@@ -6,7 +6,7 @@ use Rattle.std.specs.Cmp.{first_so, second_so}
 use Rattle.std.specs.List.{list_all}
 use Rattle.pep440.specs.SetGrammar.{begins_operator, is_set_byte}
 use Rattle.markers.specs.Names.{is_name_byte}
-use Rattle.pep508.specs.Parts.{begins_with, is_space}
+use Rattle.pep508.specs.Parts.{begins_with, is_space_or_tab}
 use Rattle.pep508.specs.Requirement.{set_text}
 use Rattle.pep508.specs.Slices.{IsVersion}
 use Rattle.pep508.proofs.LineCut.{all_at}
@@ -17,8 +17,8 @@ use Rattle.pep508.proofs.Runs.{Stops}
 pub record IsSetText (text : List ℕ) : Type 0 where
   pub bytes : list_all is_set_byte text ≡ true
   pub begins : (text ≡ []) ⊎ (begins_operator (get_or text 0 0) ≡ true)
-  pub first : is_space (get_or text 0 0) ≡ false
-  pub last : is_space (get_or text (length text - 1) 0) ≡ false
+  pub first : is_space_or_tab (get_or text 0 0) ≡ false
+  pub last : is_space_or_tab (get_or text (length text - 1) 0) ≡ false
 
 set_byte_plain : (b : ℕ) → is_set_byte b ≡ true → is_plain b ≡ true
 set_byte_plain b h = grind (arith, nat_tests)

@@ -9,7 +9,7 @@ use Rattle.std.specs.List.{list_all}
 use Rattle.pep440.specs.Tied.Sets.{set_of}
 use Rattle.pep440.specs.declared.specifier.Clause.{Clause}
 use Rattle.markers.specs.Names.{is_name_byte}
-use Rattle.pep508.specs.Parts.{IsEnding, begins_with, comment_of, content_of, ending_of, ends_with, has_odd, is_marked, is_space, trim_start}
+use Rattle.pep508.specs.Parts.{IsEnding, begins_with, comment_of, content_of, ending_of, ends_with, has_odd, is_marked, is_space_or_tab, trim_start}
 use Rattle.pep508.specs.Requirement.{ReadsWith, Wanted, asked_in, clauses_of, requirement_of, wanted_by, wanted_in}
 use Rattle.pep508.specs.Slices.{IsCut, IsExtras, IsMarker, IsVersion, Slices, asking, behind, joined, slices_of, slices_with, with_version}
 use Rattle.pep508.proofs.Comments.{Opens, comment_is, opened}
@@ -64,12 +64,12 @@ stops_join : (p : ℕ → Bool) (xs ys : List ℕ) → Stops p xs → Stops p ys
 stops_join p [] ys one other = other
 stops_join p (x ∷ xs) ys one other = one
 
-space_no_name : (b : ℕ) → is_space b ≡ true → is_name_byte b ≡ false
+space_no_name : (b : ℕ) → is_space_or_tab b ≡ true → is_name_byte b ≡ false
 space_no_name b h = grind (arith, nat_tests)
 
-space_stops : (xs : List ℕ) → list_all is_space xs ≡ true → Stops is_name_byte xs
+space_stops : (xs : List ℕ) → list_all is_space_or_tab xs ≡ true → Stops is_name_byte xs
 space_stops [] all = tt
-space_stops (x ∷ xs) all = space_no_name x (first_so (is_space x) (list_all is_space xs) all)
+space_stops (x ∷ xs) all = space_no_name x (first_so (is_space_or_tab x) (list_all is_space_or_tab xs) all)
 
 extras_stop : (extras : List ℕ) → IsExtras extras → Stops is_name_byte extras
 extras_stop [] h = tt
@@ -87,9 +87,9 @@ other s gap2 version gap3 gap4 = record s { gap2 = gap2; version = version; gap3
 
 -- that these may be slices
 record MayBe (s : Slices) (gap2 version gap3 gap4 : List ℕ) : Type 0 where
-  space2 : list_all is_space gap2 ≡ true
-  space3 : list_all is_space gap3 ≡ true
-  space4 : list_all is_space gap4 ≡ true
+  space2 : list_all is_space_or_tab gap2 ≡ true
+  space3 : list_all is_space_or_tab gap3 ≡ true
+  space4 : list_all is_space_or_tab gap4 ≡ true
   is : IsVersion s.extras version
   stops : Stops is_name_byte version
   no_version : version ≡ [] → gap2 ≡ []
@@ -110,7 +110,7 @@ content_named version s = simp append_assoc
 name_first : (s : Slices) (version : List ℕ) → Facts s → trim_start (content_with version s) ≡ s.name ++ from_name version s
 name_first s version f =
     ap trim_start (content_named version s)
-    ∙ behind_front is_space s.lead (s.name ++ from_name version s) f.spaces.lead (name_space s.name (from_name version s) f.named (λ none. absurd (omega (arith, ap length none, f.some))))
+    ∙ behind_front is_space_or_tab s.lead (s.name ++ from_name version s) f.spaces.lead (name_space s.name (from_name version s) f.named (λ none. absurd (omega (arith, ap length none, f.some))))
 
 -- the new content passes where the old one does
 passes_with : (s : Slices) (version : List ℕ) → IsCut (joined s) s → Facts s → IsSetText version → Passes (content_with s.version s) → Passes (content_with version s)
@@ -229,7 +229,7 @@ no_set s wanted clauses c f v set reads (inl none) =
     (record {
       space2 = refl;
       space3 = refl;
-      space4 = rw (list_all-append is_space s.gap2 s.gap4, f.spaces.gap2, f.spaces.gap4) refl;
+      space4 = rw (list_all-append is_space_or_tab s.gap2 s.gap4, f.spaces.gap2, f.spaces.gap4) refl;
       is = set_version s.extras [] v;
       stops = tt;
       no_version = λ _. refl;
@@ -241,7 +241,7 @@ no_set s wanted clauses c f v set reads (inr some) =
     rw (← same) (new_reads s [] [] [] (s.gap2 ++ s.gap3) s.gap4 wanted clauses c f v whole
     (record {
       space2 = refl;
-      space3 = rw (list_all-append is_space s.gap2 s.gap3, f.spaces.gap2, f.spaces.gap3) refl;
+      space3 = rw (list_all-append is_space_or_tab s.gap2 s.gap3, f.spaces.gap2, f.spaces.gap3) refl;
       space4 = f.spaces.gap4;
       is = set_version s.extras [] v;
       stops = tt;

@@ -1,28 +1,7 @@
 -- The parts of a line of a requirements file (pip, "Requirements File Format").
 use Rattle.std.specs.Prelude.{◌≡◌, ◌⊎◌, ℕ, zero, suc, ◌-◌, ◌<◌, ◌==◌, ◌&&◌, ◌||◌, nat_le, nat_lt, not, Bool, true, false, List, [], ◌∷◌, ◌++◌, length, take, drop, slice_index, Option, Some, None, if◌then◌else◌}
-use Rattle.std.specs.List.{prefix_len, suffix_len, position_or_len, take_while}
-
--- a space or a tab
-abbrev pub is_space : ℕ → Bool
-is_space b = (b == 32) || (b == 9)
-
--- the spaces and tabs that lead the text, and the text without them
-abbrev pub lead_of : List ℕ → List ℕ
-lead_of text = take_while is_space text
-
-abbrev pub trim_start : List ℕ → List ℕ
-trim_start text = drop (prefix_len is_space text) text
-
--- the spaces and tabs at the end of the text, and the text without them
-abbrev pub tail_of : List ℕ → List ℕ
-tail_of text = drop (length text - suffix_len is_space text) text
-
-abbrev pub trim_end : List ℕ → List ℕ
-trim_end text = take (length text - suffix_len is_space text) text
-
--- the text without the spaces and tabs around it
-abbrev pub trim : List ℕ → List ℕ
-trim text = trim_start (trim_end text)
+use Rattle.std.specs.List.{position_or_len}
+pub use Rattle.lists.specs.Spaces.{is_space_or_tab, lead_of, tail_of, trim, trim_end, trim_start}
 
 -- whether the text begins, or ends, with the byte
 abbrev pub begins_with : ℕ → List ℕ → Bool
@@ -80,7 +59,7 @@ is_marked text = (slice_index text 0 == 239) && ((slice_index text 1 == 187) && 
 -- a comment may begin at the place: a `#` stands there, at the start or behind a space or a tab
 abbrev pub opens_comment : List ℕ → ℕ → Bool
 opens_comment content zero = slice_index content 0 == 35
-opens_comment content (suc k) = (slice_index content (suc k) == 35) && is_space (slice_index content k)
+opens_comment content (suc k) = (slice_index content (suc k) == 35) && is_space_or_tab (slice_index content k)
 
 -- where the comment begins: at the first place where it may, or behind the content where it may at none
 pub record IsCommentPlace (content : List ℕ) (place : ℕ) : Type 0 where
@@ -91,7 +70,7 @@ pub record IsCommentPlace (content : List ℕ) (place : ℕ) : Type 0 where
 -- `a_comment_begins_where_it_first_may`
 unfoldable pub comment_place : Bool → List ℕ → ℕ
 comment_place at_start [] = 0
-comment_place at_start (b ∷ bs) = if at_start && (b == 35) then 0 else suc (comment_place (is_space b) bs)
+comment_place at_start (b ∷ bs) = if at_start && (b == 35) then 0 else suc (comment_place (is_space_or_tab b) bs)
 
 -- what stands before the comment, and the comment
 abbrev pub before_comment : List ℕ → List ℕ

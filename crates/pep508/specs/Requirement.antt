@@ -14,7 +14,7 @@ use Rattle.markers.specs.declared.fault.Cause.{Cause}
 use Rattle.markers.specs.declared.fault.Cause.TheVariants.{BadName, UrlRequirement, OptionLine, Continuation, OddCharacter, NotUtf8}
 use Rattle.markers.specs.declared.fault.Fault.{Fault}
 use Rattle.pep508.specs.Lines.{lines_of}
-use Rattle.pep508.specs.Parts.{begins_with, content_of, ending_of, ends_with, has_odd, inside, is_marked, is_space, trim, trim_start}
+use Rattle.pep508.specs.Parts.{begins_with, content_of, ending_of, ends_with, has_odd, inside, is_marked, is_space_or_tab, trim, trim_start}
 use Rattle.pep508.specs.Slices.{Slices, asking, slices_of, slices_with}
 
 -- a name and extras in their normal form, the clauses that a version has to match, and the marker, if there is one
@@ -38,7 +38,7 @@ names_of (piece ∷ rest) = name_of (trim piece) >>= λ name. names_of rest >>= 
 -- the extras within brackets: none where space stands there, else names with commas between them
 abbrev pub names_within : Option (List ℕ) → Result (List (List ℕ)) Cause
 names_within None = Err BadName
-names_within (Some text) = if list_all is_space text then Ok [] else names_of (pieces text)
+names_within (Some text) = if list_all is_space_or_tab text then Ok [] else names_of (pieces text)
 
 -- the extras of their slice, which ends with the first `]` (PEP 508, "Extras")
 abbrev pub extras_of : List ℕ → Result (List (List ℕ)) Cause
@@ -60,8 +60,8 @@ clauses_of version = if begins_with 64 version then Err UrlRequirement else caus
 -- a text that reads as a set, with no space around it
 pub record IsSpecifier (text : List ℕ) : Type 0 where
   pub reads : is_ok (set_of text) ≡ true
-  pub first : is_space (slice_index text 0) ≡ false
-  pub last : is_space (slice_index text (length text - 1)) ≡ false
+  pub first : is_space_or_tab (slice_index text 0) ≡ false
+  pub last : is_space_or_tab (slice_index text (length text - 1)) ≡ false
 
 -- a text that was read as a set
 abbrev pub kept : List ℕ → Result (List Clause) SpecifierFault → Result (List ℕ) Cause

@@ -2,7 +2,7 @@
 use Rattle.std.specs.Prelude.{◌≡◌, ◌⊎◌, ℕ, suc, ◌-◌, ◌==◌, not, Bool, true, false, List, [], ◌++◌, length, take, drop, slice_index, if◌then◌else◌}
 use Rattle.std.specs.List.{list_all, prefix_len, take_while}
 use Rattle.markers.specs.Names.{is_name_byte}
-use Rattle.pep508.specs.Parts.{begins_with, before_comment, comment_of, content_of, ending_of, is_space, lead_of, place_of, tail_of, trim, trim_end, trim_start}
+use Rattle.pep508.specs.Parts.{begins_with, before_comment, comment_of, content_of, ending_of, is_space_or_tab, lead_of, place_of, tail_of, trim, trim_end, trim_start}
 
 -- what a line is made of, in its order. The gaps are spaces and tabs.
 pub record Slices : Type 0 where
@@ -88,13 +88,13 @@ IsExtras extras = (extras ≡ []) ⊎ ((begins_with 91 extras ≡ true) × (suc 
 -- a version part has no `;` in it and no space around it, and without extras before it no `[` begins it
 pub record IsVersion (extras version : List ℕ) : Type 0 where
   pub ends : list_all (λ b. not (b == 59)) version ≡ true
-  pub first : is_space (slice_index version 0) ≡ false
-  pub last : is_space (slice_index version (length version - 1)) ≡ false
+  pub first : is_space_or_tab (slice_index version 0) ≡ false
+  pub last : is_space_or_tab (slice_index version (length version - 1)) ≡ false
   pub no_extras : extras ≡ [] → begins_with 91 version ≡ false
 
 -- a marker's slice is nothing, or begins with `;` and doesn't end with space
 abbrev pub IsMarker : List ℕ → Type 0
-IsMarker marker = (marker ≡ []) ⊎ ((begins_with 59 marker ≡ true) × (is_space (slice_index marker (length marker - 1)) ≡ false))
+IsMarker marker = (marker ≡ []) ⊎ ((begins_with 59 marker ≡ true) × (is_space_or_tab (slice_index marker (length marker - 1)) ≡ false))
 
 -- these are the slices of the line: they join to it, in their order; the end and the comment are its own, the
 -- name is as long as can be, gaps are spaces and tabs, and there is none before a part that is absent
@@ -102,7 +102,7 @@ pub record IsCut (line : List ℕ) (s : Slices) : Type 0 where
   pub joins : joined s ≡ line
   pub end : s.end ≡ ending_of line
   pub comment : s.comment ≡ comment_of (content_of line)
-  pub gaps : list_all is_space (s.lead ++ (s.gap1 ++ (s.gap2 ++ (s.gap3 ++ s.gap4)))) ≡ true
+  pub gaps : list_all is_space_or_tab (s.lead ++ (s.gap1 ++ (s.gap2 ++ (s.gap3 ++ s.gap4)))) ≡ true
   pub name : s.name ≡ take_while is_name_byte (s.name ++ behind s)
   pub extras : IsExtras s.extras
   pub version : IsVersion s.extras s.version

@@ -7,48 +7,9 @@ ghost use Rattle.std.specs.Str.{IsCharBoundary};
 ghost use Rattle.markers.specs.Names.{is_name_byte};
 ghost use Rattle.pep508.specs.Parts as spec;
 
-use crate::parts::{begins_with, ends_with, is_space};
+use crate::parts::{begins_with, ends_with};
+use lists::is_space_or_tab;
 use markers::is_name_byte;
-
-/// The spaces and tabs that lead the text, and the text without them.
-pub(crate) fn cut_lead(text: &str) -> (&str, &str)
-    ensures lead { result.0.now ≡ spec.lead_of text.now }
-    ensures rest { result.1.now ≡ spec.trim_start text.now }
-{
-    let bytes = text.as_bytes();
-    let mut place = 0;
-    while place < bytes.len() && is_space(bytes[place]) {
-        place += 1;
-    }
-    text.split_at(place)
-}
-
-/// The text without the spaces and tabs at its end, and these.
-pub(crate) fn cut_tail(text: &str) -> (&str, &str)
-    ensures rest { result.0.now ≡ spec.trim_end text.now }
-    ensures tail { result.1.now ≡ spec.tail_of text.now }
-{
-    let bytes = text.as_bytes();
-    let mut end = bytes.len();
-    while end > 0 && is_space(bytes[end - 1]) {
-        end -= 1;
-    }
-    text.split_at(end)
-}
-
-/// The text without the spaces and tabs that lead it.
-pub(crate) fn trim_start(text: &str) -> &str
-    ensures { result.now ≡ spec.trim_start text.now }
-{
-    cut_lead(text).1
-}
-
-/// The text without the spaces and tabs around it.
-pub(crate) fn trim(text: &str) -> &str
-    ensures { result.now ≡ spec.trim text.now }
-{
-    trim_start(cut_tail(text).0)
-}
 
 /// What stands before the comment of a line, and the comment.
 pub(crate) fn cut_comment(content: &str) -> (&str, &str)
@@ -61,7 +22,7 @@ pub(crate) fn cut_comment(content: &str) -> (&str, &str)
         if at_start && bytes[place] == b'#' {
             return content.split_at(place);
         }
-        at_start = is_space(bytes[place]);
+        at_start = is_space_or_tab(bytes[place]);
     }
     content.split_at(content.len())
 }

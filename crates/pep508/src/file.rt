@@ -55,7 +55,7 @@ impl ReqFile {
         read_lines(alloc, text)
     }
 
-    /// The file of these lines, which are as a text is cut into them. It takes no memory.
+    /// The file of these lines, which are as a text is cut into them. It has no refusal.
     pub fn from_lines(lines: Seq<Line>) -> ReqFile
         requires { AreLines lines }
         ensures { result ≡ lines }

@@ -16,4 +16,7 @@ pub use crate::line::Line;
 pub use crate::req_line::ReqLine;
 pub use crate::requirement::Requirement;
 pub use crate::specifier_text::SpecifierText;
-pub use markers::{Cause, Environment, Fault, Marker, Name, Variable};
+pub use markers::{
+    Cause, Clause, Comparison, Environment, Fault, LocalPart, Marker, Name, Operator, Pre,
+    SpecifierSet, Variable, Version, VersionFault, is_name_byte,
+};

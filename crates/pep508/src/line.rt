@@ -8,12 +8,12 @@ ghost use Rattle.pep508.specs.Requirement.{IsLine, Wanted, checked_line, require
 ghost use Rattle.pep508.specs.Slices.{joined, slices_of, with_version};
 ghost use Rattle.markers.specs.declared.fault.Cause.TheVariants.{OutOfMemory};
 
-use crate::cuts::{cut_comment, trim_start};
+use crate::cuts::cut_comment;
 use crate::parts::{begins_with, cut_ending, ending_of, ends_with, is_refused};
 use crate::req_line::ReqLine;
 use crate::requirement::Requirement;
 use crate::specifier_text::SpecifierText;
-use lists::{Faithful, Text};
+use lists::{Faithful, Text, trim_start};
 use markers::Cause;
 use std::alloc::{AllocError, Global};
 use std::marker::Model;

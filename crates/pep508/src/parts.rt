@@ -1,24 +1,9 @@
 // Lines, their endings, and the characters that they may not have.
 
 ghost use Rattle.std.specs.Prelude.{◌≡◌, ◌<◌, ◌∷◌, ◌||◌, length, slice_index};
-ghost use Rattle.std.specs.List.{list_all};
 ghost use Rattle.std.specs.Str.{IsUtf8};
 ghost use Rattle.pep508.specs.Lines.{lines_of};
 ghost use Rattle.pep508.specs.Parts as spec;
-
-/// Whether the byte is a space or a tab.
-pub(crate) fn is_space(byte: u8) -> bool
-    ensures { result ≡ spec.is_space byte }
-{
-    byte == b' ' || byte == b'\t'
-}
-
-/// Whether spaces and tabs alone stand in the text.
-pub(crate) fn is_blank(text: &str) -> bool
-    ensures { result ≡ list_all spec.is_space text.now }
-{
-    text.as_bytes().iter().all(|byte| is_space(*byte))
-}
 
 /// The byte at a place, or 0 behind the end.
 fn byte_at(bytes: &[u8], place: usize) -> u8

@@ -8,10 +8,10 @@ ghost use Rattle.markers.specs.declared.fault.Cause.TheVariants.{OutOfMemory};
 ghost use Rattle.pep440.specs.Text.{pieces};
 ghost use Rattle.pep508.specs.Requirement as spec;
 
-use crate::cuts::{inside, trim, trim_start};
-use crate::parts::{begins_with, is_blank};
+use crate::cuts::inside;
+use crate::parts::begins_with;
 use crate::slices::{Slices, slices_with};
-use lists::{Faithful, Seq};
+use lists::{Faithful, Seq, is_blank, trim, trim_start};
 use markers::{Cause, Environment, Fault, Marker, Name};
 use pep440::SpecifierSet;
 use std::alloc::{AllocError, Global};

@@ -3,9 +3,9 @@
 ghost use Rattle.std.specs.Prelude.{◌≡◌, IfOk};
 ghost use Rattle.pep508.specs.Slices as spec;
 
-use crate::cuts::{cut_before, cut_behind, cut_comment, cut_lead, cut_name, cut_tail};
+use crate::cuts::{cut_before, cut_behind, cut_comment, cut_name};
 use crate::parts::{begins_with, cut_ending};
-use lists::Text;
+use lists::{Text, cut_lead, cut_tail};
 use std::alloc::{AllocError, Global};
 use std::marker::Model;
 

@@ -6,8 +6,7 @@ ghost use Rattle.markers.specs.Faults.{memory_fault, one_line};
 ghost use Rattle.markers.specs.declared.fault.Cause.TheVariants.{OutOfMemory};
 ghost use Rattle.pep508.specs.Requirement.{IsSpecifier, specifier_of};
 
-use crate::cuts::trim;
-use lists::Text;
+use lists::{Text, trim};
 use markers::{Cause, Fault};
 use pep440::SpecifierSet;
 use std::alloc::Global;

@@ -11,7 +11,7 @@ use Rattle.std.specs.Ordering.{is_eq, is_lt, ordering_reverse}
 use Rattle.std.specs.Str.{bytes_eq}
 use Rattle.toml.specs.Data.{Data, Members, no_members, member}
 use Rattle.pylock.specs.Forms.{after, is_known, keys_of, least, least_unknown, lesser, unknown_in}
-use Rattle.pylock.specs.Order.{rises}
+use Rattle.lists.specs.Rising.{rises}
 
 -- the text comes before this one
 abbrev pub is_below : List ℕ → List ℕ → Bool

@@ -1,4 +1,3 @@
-pub mod OrderFacts
 pub mod TableFacts
 pub mod PackageFacts
 pub mod WriteFacts

@@ -5,7 +5,7 @@ use Rattle.std.specs.List.{list_all}
 use Rattle.std.specs.Option.{option_map_or}
 use Rattle.pylock.specs.declared.file.FileEntry.{FileEntry}
 use Rattle.pylock.specs.Files.{has_ending, is_digest, is_file, is_sdist, is_wheel}
-use Rattle.pylock.specs.Order.{rises}
+use Rattle.lists.specs.Rising.{rises}
 use Rattle.markers.specs.Names.{is_normal}
 use Rattle.pylock.specs.Packages.{Package, are_dependencies, are_wheels, is_package, is_python}
 

@@ -1,7 +1,7 @@
-pub mod Order
 pub mod Files
 pub mod Packages
 pub mod Locks
+pub mod Order
 pub mod Tables
 pub mod Forms
 pub mod Reading

@@ -2,7 +2,7 @@
 use Rattle.std.specs.Prelude.{◌≡◌, ℕ, Bool, true, List, length, map, Option, Some, None, if◌then◌else◌}
 use Rattle.std.specs.List.{AllByRecursion}
 use Rattle.hex.specs.Hex.{IsBytes}
-use Rattle.pylock.specs.Order.{rises}
+use Rattle.lists.specs.Rising.{rises}
 use Rattle.pylock.specs.Packages.{IsPackage, Package}
 
 -- what a lock holds: the marker text of its environment, the digest of its index, its entries

@@ -4,12 +4,12 @@ use Rattle.std.specs.List.{list_all}
 use Rattle.std.specs.Option.{option_map_or}
 use Rattle.std.specs.Str.{bytes_eq}
 use Rattle.pep440.specs.Tied.Sets.{set_of}
-use Rattle.pep440.specs.Text.{is_blank}
+use Rattle.lists.specs.Spaces.{is_blank}
 use Rattle.pep440.specs.Version.{IsVersion, Parts}
 use Rattle.markers.specs.Names.{is_normal}
 use Rattle.pylock.specs.declared.file.FileEntry.{FileEntry}
 use Rattle.pylock.specs.Files.{is_sdist, is_wheel}
-use Rattle.pylock.specs.Order.{rises}
+use Rattle.lists.specs.Rising.{rises}
 
 -- what an entry holds
 pub record Package : Type 0 where
@@ -22,7 +22,7 @@ pub record Package : Type 0 where
 
 -- a set of specifiers that isn't spaces and tabs alone (PEP 440, "Version specifiers")
 abbrev pub is_python : List ℕ → Bool
-is_python text = not (list_all is_blank text) && is_ok (set_of text)
+is_python text = not (is_blank text) && is_ok (set_of text)
 
 -- the name of another package
 abbrev pub is_other : List ℕ → List ℕ → Bool

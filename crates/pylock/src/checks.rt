@@ -3,31 +3,20 @@
 ghost use Rattle.std.specs.Prelude.{◌≡◌, IfOk, map, true};
 ghost use Rattle.std.specs.List.{list_all};
 ghost use Rattle.std.specs.Option.{option_map_or};
-ghost use Rattle.pep440.specs.Text.{is_blank};
 ghost use Rattle.pylock.specs.Files.{is_sdist, is_wheel};
 ghost use Rattle.pylock.specs.Packages.{are_dependencies, are_wheels, is_other, is_python};
 
 use crate::file::{self, FileEntry};
-use crate::order::rises;
-use lists::Text;
+use lists::{Text, is_blank, rises};
 use pep440::{Fault, SpecifierSet};
 use pep508::Name;
 use std::alloc::{AllocError, Global};
-
-/// Whether the text is spaces and tabs alone.
-fn are_blank(text: &str) -> bool
-    ensures { result ≡ list_all is_blank text.now }
-{
-    text.as_bytes()
-        .iter()
-        .all(|byte| *byte == b' ' || *byte == b'\t')
-}
 
 /// Whether the text is a set of specifiers that isn't blank.
 fn is_python(alloc: Global, text: &str) -> Result<bool, AllocError>
     ensures { IfOk result (λ b. b ≡ is_python text.now) }
 {
-    if are_blank(text) {
+    if is_blank(text) {
         return Ok(false);
     }
     match SpecifierSet::parse(alloc, text) {

@@ -5,8 +5,7 @@ ghost use Rattle.pylock.specs.Packages.{IsPackage, entry_of};
 
 use crate::checks;
 use crate::file::FileEntry;
-use crate::order::Named;
-use lists::{Faithful, Seq, Text};
+use lists::{Faithful, Named, Seq, Text, copied};
 use pep440::Version;
 use pep508::Name;
 use std::alloc::{AllocError, Global};
@@ -160,16 +159,6 @@ impl Entry {
         ensures { IsPackage self.now }
     {
         let _name = &self.name;
-    }
-}
-
-/// A copy of what may be there.
-fn copied<T: Faithful>(source: &Option<T>) -> Result<Option<T>, AllocError>
-    ensures { IfOk result (λ copy. copy ≡ source.now) }
-{
-    match source {
-        Some(found) => Ok(Some(found.clone()?)),
-        None => Ok(None),
     }
 }
 

@@ -4,8 +4,7 @@ ghost use Rattle.std.specs.Prelude.{◌≡◌, ◌==◌, IfOk, codes, nat_eq};
 ghost use Rattle.std.specs.List.{ends_with, list_all};
 ghost use Rattle.pylock.specs.Files.{has_ending, is_digest, is_digest_byte, is_file, is_sdist, is_wheel};
 
-use crate::order::Named;
-use lists::{Faithful, Text};
+use lists::{Faithful, Named, Text};
 use std::alloc::AllocError;
 
 /// A file of a package (PEP 751, "packages.wheels", "packages.sdist").

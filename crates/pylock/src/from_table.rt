@@ -15,9 +15,8 @@ use crate::entry::Entry;
 use crate::fault::{Fault, Flaw};
 use crate::forms::{each, needed_at, table_with, text_at, unknown_key, value_at};
 use crate::lock::Lock;
-use crate::order::rises;
 use hex::FromHex;
-use lists::{Seq, Text};
+use lists::{Seq, Text, rises};
 use std::alloc::Global;
 use toml::{Table, Value};
 

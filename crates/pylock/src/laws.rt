@@ -4,7 +4,7 @@ ghost use Rattle.std.specs.Prelude.{◌≡◌, Ok, ℕ, List, true};
 ghost use Rattle.toml.specs.Data.{Members};
 ghost use Rattle.pylock.specs.Forms.{keys_of, least_unknown, unknown_in};
 ghost use Rattle.pylock.specs.Locks.{IsLock, Locked};
-ghost use Rattle.pylock.specs.Order.{rises};
+ghost use Rattle.lists.specs.Rising.{rises};
 ghost use Rattle.pylock.specs.Reading.{file_keys, lock_in, lock_keys, package_keys};
 ghost use Rattle.pylock.specs.Tables.{table_of};
 

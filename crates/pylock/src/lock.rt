@@ -6,8 +6,7 @@ ghost use Rattle.pylock.specs.Locks.{IsLock, are_entries, lock_of};
 ghost use Rattle.pylock.specs.Packages.{IsPackage};
 
 use crate::entry::Entry;
-use crate::order::rises;
-use lists::{Faithful, Seq, Text};
+use lists::{Faithful, Seq, Text, rises};
 use std::alloc::AllocError;
 use std::marker::Model;
 
@@ -59,8 +58,8 @@ fn are_lawful(entries: &[Entry])
 }
 
 impl Lock {
-    /// The lock of these parts; `None` where the entries don't rise by the bytes of their names. It
-    /// takes no memory.
+    /// The lock of these parts; `None` exactly where the entries don't rise by the bytes of their
+    /// names.
     pub fn new(environment: Text, snapshot: [u8; 32], entries: Seq<Entry>) -> Option<Lock>
         ensures { result ≡ lock_of (record {
           environment = environment;

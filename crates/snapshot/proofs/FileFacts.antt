@@ -1,5 +1,5 @@
 -- Files that are gone through one after the other.
-use Rattle.std.proofs.Common.{◌≡◌, Bool, true, cond, Ordering, Less, Equal, Greater, List, [], ◌∷◌, ◌++◌, Option, Some, None, find, fold, refl, sym, ap, ◌∙◌, append_assoc}
+use Rattle.std.proofs.Common.{◌≡◌, Bool, true, cond, Ordering, Less, Equal, Greater, List, [], ◌∷◌, ◌++◌, Option, Some, None, find, fold, map, refl, sym, ap, ◌∙◌, append_assoc}
 use Rattle.std.proofs.lemmas.List.{append-nil}
 use Rattle.std.specs.Prelude.{filter}
 use Rattle.std.specs.BTreeSet.{insert_key}
@@ -7,8 +7,9 @@ use Rattle.std.specs.Option.{option_or}
 use Rattle.std.specs.Prelude.{◌&&◌}
 use Rattle.std.specs.Ordering.{is_lt}
 use Rattle.snapshot.specs.Tied.OrderLaws.{name_total}
-use Rattle.snapshot.proofs.InsertFacts.{Rises, rising}
-use Rattle.snapshot.specs.Tied.Chosen.{no_files, with_file, with_form, ascend}
+use Rattle.lists.specs.Rising.{rises}
+use Rattle.lists.proofs.SortedInserts.{Rises, rising}
+use Rattle.snapshot.specs.Tied.Chosen.{no_files, with_file, with_form}
 use Rattle.snapshot.specs.declared.chosen.Sorted.{Sorted}
 use Rattle.snapshot.specs.Files.{form_of, is_tar_gz, is_wheel, is_zip, name_cmp, sdist_of, wheels_of}
 use Rattle.snapshot.specs.declared.file.ReleaseFile.{ReleaseFile}
@@ -72,13 +73,14 @@ lower_and Less b e = (refl, e)
 lower_and Equal b e = absurd cc
 lower_and Greater b e = absurd cc
 
-rises_of : (fs : List ReleaseFile) → ascend fs ≡ true → Rises name_cmp fs
+rises_of : (fs : List ReleaseFile) → rises (map (λ f. f.name) fs) ≡ true → Rises name_cmp fs
+unfolding rises
 rises_of [] e = tt
 rises_of (f ∷ []) e = tt
 rises_of (f ∷ g ∷ gs) e =
-    let both = lower_and (name_cmp f g) (ascend (g ∷ gs)) e in
+    let both = lower_and (name_cmp f g) (rises (map (λ h. h.name) (g ∷ gs))) e in
     (both.0, rises_of (g ∷ gs) both.1)
 
--- files whose names ascend are those of the set by name
-pub ascending : (fs : List ReleaseFile) → ascend fs ≡ true → fs ≡ fold (insert_key name_cmp) [] fs
-ascending fs e = sym (rising name_total fs (rises_of fs e))
+-- files whose names rise are those of the set by name
+pub rising_names : (fs : List ReleaseFile) → rises (map (λ f. f.name) fs) ≡ true → fs ≡ fold (insert_key name_cmp) [] fs
+rising_names fs e = sym (rising name_total fs (rises_of fs e))

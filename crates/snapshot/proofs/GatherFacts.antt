@@ -6,12 +6,12 @@ use Rattle.std.specs.List.{list_any}
 use Rattle.serde_json.specs.Data.{Items}
 use Rattle.snapshot.specs.declared.fault.Fault.{Fault}
 use Rattle.snapshot.specs.declared.fault.Fault.TheVariants.{OutOfMemory}
-use Rattle.snapshot.specs.declared.releases.ReadReleases.{ReadReleases}
+use Rattle.snapshot.specs.declared.release.reading.ReadReleases.{ReadReleases}
 use Rattle.snapshot.specs.Release.{Release}
 use Rattle.snapshot.specs.Shape.{◌>>=◌, each_from}
 use Rattle.snapshot.proofs.GatheredFacts.{gathered-is}
-use Rattle.snapshot.proofs.Loops.{gather}
-use Rattle.snapshot.proofs.StepFacts.{ok-inside}
+use Rattle.snapshot.proofs.ItemsOneByOne.{gather}
+use Rattle.snapshot.proofs.SeveralSteps.{ok-inside}
 use Rattle.snapshot.specs.Releases.{has_version_of, newer_cmp, newest_first, release_of, releases_in, skipped_of, usable_of}
 use Rattle.snapshot.specs.Tied.Gathering.{Gathered, gather_release, kept, left_out, nothing}
 use Rattle.snapshot.specs.declared.skipped.SkipCause.TheVariants.{Duplicate}

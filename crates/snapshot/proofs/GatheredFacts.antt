@@ -11,7 +11,7 @@ use Rattle.snapshot.specs.declared.skipped.Skipped.{Skipped}
 use Rattle.snapshot.specs.Release.{Release}
 use Rattle.snapshot.specs.Releases.{cause_behind, has_version_of, left_out_for, newer_cmp, newest_first, skipped_of, usable_of}
 use Rattle.snapshot.specs.Tied.Gathering.{Gathered, gather_release, kept, left_out, nothing, skipped_at, with_release}
-use Rattle.snapshot.proofs.SortedFacts.{newest-first}
+use Rattle.snapshot.proofs.FirstOfEqualsStays.{newest-first}
 
 -- ---- the releases that are kept
 

@@ -8,7 +8,7 @@ use Rattle.snapshot.specs.declared.package.ReadPackage.{ReadPackage}
 use Rattle.snapshot.specs.declared.package.ReadPackages.{ReadPackages}
 use Rattle.snapshot.specs.Packages.{package_of, packages_in, together}
 use Rattle.snapshot.specs.Shape.{◌>>=◌, each_from}
-use Rattle.snapshot.proofs.Loops.{gather}
+use Rattle.snapshot.proofs.ItemsOneByOne.{gather}
 
 abbrev pub no_packages : ReadPackages
 no_packages = record { packages = []; skipped = [] }

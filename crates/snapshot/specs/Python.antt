@@ -1,16 +1,12 @@
 -- What a release asks of Python (reqlock's own format of an index).
-use Rattle.std.specs.Prelude.{ℕ, ◌==◌, ◌||◌, Bool, List, Option, Some, None, Result, Ok, Err, if◌then◌else◌}
-use Rattle.std.specs.List.{list_all}
+use Rattle.std.specs.Prelude.{ℕ, List, Option, Some, None, Result, Ok, Err, if◌then◌else◌}
+pub use Rattle.lists.specs.Spaces.{is_blank}
 use Rattle.pep440.specs.Tied.Sets.{set_of}
 use Rattle.pep440.specs.declared.fault.Fault.{Fault as VersionFault}
 use Rattle.pep440.specs.declared.specifier.Clause.{Clause}
 use Rattle.snapshot.specs.declared.python.RequiresPython.{RequiresPython}
 use Rattle.snapshot.specs.declared.skipped.SkipCause.{SkipCause}
 use Rattle.snapshot.specs.declared.skipped.SkipCause.TheVariants as causes
-
--- spaces and tabs alone
-abbrev pub is_blank : List ℕ → Bool
-is_blank text = list_all (λ b. (b == 32) || (b == 9)) text
 
 -- the text with the set that was read of it
 abbrev pub python_with : List ℕ → Result (List Clause) VersionFault → Result (Option RequiresPython) SkipCause

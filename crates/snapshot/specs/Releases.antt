@@ -16,7 +16,7 @@ use Rattle.pep440.specs.declared.fault.Fault.{Fault as VersionFault}
 use Rattle.pep508.specs.Requirement.{Wanted, requirement_text}
 use Rattle.snapshot.specs.declared.fault.Fault.{Fault}
 use Rattle.snapshot.specs.declared.listed.Listed.{Listed}
-use Rattle.snapshot.specs.declared.releases.ReadReleases.{ReadReleases}
+use Rattle.snapshot.specs.declared.release.reading.ReadReleases.{ReadReleases}
 use Rattle.snapshot.specs.declared.skipped.SkipCause.{SkipCause}
 use Rattle.snapshot.specs.declared.skipped.SkipCause.TheVariants as causes
 use Rattle.snapshot.specs.declared.skipped.Skipped.{Skipped}

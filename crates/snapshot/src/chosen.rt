@@ -4,14 +4,14 @@ ghost use Rattle.std.specs.Prelude.{◌≡◌, [], refl, IfOk, IsOkUnless, Ok, O
 ghost use Rattle.std.specs.BTreeSet.{insert_key};
 ghost use Rattle.std.specs.Cmp.{eq_by_cmp_equiv, partial_equiv_from_equiv, partial_order_from_total};
 ghost use Rattle.std.specs.Ordering.{as_partial_cmp, eq_by_cmp};
-ghost use Rattle.snapshot.specs.Tied.Chosen.{no_files, with_file, ascend};
+ghost use Rattle.snapshot.specs.Tied.Chosen.{no_files, with_file};
 ghost use Rattle.snapshot.specs.Files.{name_cmp, sdist_of, wheels_of};
 ghost use Rattle.snapshot.specs.declared.fault.Fault.TheVariants.{OutOfMemory};
 
 use crate::fault::Fault;
 use crate::file::ReleaseFile;
 use crate::form::{Form, form_of};
-use lists::Seq;
+use lists::{Seq, rises};
 use std::alloc::{AllocError, Global};
 use std::cmp::Ordering;
 use std::collections::BTreeSet;
@@ -80,22 +80,6 @@ fn cmp_names(file: &ReleaseFile, other: &ReleaseFile) -> Ordering
     file.name().as_bytes().cmp(other.name().as_bytes())
 }
 
-/// Whether the name of each file is above that of the one before it.
-fn ascend(files: &[ReleaseFile]) -> bool
-    ensures { result ≡ ascend files.now }
-{
-    let mut left = files;
-    while let [file, others @ ..] = left {
-        if let [next, ..] = others {
-            if !cmp_names(file, next).is_lt() {
-                return false;
-            }
-        }
-        left = others;
-    }
-    true
-}
-
 /// The files put into a set by name, which keeps the first of each.
 fn set_by_name(alloc: Global, files: Vec<ReleaseFile>) -> Result<BTreeSet<ByName>, AllocError>
     ensures { IfOk result (λ set. set.keys ≡ fold (insert_key name_cmp) [] files.items) }
@@ -122,7 +106,7 @@ fn in_order(alloc: Global, set: BTreeSet<ByName>) -> Result<Seq<ReleaseFile>, Al
 fn by_name(alloc: Global, files: Seq<ReleaseFile>) -> Result<Seq<ReleaseFile>, AllocError>
     ensures { IfOk result (λ sorted. sorted ≡ fold (insert_key name_cmp) [] files) }
 {
-    if ascend(files.as_slice()) {
+    if rises(files.as_slice()) {
         return Ok(files);
     }
     in_order(alloc, set_by_name(alloc, files.into_vec())?)

@@ -2,7 +2,9 @@
 
 ghost use Rattle.std.specs.Prelude.{◌≡◌};
 
-use lists::Text;
+pub(crate) mod reading;
+
+use lists::{Named, Text};
 
 /// A file of a release, as the index lists it.
 pub struct ReleaseFile {
@@ -20,6 +22,14 @@ impl Drop for ReleaseFile {
             size: _,
             sha256: _,
         } = self;
+    }
+}
+
+impl Named for ReleaseFile {
+    ghost named = { λ f. f.name };
+
+    fn text(&self) -> &str {
+        self.name()
     }
 }
 

@@ -4,16 +4,13 @@
 mod chosen;
 mod fault;
 mod file;
-mod files;
 mod form;
 pub mod laws;
 mod listed;
 mod members;
 mod package;
-mod packages;
 mod python;
 mod release;
-mod releases;
 mod shape;
 mod skipped;
 mod snapshot;
@@ -25,3 +22,8 @@ pub use crate::python::RequiresPython;
 pub use crate::release::Release;
 pub use crate::skipped::{SkipCause, Skipped};
 pub use crate::snapshot::Snapshot;
+pub use pep508::{
+    Cause, Clause, Comparison, Environment, Fault as LineFault, Line, LocalPart, Marker, Name,
+    Operator, Pre, ReqFile, ReqLine, Requirement, SpecifierSet, SpecifierText, Variable, Version,
+    VersionFault,
+};

@@ -8,7 +8,7 @@ ghost use Rattle.snapshot.specs.Shape.{Gives, object_of};
 
 use crate::fault::Fault;
 use crate::file::ReleaseFile;
-use crate::files::files_of;
+use crate::file::reading::files_of;
 use crate::members::values_at;
 use crate::shape::{
     below_key, flag_of, items_of, optional_items_of, optional_text_of, text_of, texts_of,

@@ -1,5 +1,7 @@
 // The packages of an index.
 
+pub(crate) mod reading;
+
 use crate::release::Release;
 use crate::skipped::Skipped;
 use lists::Seq;

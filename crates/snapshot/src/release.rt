@@ -6,6 +6,8 @@ ghost use Rattle.std.specs.Option.{option_copied};
 ghost use Rattle.std.specs.Ordering.{as_partial_cmp, eq_by_cmp};
 ghost use Rattle.snapshot.specs.Lawful.{IsRelease};
 
+pub(crate) mod reading;
+
 use crate::chosen::Chosen;
 use crate::file::ReleaseFile;
 use crate::python::RequiresPython;

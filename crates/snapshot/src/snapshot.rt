@@ -11,8 +11,8 @@ ghost use Rattle.snapshot.specs.Shape.{Gives};
 ghost use Rattle.snapshot.specs.declared.fault.Fault.TheVariants.{OutOfMemory};
 
 use crate::fault::Fault;
+use crate::package::reading::packages_of;
 use crate::package::{Package, ReadPackages};
-use crate::packages::packages_of;
 use crate::release::Release;
 use crate::skipped::Skipped;
 use lists::Seq;

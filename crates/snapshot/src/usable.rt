@@ -6,7 +6,7 @@ ghost use Rattle.pep440.specs.Tied.Reading.{version_of};
 ghost use Rattle.pep508.specs.Requirement.{requirement_text};
 ghost use Rattle.snapshot.specs.Files.{has_file};
 ghost use Rattle.snapshot.specs.Lawful.{IsFile};
-ghost use Rattle.snapshot.specs.Python.{is_blank, python_of};
+ghost use Rattle.snapshot.specs.Python.{python_of};
 ghost use Rattle.snapshot.specs.Releases.{required_at, requirements_from, usable, versioned};
 ghost use Rattle.snapshot.specs.Shape.{Gives};
 
@@ -16,7 +16,7 @@ use crate::listed::Listed;
 use crate::python::RequiresPython;
 use crate::release::Release;
 use crate::skipped::SkipCause;
-use lists::{Seq, Text};
+use lists::{Seq, Text, is_blank};
 use pep440::{Fault as VersionFault, SpecifierSet, Version};
 use pep508::{Cause, Requirement};
 use std::alloc::Global;
@@ -30,15 +30,6 @@ fn version_of(alloc: Global, text: &str) -> Result<Result<Version, SkipCause>, F
         Err(VersionFault::OutOfMemory) => Err(Fault::OutOfMemory),
         Err(fault) => Ok(Err(SkipCause::Version(fault))),
     }
-}
-
-/// Whether the text is spaces and tabs alone.
-fn is_blank(text: &str) -> bool
-    ensures { result ≡ is_blank text.now }
-{
-    text.as_bytes()
-        .iter()
-        .all(|byte| *byte == b' ' || *byte == b'\t')
 }
 
 /// What a text asks of Python: nothing, where it is empty or blank.

@@ -4,7 +4,7 @@
 use Rattle.std.specs.Prelude.{ℕ, zero, suc, ◌+◌, ◌-◌, ◌==◌, ◌&&◌, ◌||◌, nat_lt, Bool, false, List, [], ◌∷◌, length, codes, is_none, Option, Some, None, if◌then◌else◌}
 use Rattle.std.specs.Option.{option_map}
 use Rattle.std.specs.Str.{bytes_eq}
-use Rattle.pep440.specs.Text.{is_blank}
+use Rattle.lists.specs.Spaces.{is_space_or_tab}
 use Rattle.markers.specs.Environment.{variable_named}
 use Rattle.markers.specs.MarkerDepth.{quote_after}
 use Rattle.markers.specs.MarkerSpelling.{is_quotable, is_quote, is_word_byte, starts_equal}
@@ -92,7 +92,7 @@ unfoldable pub tokens_from : ℕ → List ℕ → Option (List Token)
 tokens_from skipped [] = Some []
 tokens_from (suc k) (b ∷ rest) = tokens_from k rest
 tokens_from zero (b ∷ rest) =
-    if is_blank b then tokens_from 0 rest else before_tokens (token_at (b ∷ rest)) (λ behind. tokens_from behind rest)
+    if is_space_or_tab b then tokens_from 0 rest else before_tokens (token_at (b ∷ rest)) (λ behind. tokens_from behind rest)
 
 -- the tokens of a text
 abbrev pub tokens_of : List ℕ → Option (List Token)

@@ -11,7 +11,8 @@ use Rattle.pep440.specs.declared.specifier.Clause.{Clause}
 use Rattle.pep440.specs.Version.{Parts, fits}
 use Rattle.pep440.specs.SetGrammar.{takes}
 use Rattle.pep440.specs.Tied.Reading.{bare_parts}
-use Rattle.pep440.specs.Text.{is_blank, pieces, trim_blank, trim_front}
+use Rattle.lists.specs.Spaces.{is_space_or_tab}
+use Rattle.pep440.specs.Text.{pieces, trim_blank, trim_front}
 
 infixl 10 ◌>>=◌
 abbrev pub ◌>>=◌ : {A B : Type 0} → Result A Fault → (A → Result B Fault) → Result B Fault
@@ -88,7 +89,7 @@ clause_text k o text = clause_for k (star_operator (ends_in_star text) o) (bare_
 -- a clause behind its operator: spaces and tabs, a version, and `.*` where it may stand
 abbrev pub clause_behind : ℕ → Option (Operator × List ℕ) → Result Clause Fault
 clause_behind k None = Err (BadClause k)
-clause_behind k (Some p) = clause_text k p.0 (trim_front is_blank p.1)
+clause_behind k (Some p) = clause_text k p.0 (trim_front is_space_or_tab p.1)
 
 -- the clause that a piece at place k spells, or the first of its faults
 abbrev pub clause_of : ℕ → List ℕ → Result Clause Fault
@@ -98,10 +99,10 @@ clause_of k piece = if is_arbitrary piece then Err ArbitraryEquality else clause
 unfoldable pub clauses_from : ℕ → List (List ℕ) → Result (List Clause) Fault
 clauses_from k [] = Ok []
 clauses_from k (piece ∷ []) =
-    if nat_lt 1 k && list_all is_blank piece then Ok [] else (clause_of k (trim_blank piece) >>= λ c. Ok (c ∷ []))
+    if nat_lt 1 k && list_all is_space_or_tab piece then Ok [] else (clause_of k (trim_blank piece) >>= λ c. Ok (c ∷ []))
 clauses_from k (piece ∷ next ∷ rest) =
     clause_of k (trim_blank piece) >>= λ c. clauses_from (k + 1) (next ∷ rest) >>= λ cs. Ok (c ∷ cs)
 
 -- the clauses of a text, or the fault of its first faulty clause; a blank text has none
 abbrev pub set_of : List ℕ → Result (List Clause) Fault
-set_of text = if list_all is_blank text then Ok [] else clauses_from 1 (pieces text)
+set_of text = if list_all is_space_or_tab text then Ok [] else clauses_from 1 (pieces text)

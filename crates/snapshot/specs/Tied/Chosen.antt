@@ -21,9 +21,3 @@ with_form s f Other = s
 -- one more file
 abbrev pub with_file : Sorted → ReleaseFile → Sorted
 with_file s f = with_form s f (form_of f.name)
-
--- whether the name of each file is above that of the one before it
-abbrev pub ascend : List ReleaseFile → Bool
-ascend [] = true
-ascend (f ∷ []) = true
-ascend (f ∷ g ∷ gs) = is_lt (name_cmp f g) && ascend (g ∷ gs)

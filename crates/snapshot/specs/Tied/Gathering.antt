@@ -3,8 +3,8 @@
 use Rattle.std.specs.Prelude.{ℕ, ◌+◌, List, [], ◌∷◌, ◌++◌, Result, Ok, Err, if◌then◌else◌}
 use Rattle.std.specs.BTreeSet.{insert_key}
 use Rattle.std.specs.List.{list_any}
-use Rattle.snapshot.specs.declared.releases.Gathering.{Gathering}
-use Rattle.snapshot.specs.declared.releases.ReadReleases.{ReadReleases}
+use Rattle.snapshot.specs.declared.release.reading.Gathering.{Gathering}
+use Rattle.snapshot.specs.declared.release.reading.ReadReleases.{ReadReleases}
 use Rattle.snapshot.specs.declared.skipped.SkipCause.{SkipCause}
 use Rattle.snapshot.specs.declared.skipped.SkipCause.TheVariants as causes
 use Rattle.snapshot.specs.declared.skipped.Skipped.{Skipped}

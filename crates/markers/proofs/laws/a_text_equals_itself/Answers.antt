@@ -1,4 +1,4 @@
-use Rattle.markers.proofs.SelfFacts.{environment_itself, equal_itself}
+use Rattle.markers.proofs.TextsEqualThemselves.{environment_itself, equal_itself}
 use Rattle.markers.proofs.laws.a_text_equals_itself.Goals as goal
 
 pub returns-clause-printable : goal.returns-clause-printable

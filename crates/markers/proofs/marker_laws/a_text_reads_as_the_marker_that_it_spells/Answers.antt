@@ -1,4 +1,4 @@
-use Rattle.markers.proofs.TextLaw.{text-read, text-spells, text-too_deep}
+use Rattle.markers.proofs.TextsReadAsSpelled.{text-read, text-spells, text-too_deep}
 use Rattle.markers.proofs.marker_laws.a_text_reads_as_the_marker_that_it_spells.Goals as goal
 
 pub returns-clause-read : goal.returns-clause-read

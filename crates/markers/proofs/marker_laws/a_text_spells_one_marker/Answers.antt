@@ -1,4 +1,4 @@
-use Rattle.markers.proofs.TextLaw.{one_marker}
+use Rattle.markers.proofs.TextsReadAsSpelled.{one_marker}
 use Rattle.markers.proofs.marker_laws.a_text_spells_one_marker.Goals as goal
 
 pub returns : goal.returns

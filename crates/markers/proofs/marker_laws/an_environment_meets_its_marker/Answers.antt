@@ -1,4 +1,4 @@
-use Rattle.markers.proofs.OwnFacts.{marker_text-holds}
+use Rattle.markers.proofs.EnvironmentsMeetTheirMarkers.{marker_text-holds}
 use Rattle.markers.proofs.marker_laws.an_environment_meets_its_marker.Goals as goal
 
 pub returns : goal.returns

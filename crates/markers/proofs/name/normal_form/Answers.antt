@@ -1,7 +1,7 @@
 use Rattle.std.proofs.Common.{◌≡◌, ℕ, List, ◌++◌, ◌∙◌, sym, ap, append_assoc, append-nil, string_bytes}
 use Rattle.std.proofs.lemmas.List.{at_drop_more, at_drop_all, take_rest}
 use Rattle.markers.specs.Tied.Names.{normal_read}
-use Rattle.markers.proofs.NormalFacts.{normal-is_read}
+use Rattle.markers.proofs.NormalForms.{normal-is_read}
 use Rattle.markers.proofs.name.normal_form.Goals as goal
 
 pub loop-place-preserved : goal.loop-place-preserved

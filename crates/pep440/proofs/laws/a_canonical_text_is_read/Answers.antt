@@ -1,5 +1,5 @@
 use Rattle.pep440.proofs.CanonicalFacts.{canonical-spells}
-use Rattle.pep440.proofs.Law.{spells-version}
+use Rattle.pep440.proofs.VersionsReadAsSpelled.{spells-version}
 use Rattle.pep440.specs.Canonical.{canonical}
 use Rattle.pep440.proofs.laws.a_canonical_text_is_read.Goals as goal
 

@@ -1,4 +1,4 @@
-use Rattle.pep440.proofs.AlikeFacts.{matches-alike}
+use Rattle.pep440.proofs.EqualVersionsMatchAlike.{matches-alike}
 use Rattle.pep440.proofs.laws.equal_versions_match_alike.Goals as goal
 
 pub returns : goal.returns

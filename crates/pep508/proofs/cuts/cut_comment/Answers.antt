@@ -1,6 +1,6 @@
 use Rattle.std.proofs.Common.{arith, rules, ◌≡◌, ◌&&◌, ◌==◌, ap, get_or, drop, true, false}
 use Rattle.std.proofs.lemmas.Bool.Decides.{nat_tests}
-use Rattle.pep508.specs.Parts.{comment_place, is_space}
+use Rattle.pep508.specs.Parts.{comment_place, is_space_or_tab}
 use Rattle.pep508.proofs.Places.{comment_place-more, comment_place-here}
 use Rattle.pep508.proofs.cuts.cut_comment.Goals as goal
 use Rattle.pep508.proofs.cuts.cut_comment.Goals.{else-at_start-via-then-at_start+else-bytes-place-eq35, else-at_start-via-else-at_start}
@@ -20,5 +20,5 @@ loop-place-preserved c =
       | else-at_start-via-else-at_start w ↦ rw w.if-at_start.false (search rules)
     ] in
     let more = comment_place-more c.loop-place.at_start c.as_bytes-bytes.result.now c.loop-place.place c.loop-place-test.true no_comment in
-    let space : c.is_space-at_start.result ≡ is_space (get_or c.as_bytes-bytes.result.now c.loop-place.place 0) = c.is_space-at_start.ensures in
+    let space : c.is_space_or_tab-at_start.result ≡ is_space_or_tab (get_or c.as_bytes-bytes.result.now c.loop-place.place 0) = c.is_space_or_tab-at_start.ensures in
     rw space (omega (arith, c.loop-place.invariant, more))

@@ -1,5 +1,5 @@
 use Rattle.std.proofs.Common.{refl}
-use Rattle.pylock.specs.Order.{rises}
+use Rattle.lists.specs.Rising.{rises}
 use Rattle.pylock.proofs.LeastFacts.{first-least}
 use Rattle.pylock.proofs.laws.the_first_unknown_key_is_the_least.Goals as goal
 

@@ -1,9 +1,9 @@
-use Rattle.std.proofs.Common.{◌≡◌, true, sym}
-use Rattle.snapshot.specs.Tied.Chosen.{ascend}
-use Rattle.snapshot.proofs.FileFacts.{ascending}
+use Rattle.std.proofs.Common.{◌≡◌, map, true, sym}
+use Rattle.lists.specs.Rising.{rises}
+use Rattle.snapshot.proofs.FileFacts.{rising_names}
 use Rattle.snapshot.proofs.chosen.by_name.Goals as goal
 
-pub returns-then-ascend : goal.returns-then-ascend
-returns-then-ascend c =
-    let is : ascend c.args.files ≡ true = rw (← c.as_slice.ensures) (sym c.if-ascend.ensures) in
-    ascending c.args.files is
+pub returns-then-rises : goal.returns-then-rises
+returns-then-rises c =
+    let is : rises (map (λ f. f.name) c.args.files) ≡ true = rw (← c.as_slice.ensures) (sym c.if-rises.ensures) in
+    rising_names c.args.files is

@@ -1,4 +1,4 @@
-use Rattle.snapshot.proofs.SortedFacts.{newest-first, newest-sorted}
+use Rattle.snapshot.proofs.FirstOfEqualsStays.{newest-first, newest-sorted}
 use Rattle.snapshot.proofs.laws.releases_descend.Goals as goal
 
 pub returns-clause-descending : goal.returns-clause-descending

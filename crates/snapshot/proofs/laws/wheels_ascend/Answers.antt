@@ -1,4 +1,4 @@
-use Rattle.snapshot.proofs.SortedFacts.{wheels-first, wheels-sorted}
+use Rattle.snapshot.proofs.FirstOfEqualsStays.{wheels-first, wheels-sorted}
 use Rattle.snapshot.proofs.laws.wheels_ascend.Goals as goal
 
 pub returns-clause-ascending : goal.returns-clause-ascending

@@ -1,6 +1,6 @@
 use Rattle.std.proofs.lemmas.Result.{err_from_is_err_and}
 use Rattle.snapshot.specs.Shape.{text_of}
-use Rattle.snapshot.proofs.Loops.{push, gather-push, goes_on, ends, is_done, none_left}
+use Rattle.snapshot.proofs.ItemsOneByOne.{push, gather-push, goes_on, ends, is_done, none_left}
 use Rattle.snapshot.proofs.shape.texts_of.Goals as goal
 
 pub loop-place-init : goal.loop-place-init

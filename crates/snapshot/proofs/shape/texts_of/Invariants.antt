@@ -2,7 +2,7 @@ use Rattle.std.proofs.Common.{◌≡◌}
 use Rattle.serde_json.specs.View.{items_view}
 use Rattle.snapshot.specs.Shape.{text_of}
 use Rattle.snapshot.specs.Shape.{each_from}
-use Rattle.snapshot.proofs.Loops.{gather, push}
+use Rattle.snapshot.proofs.ItemsOneByOne.{gather, push}
 use Rattle.snapshot.proofs.shape.texts_of.Given as goal
 
 abbrev pub invariant-loop-place : goal.invariant-loop-place

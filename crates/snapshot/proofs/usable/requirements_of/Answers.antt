@@ -1,5 +1,5 @@
 use Rattle.std.proofs.Common.{ap, ◌∙◌, Ok}
-use Rattle.snapshot.proofs.StepFacts.{ok-inside}
+use Rattle.snapshot.proofs.SeveralSteps.{ok-inside}
 use Rattle.snapshot.proofs.UsableFacts.{text_read, text_refused, texts_read}
 use Rattle.snapshot.proofs.usable.requirements_of.Goals as goal
 

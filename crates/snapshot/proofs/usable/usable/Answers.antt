@@ -1,7 +1,7 @@
 use Rattle.std.proofs.Common.{◌≡◌, ◌∙◌, true, arith}
 use Rattle.snapshot.specs.Files.{has_file}
-use Rattle.snapshot.proofs.LawFacts.{release-lawful}
-use Rattle.snapshot.proofs.StepFacts.{ok-inside}
+use Rattle.snapshot.proofs.UsableReleasesAreLawful.{release-lawful}
+use Rattle.snapshot.proofs.SeveralSteps.{ok-inside}
 use Rattle.snapshot.proofs.usable.usable.Goals as goal
 
 pub new-requires : goal.new-requires

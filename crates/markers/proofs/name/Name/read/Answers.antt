@@ -1,5 +1,5 @@
 use Rattle.std.proofs.Common.{sym}
-use Rattle.markers.proofs.NormalFacts.{normal_is_normal}
+use Rattle.markers.proofs.NormalForms.{normal_is_normal}
 use Rattle.markers.proofs.name.Name.read.Goals as goal
 
 pub invariant_of-result : goal.invariant_of-result

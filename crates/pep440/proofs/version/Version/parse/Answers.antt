@@ -1,4 +1,4 @@
-use Rattle.pep440.proofs.Law.{answers-read, found-read}
+use Rattle.pep440.proofs.VersionsReadAsSpelled.{answers-read, found-read}
 use Rattle.pep440.proofs.version.Version.parse.Goals as goal
 
 pub returns-clause-answers : goal.returns-clause-answers

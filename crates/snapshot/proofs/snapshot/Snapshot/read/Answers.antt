@@ -1,5 +1,5 @@
 use Rattle.snapshot.specs.Tied.Places.{ArePlaces}
-use Rattle.snapshot.proofs.FallFacts.{packages-fall}
+use Rattle.snapshot.proofs.ReleasesFall.{packages-fall}
 use Rattle.snapshot.proofs.snapshot.Snapshot.read.Goals as goal
 
 pub invariant_of-result : goal.invariant_of-result

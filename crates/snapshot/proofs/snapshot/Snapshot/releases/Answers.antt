@@ -1,7 +1,7 @@
 use Rattle.std.proofs.Common.{◌≡◌, ◌<◌, ◌∙◌, List, sym, ap, length, get_or, rules}
 use Rattle.snapshot.specs.declared.package.Package.{Package}
 use Rattle.std.specs.List.Sorted.{IsStrictlySortedBy}
-use Rattle.snapshot.proofs.FallFacts.{named-fall}
+use Rattle.snapshot.proofs.ReleasesFall.{named-fall}
 use Rattle.snapshot.proofs.PlaceFacts.{found_within, found_releases, no_releases, place-found}
 use Rattle.snapshot.proofs.snapshot.Snapshot.releases.Goals as goal
 

@@ -1,0 +1,4 @@
+pub mod Members
+pub mod RisingItems
+pub mod SortedInserts
+pub mod SpaceBytes

@@ -1,5 +1,0 @@
-use Rattle.std.proofs.Common.{◌≡◌, ◌++◌}
-use Rattle.snapshot.proofs.releases.in_order.Given as goal
-
-abbrev pub invariant-loop-release : goal.invariant-loop-release
-invariant-loop-release l = l.releases.items ++ l.release-iterator ≡ l.fn.newest.keys
