@@ -1,5 +1,5 @@
 -- What the choices ask for, the first choice on each name, and what a clash says.
-use Rattle.std.proofs.Common.{ℕ, List, [], ◌∷◌, ◌++◌, ◌≡◌, ◌≢◌, ◌<◌, ◌≤◌, ◌⊎◌, inl, inr, Contains, length, map, refl, sym, ◌∙◌, ap, subst, arith, Some, None, Option, Bool, true, false, cond, nat_eq, ◌+◌, get_or, take, add-one}
+use Rattle.std.proofs.Common.{ℕ, List, [], ◌∷◌, ◌++◌, ◌≡◌, ◌≢◌, ◌<◌, ◌≤◌, inl, inr, Contains, length, map, refl, sym, ◌∙◌, ap, subst, Some, None, Option, Bool, true, false, cond, nat_eq, ◌+◌, get_or, take, add-one}
 use Rattle.std.proofs.lemmas.Bool.{eqb-true}
 use Rattle.std.proofs.lemmas.List.Elements.{Contains-append_left, Contains-append_right, Contains-append_cases}
 use Rattle.std.specs.Ordering.{nat_cmp, is_eq}
@@ -7,21 +7,18 @@ use Rattle.search.proofs.Entries.{off-of}
 use Rattle.search.proofs.LearnedSearch.{Lies, held-lie}
 use Rattle.search.proofs.Least.{nat-order}
 use Rattle.search.proofs.Lists.{Contains-here, Contains-there, Contains-cons_cases, Contains-nil, Contains-map, Contains-map_of, Contains-take_suc, take-whole, nat_cases}
-use Rattle.search.proofs.Ranges.{lines-known, wants-known, at-member}
-use Rattle.search.proofs.Theory.{option_cases, version_in-cons_cases}
+use Rattle.search.proofs.Theory.{version_in-cons_cases}
 use Rattle.search.specs.declared.conflict.NodeChoice.{NodeChoice}
-use Rattle.search.specs.declared.held.Ask.{Ask}
+use Rattle.search.specs.declared.agenda.Ask.{Ask}
 use Rattle.search.specs.declared.parts.Frame.{Frame}
 use Rattle.search.specs.declared.trial.Held.{Held}
-use Rattle.search.specs.Asking.{AreKnownAsks, asker, AsksFit, AskClashes, WantedFits, WantedClashes, Clashes}
-use Rattle.search.specs.Conflicts.{Follows, LineRefuses, ChoicesClash, VersionsDiffer}
-use Rattle.search.specs.Gathering.{decision, places_eq}
-use Rattle.search.specs.Learned.{decision_of, decisions_of, with_frame, frames_held, names_held, with_leader, leaders_held, ask_of, asks_by, asks_held, asks_of, IsNeededBy, ChoicesFit, FitsBefore, IsLearning}
+use Rattle.search.specs.Asking.{asker, AsksFit, AskClashes, WantedFits, WantedClashes, Clashes}
+use Rattle.search.specs.Learned.{decision_of, decisions_of, with_frame, frames_held, names_held, with_leader, leaders_held, ask_of, asks_by, asks_held, asks_of, FitsBefore, IsLearning}
 use Rattle.search.specs.Learning.{version_of}
 use Rattle.search.specs.Rules.{Rules, IsLawful}
 use Rattle.search.specs.Search.{pins_of}
 use Rattle.search.specs.Solutions.{Pin, version_in}
-use Rattle.search.specs.Table.{Parts, rules_of, in_range}
+use Rattle.search.specs.Table.{Parts, rules_of}
 
 -- ---- the first choice on each name
 
@@ -116,10 +113,6 @@ pub asks-whole : (rules : Rules ℕ ℕ ℕ ℕ) (hs : List Held) (r : ℕ) (by 
 asks-whole rules hs r None h = Contains-append_left (map (ask_of None) rules.lines) (asks_held rules hs) (ask_of None r) (Contains-map_of (ask_of None) rules.lines r h)
 asks-whole rules hs r (Some c) h = Contains-append_right (map (ask_of None) rules.lines) (asks_held rules hs) (ask_of (Some c) r) (asks_held-whole rules hs c r h.0 h.1)
 
-asked-known : (t : Parts) → in_range t ≡ true → (decisions : List (NodeChoice ℕ ℕ)) (r : ℕ) (by : Option (NodeChoice ℕ ℕ)) → IsAskedBy (rules_of t) decisions r by → r < length t.requirements
-asked-known t known decisions r None h = lines-known t known r h
-asked-known t known decisions r (Some c) h = wants-known t known c.node c.version r h.1
-
 -- ---- clashes
 
 pub clash-tied : (rules : Rules ℕ ℕ ℕ ℕ) (hs : List Held) (first : ℕ → Option (NodeChoice ℕ ℕ)) → AreFirst rules hs first → (c other : NodeChoice ℕ ℕ) → first (rules.on c.node) ≡ Some other → other.version ≢ c.version → Clashes rules hs c other
@@ -198,9 +191,6 @@ none-clashes t law conflicts hs first same l c tied asks wants =
     }
 
 -- ---- lists of what is asked for, one more
-
-pub asks-known : (t : Parts) → in_range t ≡ true → (hs : List Held) → AreKnownAsks (length t.requirements) (asks_of (rules_of t) hs)
-asks-known t known hs a i = asked-known t known (decisions_of hs) a.requirement a.by (asks-sound (rules_of t) hs a i)
 
 pub asks-fit-more : (rules : Rules ℕ ℕ ℕ ℕ) (asks : List Ask) (i : ℕ) (d : Ask) (c : NodeChoice ℕ ℕ) → i < length asks → AsksFit rules (take i asks) c → (rules.name (get_or asks i d).requirement ≡ rules.on c.node → rules.admits (get_or asks i d).requirement c.version ≡ true) → AsksFit rules (take (i + 1) asks) c
 asks-fit-more rules asks i d c l h k a j named = elim (Contains-take_suc asks i d a l (rw add-one at j)) [

@@ -1,8 +1,7 @@
 -- What a map from nodes to places says of the choices that it holds.
-use Rattle.std.proofs.Common.{ℕ, List, [], ◌∷◌, ◌++◌, ◌≡◌, ◌==◌, inl, inr, Contains, length, map, refl, sym, ◌∙◌, ap, subst, arith, Some, None, Option, Bool, true, false, cond, is_some, nat_eq, IsTrue, IsFalse}
+use Rattle.std.proofs.Common.{ℕ, List, [], ◌∷◌, ◌++◌, ◌≡◌, inl, inr, Contains, map, refl, sym, ap, subst, arith, Some, None, Option, Bool, true, false, cond, is_some, nat_eq}
 use Rattle.std.proofs.lemmas.Bool.{eqb-true}
 use Rattle.std.specs.Map.{lookup}
-use Rattle.std.specs.Option.{option_copied, option_map}
 use Rattle.indexmap.specs.IndexMap.{insert_entry}
 use Rattle.search.proofs.Lists.{Contains-here, Contains-there, Contains-cons_cases, Contains-nil}
 use Rattle.search.specs.declared.conflict.NodeChoice.{NodeChoice}

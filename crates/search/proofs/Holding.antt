@@ -1,19 +1,18 @@
 -- What a search holds, with one choice more and one less.
-use Rattle.std.proofs.Common.{ℕ, zero, suc, List, [], ◌∷◌, ◌++◌, ◌≡◌, ◌≢◌, ◌<◌, ◌≤◌, ◌+◌, ◌-◌, ◌↔◌, inl, inr, Contains, length, get_or, take, map, slice_set, refl, sym, ◌∙◌, ap, subst, arith, Some, None, Option, Bool, true, false, cond, IsSome, option_to_list, append_assoc, append-nil, length-append}
+use Rattle.std.proofs.Common.{ℕ, List, [], ◌∷◌, ◌++◌, ◌≡◌, ◌≢◌, ◌<◌, ◌+◌, ◌↔◌, inl, inr, length, take, map, slice_set, refl, sym, ◌∙◌, ap, subst, arith, Some, None, Option, Bool, true, false, cond, IsSome, option_to_list, append_assoc, append-nil, length-append}
 use Rattle.std.proofs.lemmas.List.{length-map}
 use Rattle.std.specs.Ordering.{nat_cmp, is_eq}
-use Rattle.std.proofs.lemmas.List.Elements.{Contains-append_left, Contains-push, Contains-push_cases}
 use Rattle.search.proofs.Least.{nat-order}
-use Rattle.search.proofs.Lists.{Contains-here, Contains-there, Contains-cons_cases, Contains-nil, nat_cases, map-append, take-whole}
+use Rattle.search.proofs.Lists.{nat_cases, take-whole}
 use Rattle.search.proofs.Marks.{set-same, set-other, set-length}
 use Rattle.search.proofs.Nodes.{take-front}
 use Rattle.search.proofs.Theory.{option_cases, is_eq-same, version_in-append_some, version_in-append_none, version_in-last}
 use Rattle.search.specs.declared.conflict.NodeChoice.{NodeChoice}
-use Rattle.search.specs.declared.held.Ask.{Ask}
 use Rattle.search.specs.declared.held.Partial.{Partial}
 use Rattle.search.specs.declared.trial.Held.{Held}
-use Rattle.search.specs.Gathering.{decision}
-use Rattle.search.specs.Learned.{decision_of, decisions_of, entry_of, entries_of, with_leader, leaders_held, ask_of, asks_by, asks_held, asks_of, first_at, IsPartial, LastIsNew}
+use Rattle.search.specs.Agendas.{AreRowed, IsWatched}
+use Rattle.search.specs.Gathering.{choice_at}
+use Rattle.search.specs.Learned.{decision_of, decisions_of, entry_of, entries_of, with_leader, leaders_held, ask_of, asks_by, asks_held, asks_of, first_at, IsPartial}
 use Rattle.search.specs.Rules.{Rules}
 use Rattle.search.specs.Solutions.{Pin, version_in}
 use Rattle.search.specs.Table.{Parts, rules_of, name_of}
@@ -78,8 +77,8 @@ taken-pop taken ps p l none same n = elim (nat_cases p.name n) [
 
 -- ---- one choice more
 
-pub partial-push_first : (t : Parts) (p q : Partial) (h : Held) → IsPartial t p → name_of t h.trial.node < length t.candidates → h.trial.leads ≡ true → version_in nat_cmp (leaders_held (rules_of t) p.held.items) (name_of t h.trial.node) ≡ None → q.held.items ≡ p.held.items ++ h ∷ [] → q.choices.entries ≡ p.choices.entries ++ entry_of h ∷ [] → q.asks.items ≡ p.asks.items ++ asks_by (rules_of t) h → q.taken.items ≡ slice_set p.taken.items (name_of t h.trial.node) (Some (decision_of h)) → IsPartial t q
-partial-push_first t p q h s l leads none held choices asks taken =
+pub partial-push_first : (t : Parts) (p q : Partial) (h : Held) → IsPartial t p → name_of t h.trial.node < length t.candidates → h.trial.leads ≡ true → version_in nat_cmp (leaders_held (rules_of t) p.held.items) (name_of t h.trial.node) ≡ None → q.held.items ≡ p.held.items ++ h ∷ [] → q.choices.entries ≡ p.choices.entries ++ entry_of h ∷ [] → q.agenda.asks.items ≡ p.agenda.asks.items ++ asks_by (rules_of t) h → q.taken.items ≡ slice_set p.taken.items (name_of t h.trial.node) (Some (decision_of h)) → AreRowed t q.agenda → IsWatched t q.agenda q.taken.items (map choice_at q.choices.entries) → IsPartial t q
+partial-push_first t p q h s l leads none held choices asks taken rowed watched =
     let ps : List (Pin ℕ (NodeChoice ℕ ℕ)) = leaders_held (rules_of t) p.held.items in
     let pin : Pin ℕ (NodeChoice ℕ ℕ) = record { name = name_of t h.trial.node; version = decision_of h } in
     let leaders : leaders_held (rules_of t) q.held.items ≡ ps ++ pin ∷ [] = ap (leaders_held (rules_of t)) held ∙ leaders-push (rules_of t) p.held.items h ∙ ap (λ b. ps ++ with_leader (rules_of t) b h []) leads in
@@ -88,10 +87,12 @@ partial-push_first t p q h s l leads none held choices asks taken =
       room = ap length taken ∙ set-length p.taken.items (name_of t h.trial.node) (Some (decision_of h)) ∙ s.room;
       taken = λ n. ap (λ xs. first_at xs n) taken ∙ taken-push p.taken.items ps pin (subst (λ k. pin.name < k) (sym s.room) l) none s.taken n ∙ ap (λ xs. version_in nat_cmp xs n) (sym leaders);
       asks = asks ∙ ap (λ xs. xs ++ asks_by (rules_of t) h) s.asks ∙ sym (ap (asks_of (rules_of t)) held ∙ asks-push (rules_of t) p.held.items h);
+      rowed = rowed;
+      watched = watched;
     }
 
-pub partial-push_tied : (t : Parts) (p q : Partial) (h : Held) → IsPartial t p → h.trial.leads ≡ false → q.held.items ≡ p.held.items ++ h ∷ [] → q.choices.entries ≡ p.choices.entries ++ entry_of h ∷ [] → q.asks.items ≡ p.asks.items ++ asks_by (rules_of t) h → q.taken.items ≡ p.taken.items → IsPartial t q
-partial-push_tied t p q h s leads held choices asks taken =
+pub partial-push_tied : (t : Parts) (p q : Partial) (h : Held) → IsPartial t p → h.trial.leads ≡ false → q.held.items ≡ p.held.items ++ h ∷ [] → q.choices.entries ≡ p.choices.entries ++ entry_of h ∷ [] → q.agenda.asks.items ≡ p.agenda.asks.items ++ asks_by (rules_of t) h → q.taken.items ≡ p.taken.items → AreRowed t q.agenda → IsWatched t q.agenda q.taken.items (map choice_at q.choices.entries) → IsPartial t q
+partial-push_tied t p q h s leads held choices asks taken rowed watched =
     let ps : List (Pin ℕ (NodeChoice ℕ ℕ)) = leaders_held (rules_of t) p.held.items in
     let leaders : leaders_held (rules_of t) q.held.items ≡ ps = ap (leaders_held (rules_of t)) held ∙ leaders-push (rules_of t) p.held.items h ∙ ap (λ b. ps ++ with_leader (rules_of t) b h []) leads ∙ append-nil ps in
     record {
@@ -99,6 +100,8 @@ partial-push_tied t p q h s leads held choices asks taken =
       room = ap length taken ∙ s.room;
       taken = λ n. ap (λ xs. first_at xs n) taken ∙ s.taken n ∙ ap (λ xs. version_in nat_cmp xs n) (sym leaders);
       asks = asks ∙ ap (λ xs. xs ++ asks_by (rules_of t) h) s.asks ∙ sym (ap (asks_of (rules_of t)) held ∙ asks-push (rules_of t) p.held.items h);
+      rowed = rowed;
+      watched = watched;
     }
 
 -- ---- one choice less
@@ -120,23 +123,23 @@ entries-pop new None hs h e f =
     absurd (cc)
 entries-pop new (Some x) hs h e f = snoc-front new (entries_of hs) x (entry_of h) (sym e ∙ entries-push hs h)
 
-take-length : {X : Type 0} (xs ys : List X) → take (length xs) (xs ++ ys) ≡ xs
+pub take-length : {X : Type 0} (xs ys : List X) → take (length xs) (xs ++ ys) ≡ xs
 take-length xs ys = take-front xs ys (length xs) (omega arith) ∙ take-whole xs (length xs) (omega arith)
 
-pub asks-length : (t : Parts) (p : Partial) (hs : List Held) (h : Held) → IsPartial t p → p.held.items ≡ hs ++ h ∷ [] → length p.asks.items ≡ length (asks_of (rules_of t) hs) + length ((rules_of t).wants h.trial.node h.place)
+pub asks-length : (t : Parts) (p : Partial) (hs : List Held) (h : Held) → IsPartial t p → p.held.items ≡ hs ++ h ∷ [] → length p.agenda.asks.items ≡ length (asks_of (rules_of t) hs) + length ((rules_of t).wants h.trial.node h.place)
 asks-length t p hs h s held =
     let by : length (asks_by (rules_of t) h) ≡ length ((rules_of t).wants h.trial.node h.place) = length-map ((rules_of t).wants h.trial.node h.place) (ask_of (Some (decision_of h))) in
     ap length (s.asks ∙ ap (asks_of (rules_of t)) held ∙ asks-push (rules_of t) hs h) ∙ length-append (asks_of (rules_of t) hs) (asks_by (rules_of t) h) ∙ ap (λ k. length (asks_of (rules_of t) hs) + k) by
 
-pub asks-pop : (t : Parts) (p : Partial) (hs : List Held) (h : Held) (left : ℕ) → IsPartial t p → p.held.items ≡ hs ++ h ∷ [] → left + length ((rules_of t).wants h.trial.node h.place) ≡ length p.asks.items → take left p.asks.items ≡ asks_of (rules_of t) hs
+pub asks-pop : (t : Parts) (p : Partial) (hs : List Held) (h : Held) (left : ℕ) → IsPartial t p → p.held.items ≡ hs ++ h ∷ [] → left + length ((rules_of t).wants h.trial.node h.place) ≡ length p.agenda.asks.items → take left p.agenda.asks.items ≡ asks_of (rules_of t) hs
 asks-pop t p hs h left s held e =
     let k : left ≡ length (asks_of (rules_of t) hs) = let l = asks-length t p hs h s held in omega arith in
-    ap (λ n. take n p.asks.items) k
+    ap (λ n. take n p.agenda.asks.items) k
     ∙ ap (take (length (asks_of (rules_of t) hs))) (s.asks ∙ ap (asks_of (rules_of t)) held ∙ asks-push (rules_of t) hs h)
     ∙ take-length (asks_of (rules_of t) hs) (asks_by (rules_of t) h)
 
-pub partial-pop_first : (t : Parts) (p q : Partial) (h : Held) → IsPartial t p → p.held.items ≡ q.held.items ++ h ∷ [] → name_of t h.trial.node < length t.candidates → h.trial.leads ≡ true → version_in nat_cmp (leaders_held (rules_of t) q.held.items) (name_of t h.trial.node) ≡ None → q.choices.entries ≡ entries_of q.held.items → q.asks.items ≡ asks_of (rules_of t) q.held.items → q.taken.items ≡ slice_set p.taken.items (name_of t h.trial.node) None → IsPartial t q
-partial-pop_first t p q h s held l leads none choices asks taken =
+pub partial-pop_first : (t : Parts) (p q : Partial) (h : Held) → IsPartial t p → p.held.items ≡ q.held.items ++ h ∷ [] → name_of t h.trial.node < length t.candidates → h.trial.leads ≡ true → version_in nat_cmp (leaders_held (rules_of t) q.held.items) (name_of t h.trial.node) ≡ None → q.choices.entries ≡ entries_of q.held.items → q.agenda.asks.items ≡ asks_of (rules_of t) q.held.items → q.taken.items ≡ slice_set p.taken.items (name_of t h.trial.node) None → AreRowed t q.agenda → IsWatched t q.agenda q.taken.items (map choice_at q.choices.entries) → IsPartial t q
+partial-pop_first t p q h s held l leads none choices asks taken rowed watched =
     let ps : List (Pin ℕ (NodeChoice ℕ ℕ)) = leaders_held (rules_of t) q.held.items in
     let pin : Pin ℕ (NodeChoice ℕ ℕ) = record { name = name_of t h.trial.node; version = decision_of h } in
     let leaders : leaders_held (rules_of t) p.held.items ≡ ps ++ pin ∷ [] = ap (leaders_held (rules_of t)) held ∙ leaders-push (rules_of t) q.held.items h ∙ ap (λ b. ps ++ with_leader (rules_of t) b h []) leads in
@@ -145,10 +148,12 @@ partial-pop_first t p q h s held l leads none choices asks taken =
       room = ap length taken ∙ set-length p.taken.items (name_of t h.trial.node) None ∙ s.room;
       taken = λ n. ap (λ xs. first_at xs n) taken ∙ taken-pop p.taken.items ps pin (subst (λ k. pin.name < k) (sym s.room) l) none (λ m. s.taken m ∙ ap (λ xs. version_in nat_cmp xs m) leaders) n;
       asks = asks;
+      rowed = rowed;
+      watched = watched;
     }
 
-pub partial-pop_tied : (t : Parts) (p q : Partial) (h : Held) → IsPartial t p → p.held.items ≡ q.held.items ++ h ∷ [] → h.trial.leads ≡ false → q.choices.entries ≡ entries_of q.held.items → q.asks.items ≡ asks_of (rules_of t) q.held.items → q.taken.items ≡ p.taken.items → IsPartial t q
-partial-pop_tied t p q h s held leads choices asks taken =
+pub partial-pop_tied : (t : Parts) (p q : Partial) (h : Held) → IsPartial t p → p.held.items ≡ q.held.items ++ h ∷ [] → h.trial.leads ≡ false → q.choices.entries ≡ entries_of q.held.items → q.agenda.asks.items ≡ asks_of (rules_of t) q.held.items → q.taken.items ≡ p.taken.items → AreRowed t q.agenda → IsWatched t q.agenda q.taken.items (map choice_at q.choices.entries) → IsPartial t q
+partial-pop_tied t p q h s held leads choices asks taken rowed watched =
     let ps : List (Pin ℕ (NodeChoice ℕ ℕ)) = leaders_held (rules_of t) q.held.items in
     let leaders : leaders_held (rules_of t) p.held.items ≡ ps = ap (leaders_held (rules_of t)) held ∙ leaders-push (rules_of t) q.held.items h ∙ ap (λ b. ps ++ with_leader (rules_of t) b h []) leads ∙ append-nil ps in
     record {
@@ -156,4 +161,6 @@ partial-pop_tied t p q h s held leads choices asks taken =
       room = ap length taken ∙ s.room;
       taken = λ n. ap (λ xs. first_at xs n) taken ∙ s.taken n ∙ ap (λ xs. version_in nat_cmp xs n) leaders;
       asks = asks;
+      rowed = rowed;
+      watched = watched;
     }

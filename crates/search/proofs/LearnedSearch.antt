@@ -1,22 +1,22 @@
 -- The choices of a search that learns are those of a plain one.
-use Rattle.std.proofs.Common.{ℕ, zero, suc, arith, ◌+◌, add-one, List, [], ◌∷◌, ◌++◌, ◌≡◌, ◌≢◌, ◌<◌, ◌≤◌, ◌⊎◌, inl, inr, Contains, length, get_or, take, map, refl, sym, ◌∙◌, ap, subst, Some, None, Option, Bool, true, false, append_assoc, append-nil, nat_eq}
+use Rattle.std.proofs.Common.{ℕ, List, [], ◌∷◌, ◌++◌, ◌≡◌, ◌⊎◌, inl, inr, Contains, take, refl, sym, ◌∙◌, ap, subst, Some, Option, Bool, true, false, append_assoc, append-nil, nat_eq}
 use Rattle.std.proofs.lemmas.Bool.{eqb-true}
-use Rattle.std.proofs.lemmas.List.Elements.{Contains-append_left, Contains-append_right, Contains-push, Contains-push_cases}
+use Rattle.std.proofs.lemmas.List.Elements.{Contains-append_left, Contains-push}
 use Rattle.search.proofs.Entries.{eq-itself}
-use Rattle.search.proofs.Lists.{Contains-here, Contains-there, Contains-cons_cases, Contains-nil}
+use Rattle.search.proofs.Lists.{Contains-cons_cases, Contains-nil}
 use Rattle.search.proofs.Refutations.{list-excluded}
 use Rattle.search.proofs.Stack.{search-best}
-use Rattle.search.proofs.Theory.{option_cases, some-inj, Needed-more, version_in-last, Has-front}
+use Rattle.search.proofs.Theory.{some-inj, Needed-more, version_in-last, Has-front}
 use Rattle.search.specs.declared.conflict.NodeChoice.{NodeChoice}
 use Rattle.search.specs.declared.parts.Frame.{Frame}
 use Rattle.search.specs.declared.trial.Held.{Held}
 use Rattle.search.specs.declared.trial.Trial.{Trial}
 use Rattle.search.specs.Conflicts.{IsVersionEquality, LiesIn, LiesInNone, EachFollows}
 use Rattle.search.specs.Gathering.{IsCompleted, decision, places_eq}
-use Rattle.search.specs.Learned.{decision_of, decisions_of, with_frame, frames_held, names_held, chosen_held, IsInTurn, IsTrial, ChoicesFit, LinesFit, FitsBefore, IsHeld, IsLearning}
+use Rattle.search.specs.Learned.{decision_of, decisions_of, with_frame, frames_held, names_held, chosen_held, IsInTurn, IsTrial, ChoicesFit, LinesFit, IsHeld, IsLearning}
 use Rattle.search.specs.Rules.{Rules, IsLawful}
 use Rattle.search.specs.Search.{pin_at, pins_of, IsFrame, IsSearch, IsComplete}
-use Rattle.search.specs.Solutions.{Pin, Needed, by_line, by_dependency, IsNext, Has, Solution, IsBest, version_in}
+use Rattle.search.specs.Solutions.{Needed, by_line, by_dependency, IsNext, Has, Solution, IsBest}
 
 pub places-equality : (rules : Rules ℕ ℕ ℕ ℕ) → IsVersionEquality rules places_eq
 places-equality rules = record {

@@ -1,10 +1,10 @@
 -- How much of the tree of choices is left to a search that learns.
-use Rattle.std.proofs.Common.{ℕ, zero, suc, List, [], ◌∷◌, ◌++◌, ◌≡◌, ◌<◌, ◌≤◌, ◌+◌, ◌-◌, ◌⊎◌, inl, inr, Contains, length, map, refl, sym, ◌∙◌, ap, subst, subst₂, arith, true, append_assoc, length-append}
+use Rattle.std.proofs.Common.{ℕ, suc, List, [], ◌∷◌, ◌++◌, ◌≡◌, ◌<◌, ◌≤◌, ◌-◌, inl, inr, Contains, length, map, sym, ◌∙◌, ap, subst, arith, true, append_assoc, length-append}
 use Rattle.std.proofs.lemmas.List.{length-map}
 use Rattle.std.proofs.lemmas.List.Elements.{Contains-push_cases}
 use Rattle.search.proofs.Counts.{Distinct-push, distinct-below}
 use Rattle.search.proofs.Learns.{trial-known}
-use Rattle.search.proofs.LearnedSearch.{IsLearning-push, before-more, before-last}
+use Rattle.search.proofs.LearnedSearch.{before-more, before-last}
 use Rattle.search.proofs.Lists.{Contains-here, Contains-there, Contains-cons_cases, Contains-nil, map-append}
 use Rattle.search.proofs.Work.{digits_left, digits_left-push, digits_left-more, base_of, candidates-room}
 use Rattle.search.specs.declared.conflict.NodeChoice.{NodeChoice}
@@ -14,8 +14,8 @@ use Rattle.search.specs.declared.learning.Progress.TheVariants.{Trying, Solved, 
 use Rattle.search.specs.declared.trial.Held.{Held}
 use Rattle.search.specs.declared.trial.Trial.{Trial}
 use Rattle.search.specs.Gathering.{decision}
-use Rattle.search.specs.Learned.{decision_of, decisions_of, IsFree, IsTrial, IsHeld, IsLearning}
-use Rattle.search.specs.Learning.{IsLearned, IsBack, IsRetried, IsEntered, IsOnward, StandsAt, GoesOnward}
+use Rattle.search.specs.Learned.{decision_of, decisions_of, IsTrial, IsLearning}
+use Rattle.search.specs.Learning.{IsBack, IsRetried, IsEntered, StandsAt, GoesOnward}
 use Rattle.search.specs.Nodes.{Distinct}
 use Rattle.search.specs.Table.{Parts, rules_of, candidates_of, name_of, in_range}
 

@@ -1,25 +1,24 @@
 -- What the steps of a search that learns keep.
-use Rattle.std.proofs.Common.{ℕ, zero, suc, List, [], ◌∷◌, ◌++◌, ◌≡◌, ◌≢◌, ◌<◌, ◌≤◌, ◌+◌, ◌⊎◌, inl, inr, Contains, length, get_or, take, map, refl, sym, ◌∙◌, ap, subst, arith, add-one, Some, None, Option, Bool, true, false, option_to_list, append_assoc, append-nil, length-append}
-use Rattle.std.proofs.lemmas.List.Elements.{Contains-append_left, Contains-push, Contains-push_cases}
+use Rattle.std.proofs.Common.{ℕ, zero, suc, List, [], ◌∷◌, ◌++◌, ◌≡◌, ◌<◌, ◌≤◌, ◌⊎◌, inl, inr, Contains, length, get_or, take, refl, sym, ◌∙◌, subst, arith, add-one, Some, None, Option, true, option_to_list, append_assoc, append-nil}
+use Rattle.std.proofs.lemmas.List.Elements.{Contains-push_cases}
 use Rattle.std.specs.Ordering.{nat_cmp}
 use Rattle.search.proofs.Asked.{leader-version}
 use Rattle.search.proofs.Entries.{eq-itself}
 use Rattle.search.proofs.Holding.{decisions-push}
-use Rattle.search.proofs.LearnedSearch.{AllHeld, IsLearning-push, IsLearning-pop, trial-more, learning-more, follows-excluded, learned-best, bool_is}
+use Rattle.search.proofs.LearnedSearch.{IsLearning-push, IsLearning-pop, learning-more, follows-excluded}
 use Rattle.search.proofs.Lists.{Contains-here, Contains-cons_cases, Contains-nil, Contains-take_suc, take-whole}
 use Rattle.search.proofs.Ranges.{lines-known, wants-known, nodes-known}
-use Rattle.search.proofs.Refutations.{empty-none}
 use Rattle.search.proofs.Work.{table-lawful}
 use Rattle.search.specs.declared.conflict.NodeChoice.{NodeChoice}
 use Rattle.search.specs.declared.held.Partial.{Partial}
 use Rattle.search.specs.declared.trial.Held.{Held}
 use Rattle.search.specs.declared.trial.Trial.{Trial}
 use Rattle.search.specs.Asking.{Clashes}
-use Rattle.search.specs.Conflicts.{IsSameChoice, Completes, NeedsNode, Follows, EachFollows, LiesInNone}
+use Rattle.search.specs.Conflicts.{IsSameChoice, Completes, NeedsNode, Follows, EachFollows}
 use Rattle.search.specs.Gathering.{Gathers, IsCompleted, IsWithin, decision, places_eq}
 use Rattle.search.specs.Learned.{decision_of, decisions_of, names_held, leaders_held, IsInTurn, IsNeededBy, IsFree, IsTrial, FitsBefore, IsHeld, IsLearning, IsPartial, LastIsNew}
 use Rattle.search.specs.Learning.{IsLearned, version_of}
-use Rattle.search.specs.Rules.{Rules, IsLawful}
+use Rattle.search.specs.Rules.{Rules}
 use Rattle.search.specs.Solutions.{Needed, IsNext, HasNoSolution, version_in}
 use Rattle.search.specs.Table.{Parts, rules_of, name_of, candidates_of, in_range}
 use Rattle.search.specs.Trials.{IsRefused}

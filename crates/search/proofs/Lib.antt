@@ -21,6 +21,8 @@ pub mod Entries
 pub mod Holding
 pub mod LearnedSearch
 pub mod Asked
+pub mod Rows
+pub mod Watching
 pub mod Needs
 pub mod Learns
 pub mod LearnedWork

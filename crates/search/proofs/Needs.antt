@@ -1,16 +1,13 @@
 -- Which node comes next.
-use Rattle.std.proofs.Common.{ℕ, List, [], ◌∷◌, ◌++◌, ◌≡◌, ◌≢◌, ◌<◌, ◌≤◌, ◌+◌, ◌⊎◌, inl, inr, Contains, length, get_or, take, map, refl, sym, ◌∙◌, ap, subst, arith, add-one, Some, None, Option, MatchOption, Bool, true, false, is_some, nat_lt, Greater}
-use Rattle.std.proofs.lemmas.Bool.{ltb-true, ltb-false}
-use Rattle.std.proofs.lemmas.List.Elements.{Contains-append_left, Contains-push, Contains-push_cases}
+use Rattle.std.proofs.Common.{ℕ, List, [], ◌∷◌, ◌≡◌, ◌<◌, ◌≤◌, ◌+◌, inl, inr, Contains, length, get_or, take, refl, sym, ◌∙◌, ap, subst, add-one, Some, None, Option, true, false}
 use Rattle.std.specs.Ordering.{nat_cmp}
-use Rattle.search.proofs.Asked.{AreFirst, IsAskedBy, asks-sound, asks-whole, first-some, first-none, first-version, leader-version}
+use Rattle.search.proofs.Asked.{AreFirst, IsAskedBy, asks-sound, asks-whole, first-some, first-none, first-version}
 use Rattle.search.proofs.LearnedSearch.{AllHeld, Lies, held-lie}
 use Rattle.search.proofs.Least.{not_greater}
-use Rattle.search.proofs.Lists.{Contains-here, Contains-cons_cases, Contains-nil, Contains-take_suc, Contains-take_zero, take-whole, get_or-any}
-use Rattle.search.proofs.Nodes.{take-more}
+use Rattle.search.proofs.Lists.{Contains-here, Contains-cons_cases, Contains-nil, Contains-take_suc, Contains-take_zero, take-whole}
 use Rattle.search.proofs.Theory.{option_cases, some-inj}
 use Rattle.search.specs.declared.conflict.NodeChoice.{NodeChoice}
-use Rattle.search.specs.declared.held.Ask.{Ask}
+use Rattle.search.specs.declared.agenda.Ask.{Ask}
 use Rattle.search.specs.declared.next.Need.{Need}
 use Rattle.search.specs.declared.trial.Held.{Held}
 use Rattle.search.specs.declared.trial.Trial.{Trial}
@@ -19,69 +16,8 @@ use Rattle.search.specs.Gathering.{decision}
 use Rattle.search.specs.Learned.{decisions_of, names_held, chosen_held, ask_of, asks_of, IsFree, IsNeededBy, IsInTurn, IsTrial, IsLearning}
 use Rattle.search.specs.Learning.{version_of}
 use Rattle.search.specs.Rules.{Rules, IsLawful}
-use Rattle.search.specs.Solutions.{Needed, by_line, by_dependency, IsNext, IsNeededName, version_in}
+use Rattle.search.specs.Solutions.{Needed, by_line, by_dependency, IsNext, version_in}
 use Rattle.search.specs.Table.{Parts, rules_of}
-
--- ---- the least name that has no version, one requirement more
-
-less-false : (a b : ℕ) → nat_lt a b ≡ false → b ≤ a
-less-false a b h = ltb-false a b h
-
-pub not_less : (found : Option Need) (name : ℕ) (on : ℕ → ℕ) (b : Bool) → b ≡ false → MatchOption found (b ≡ true) (λ need. b ≡ nat_lt name (on need.node)) → MatchOption found ⊥ (λ need. on need.node ≤ name)
-not_less None name on b off h = absurd (cc)
-not_less (Some need) name on b off h = less-false name (on need.node) (sym h ∙ off)
-
-pub is_less : (found : Option Need) (name : ℕ) (on : ℕ → ℕ) (b : Bool) → b ≡ true → MatchOption found (b ≡ true) (λ need. b ≡ nat_lt name (on need.node)) → MatchOption found (Unit {0}) (λ need. name ≤ on need.node)
-is_less None name on b yes_it h = tt
-is_less (Some need) name on b yes_it h = let l : name < on need.node = ltb-true name (on need.node) (sym h ∙ yes_it) in omega arith
-
--- one that is taken, or on a name that is no less, changes nothing
-pub found-kept : (rules : Rules ℕ ℕ ℕ ℕ) (first : ℕ → Option (NodeChoice ℕ ℕ)) (asks : List Ask) (ask : Ask) (found : Option Need) → (first (rules.name ask.requirement) ≡ None → MatchOption found ⊥ (λ need. rules.on need.node ≤ rules.name ask.requirement)) → IsFoundNeed rules first asks found → IsFoundNeed rules first (asks ++ ask ∷ []) found
-found-kept rules first asks ask None k h = λ a i e. elim (Contains-push_cases asks ask a i) [
-  | inl x ↦ h a x e
-  | inr y ↦ k (ap (λ (b : Ask). first (rules.name b.requirement)) y ∙ e)
-]
-found-kept rules first asks ask (Some need) k h = record {
-  ask = h.ask;
-  there = Contains-append_left asks (ask ∷ []) h.ask h.there;
-  by = h.by;
-  node = h.node;
-  named = h.named;
-  free = h.free;
-  least = λ a i e. elim (Contains-push_cases asks ask a i) [
-    | inl x ↦ h.least a x e
-    | inr y ↦ subst (λ (b : Ask). rules.name h.ask.requirement ≤ rules.name b.requirement) y
-        (subst (λ n. n ≤ rules.name ask.requirement) h.named (k (ap (λ (b : Ask). first (rules.name b.requirement)) y ∙ e)))
-  ];
-}
-
-new-least : (rules : Rules ℕ ℕ ℕ ℕ) (first : ℕ → Option (NodeChoice ℕ ℕ)) (asks : List Ask) (n : ℕ) (found : Option Need) → MatchOption found (Unit {0}) (λ need. n ≤ rules.on need.node) → IsFoundNeed rules first asks found → (a : Ask) → Contains asks a → first (rules.name a.requirement) ≡ None → n ≤ rules.name a.requirement
-new-least rules first asks n None k h a i e = absurd (h a i e)
-new-least rules first asks n (Some need) k h a i e = let l = h.least a i e in let m = h.named in omega arith
-
--- one on a lesser name is found
-pub found-new : (rules : Rules ℕ ℕ ℕ ℕ) (first : ℕ → Option (NodeChoice ℕ ℕ)) (asks : List Ask) (ask : Ask) (found : Option Need) (node : ℕ) → first (rules.name ask.requirement) ≡ None → Contains (rules.nodes ask.requirement) node → rules.on node ≡ rules.name ask.requirement → MatchOption found (Unit {0}) (λ need. rules.name ask.requirement ≤ rules.on need.node) → IsFoundNeed rules first asks found → IsLeastNeed rules first (asks ++ ask ∷ []) (record { node = node; by = ask.by })
-found-new rules first asks ask found node free there named k h = record {
-  ask = ask;
-  there = Contains-push asks ask;
-  by = refl;
-  node = there;
-  named = named;
-  free = free;
-  least = λ a i e. elim (Contains-push_cases asks ask a i) [
-    | inl x ↦ new-least rules first asks (rules.name ask.requirement) found k h a x e
-    | inr y ↦ subst (λ (b : Ask). rules.name ask.requirement ≤ rules.name b.requirement) y (omega arith)
-  ];
-}
-
-pub found-none : (rules : Rules ℕ ℕ ℕ ℕ) (first : ℕ → Option (NodeChoice ℕ ℕ)) (asks : List Ask) → IsFoundNeed rules first (take 0 asks) None
-found-none rules first asks a i e = Contains-take_zero asks a i
-
-pub found-more : (rules : Rules ℕ ℕ ℕ ℕ) (first : ℕ → Option (NodeChoice ℕ ℕ)) (asks : List Ask) (i : ℕ) (d : Ask) (found : Option Need) → i < length asks → IsFoundNeed rules first (take i asks ++ get_or asks i d ∷ []) found → IsFoundNeed rules first (take (i + 1) asks) found
-found-more rules first asks i d found l h = rw add-one (subst (λ xs. IsFoundNeed rules first xs found) (sym (take-more asks i (get_or asks i d) l (get_or-any asks i d (get_or asks i d) l))) h)
-
-pub found-end : (rules : Rules ℕ ℕ ℕ ℕ) (first : ℕ → Option (NodeChoice ℕ ℕ)) (asks : List Ask) (i : ℕ) (found : Option Need) → length asks ≤ i → IsFoundNeed rules first (take i asks) found → IsFoundNeed rules first asks found
-found-end rules first asks i found l h = subst (λ xs. IsFoundNeed rules first xs found) (take-whole asks i l) h
 
 -- ---- a node on a name that has a version
 

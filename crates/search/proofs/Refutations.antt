@@ -1,5 +1,5 @@
 -- A conflict that follows from conflicts that lie in no solution lies in none either.
-use Rattle.std.proofs.Common.{List, [], ◌∷◌, ◌++◌, ◌≡◌, inl, inr, Contains, refl, sym, ◌∙◌, ap, subst, Some, Option, Bool, true, false, append_assoc, append-nil}
+use Rattle.std.proofs.Common.{List, [], ◌∷◌, ◌++◌, ◌≡◌, inl, inr, Contains, sym, ◌∙◌, ap, subst, Some, Option, Bool, true, false, append_assoc, append-nil}
 use Rattle.std.proofs.lemmas.List.Elements.{Contains-push_cases, Contains-append_right}
 use Rattle.search.proofs.Lists.{Contains-here, Contains-nil}
 use Rattle.search.proofs.Theory.{Needed-in_solution, some-inj}

@@ -1,9 +1,9 @@
 -- What is asked for, what clashes with it, and which node comes next.
 -- Tied to `IsBest` by the contract of `learned_best`; need not be read.
-use Rattle.std.specs.Prelude.{ℕ, List, [], ◌∷◌, Option, Some, None, Bool, true, false, ◌≡◌, ◌≢◌, ◌<◌, ◌≤◌, ◌⊎◌, length}
+use Rattle.std.specs.Prelude.{ℕ, List, Option, Some, None, true, false, ◌≡◌, ◌≢◌, ◌<◌, ◌≤◌, ◌⊎◌}
 use Rattle.std.specs.List.{Contains}
 use Rattle.search.specs.declared.conflict.NodeChoice.{NodeChoice}
-use Rattle.search.specs.declared.held.Ask.{Ask}
+use Rattle.search.specs.declared.agenda.Ask.{Ask}
 use Rattle.search.specs.declared.next.Need.{Need}
 use Rattle.search.specs.declared.trial.Held.{Held}
 use Rattle.search.specs.Conflicts.{Follows}

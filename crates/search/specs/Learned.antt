@@ -1,16 +1,16 @@
 -- What a search that learns keeps true of its choices.
 -- Tied to `IsBest` by the contract of `learned_best`; need not be read.
-use Rattle.std.specs.Prelude.{ℕ, List, [], ◌∷◌, ◌++◌, Option, Some, None, Bool, true, false, ◌≡◌, ◌≢◌, ◌<◌, ◌≤◌, ◌+◌, ◌==◌, ◌⊎◌, take, length, map}
+use Rattle.std.specs.Prelude.{ℕ, List, [], ◌∷◌, ◌++◌, Option, Some, None, Bool, true, false, ◌≡◌, ◌<◌, take, length, map}
 use Rattle.std.specs.List.{Contains, slice_index_or}
 use Rattle.std.specs.Ordering.{nat_cmp}
 use Rattle.search.specs.declared.conflict.NodeChoice.{NodeChoice}
-use Rattle.search.specs.declared.held.Ask.{Ask}
+use Rattle.search.specs.declared.agenda.Ask.{Ask}
 use Rattle.search.specs.declared.held.Partial.{Partial}
 use Rattle.search.specs.declared.parts.Frame.{Frame}
 use Rattle.search.specs.declared.trial.Held.{Held}
 use Rattle.search.specs.declared.trial.Trial.{Trial}
-use Rattle.search.specs.Conflicts.{Follows}
-use Rattle.search.specs.Gathering.{IsCompleted, IsWithin, decision}
+use Rattle.search.specs.Agendas.{AreRowed, IsWatched}
+use Rattle.search.specs.Gathering.{IsCompleted, choice_at, decision}
 use Rattle.search.specs.Rules.{Rules}
 use Rattle.search.specs.Search.{pins_of}
 use Rattle.search.specs.Solutions.{Pin, Needed, IsNext, version_in}
@@ -127,7 +127,9 @@ pub record IsPartial (t : Parts) (p : Partial) : Type 0 where
   pub choices : p.choices.entries ≡ entries_of p.held.items
   pub room : length p.taken.items ≡ length t.candidates
   pub taken : (n : ℕ) → first_at p.taken.items n ≡ version_in nat_cmp (leaders_held (rules_of t) p.held.items) n
-  pub asks : p.asks.items ≡ asks_of (rules_of t) p.held.items
+  pub asks : p.agenda.asks.items ≡ asks_of (rules_of t) p.held.items
+  pub rowed : AreRowed t p.agenda
+  pub watched : IsWatched t p.agenda p.taken.items (map choice_at p.choices.entries)
 
 -- the last choice is at a node of the table; where it leads, its name had no choice before
 abbrev pub LastIsNew : Parts → List Held → Type 0

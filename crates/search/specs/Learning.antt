@@ -9,10 +9,9 @@ use Rattle.search.specs.declared.learning.Progress.TheVariants.{Trying, Solved, 
 use Rattle.search.specs.declared.trial.Held.{Held}
 use Rattle.search.specs.declared.trial.Trial.{Trial}
 use Rattle.search.specs.Conflicts.{EachFollows}
-use Rattle.search.specs.Gathering.{decision, places_eq}
-use Rattle.search.specs.Learned.{IsLearning, IsPartial, IsTrial, chosen_held, decisions_of}
-use Rattle.search.specs.Rules.{Rules}
-use Rattle.search.specs.Solutions.{HasNoSolution, IsBest, Needed}
+use Rattle.search.specs.Gathering.{places_eq}
+use Rattle.search.specs.Learned.{IsLearning, IsPartial, IsTrial, chosen_held}
+use Rattle.search.specs.Solutions.{HasNoSolution, IsBest}
 use Rattle.search.specs.Table.{Parts, rules_of, candidates_of, name_of}
 use Rattle.search.specs.Trials.{IsRefused}
 

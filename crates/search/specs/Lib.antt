@@ -1,6 +1,7 @@
 pub mod Rules
 pub mod Solutions
 pub mod Gathering
+pub mod Agendas
 pub mod Trials
 pub mod Learned
 pub mod Asking

@@ -1,6 +1,6 @@
 // The choices that a search holds.
 
-ghost use Rattle.std.specs.Prelude.{◌≡◌, ◌<◌, ◌++◌, ◌∷◌, [], None, Some, true, IsTrue, IsFalse, IfOk, MatchOption, length, map, slice_set, ℕ};
+ghost use Rattle.std.specs.Prelude.{◌≡◌, ◌<◌, ◌++◌, ◌∷◌, [], None, Some, false, true, IsTrue, IsFalse, IfOk, MatchOption, length, map, slice_set, ℕ};
 ghost use Rattle.std.specs.List.{Contains};
 ghost use Rattle.std.specs.Ordering.{nat_cmp};
 ghost use Rattle.search.specs.Gathering.{IsWithin, choice_at, decision};
@@ -8,27 +8,12 @@ ghost use Rattle.search.specs.Learned.{IsFree, IsPartial, LastIsNew, ask_of, dec
 ghost use Rattle.search.specs.Solutions.{version_in};
 ghost use Rattle.search.specs.Table.{rules_of, name_of, in_range};
 
+use crate::agenda::Agenda;
 use crate::conflict::{Decision, is_same};
 use crate::table::Table;
 use crate::trial::{Held, Trial};
 use indexmap::IndexMap;
 use std::alloc::{AllocError, Global};
-
-/// A requirement that a choice asks for at its node; a line's, where there is no choice.
-#[derive(Clone, Copy)]
-pub struct Ask {
-    pub requirement: usize,
-    pub by: Option<Decision>,
-}
-
-/// Whether a node has a choice.
-pub fn is_chosen(choices: &IndexMap<usize, usize>, node: usize) -> bool
-    ensures chosen { IsTrue result → (v : ℕ)
-        × Contains (map choice_at choices.now.entries) (decision node v) }
-    ensures free { IsFalse result → IsFree (map choice_at choices.now.entries) node }
-{
-    choices.get(&node).is_some()
-}
 
 /// Whether a choice is held.
 fn is_held(choices: &IndexMap<usize, usize>, decision: Decision) -> bool
@@ -70,7 +55,7 @@ pub struct Partial {
     pub choices: IndexMap<usize, usize>,
     pub held: Vec<Held>,
     pub taken: Vec<Option<Decision>>,
-    pub asks: Vec<Ask>,
+    pub agenda: Agenda,
 }
 
 impl Drop for Partial {
@@ -79,27 +64,9 @@ impl Drop for Partial {
             choices: _,
             held: _,
             taken: _,
-            asks: _,
+            agenda: _,
         } = self;
     }
-}
-
-/// Puts what a choice or a line asks for behind the rest.
-fn add_asks(
-    asks: &mut Vec<Ask>,
-    requirements: &[usize],
-    by: Option<Decision>,
-) -> Result<(), AllocError>
-    ensures { IfOk result
-        (λ _. asks.new.items ≡ asks.old.items ++ map (ask_of by) requirements.now) }
-{
-    for requirement in requirements {
-        asks.push(Ask {
-            requirement: *requirement,
-            by,
-        })?;
-    }
-    Ok(())
 }
 
 /// Makes a choice the first on its name, or takes it back.
@@ -113,6 +80,32 @@ fn set_first(taken: &mut Vec<Option<Decision>>, table: &Table, node: usize, firs
     taken[name] = first;
 }
 
+/// Makes a choice that leads the first on its name, which is to be looked at then.
+fn lead(
+    taken: &mut Vec<Option<Decision>>,
+    loose: &mut Vec<usize>,
+    table: &Table,
+    choice: Decision,
+    leads: bool,
+) -> Result<(), AllocError>
+    requires known { choice.node < length table.now.nodes }
+    requires room { length taken.old.items ≡ length table.now.candidates }
+    ensures first { IfOk result (λ _. leads ≡ true → (taken.new.items
+        ≡ slice_set taken.old.items (name_of table.now choice.node) (Some choice))
+        × (loose.new.items ≡ loose.old.items ++ name_of table.now choice.node ∷ [])) }
+    ensures tied { IfOk result
+        (λ _. leads ≡ false → (taken.new ≡ taken.old) × (loose.new ≡ loose.old)) }
+    ensures known { IfOk result
+        (λ _. leads ≡ true → name_of table.now choice.node < length table.now.candidates) }
+{
+    if !leads {
+        return Ok(());
+    }
+    set_first(taken, table, choice.node, Some(choice));
+    loose.push(table.name_of(choice.node))?;
+    Ok(())
+}
+
 impl Partial {
     /// No choices.
     pub fn new(alloc: Global, table: &Table) -> Result<Partial, AllocError>
@@ -120,19 +113,21 @@ impl Partial {
         ensures none { IfOk result (λ partial. partial.held.items ≡ []) }
         ensures known { IfOk result (λ _. in_range table.now ≡ true) }
     {
-        let mut asks = Vec::new(alloc);
-        add_asks(&mut asks, table.lines(), None)?;
+        let choices = IndexMap::new(alloc);
         let taken = vec![in alloc; None; table.name_count()]?;
+        let mut agenda = Agenda::new(alloc, table)?;
+        agenda.put_all(table, &choices, taken.as_slice(), table.lines(), None)?;
         Ok(Partial {
-            choices: IndexMap::new(alloc),
+            choices,
             held: Vec::new(alloc),
             taken,
-            asks,
+            agenda,
         })
     }
 
     /// Takes the candidate at a place.
     pub fn push(&mut self, table: &Table, trial: Trial, place: usize) -> Result<(), AllocError>
+        requires table { in_range table.now ≡ true }
         requires partial { IsPartial table.now self.old }
         requires known { trial.node < length table.now.nodes }
         requires free { IsFree (decisions_of self.old.held.items) trial.node }
@@ -146,36 +141,42 @@ impl Partial {
     {
         let node = trial.node;
         let leads = trial.leads;
-        let decision = Decision {
+        let by = Decision {
             node,
             version: place,
         };
-        add_asks(&mut self.asks, table.wants(node, place), Some(decision))?;
         self.choices.insert(node, place)?;
         self.held.push(Held { trial, place })?;
-        if leads {
-            set_first(&mut self.taken, table, node, Some(decision));
-        }
+        lead(&mut self.taken, &mut self.agenda.loose, table, by, leads)?;
+        let wants = table.wants(node, place);
+        self.agenda.put_all(table, &self.choices, self.taken.as_slice(), wants, Some(by))?;
         Ok(())
     }
 
     /// Gives the last choice back.
-    pub fn pop(&mut self, table: &Table) -> Option<Held>
+    pub fn pop(&mut self, table: &Table) -> Result<Option<Held>, AllocError>
+        requires table { in_range table.now ≡ true }
         requires partial { IsPartial table.now self.old }
         requires last { LastIsNew table.now self.old.held.items }
-        ensures popped { MatchOption result (self.old.held.items ≡ [])
-            (λ h. self.old.held.items ≡ self.new.held.items ++ h ∷ []) }
-        ensures partial { MatchOption result Unit (λ _. IsPartial table.now self.new) }
+        ensures popped { IfOk result (λ popped. MatchOption popped (self.old.held.items ≡ [])
+            (λ h. self.old.held.items ≡ self.new.held.items ++ h ∷ [])) }
+        ensures partial { IfOk result
+            (λ popped. MatchOption popped Unit (λ _. IsPartial table.now self.new)) }
     {
-        let held = self.held.pop()?;
+        let Some(held) = self.held.pop() else {
+            return Ok(None);
+        };
         let node = held.trial.node;
-        let asked = table.wants(node, held.place).len();
-        let left = self.asks.len() - asked;
-        self.asks.truncate(left);
+        self.agenda
+            .drop_last(table, table.wants(node, held.place).len());
         let _ = self.choices.pop();
+        let name = table.name_of(node);
         if held.trial.leads {
             set_first(&mut self.taken, table, node, None);
+            self.agenda.free.insert(name)?;
+        } else {
+            self.agenda.loose.push(name)?;
         }
-        Some(held)
+        Ok(Some(held))
     }
 }

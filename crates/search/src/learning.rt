@@ -123,7 +123,7 @@ fn cut_back(
         × IsTrial (rules_of table.now) conflicts.now.list.items partial.new.held.items trial)) }
 {
     let conflict = conflicts.at(at);
-    while let Some(held) = partial.pop(table) {
+    while let Some(held) = partial.pop(table)? {
         let place = held.place;
         let mut trial = held.into_trial();
         let candidate = Decision {
@@ -167,10 +167,11 @@ fn learn(
 }
 
 /// Goes on with the next node, if there is one.
-fn onward(alloc: Global, table: &Table, partial: &Partial, conflicts: &Conflicts) -> Progress
+fn onward(alloc: Global, table: &Table, partial: &mut Partial, conflicts: &Conflicts) -> Progress
     requires table { in_range table.now ≡ true }
-    requires learned { IsLearned table.now partial.now conflicts.now.list.items }
-    ensures stands { StandsAt table.now partial.now conflicts.now.list.items result }
+    requires learned { IsLearned table.now partial.old conflicts.now.list.items }
+    ensures stands { StandsAt table.now partial.new conflicts.now.list.items result }
+    ensures held { partial.new.held ≡ partial.old.held }
     ensures first { IsFirst result }
 {
     let _known = conflicts.list.len();
@@ -256,7 +257,7 @@ pub fn learned_best(alloc: Global, table: &Table) -> Result<Option<Seq<Choice>>,
 {
     let mut partial = Partial::new(alloc, table)?;
     let mut conflicts = Conflicts::new(alloc);
-    let mut progress = onward(alloc, table, &partial, &conflicts);
+    let mut progress = onward(alloc, table, &mut partial, &conflicts);
     'search: loop {
         match progress {
             Progress::Refuted => return Ok(None),

@@ -8,6 +8,7 @@
 //! those, and says that what follows from conflicts lies in no solution.
 #![tactic(auto)]
 
+mod agenda;
 mod clash;
 mod conflict;
 mod conflicts;

@@ -1,62 +1,31 @@
 // Which node comes next.
 
-ghost use Rattle.std.specs.Prelude.{◌≡◌, ◌<◌, ◌++◌, ◌∷◌, [], true, nat_lt, MatchOption, length, map, ℕ, List};
+ghost use Rattle.std.specs.Prelude.{◌≡◌, ◌<◌, ◌≤◌, ◌++◌, ◌∷◌, [], None, true, MatchOption, length, map, ℕ, List};
 ghost use Rattle.std.specs.List.{Contains};
 ghost use Rattle.search.specs.declared.conflict.NodeChoice.{NodeChoice};
-ghost use Rattle.search.specs.declared.held.Ask.{Ask as AskValue};
+ghost use Rattle.search.specs.declared.agenda.Ask.{Ask as AskValue};
+ghost use Rattle.std.specs.BTreeSet.{keys};
+ghost use Rattle.search.specs.Agendas.{AreRowed, IsWatched};
 ghost use Rattle.search.specs.Asking.{AreKnownAsks, IsFoundNeed, IsTied, NoneTied};
 ghost use Rattle.search.specs.Gathering.{choice_at, decision};
 ghost use Rattle.search.specs.Learned.{IsFree, IsLearning, IsPartial, IsTrial, decisions_of, chosen_held, first_at};
 ghost use Rattle.search.specs.Solutions.{Needed};
 ghost use Rattle.search.specs.Table.{rules_of, nodes_of, requirement_at, in_range};
 
+use crate::agenda::{Agenda, Ask, first_free_of, first_on, row_of};
 use crate::conflict::Decision;
-use crate::held::{Ask, Partial, is_chosen};
-use crate::refusal::first_on;
+use crate::held::Partial;
 use crate::table::Table;
 use crate::trial::Trial;
 use indexmap::IndexMap;
 use std::alloc::Global;
+use std::collections::BTreeSet;
 
 /// A node to choose, and the choice that needs it; nothing where a line does.
 #[derive(Clone, Copy)]
 pub struct Need {
     pub node: usize,
     pub by: Option<Decision>,
-}
-
-/// The first of these nodes that is not chosen.
-fn first_free(choices: &IndexMap<usize, usize>, nodes: &[usize]) -> Option<usize>
-    ensures { MatchOption result ((node : ℕ) → Contains nodes.now node → (v : ℕ)
-        × Contains (map choice_at choices.now.entries) (decision node v))
-        (λ node. Contains nodes.now node × IsFree (map choice_at choices.now.entries) node) }
-{
-    for node in nodes {
-        if !is_chosen(choices, *node) {
-            return Some(*node);
-        }
-    }
-    None
-}
-
-/// The first of the nodes of a requirement that is not chosen.
-fn first_free_of(
-    table: &Table,
-    choices: &IndexMap<usize, usize>,
-    requirement: usize,
-) -> Option<usize>
-    requires { requirement < length table.now.requirements }
-    ensures { MatchOption result ((node : ℕ)
-        → Contains (nodes_of (requirement_at table.now requirement)) node → (v : ℕ)
-        × Contains (map choice_at choices.now.entries) (decision node v))
-        (λ node. Contains (nodes_of (requirement_at table.now requirement)) node
-        × IsFree (map choice_at choices.now.entries) node) }
-{
-    let asked = table.requirement(requirement);
-    if !is_chosen(choices, asked.node) {
-        return Some(asked.node);
-    }
-    first_free(choices, asked.more.as_slice())
 }
 
 /// A node that is asked for on a name that has a version, which is not chosen itself.
@@ -98,56 +67,95 @@ fn tied_need(
     None
 }
 
-/// Whether a name is less than that of what was found.
-fn is_less(table: &Table, name: usize, found: Option<Need>) -> bool
-    requires { MatchOption found Unit (λ need. need.node < length table.now.nodes) }
-    ensures { MatchOption found (result ≡ true)
-        (λ need. result ≡ nat_lt name ((rules_of table.now).on need.node)) }
+/// The last of the names that are loose.
+fn last_loose(loose: &[usize]) -> Option<usize>
+    ensures { MatchOption result (loose.now ≡ []) (λ name. (front : List ℕ)
+        × (loose.now ≡ front ++ name ∷ [])) }
 {
-    match found {
-        None => true,
-        Some(need) => name < table.name_of(need.node),
-    }
+    loose.last().copied()
 }
 
-/// What was found, or the node of one more requirement, if it is on a lesser name that has no
-/// version.
-fn lesser_need(
+/// A needed node on a name that has a version, which is not chosen itself. Names on which there is
+/// none are looked at no more.
+fn next_tied(
     table: &Table,
+    agenda: &mut Agenda,
+    choices: &IndexMap<usize, usize>,
     taken: &[Option<Decision>],
-    found: Option<Need>,
-    ask: Ask,
 ) -> Option<Need>
-    requires table { in_range table.now ≡ true }
-    requires known { ask.requirement < length table.now.requirements }
-    requires found { MatchOption found Unit (λ need. need.node < length table.now.nodes) }
-    ensures found { (asks : List AskValue)
-        → IsFoundNeed (rules_of table.now) (first_at taken.now) asks found
-        → IsFoundNeed (rules_of table.now) (first_at taken.now) (asks ++ ask ∷ []) result }
-    ensures known { MatchOption result Unit (λ need. need.node < length table.now.nodes) }
+    requires rowed { AreRowed table.now agenda.old }
+    requires watched { IsWatched table.now agenda.old taken.now (map choice_at
+        choices.now.entries) }
+    ensures rowed { AreRowed table.now agenda.new }
+    ensures watched { IsWatched table.now agenda.new taken.now (map choice_at
+        choices.now.entries) }
+    ensures asks { agenda.new.asks ≡ agenda.old.asks }
+    ensures found { MatchOption result (NoneTied (rules_of table.now) (first_at taken.now) (map
+        choice_at choices.now.entries) agenda.new.asks.items)
+        (λ need. IsTied (rules_of table.now) (first_at taken.now) (map choice_at
+        choices.now.entries) agenda.new.asks.items need) }
 {
-    let name = table.name_asked(ask.requirement);
+    while let Some(name) = last_loose(agenda.loose.as_slice()) {
+        let row = row_of(agenda.rows.as_slice(), name);
+        if let Some(need) = tied_need(table, taken, choices, row) {
+            return Some(need);
+        }
+        let _ = agenda.loose.pop();
+    }
+    None
+}
+
+/// The first needed node on a name that has no version.
+fn need_on(table: &Table, taken: &[Option<Decision>], row: &[Ask], name: usize) -> Option<Need>
+    requires { AreKnownAsks (length table.now.requirements) row.now }
+    ensures { MatchOption result (first_at taken.now name ≡ None → row.now ≡ [])
+        (λ need. (first_at taken.now name ≡ None) × (ask : AskValue) × Contains row.now ask
+        × (need.by ≡ ask.by)
+        × Contains (nodes_of (requirement_at table.now ask.requirement)) need.node) }
+{
     if first_on(taken, name).is_some() {
-        return found;
+        return None;
     }
-    if !is_less(table, name, found) {
-        return found;
-    }
+    let ask = *row.first()?;
     let node = table.requirement(ask.requirement).node;
     Some(Need { node, by: ask.by })
 }
 
-/// A needed node on the least name that has no version.
-fn free_need(table: &Table, taken: &[Option<Decision>], asks: &[Ask]) -> Option<Need>
-    requires table { in_range table.now ≡ true }
-    requires known { AreKnownAsks (length table.now.requirements) asks.now }
-    ensures { IsFoundNeed (rules_of table.now) (first_at taken.now) asks.now result }
+/// The least of the names that are free.
+fn least_free(free: &BTreeSet<usize>) -> Option<usize>
+    ensures { MatchOption result (keys free.now ≡ []) (λ name. (rest : List ℕ)
+        × (keys free.now ≡ name ∷ rest) × ((m : ℕ) → Contains (keys free.now) m → name ≤ m)) }
 {
-    let mut found: Option<Need> = None;
-    for ask in asks {
-        found = lesser_need(table, taken, found, *ask);
+    free.first().copied()
+}
+
+/// A needed node on the least name that has no version. Names on which there is none are looked at
+/// no more.
+fn next_free(
+    table: &Table,
+    agenda: &mut Agenda,
+    choices: &IndexMap<usize, usize>,
+    taken: &[Option<Decision>],
+) -> Option<Need>
+    requires table { in_range table.now ≡ true }
+    requires rowed { AreRowed table.now agenda.old }
+    requires watched { IsWatched table.now agenda.old taken.now (map choice_at
+        choices.now.entries) }
+    ensures rowed { AreRowed table.now agenda.new }
+    ensures watched { IsWatched table.now agenda.new taken.now (map choice_at
+        choices.now.entries) }
+    ensures asks { agenda.new.asks ≡ agenda.old.asks }
+    ensures found { IsFoundNeed (rules_of table.now) (first_at taken.now) agenda.new.asks.items
+        result }
+{
+    while let Some(name) = least_free(&agenda.free) {
+        let row = row_of(agenda.rows.as_slice(), name);
+        if let Some(need) = need_on(table, taken, row, name) {
+            return Some(need);
+        }
+        let _ = agenda.free.pop_first();
     }
-    found
+    None
 }
 
 /// The candidates of a node, none of them tried.
@@ -165,25 +173,26 @@ fn trial_of(alloc: Global, need: Need, leads: bool) -> Trial
 }
 
 /// The node that comes next; nothing where each needed node is chosen.
-pub fn next(alloc: Global, table: &Table, partial: &Partial) -> Option<Trial>
+pub fn next(alloc: Global, table: &Table, partial: &mut Partial) -> Option<Trial>
     requires table { in_range table.now ≡ true }
-    requires partial { IsPartial table.now partial.now }
+    requires partial { IsPartial table.now partial.old }
     requires learning { (conflicts : List (List (NodeChoice ℕ ℕ)))
-        × IsLearning (rules_of table.now) conflicts [] partial.now.held.items }
-    ensures { MatchOption result ((node : ℕ)
-        → Needed (rules_of table.now) (chosen_held (rules_of table.now) partial.now.held.items)
+        × IsLearning (rules_of table.now) conflicts [] partial.old.held.items }
+    ensures partial { IsPartial table.now partial.new }
+    ensures held { partial.new.held ≡ partial.old.held }
+    ensures next { MatchOption result ((node : ℕ)
+        → Needed (rules_of table.now) (chosen_held (rules_of table.now) partial.old.held.items)
         node → (v : ℕ)
-        × Contains (decisions_of partial.now.held.items) (decision node v))
+        × Contains (decisions_of partial.old.held.items) (decision node v))
         (λ trial. (trial.turn ≡ 0)
         × ((conflicts : List (List (NodeChoice ℕ ℕ)))
-        → IsTrial (rules_of table.now) conflicts partial.now.held.items trial)) }
+        → IsTrial (rules_of table.now) conflicts partial.old.held.items trial)) }
 {
     let taken = partial.taken.as_slice();
-    let asks = partial.asks.as_slice();
-    if let Some(need) = tied_need(table, taken, &partial.choices, asks) {
+    if let Some(need) = next_tied(table, &mut partial.agenda, &partial.choices, taken) {
         return Some(trial_of(alloc, need, false));
     }
-    if let Some(need) = free_need(table, taken, asks) {
+    if let Some(need) = next_free(table, &mut partial.agenda, &partial.choices, taken) {
         return Some(trial_of(alloc, need, true));
     }
     None

@@ -9,20 +9,11 @@ ghost use Rattle.search.specs.Learned.{FitsBefore, IsLearning, IsPartial, decisi
 ghost use Rattle.search.specs.Ranges.{EachBelow};
 ghost use Rattle.search.specs.Table.{rules_of, name_of, in_range};
 
+use crate::agenda::{Ask, first_on, row_of};
 use crate::conflict::{Decision, insert};
-use crate::held::{Ask, Partial};
+use crate::held::Partial;
 use crate::table::Table;
 use std::alloc::{AllocError, Global};
-
-/// The first choice on a name.
-pub fn first_on(taken: &[Option<Decision>], name: usize) -> Option<Decision>
-    ensures { result ≡ first_at taken.now name }
-{
-    match taken.get(name) {
-        None => None,
-        Some(decision) => *decision,
-    }
-}
 
 /// The choice that asks for something; for a line the candidate itself.
 fn asker(by: Option<Decision>, candidate: Decision) -> Decision
@@ -150,7 +141,11 @@ pub fn clash(table: &Table, partial: &Partial, candidate: Decision) -> Option<De
     if let Some(other) = tied_clash(table, taken, candidate) {
         return Some(other);
     }
-    if let Some(other) = asked_clash(table, partial.asks.as_slice(), candidate) {
+    let row = row_of(
+        partial.agenda.rows.as_slice(),
+        table.name_of(candidate.node),
+    );
+    if let Some(other) = asked_clash(table, row, candidate) {
         return Some(other);
     }
     let wants = table.wants(candidate.node, candidate.version);

@@ -1,13 +1,25 @@
+use Rattle.std.proofs.Common.{List, [], sym, ap, subst}
 use Rattle.search.proofs.LearnedSearch.{learned-best}
 use Rattle.search.proofs.Work.{table-lawful}
+use Rattle.search.specs.declared.trial.Held.{Held}
+use Rattle.search.specs.Learned.{IsLearning, IsTrial, chosen_held}
+use Rattle.search.specs.Solutions.{IsBest}
 use Rattle.search.specs.Table.{rules_of}
 use Rattle.search.proofs.learning.onward.Goals as goal
 
 pub returns-in-None-clause-stands : goal.returns-in-None-clause-stands
 returns-in-None-clause-stands c = (
-  c.requires.learned.partial,
-  learned-best (rules_of c.args.table.now) (table-lawful c.args.table.now c.requires.table) c.args.conflicts.now.list.items c.args.partial.now.held.items c.requires.learned.follows c.requires.learned.learning c.in-None.ensures,
+  c.in-None.ensures.partial,
+  subst (λ (hs : List Held). IsBest (rules_of c.args.table.now) (chosen_held (rules_of c.args.table.now) hs)) (sym (ap (λ v. v.items) c.in-None.ensures.held))
+      (learned-best (rules_of c.args.table.now) (table-lawful c.args.table.now c.requires.table) c.args.conflicts.now.list.items c.args.partial.now.held.items c.requires.learned.follows c.requires.learned.learning c.in-None.ensures.next),
 )
 
 pub returns-in-Some-clause-stands : goal.returns-in-Some-clause-stands
-returns-in-Some-clause-stands c = (c.requires.learned, c.in-Some.ensures.1 c.args.conflicts.now.list.items)
+returns-in-Some-clause-stands c = (
+  record {
+    partial = c.in-Some.ensures.partial;
+    follows = c.requires.learned.follows;
+    learning = subst (λ (hs : List Held). IsLearning (rules_of c.args.table.now) c.args.conflicts.now.list.items [] hs) (sym (ap (λ v. v.items) c.in-Some.ensures.held)) c.requires.learned.learning;
+  },
+  subst (λ (hs : List Held). IsTrial (rules_of c.args.table.now) c.args.conflicts.now.list.items hs c.in-Some.trial) (sym (ap (λ v. v.items) c.in-Some.ensures.held)) (c.in-Some.ensures.next.1 c.args.conflicts.now.list.items),
+)

@@ -1,4 +1,4 @@
-use Rattle.std.proofs.Common.{ℕ, List, [], ◌∷◌, ◌++◌, ◌≡◌, ◌<◌, ◌∙◌, Contains, length, get_or, map, sym, ap, subst}
+use Rattle.std.proofs.Common.{ℕ, List, [], ◌∷◌, ◌++◌, ◌<◌, ◌∙◌, get_or, map, sym, ap, subst}
 use Rattle.std.proofs.lemmas.List.Elements.{Contains-push}
 use Rattle.search.proofs.Entries.{entries-decisions}
 use Rattle.search.proofs.LearnedSearch.{trial-more}
@@ -7,9 +7,9 @@ use Rattle.search.specs.declared.conflict.NodeChoice.{NodeChoice}
 use Rattle.search.specs.declared.trial.Held.{Held}
 use Rattle.search.specs.declared.trial.Trial.{Trial}
 use Rattle.search.specs.Gathering.{IsWithin, choice_at, decision}
-use Rattle.search.specs.Learned.{decisions_of, IsTrial}
+use Rattle.search.specs.Learned.{IsTrial}
 use Rattle.search.specs.Learning.{IsLearned, IsRefusedFor}
-use Rattle.search.specs.Table.{Parts, rules_of, candidates_of, name_of}
+use Rattle.search.specs.Table.{Parts, rules_of}
 use Rattle.search.specs.Trials.{IsRefused}
 use Rattle.search.proofs.learning.refuse.Goals as goal
 

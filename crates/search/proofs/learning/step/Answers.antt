@@ -3,7 +3,7 @@ use Rattle.search.proofs.Lists.{get_or-any}
 use Rattle.search.proofs.Learns.{trial-known, leads-first, learned-push}
 use Rattle.search.specs.declared.trial.Trial.{Trial}
 use Rattle.search.specs.Gathering.{decision}
-use Rattle.search.specs.Learned.{FitsBefore, IsTrial}
+use Rattle.search.specs.Learned.{FitsBefore}
 use Rattle.search.specs.Table.{Parts, rules_of, candidates_of, name_of}
 use Rattle.search.proofs.learning.step.Goals as goal
 

@@ -1,8 +1,6 @@
-use Rattle.std.proofs.Common.{ℕ, List, ◌∷◌, [], ◌++◌, ◌≡◌, ◌⊎◌, Contains, inl, inr, sym, ap, ◌∙◌, subst}
+use Rattle.std.proofs.Common.{ℕ, List, ◌∷◌, [], ◌++◌, Contains, inl, inr, sym, ap, ◌∙◌, subst}
 use Rattle.search.proofs.Lists.{Contains-here, Contains-cons_cases, Contains-nil}
-use Rattle.search.proofs.Sets.{gathers-there}
 use Rattle.search.specs.declared.conflict.NodeChoice.{NodeChoice}
-use Rattle.search.specs.Gathering.{Gathers}
 use Rattle.search.proofs.refusal.conflict_of.Goals as goal
 
 pub returns-clause-one : goal.returns-clause-one

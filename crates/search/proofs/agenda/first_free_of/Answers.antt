@@ -1,11 +1,11 @@
-use Rattle.std.proofs.Common.{ℕ, List, Option, Some, None, MatchOption, Contains, map, ◌≡◌, ◌∷◌, ◌∙◌, inl, inr, ap, sym, subst}
+use Rattle.std.proofs.Common.{ℕ, List, Option, Some, None, MatchOption, Contains, map, ◌≡◌, ◌∷◌, inl, inr, sym, subst}
 use Rattle.search.proofs.Lists.{Contains-here, Contains-there, Contains-cons_cases}
 use Rattle.search.specs.declared.conflict.NodeChoice.{NodeChoice}
 use Rattle.search.specs.declared.parts.Requirement.{Requirement}
 use Rattle.search.specs.Gathering.{choice_at, decision}
 use Rattle.search.specs.Learned.{IsFree}
 use Rattle.search.specs.Table.{nodes_of}
-use Rattle.search.proofs.next.first_free_of.Goals as goal
+use Rattle.search.proofs.agenda.first_free_of.Goals as goal
 
 pub returns-then-not-is_chosen : goal.returns-then-not-is_chosen
 returns-then-not-is_chosen c = (

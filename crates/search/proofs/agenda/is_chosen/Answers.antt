@@ -1,7 +1,7 @@
-use Rattle.std.proofs.Common.{ℕ, ◌≡◌, ◌∙◌, Option, Bor, Bool, Some, None, true, false, is_some, refl, sym, ap}
+use Rattle.std.proofs.Common.{ℕ, ◌≡◌, ◌∙◌, Option, Bor, Some, None, is_some, refl, sym, ap}
 use Rattle.std.specs.Option.{option_copied}
 use Rattle.search.proofs.Entries.{lookup-some, lookup-free}
-use Rattle.search.proofs.held.is_chosen.Goals as goal
+use Rattle.search.proofs.agenda.is_chosen.Goals as goal
 
 copied-some : (o : Option (Bor ℕ)) → is_some (option_copied {T = ℕ} o) ≡ is_some o
 copied-some None = refl

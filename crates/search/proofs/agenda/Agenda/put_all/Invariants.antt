@@ -1,0 +1,12 @@
+use Rattle.std.proofs.Common.{take, map, ◌++◌, ◌≡◌}
+use Rattle.search.specs.Agendas.{AreRowed, IsWatched}
+use Rattle.search.specs.Gathering.{choice_at}
+use Rattle.search.specs.Learned.{ask_of}
+use Rattle.search.proofs.agenda.Agenda.put_all.Given as goal
+
+abbrev pub invariant-loop-requirement : goal.invariant-loop-requirement
+invariant-loop-requirement l = record {
+  rowed : AreRowed l.table l.self;
+  watched : IsWatched l.table l.self l.taken (map choice_at l.choices.entries);
+  asks : l.self.asks.items ≡ l.fn.self.asks.items ++ map (ask_of l.by) (take l.requirement-index l.requirements);
+}

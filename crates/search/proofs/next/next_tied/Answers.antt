@@ -1,0 +1,44 @@
+use Rattle.std.proofs.Common.{ℕ, List, ◌++◌, ◌∷◌, [], ◌≡◌, ◌-◌, ◌∙◌, Contains, take, map, refl, sym, ap, subst}
+use Rattle.search.proofs.Rows.{last-left, row-from, rowed-same, vec-size}
+use Rattle.search.proofs.Watching.{none-loose, tied-row, watched-settled}
+use Rattle.search.specs.declared.agenda.Agenda.{Agenda}
+use Rattle.search.specs.declared.agenda.Ask.{Ask}
+use Rattle.search.specs.declared.conflict.NodeChoice.{NodeChoice}
+use Rattle.search.specs.Agendas.{row_at}
+use Rattle.search.specs.Asking.{IsTied, NoneTied}
+use Rattle.search.specs.Gathering.{choice_at}
+use Rattle.search.specs.Learned.{first_at}
+use Rattle.search.specs.Table.{Parts, rules_of}
+use Rattle.search.proofs.next.next_tied.Goals as goal
+
+pub tied_need-requires : goal.tied_need-requires
+tied_need-requires c a i =
+    let row : c.row_of-row.result.now ≡ row_at c.loop-name.agenda.rows.items c.in-Some.name = c.row_of-row.ensures ∙ ap (λ rs. row_at rs c.in-Some.name) c.as_slice-in-Some.ensures.value in
+    c.loop-name.invariant.rowed.known a (row-from c.args.table.now c.loop-name.agenda c.in-Some.name a c.loop-name.invariant.rowed (subst (λ xs. Contains xs a) row i)).0
+
+pub returns-in-Some-tied_need-clause-found : goal.returns-in-Some-tied_need-clause-found
+returns-in-Some-tied_need-clause-found c =
+    let t : Parts = c.args.table.now in
+    let chosen : List (NodeChoice ℕ ℕ) = map choice_at c.args.choices.now.entries in
+    let row : c.row_of-row.result.now ≡ row_at c.loop-name.agenda.rows.items c.in-Some.name = c.row_of-row.ensures ∙ ap (λ rs. row_at rs c.in-Some.name) c.as_slice-in-Some.ensures.value in
+    tied-row t c.loop-name.agenda (first_at c.args.taken.now) chosen c.in-Some.name c.in-Some-tied_need.need c.loop-name.invariant.rowed
+    (subst (λ xs. IsTied (rules_of t) (first_at c.args.taken.now) chosen xs c.in-Some-tied_need.need) row c.in-Some-tied_need.ensures)
+
+pub loop-name-preserved : goal.loop-name-preserved
+loop-name-preserved c =
+    let t : Parts = c.args.table.now in
+    let old : Agenda = c.loop-name.agenda in
+    let new : Agenda = record { asks = c.loop-name.agenda.asks; rows = c.loop-name.agenda.rows; free = c.loop-name.agenda.free; loose = c.pop.new.self } in
+    let chosen : List (NodeChoice ℕ ℕ) = map choice_at c.args.choices.now.entries in
+    let row : c.row_of-row.result.now ≡ row_at c.loop-name.agenda.rows.items c.in-Some.name = c.row_of-row.ensures ∙ ap (λ rs. row_at rs c.in-Some.name) c.as_slice-in-Some.ensures.value in
+    let split : c.loop-name.agenda.loose.items ≡ c.in-Some.ensures.0 ++ c.in-Some.name ∷ [] = sym c.as_slice.ensures.value ∙ c.in-Some.ensures.1 in
+    let front : c.pop.new.self.items ≡ c.in-Some.ensures.0 = c.pop.ensures.rest ∙ ap (λ n. take (n - 1) c.loop-name.agenda.loose.items) (vec-size c.loop-name.agenda.loose) ∙ last-left c.loop-name.agenda.loose.items c.in-Some.ensures.0 c.in-Some.name split in
+    record {
+      rowed = rowed-same t old new c.loop-name.invariant.rowed refl refl;
+      watched = watched-settled t old new c.args.taken.now chosen c.in-Some.name c.loop-name.invariant.rowed c.loop-name.invariant.watched
+          (subst (λ (xs : List Ask). NoneTied (rules_of t) (first_at c.args.taken.now) chosen xs) row c.in_default-tied_need.ensures) refl refl (split ∙ ap (λ xs. xs ++ c.in-Some.name ∷ []) (sym front));
+      asks = c.loop-name.invariant.asks;
+    }
+
+pub returns-clause-found : goal.returns-clause-found
+returns-clause-found c = none-loose c.args.table.now c.loop-name.agenda c.args.taken.now (map choice_at c.args.choices.now.entries) c.loop-name.invariant.watched (sym c.as_slice.ensures.value ∙ c.in_default.ensures)
