@@ -11,6 +11,7 @@ pub mod Members
 pub mod NamesInOrder
 pub mod NamesRead
 pub mod Refusals
+pub mod OneLock
 pub mod Released
 pub mod StateFacts
 pub mod WorkedRows

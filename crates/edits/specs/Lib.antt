@@ -8,3 +8,4 @@ pub mod State
 pub mod Naming
 pub mod Refused
 pub mod Edits
+pub mod Laws

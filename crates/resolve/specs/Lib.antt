@@ -8,3 +8,4 @@ pub mod Growing
 pub mod Building
 pub mod Pictured
 pub mod Resolves
+pub mod Laws
