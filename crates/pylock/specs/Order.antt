@@ -1,2 +1,2 @@
 -- Lists in the order of their bytes, lent upward.
-pub use Rattle.lists.specs.Rising.{rises}
+unfoldable pub use Rattle.lists.specs.Rising.{rises}
