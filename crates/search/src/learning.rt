@@ -10,6 +10,7 @@ ghost use Rattle.search.specs.Learning.{GoesOnward, IsBack, IsFirst, IsLearned, 
 ghost use Rattle.search.specs.Solutions.{HasNoSolution, IsBest};
 ghost use Rattle.search.specs.Table.{Parts, rules_of, candidates_of, name_of, in_range, place_in, IsAscending};
 
+use crate::ahead::Cursor;
 use crate::conflict::{Decision, has};
 use crate::conflicts::Conflicts;
 use crate::held::Partial;
@@ -167,7 +168,13 @@ fn learn(
 }
 
 /// Goes on with the next node, if there is one.
-fn onward(alloc: Global, table: &Table, partial: &mut Partial, conflicts: &Conflicts) -> Progress
+fn onward(
+    alloc: Global,
+    table: &Table,
+    partial: &mut Partial,
+    conflicts: &Conflicts,
+    cursor: &mut Cursor,
+) -> Progress
     requires table { in_range table.now ≡ true }
     requires learned { IsLearned table.now partial.old conflicts.now.list.items }
     ensures stands { StandsAt table.now partial.new conflicts.now.list.items result }
@@ -175,7 +182,7 @@ fn onward(alloc: Global, table: &Table, partial: &mut Partial, conflicts: &Confl
     ensures first { IsFirst result }
 {
     let _known = conflicts.list.len();
-    match next(alloc, table, partial) {
+    match next(alloc, table, partial, cursor) {
         None => Progress::Solved,
         Some(trial) => Progress::Trying(trial),
     }
@@ -187,6 +194,7 @@ fn step(
     table: &Table,
     partial: &mut Partial,
     conflicts: &mut Conflicts,
+    cursor: &mut Cursor,
     trial: Trial,
 ) -> Result<Progress, AllocError>
     requires table { in_range table.now ≡ true }
@@ -211,7 +219,7 @@ fn step(
         return Ok(Progress::Trying(trial));
     }
     partial.push(table, trial, place)?;
-    Ok(onward(alloc, table, partial, conflicts))
+    Ok(onward(alloc, table, partial, conflicts, cursor))
 }
 
 /// The place of a choice, where there is one.
@@ -257,7 +265,12 @@ pub fn learned_best(alloc: Global, table: &Table) -> Result<Option<Seq<Choice>>,
 {
     let mut partial = Partial::new(alloc, table)?;
     let mut conflicts = Conflicts::new(alloc);
-    let mut progress = onward(alloc, table, &mut partial, &conflicts);
+    let mut cursor = Cursor {
+        name: 0,
+        ask: 0,
+        extra: 0,
+    };
+    let mut progress = onward(alloc, table, &mut partial, &conflicts, &mut cursor);
     'search: loop {
         match progress {
             Progress::Refuted => return Ok(None),
@@ -266,7 +279,14 @@ pub fn learned_best(alloc: Global, table: &Table) -> Result<Option<Seq<Choice>>,
                 return Ok(Some(choices));
             }
             Progress::Trying(trial) => {
-                progress = step(alloc, table, &mut partial, &mut conflicts, trial)?;
+                progress = step(
+                    alloc,
+                    table,
+                    &mut partial,
+                    &mut conflicts,
+                    &mut cursor,
+                    trial,
+                )?;
             }
         }
     }

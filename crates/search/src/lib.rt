@@ -9,6 +9,7 @@
 #![tactic(auto)]
 
 mod agenda;
+mod ahead;
 mod clash;
 mod conflict;
 mod conflicts;

@@ -13,6 +13,7 @@ ghost use Rattle.search.specs.Solutions.{Needed};
 ghost use Rattle.search.specs.Table.{rules_of, nodes_of, requirement_at, in_range};
 
 use crate::agenda::{Agenda, Ask, first_free_of, first_on, row_of};
+use crate::ahead::{Cursor, need_ahead};
 use crate::conflict::Decision;
 use crate::held::Partial;
 use crate::table::Table;
@@ -82,6 +83,7 @@ fn next_tied(
     agenda: &mut Agenda,
     choices: &IndexMap<usize, usize>,
     taken: &[Option<Decision>],
+    cursor: &mut Cursor,
 ) -> Option<Need>
     requires rowed { AreRowed table.now agenda.old }
     requires watched { IsWatched table.now agenda.old taken.now (map choice_at
@@ -97,7 +99,12 @@ fn next_tied(
 {
     while let Some(name) = last_loose(agenda.loose.as_slice()) {
         let row = row_of(agenda.rows.as_slice(), name);
+        if let Some(need) = need_ahead(table, taken, choices, row, name, cursor) {
+            return Some(need);
+        }
         if let Some(need) = tied_need(table, taken, choices, row) {
+            cursor.ask = 0;
+            cursor.extra = 0;
             return Some(need);
         }
         let _ = agenda.loose.pop();
@@ -173,7 +180,12 @@ fn trial_of(alloc: Global, need: Need, leads: bool) -> Trial
 }
 
 /// The node that comes next; nothing where each needed node is chosen.
-pub fn next(alloc: Global, table: &Table, partial: &mut Partial) -> Option<Trial>
+pub fn next(
+    alloc: Global,
+    table: &Table,
+    partial: &mut Partial,
+    cursor: &mut Cursor,
+) -> Option<Trial>
     requires table { in_range table.now ≡ true }
     requires partial { IsPartial table.now partial.old }
     requires learning { (conflicts : List (List (NodeChoice ℕ ℕ)))
@@ -189,7 +201,7 @@ pub fn next(alloc: Global, table: &Table, partial: &mut Partial) -> Option<Trial
         → IsTrial (rules_of table.now) conflicts partial.old.held.items trial)) }
 {
     let taken = partial.taken.as_slice();
-    if let Some(need) = next_tied(table, &mut partial.agenda, &partial.choices, taken) {
+    if let Some(need) = next_tied(table, &mut partial.agenda, &partial.choices, taken, cursor) {
         return Some(trial_of(alloc, need, false));
     }
     if let Some(need) = next_free(table, &mut partial.agenda, &partial.choices, taken) {
