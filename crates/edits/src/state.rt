@@ -1,15 +1,16 @@
 // States.
 
-ghost use Rattle.std.specs.Prelude.{◌≡◌, IfOk};
+ghost use Rattle.std.specs.Prelude.{◌≡◌, IfOk, MatchOption};
 ghost use Rattle.std.specs.Option.{option_copied};
 ghost use Rattle.edits.specs.Locking.{versions_of};
 ghost use Rattle.edits.specs.State.{IsState};
 ghost use Rattle.resolve.specs.Resolves.{version_in};
 
+use lists::Faithful;
 use pep440::Version;
 use pep508::{Environment, Name, ReqFile};
 use pylock::Lock;
-use std::alloc::AllocError;
+use std::alloc::{AllocError, Global};
 use std::collections::BTreeMap;
 use std::marker::Model;
 
@@ -45,8 +46,8 @@ impl Model for State {
 }
 
 impl State {
-    /// The state of these parts. The versions are those of the lock.
-    pub(crate) fn new(
+    /// The state of these lawful parts. The versions are those of the lock.
+    pub(crate) fn from_lawful(
         lines: ReqFile,
         environment: Environment,
         lock: Lock,
@@ -66,6 +67,37 @@ impl State {
             lock,
             versions,
         }
+    }
+
+    /// The state of these parts; `None` where they make none: where an active line isn't met by an
+    /// entry, a name of a dependency isn't an entry's, an entry isn't reached from an active line, or the
+    /// lock names another environment.
+    pub fn new(
+        alloc: Global,
+        lines: ReqFile,
+        environment: Environment,
+        lock: Lock,
+    ) -> Result<Option<State>, AllocError>
+        ensures { IfOk result (λ made.
+            let parts = record { lines = lines; environment = environment; lock = lock } in
+            MatchOption made (IsState parts → ⊥) (λ state. state ≡ parts)) }
+    {
+        Err(AllocError)
+    }
+
+    /// The lines, the environment and the lock, each moved out of the state.
+    pub fn into_parts(self) -> (ReqFile, Environment, Lock)
+        ensures lines { result.0 ≡ self.lines }
+        ensures environment { result.1 ≡ self.environment }
+        ensures lock { result.2 ≡ self.lock }
+    {
+        let State {
+            lines,
+            environment,
+            lock,
+            versions: _,
+        } = self;
+        (lines, environment, lock)
     }
 
     /// The lines of the requirements file.
@@ -116,4 +148,25 @@ impl State {
     {
         let _lines = &self.lines;
     }
+}
+
+impl Clone for State {
+    ghost is_clone = { λ s t. t ≡ s };
+
+    fn clone(&self) -> Result<State, AllocError> {
+        let lines = self.lines.clone()?;
+        let environment = self.environment.clone()?;
+        let lock = self.lock.clone()?;
+        let versions = self.versions.clone()?;
+        Ok(State {
+            lines,
+            environment,
+            lock,
+            versions,
+        })
+    }
+}
+
+impl Faithful for State {
+    ghost clone_is_source = { λ x y h. h };
 }

@@ -19,3 +19,4 @@ pub use crate::entry::Entry;
 pub use crate::fault::Fault;
 pub use crate::file::FileEntry;
 pub use crate::lock::Lock;
+pub use crate::order::{Named, rises};

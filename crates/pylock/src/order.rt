@@ -6,7 +6,7 @@ ghost use Rattle.pylock.specs.Order.{rises};
 use pep508::Name;
 
 /// What has a text by which it is put in order.
-pub(crate) trait Named {
+pub trait Named {
     ghost named: { Self → List ℕ };
 
     fn text(&self) -> &str
@@ -22,7 +22,7 @@ impl Named for Name {
 }
 
 /// Whether each item comes before the next one, by the bytes of their texts.
-pub(crate) fn rises<T: Named>(items: &[T]) -> bool
+pub fn rises<T: Named>(items: &[T]) -> bool
     ensures { result ≡ rises (map T.named items.now) }
 {
     for place in 1..items.len() {
