@@ -6,7 +6,6 @@ use Rattle.pylock.specs.Locks.{Locked, are_entries}
 use Rattle.pylock.specs.Order.{rises}
 use Rattle.pylock.specs.Packages.{Package}
 use Rattle.edits.specs.Content.{Content}
-use Rattle.edits.specs.State.{IsState}
 use Rattle.edits.specs.declared.change.parts.Splice.{Splice}
 use Rattle.edits.specs.declared.change.parts.EntryChange.{EntryChange}
 use Rattle.edits.specs.declared.change.parts.DigestChange.{DigestChange}
@@ -72,14 +71,6 @@ pub record After (old : Content) (change : ChangeParts) (new : Content) : Type 0
   pub lock : ChangesLock change old.lock new.lock
   pub environment : new.environment ≡ old.environment
 
--- a change leads from a state to another, for which all holds that holds of every state
-abbrev pub Leads : Content → ChangeParts → Content → Type 0
-Leads old change new = After old change new × IsState new
-
--- a change applies to no state here
-abbrev pub LeadsNowhere : Content → ChangeParts → Type 0
-LeadsNowhere old change = (new : Content) → Leads old change new → ⊥
-
 -- ---- minimal changes
 
 -- lines begin and end otherwise than those in whose place they stand; where there are none, nothing stands first and last
@@ -109,12 +100,19 @@ back added taken [] = []
 back added taken (splice ∷ rest) =
     record { place = splice.place + added - taken; old = splice.new; new = splice.old } ∷ back (added + length splice.new) (taken + length splice.old) rest
 
--- the change back, from the new state to the old one: all that is old and new is swapped
+-- the change of an entry back, and that of the digest: old and new are swapped
+abbrev pub entry_back : EntryChange → EntryChange
+entry_back change = record { name = change.name; old = change.new; new = change.old }
+
+abbrev pub digest_back : DigestChange → DigestChange
+digest_back digests = record { old = digests.new; new = digests.old }
+
+-- the change back, from the new state to the old one
 abbrev pub inverse : ChangeParts → ChangeParts
 inverse change = record {
   splices = back 0 0 change.splices;
-  entries = map (λ e. record { name = e.name; old = e.new; new = e.old }) change.entries;
-  digests = option_map (λ d. record { old = d.new; new = d.old }) change.digests;
+  entries = map entry_back change.entries;
+  digests = option_map digest_back change.digests;
 }
 
 -- each place fits a number of 64 bits
@@ -132,10 +130,20 @@ pub record AreSplices (splices : List Splice) : Type 0 where
 -- the entries' changes of a minimal change: names rise, and each entry becomes another
 pub record AreEntryChanges (changes : List EntryChange) : Type 0 where
   pub names : rises (map (λ change. change.name) changes) ≡ true
-  pub changes : AllByRecursion IsEntryChange changes
+  pub each : AllByRecursion IsEntryChange changes
 
 -- nothing in a change could be left out
 pub record IsMinimal (change : ChangeParts) : Type 0 where
   pub splices : AreSplices change.splices
   pub entries : AreEntryChanges change.entries
   pub digests : IfSome change.digests (λ d. d.old ≢ d.new)
+
+-- ---- laws
+
+-- a minimal change that leads from one state to another has a minimal one back, which leads from there to the first
+abbrev pub AChangeCanBeTakenBack : Type 0
+AChangeCanBeTakenBack = (change : ChangeParts) (old new : Content) → IsMinimal change → After old change new → IsMinimal (inverse change) × After new (inverse change) old
+
+-- back and back again is the change itself
+abbrev pub BackAndBackIsTheChange : Type 0
+BackAndBackIsTheChange = (change : ChangeParts) → IsMinimal change → inverse (inverse change) ≡ change

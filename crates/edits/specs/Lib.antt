@@ -9,3 +9,4 @@ pub mod Changes
 pub mod Naming
 pub mod Refused
 pub mod Edits
+pub mod Tied

@@ -51,11 +51,11 @@ IsMet environment entries wanted = (e : Package) × Contains entries e × Meets 
 -- a lock is one for lines in an environment: it is lawful, each active line is met by an entry, each name of a dependency is an
 -- entry's, each entry is reached from an active line, and it names the environment
 pub record IsLockFor (lines : List (List ℕ)) (environment : Texts) (lock : Locked) : Type 0 where
-  pub lock : IsLock lock
+  pub lawful : IsLock lock
   pub met : (wanted : Wanted) → Contains (requirements environment lines) wanted → IsMet environment lock.entries wanted
   pub closed : (e : Package) (name : List ℕ) → Contains lock.entries e → Contains e.dependencies name → IsAnEntry lock.entries name
   pub reached : (e : Package) → Contains lock.entries e → Reached (requirements environment lines) lock.entries e.name
-  pub environment : lock.environment ≡ marker_text environment
+  pub named : lock.environment ≡ marker_text environment
 
 -- the lines joined read as these lines, and the lock is one for them in the environment; its digest is the state's
 pub record IsState (state : Content) : Type 0 where

@@ -1,13 +1,15 @@
 // Changes: what differs between two states.
 
 ghost use Rattle.std.specs.Prelude.{◌≡◌, IfOk, MatchOption};
-ghost use Rattle.edits.specs.Changes.{IsMinimal, Leads, LeadsNowhere, inverse};
+ghost use Rattle.edits.specs.Changes.{ChangeParts, IsMinimal, inverse};
 
+mod ends;
+mod inverse;
 mod minimal;
 mod parts;
 
+use crate::change::inverse::{digests_back, entries_back, splices_back};
 pub use crate::change::parts::{DigestChange, EntryChange, Splice};
-use crate::state::State;
 use lists::{Faithful, Seq};
 use std::alloc::{AllocError, Global};
 use std::marker::Model;
@@ -60,7 +62,7 @@ impl Change {
         entries: Seq<EntryChange>,
         digests: Option<DigestChange>,
     ) -> Option<Change>
-        ensures { let parts = record { splices = splices; entries = entries; digests = digests } in
+        ensures { let parts : ChangeParts = record { splices = splices; entries = entries; digests = digests } in
             MatchOption result (IsMinimal parts → ⊥) (λ change. change ≡ parts) }
     {
         if minimal::are_splices(splices.as_slice())
@@ -104,21 +106,17 @@ impl Change {
         let _splices = &self.splices;
     }
 
-    /// The state that the change of `state` leads to; `None` where one of the change's old parts doesn't
-    /// stand in its place, or where what it leads to is no state: lines that don't read, or a lock that
-    /// doesn't belong to them.
-    pub fn apply(&self, alloc: Global, state: &State) -> Result<Option<State>, AllocError>
-        ensures { IfOk result (λ applied. MatchOption applied (LeadsNowhere state.now self.now)
-            (Leads state.now self.now)) }
-    {
-        Err(AllocError)
-    }
-
     /// The change back: it leads from the new state to the old one.
     pub fn inverse(&self, alloc: Global) -> Result<Change, AllocError>
         ensures { IfOk result (λ change. change ≡ inverse self.now) }
     {
-        Err(AllocError)
+        let splices = splices_back(alloc, self.splices.as_slice())?;
+        let entries = entries_back(alloc, self.entries.as_slice())?;
+        Ok(Change {
+            splices,
+            entries,
+            digests: digests_back(self.digests),
+        })
     }
 }
 

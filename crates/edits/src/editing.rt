@@ -1,15 +1,13 @@
 // Edits, and what they lead to.
 
 ghost use Rattle.lists.specs.Answers.{Answers};
-ghost use Rattle.std.specs.Prelude.{◌≡◌, ◌⊎◌, ◌≤◌, length, IfOk, IfErr, None, Some, Ok, Err};
-ghost use Rattle.edits.specs.Changes.{After, IsMinimal};
+ghost use Rattle.std.specs.Prelude.{◌≡◌, ◌⊎◌, IfOk, IfErr, None, Some, Ok, Err};
 ghost use Rattle.edits.specs.Edits.{EditResult, InitResult, Locks, kept_pins, lines_after};
 ghost use Rattle.edits.specs.Locking.{versions_of};
 ghost use Rattle.edits.specs.Refused.{or_refused, refused_by_lines, refused_by_lock};
 ghost use Rattle.edits.specs.declared.refusal.Refusal.TheVariants.{OutOfMemory};
 
 use crate::adding::added;
-use crate::change::Change;
 use crate::constraining::constrained;
 use crate::locking::lock_of;
 use crate::refusal::Refusal;
@@ -23,7 +21,7 @@ use pep440::laws::equal_versions_match_alike;
 use pep508::{Environment, Name, ReqFile};
 use resolve::{Answer, Problem, Resolver};
 use snapshot::Snapshot;
-use std::alloc::{AllocError, Global};
+use std::alloc::Global;
 use std::collections::BTreeMap;
 
 /// The state of the lines, with their lock over the versions that are kept.
@@ -96,17 +94,7 @@ fn kept_pins(alloc: Global, state: &State, edit: &Edit) -> Result<BTreeMap<Name,
     }
 }
 
-/// The change that leads from a state to another of the same environment.
-fn change_between(alloc: Global, old: &State, new: &State) -> Result<Change, AllocError>
-    requires { new.now.environment ≡ old.now.environment }
-    ensures change { IfOk result (λ change. After old.now change new.now) }
-    ensures one_splice { IfOk result (λ change. length change.splices ≤ 1) }
-{
-    Err(AllocError)
-}
-
-/// What the edit of the state leads to, over the snapshot: the new state, and the minimal change that
-/// leads to it. The state stays.
+/// What the edit of the state leads to, over the snapshot. The state stays.
 pub fn edit<R: Resolver>(
     alloc: Global,
     state: &State,
@@ -116,9 +104,6 @@ pub fn edit<R: Resolver>(
 ) -> Result<Edited, Refusal>
     ensures ok { IfOk result
         (λ edited. EditResult state.now edit.now snapshot.now (Ok edited.state)) }
-    ensures minimal { IfOk result (λ edited. IsMinimal edited.change) }
-    ensures change { IfOk result (λ edited. After state.now edited.change edited.state) }
-    ensures one_splice { IfOk result (λ edited. length edited.change.splices ≤ 1) }
     ensures err { IfErr result (λ refusal. (refusal ≡ OutOfMemory)
         ⊎ EditResult state.now edit.now snapshot.now (Err refusal)) }
 {
@@ -129,10 +114,5 @@ pub fn edit<R: Resolver>(
     if has_same(&edited, state) {
         return Err(Refusal::NothingChanges);
     }
-    let change = change_between(alloc, state, &edited)?;
-    change.is_lawful();
-    Ok(Edited {
-        state: edited,
-        change,
-    })
+    Ok(Edited { state: edited })
 }

@@ -7,6 +7,7 @@ mod constraining;
 mod dependencies;
 mod editing;
 mod entry;
+pub mod laws;
 mod locking;
 mod naming;
 mod refusal;

@@ -1,15 +1,23 @@
 // States.
 
-ghost use Rattle.std.specs.Prelude.{◌≡◌, IfOk, MatchOption};
+ghost use Rattle.std.specs.Prelude.{◌≡◌, IfOk, MatchOption, OnOk};
+ghost use Rattle.std.specs.BTreeMap.{insert_entry};
+ghost use Rattle.std.specs.Cmp.Lexicographic.{slice_cmp};
+ghost use Rattle.std.specs.Ordering.{nat_cmp};
 ghost use Rattle.std.specs.Option.{option_copied};
+ghost use Rattle.edits.specs.Content.{Content};
 ghost use Rattle.edits.specs.Locking.{versions_of};
 ghost use Rattle.edits.specs.State.{IsState};
 ghost use Rattle.resolve.specs.Resolves.{version_in};
 
+mod deciding;
+mod reaching;
+
+use crate::state::deciding::is_lock_for;
 use lists::Faithful;
 use pep440::Version;
 use pep508::{Environment, Name, ReqFile};
-use pylock::Lock;
+use pylock::{Entry, Lock};
 use std::alloc::{AllocError, Global};
 use std::collections::BTreeMap;
 use std::marker::Model;
@@ -43,6 +51,30 @@ impl Model for State {
     ghost view = { λ s. record { lines = s.lines; environment = s.environment; lock = s.lock } };
 
     ghost invariant = { λ s. IsHeld (record { lines = s.lines; environment = s.environment; lock = s.lock }) s.versions.entries };
+}
+
+/// Puts the version of the entry to the others, by its name.
+fn put(versions: &mut BTreeMap<Name, Version>, entry: &Entry) -> Result<(), AllocError>
+    ensures { OnOk result (versions.new.entries
+        ≡ insert_entry (slice_cmp nat_cmp) versions.old.entries entry.now.name entry.now.version) }
+{
+    let name = entry.name().clone()?;
+    let version = entry.version().clone()?;
+    versions.insert(name, version)?;
+    Ok(())
+}
+
+/// The versions of the entries, by their names.
+fn versions_of(alloc: Global, lock: &Lock) -> Result<BTreeMap<Name, Version>, AllocError>
+    ensures { IfOk result (λ versions. versions.entries ≡ versions_of lock.now.entries) }
+{
+    lock.is_lawful();
+    let entries = lock.entries();
+    let mut versions = BTreeMap::new(alloc);
+    for entry in entries {
+        put(&mut versions, entry)?;
+    }
+    Ok(versions)
 }
 
 impl State {
@@ -79,10 +111,15 @@ impl State {
         lock: Lock,
     ) -> Result<Option<State>, AllocError>
         ensures { IfOk result (λ made.
-            let parts = record { lines = lines; environment = environment; lock = lock } in
+            let parts : Content = record { lines = lines; environment = environment; lock = lock } in
             MatchOption made (IsState parts → ⊥) (λ state. state ≡ parts)) }
     {
-        Err(AllocError)
+        if !is_lock_for(alloc, &lines, &environment, &lock)? {
+            return Ok(None);
+        }
+        lines.is_lawful();
+        let versions = versions_of(alloc, &lock)?;
+        Ok(Some(State::from_lawful(lines, environment, lock, versions)))
     }
 
     /// The lines, the environment and the lock, each moved out of the state.

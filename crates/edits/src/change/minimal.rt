@@ -4,8 +4,10 @@ ghost use Rattle.std.specs.Prelude.{◌≡◌, ◌≢◌, ◌↔◌, ◌+◌, �
 ghost use Rattle.std.specs.List.{AllByRecursion};
 ghost use Rattle.std.specs.Option.{option_copied};
 ghost use Rattle.edits.specs.Changes.{AreEntryChanges, AreSplices, IsEntryChange, IsExchange, IsOn};
+ghost use Rattle.edits.specs.Tied.Ends.{DoRise};
 ghost use Rattle.pylock.specs.Order.{rises};
 
+use crate::change::ends::{ends_of, place_behind};
 use crate::change::parts::{DigestChange, EntryChange, Splice};
 use crate::same::Same;
 use lists::Text;
@@ -35,7 +37,7 @@ fn are_parts<T: Part>(parts: &[T]) -> bool
 
 /// Whether both are the same line, or neither is there.
 fn is_same_line(line: Option<&Text>, other: Option<&Text>) -> bool
-    ensures { IsTrue result ↔ (option_copied line ≡ option_copied other) }
+    ensures { IsTrue result ↔ (option_copied line.entry ≡ option_copied other.entry) }
 {
     match (line, other) {
         (Some(line), Some(other)) => line.is_same(other),
@@ -80,40 +82,18 @@ impl Named for EntryChange {
     }
 }
 
-/// The places behind a splice, in the old lines and in the new ones. A place above 2 ^ 64 - 1, behind
-/// which none can stand, is held as 2 ^ 64 - 1.
-#[derive(Clone, Copy)]
-struct Ends {
-    old: u64,
-    new: u64,
-}
-
-/// The places behind a splice whose new lines stand at this place.
-fn ends_of(splice: &Splice, place: u64) -> Ends {
-    Ends {
-        old: splice.place.saturating_add(splice.old.len() as u64),
-        new: place.saturating_add(splice.new.len() as u64),
-    }
-}
-
-/// The places behind the splice, where a kept line stands before it and its place in the new lines fits.
-fn ends_behind(ends: Ends, splice: &Splice) -> Option<Ends> {
-    if splice.place <= ends.old {
-        return None;
-    }
-    let place = ends.new.checked_add(splice.place - ends.old)?;
-    Some(ends_of(splice, place))
-}
-
 /// Whether the splices rise with a kept line between two, and each place fits, in the new lines too.
-fn do_rise(splices: &[Splice]) -> bool {
-    let [first, rest @ ..] = splices else {
+fn do_rise(splices: &[Splice]) -> bool
+    ensures { IsTrue result ↔ DoRise splices.now }
+{
+    let Some(first) = splices.first() else {
         return true;
     };
     let mut ends = ends_of(first, first.place);
-    for splice in rest {
-        match ends_behind(ends, splice) {
-            Some(next) => ends = next,
+    for place in 1..splices.len() {
+        let splice = &splices[place];
+        match place_behind(ends, splice) {
+            Some(moved) => ends = ends_of(splice, moved),
             None => return false,
         }
     }
