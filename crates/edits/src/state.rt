@@ -111,7 +111,8 @@ impl State {
         lock: Lock,
     ) -> Result<Option<State>, AllocError>
         ensures { IfOk result (λ made.
-            let parts : Content = record { lines = lines; environment = environment; lock = lock } in
+            let parts : Content =
+            record { lines = lines; environment = environment; lock = lock } in
             MatchOption made (IsState parts → ⊥) (λ state. state ≡ parts)) }
     {
         if !is_lock_for(alloc, &lines, &environment, &lock)? {
