@@ -1,7 +1,13 @@
 pub mod Additions
+pub mod Among
+pub mod BackFacts
+pub mod ChangeFacts
 pub mod ChangedLines
+pub mod DecideFacts
 pub mod EditFacts
+pub mod EndsFacts
 pub mod EntriesByName
+pub mod EntryFacts
 pub mod Gathering
 pub mod LawfulFiles
 pub mod LawfulNames
@@ -10,8 +16,11 @@ pub mod LockFacts
 pub mod Members
 pub mod NamesInOrder
 pub mod NamesRead
+pub mod PartFacts
+pub mod ReachFacts
 pub mod Refusals
 pub mod OneLock
 pub mod Released
 pub mod StateFacts
+pub mod VersionsFacts
 pub mod WorkedRows

@@ -166,11 +166,13 @@ IsState-from given lines state is active read lock released alike =
     let asked : requirements state.environment state.lines ≡ given.active = rw (is.environment, is.lines_are) (sym active) in
     record {
       lines = rw is.lines_are read;
-      lock = lock;
-      met = λ wanted there.
-          let m : (v : Parts) × (version_in (versions_of state.lock.entries) wanted.name ≡ Some v) × (admits given wanted v ≡ true) = solution.lines_met wanted (rw asked at there) in
-          rw is.environment (met-by given state.lock.entries alike is.lock.entries released wanted m.0 m.1 m.2);
-      closed = closed-by given state.lock.entries is.lock.entries solution;
-      reached = λ e there. rw asked (entry-reached given state.lock.entries is.lock.entries solution e there);
-      environment = is.lock.environment ∙ ap marker_text (sym is.environment);
+      lock = record {
+        lawful = lock;
+        met = λ wanted there.
+            let m : (v : Parts) × (version_in (versions_of state.lock.entries) wanted.name ≡ Some v) × (admits given wanted v ≡ true) = solution.lines_met wanted (rw asked at there) in
+            rw is.environment (met-by given state.lock.entries alike is.lock.entries released wanted m.0 m.1 m.2);
+        closed = closed-by given state.lock.entries is.lock.entries solution;
+        reached = λ e there. rw asked (entry-reached given state.lock.entries is.lock.entries solution e there);
+        named = is.lock.environment ∙ ap marker_text (sym is.environment);
+      };
     }

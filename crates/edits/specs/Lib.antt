@@ -5,7 +5,9 @@ pub mod Locking
 pub mod Dependencies
 pub mod Entries
 pub mod State
+pub mod Changes
 pub mod Naming
 pub mod Refused
 pub mod Edits
 pub mod Laws
+pub mod Tied

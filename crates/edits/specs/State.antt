@@ -11,7 +11,7 @@ use Rattle.pep440.specs.Version.{Parts}
 use Rattle.pep440.specs.declared.fault.Fault.{Fault}
 use Rattle.pep440.specs.declared.specifier.Clause.{Clause}
 use Rattle.pep508.specs.Requirement.{Wanted, file_of}
-use Rattle.pylock.specs.Locks.{IsLock}
+use Rattle.pylock.specs.Locks.{IsLock, Locked}
 use Rattle.pylock.specs.Packages.{Package}
 use Rattle.resolve.specs.Given.{requirements}
 use Rattle.edits.specs.Content.{Content}
@@ -48,15 +48,19 @@ pub data Reached (active : List Wanted) (entries : List Package) : List ℕ → 
 abbrev pub IsMet : Texts → List Package → Wanted → Type 0
 IsMet environment entries wanted = (e : Package) × Contains entries e × Meets environment wanted e
 
--- The lines joined read as these lines. The lock is one. Each active line is met by an entry, each name of a dependency is an
--- entry's, and each entry is reached from an active line. The lock names the state's environment; its digest is the state's.
+-- a lock is one for lines in an environment: it is lawful, each active line is met by an entry, each name of a dependency is an
+-- entry's, each entry is reached from an active line, and it names the environment
+pub record IsLockFor (lines : List (List ℕ)) (environment : Texts) (lock : Locked) : Type 0 where
+  pub lawful : IsLock lock
+  pub met : (wanted : Wanted) → Contains (requirements environment lines) wanted → IsMet environment lock.entries wanted
+  pub closed : (e : Package) (name : List ℕ) → Contains lock.entries e → Contains e.dependencies name → IsAnEntry lock.entries name
+  pub reached : (e : Package) → Contains lock.entries e → Reached (requirements environment lines) lock.entries e.name
+  pub named : lock.environment ≡ marker_text environment
+
+-- the lines joined read as these lines, and the lock is one for them in the environment; its digest is the state's
 pub record IsState (state : Content) : Type 0 where
   pub lines : file_of (concat state.lines) ≡ Ok state.lines
-  pub lock : IsLock state.lock
-  pub met : (wanted : Wanted) → Contains (requirements state.environment state.lines) wanted → IsMet state.environment state.lock.entries wanted
-  pub closed : (e : Package) (name : List ℕ) → Contains state.lock.entries e → Contains e.dependencies name → IsAnEntry state.lock.entries name
-  pub reached : (e : Package) → Contains state.lock.entries e → Reached (requirements state.environment state.lines) state.lock.entries e.name
-  pub environment : state.lock.environment ≡ marker_text state.environment
+  pub lock : IsLockFor state.lines state.environment state.lock
 
 -- a state with the versions of its lock, by their names
 pub record IsHeld (state : Content) (versions : List (List ℕ × Parts)) : Type 0 where

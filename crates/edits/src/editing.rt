@@ -45,7 +45,7 @@ fn with_lock<R: Resolver>(
         Answer::Solution(versions) => {
             let lock = lock_of(alloc, &problem, &environment, snapshot, &versions)?;
             lock.is_lawful();
-            Ok(State::new(lines, environment, lock, versions))
+            Ok(State::from_lawful(lines, environment, lock, versions))
         }
         Answer::NoSolution => Err(Refusal::NoSolution),
     }

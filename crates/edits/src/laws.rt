@@ -1,5 +1,6 @@
-//! Laws of locks, each the contract of a function that does nothing.
+//! Laws of locks and of changes, each the contract of a function that does nothing.
 
+ghost use Rattle.edits.specs.Changes.{AChangeCanBeTakenBack, BackAndBackIsTheChange};
 ghost use Rattle.edits.specs.Laws.{TheLockOfAProblemIsOne};
 
 use pep440::Version;
@@ -13,3 +14,14 @@ pub fn the_lock_of_a_problem_is_one()
 {
     the_best_solution_is_unique::<Name, Node, Version, Requirement>();
 }
+
+/// A minimal change that leads from one state to another can be taken back: its inverse is minimal, and
+/// leads from the second state to the first.
+pub fn a_change_can_be_taken_back()
+    ensures { AChangeCanBeTakenBack }
+{}
+
+/// The inverse of the inverse of a minimal change is the change.
+pub fn back_and_back_is_the_change()
+    ensures { BackAndBackIsTheChange }
+{}

@@ -2,6 +2,7 @@
 #![tactic(auto)]
 
 mod adding;
+mod change;
 mod constraining;
 mod dependencies;
 mod editing;
@@ -16,6 +17,7 @@ mod same;
 mod state;
 mod upgrading;
 
+pub use crate::change::{Change, DigestChange, EntryChange, Splice};
 pub use crate::editing::{edit, init};
 pub use crate::refusal::{Refusal, SavedFile};
 pub use crate::request::{Edit, Edited};

@@ -1,15 +1,24 @@
 // States.
 
-ghost use Rattle.std.specs.Prelude.{◌≡◌, IfOk};
+ghost use Rattle.std.specs.Prelude.{◌≡◌, IfOk, MatchOption, OnOk};
+ghost use Rattle.std.specs.BTreeMap.{insert_entry};
+ghost use Rattle.std.specs.Cmp.Lexicographic.{slice_cmp};
+ghost use Rattle.std.specs.Ordering.{nat_cmp};
 ghost use Rattle.std.specs.Option.{option_copied};
+ghost use Rattle.edits.specs.Content.{Content};
 ghost use Rattle.edits.specs.Locking.{versions_of};
 ghost use Rattle.edits.specs.State.{IsState};
 ghost use Rattle.resolve.specs.Resolves.{version_in};
 
+mod deciding;
+mod reaching;
+
+use crate::state::deciding::is_lock_for;
+use lists::Faithful;
 use pep440::Version;
 use pep508::{Environment, Name, ReqFile};
-use pylock::Lock;
-use std::alloc::AllocError;
+use pylock::{Entry, Lock};
+use std::alloc::{AllocError, Global};
 use std::collections::BTreeMap;
 use std::marker::Model;
 
@@ -44,9 +53,33 @@ impl Model for State {
     ghost invariant = { λ s. IsHeld (record { lines = s.lines; environment = s.environment; lock = s.lock }) s.versions.entries };
 }
 
+/// Puts the version of the entry to the others, by its name.
+fn put(versions: &mut BTreeMap<Name, Version>, entry: &Entry) -> Result<(), AllocError>
+    ensures { OnOk result (versions.new.entries
+        ≡ insert_entry (slice_cmp nat_cmp) versions.old.entries entry.now.name entry.now.version) }
+{
+    let name = entry.name().clone()?;
+    let version = entry.version().clone()?;
+    versions.insert(name, version)?;
+    Ok(())
+}
+
+/// The versions of the entries, by their names.
+fn versions_of(alloc: Global, lock: &Lock) -> Result<BTreeMap<Name, Version>, AllocError>
+    ensures { IfOk result (λ versions. versions.entries ≡ versions_of lock.now.entries) }
+{
+    lock.is_lawful();
+    let entries = lock.entries();
+    let mut versions = BTreeMap::new(alloc);
+    for entry in entries {
+        put(&mut versions, entry)?;
+    }
+    Ok(versions)
+}
+
 impl State {
-    /// The state of these parts. The versions are those of the lock.
-    pub(crate) fn new(
+    /// The state of these lawful parts. The versions are those of the lock.
+    pub(crate) fn from_lawful(
         lines: ReqFile,
         environment: Environment,
         lock: Lock,
@@ -66,6 +99,43 @@ impl State {
             lock,
             versions,
         }
+    }
+
+    /// The state of these parts; `None` where they make none: where an active line isn't met by an
+    /// entry, a name of a dependency isn't an entry's, an entry isn't reached from an active line, or the
+    /// lock names another environment.
+    pub fn new(
+        alloc: Global,
+        lines: ReqFile,
+        environment: Environment,
+        lock: Lock,
+    ) -> Result<Option<State>, AllocError>
+        ensures { IfOk result (λ made.
+            let parts : Content =
+            record { lines = lines; environment = environment; lock = lock } in
+            MatchOption made (IsState parts → ⊥) (λ state. state ≡ parts)) }
+    {
+        if !is_lock_for(alloc, &lines, &environment, &lock)? {
+            return Ok(None);
+        }
+        lines.is_lawful();
+        let versions = versions_of(alloc, &lock)?;
+        Ok(Some(State::from_lawful(lines, environment, lock, versions)))
+    }
+
+    /// The lines, the environment and the lock, each moved out of the state.
+    pub fn into_parts(self) -> (ReqFile, Environment, Lock)
+        ensures lines { result.0 ≡ self.lines }
+        ensures environment { result.1 ≡ self.environment }
+        ensures lock { result.2 ≡ self.lock }
+    {
+        let State {
+            lines,
+            environment,
+            lock,
+            versions: _,
+        } = self;
+        (lines, environment, lock)
     }
 
     /// The lines of the requirements file.
@@ -116,4 +186,25 @@ impl State {
     {
         let _lines = &self.lines;
     }
+}
+
+impl Clone for State {
+    ghost is_clone = { λ s t. t ≡ s };
+
+    fn clone(&self) -> Result<State, AllocError> {
+        let lines = self.lines.clone()?;
+        let environment = self.environment.clone()?;
+        let lock = self.lock.clone()?;
+        let versions = self.versions.clone()?;
+        Ok(State {
+            lines,
+            environment,
+            lock,
+            versions,
+        })
+    }
+}
+
+impl Faithful for State {
+    ghost clone_is_source = { λ x y h. h };
 }

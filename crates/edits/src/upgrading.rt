@@ -41,7 +41,7 @@ fn not_locked<'a>(state: &State, names: &'a [Name]) -> Option<&'a Name>
 }
 
 /// Whether the name is one of these.
-fn is_among(names: &[Name], name: &Name) -> bool
+pub(crate) fn is_among(names: &[Name], name: &Name) -> bool
     ensures { result ≡ list_any (bytes_eq name.now) names.now }
 {
     names.iter().any(|other| name.normal() == other.normal())

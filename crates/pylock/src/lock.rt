@@ -90,6 +90,20 @@ impl Lock {
         }
     }
 
+    /// The text of the environment, the digest of the index and the entries, each moved out of the lock.
+    pub fn into_parts(self) -> (Text, [u8; 32], Seq<Entry>)
+        ensures environment { result.0 ≡ self.environment }
+        ensures snapshot { result.1 ≡ self.snapshot }
+        ensures entries { result.2 ≡ self.entries }
+    {
+        let Lock {
+            environment,
+            snapshot,
+            entries,
+        } = self;
+        (environment, snapshot, entries)
+    }
+
     /// The text of the marker that holds in the environment of the lock.
     pub fn environment(&self) -> &str
         ensures { result.now ≡ self.now.environment }

@@ -4,8 +4,8 @@ use Rattle.edits.proofs.LockFacts.{IsLocked-from, IsNew-none}
 use Rattle.edits.proofs.StateFacts.{IsState-from}
 use Rattle.edits.proofs.editing.with_lock.Goals as goal
 
-pub new-requires-in-Solution-clause-lawful : goal.new-requires-in-Solution-clause-lawful
-new-requires-in-Solution-clause-lawful g c =
+pub from_lawful-requires-clause-lawful : goal.from_lawful-requires-clause-lawful
+from_lawful-requires-clause-lawful g c =
     let given = given_of c.args.lines c.args.environment c.args.snapshot.now c.args.kept.entries in
     let problem = c.in_ok-problem.ensures in
     let best = rw problem at (rw c.in-Solution.is at c.in_ok-versions.ensures) in
@@ -20,5 +20,5 @@ returns-in_ok-lock-in-Solution-clause-ok g c =
     let problem = c.in_ok-problem.ensures in
     let best = rw problem at (rw c.in-Solution.is at c.in_ok-versions.ensures) in
     let made = c.in_ok-lock-in-Solution.ensures in
-    rw c.new-in-Solution.ensures
+    rw c.from_lawful.ensures
     (IsLocked-from given c.args.lines c.in-Solution.versions.entries c.in_ok-lock-in-Solution.lock best (rw problem at made.entries) made.environment made.snapshot, IsNew-none _)

@@ -1,0 +1,189 @@
+// Whether a lock is one for lines in an environment.
+
+ghost use Rattle.std.specs.Prelude.{◌≡◌, ◌↔◌, IfOk, IsTrue, true};
+ghost use Rattle.std.specs.List.{AllByRecursion};
+ghost use Rattle.std.specs.Option.{option_copied, option_map_or};
+ghost use Rattle.edits.specs.Changes.{entry_on};
+ghost use Rattle.edits.specs.State.{IsAnEntry, IsLockFor, IsMet, Meets, has_python};
+ghost use Rattle.edits.specs.Tied.Deciding.{IsClosed, IsLineMet};
+ghost use Rattle.markers.specs.Environment.{marker_text};
+ghost use Rattle.pylock.specs.Locks.{are_entries};
+
+use crate::state::reaching::are_reached;
+use lists::Text;
+use pep440::SpecifierSet;
+use pep508::{Environment, Line, Name, ReqFile, Requirement};
+use pylock::{Entry, Lock};
+use std::alloc::{AllocError, Global};
+
+/// The entry of the name, if there is one.
+pub(crate) fn entry_on<'a>(entries: &'a [Entry], name: &Name) -> Option<&'a Entry>
+    ensures { option_copied result ≡ entry_on entries.now name.now }
+{
+    entries
+        .iter()
+        .find(|entry| name.normal() == entry.name().normal())
+}
+
+/// Whether the specifiers that the text is have the full version of the environment's Python.
+fn has_python(alloc: Global, environment: &Environment, text: &Text) -> Result<bool, AllocError>
+    ensures { IfOk result (λ has. has ≡ has_python environment.now text.now) }
+{
+    match SpecifierSet::parse(alloc, text.as_str()) {
+        Ok(set) => Ok(set.matches(environment.full_version())),
+        Err(pep440::Fault::OutOfMemory) => Err(AllocError),
+        Err(_) => Ok(false),
+    }
+}
+
+/// The same of specifiers that may be there.
+fn runs(alloc: Global, environment: &Environment, python: &Option<Text>) -> Result<bool, AllocError>
+    ensures { IfOk result
+        (λ runs. runs ≡ option_map_or (has_python environment.now) python.now true) }
+{
+    match python {
+        Some(text) => has_python(alloc, environment, text),
+        None => Ok(true),
+    }
+}
+
+/// Whether the entry of the requirement's name meets it.
+fn meets(
+    alloc: Global,
+    environment: &Environment,
+    requirement: &Requirement,
+    entry: &Entry,
+) -> Result<bool, AllocError>
+    requires { entry.now.name ≡ requirement.now.name }
+    ensures { IfOk result
+        (λ met. IsTrue met ↔ Meets environment.now requirement.now entry.now) }
+{
+    if !requirement.specifiers().matches(entry.version()) {
+        return Ok(false);
+    }
+    runs(alloc, environment, entry.requires_python())
+}
+
+/// Whether an entry meets the requirement.
+fn is_met(
+    alloc: Global,
+    environment: &Environment,
+    entries: &[Entry],
+    requirement: &Requirement,
+) -> Result<bool, AllocError>
+    requires { are_entries entries.now ≡ true }
+    ensures { IfOk result
+        (λ met. IsTrue met ↔ IsMet environment.now entries.now requirement.now) }
+{
+    match entry_on(entries, requirement.name()) {
+        Some(entry) => meets(alloc, environment, requirement, entry),
+        None => Ok(false),
+    }
+}
+
+/// Whether an entry meets what the line asks for, where it is active.
+fn is_line_met(
+    alloc: Global,
+    environment: &Environment,
+    entries: &[Entry],
+    line: &Line,
+) -> Result<bool, AllocError>
+    requires { are_entries entries.now ≡ true }
+    ensures { IfOk result
+        (λ met. IsTrue met ↔ IsLineMet environment.now entries.now line.now) }
+{
+    match line.requirement() {
+        Some(requirement) if requirement.is_active(environment) => {
+            is_met(alloc, environment, entries, requirement)
+        }
+        _ => Ok(true),
+    }
+}
+
+/// Whether entries meet what the active ones of the lines ask for.
+fn are_lines_met(
+    alloc: Global,
+    environment: &Environment,
+    entries: &[Entry],
+    lines: &[Line],
+) -> Result<bool, AllocError>
+    requires { are_entries entries.now ≡ true }
+    ensures { IfOk result
+        (λ met. IsTrue met ↔ AllByRecursion (IsLineMet environment.now entries.now) lines.now) }
+{
+    for line in lines {
+        if !is_line_met(alloc, environment, entries, line)? {
+            return Ok(false);
+        }
+    }
+    Ok(true)
+}
+
+/// Whether there is an entry of the name.
+fn is_an_entry(entries: &[Entry], name: &Name) -> bool
+    requires { are_entries entries.now ≡ true }
+    ensures { IsTrue result ↔ IsAnEntry entries.now name.now }
+{
+    match entry_on(entries, name) {
+        Some(_) => true,
+        None => false,
+    }
+}
+
+/// Whether there are entries of the names.
+fn are_on_entries(entries: &[Entry], names: &[Name]) -> bool
+    requires { are_entries entries.now ≡ true }
+    ensures { IsTrue result ↔ AllByRecursion (IsAnEntry entries.now) names.now }
+{
+    for name in names {
+        if !is_an_entry(entries, name) {
+            return false;
+        }
+    }
+    true
+}
+
+/// Whether there are entries of what each of these entries depends on.
+fn are_closed(entries: &[Entry], some: &[Entry]) -> bool
+    requires { are_entries entries.now ≡ true }
+    ensures { IsTrue result ↔ AllByRecursion (IsClosed entries.now) some.now }
+{
+    for entry in some {
+        if !are_on_entries(entries, entry.dependencies()) {
+            return false;
+        }
+    }
+    true
+}
+
+/// Whether the lock names the environment.
+fn is_named(alloc: Global, environment: &Environment, lock: &Lock) -> Result<bool, AllocError>
+    ensures { IfOk result
+        (λ named. IsTrue named ↔ (lock.now.environment ≡ marker_text environment.now)) }
+{
+    let text = environment.marker_text(alloc)?;
+    Ok(lock.environment() == text.as_str())
+}
+
+/// Whether the lock is one for the lines in the environment.
+pub(crate) fn is_lock_for(
+    alloc: Global,
+    lines: &ReqFile,
+    environment: &Environment,
+    lock: &Lock,
+) -> Result<bool, AllocError>
+    ensures { IfOk result (λ is. IsTrue is ↔ IsLockFor lines.now environment.now lock.now) }
+{
+    lock.is_lawful();
+    let entries = lock.entries();
+    if !is_named(alloc, environment, lock)? {
+        return Ok(false);
+    }
+    if !are_closed(entries, entries) {
+        return Ok(false);
+    }
+    if !are_lines_met(alloc, environment, entries, lines.lines())? {
+        return Ok(false);
+    }
+    are_reached(alloc, environment, lines.lines(), entries)
+}
