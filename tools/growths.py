@@ -11,7 +11,7 @@ which meets none. The count begins where main does, or behind the write of TEXT.
 
 It needs a C compiler (`cc`, or the one that CC names) and glibc: refuse_growth.c beside
 it is preloaded. The status is 0; or 1 where a run doesn't end in time; or 2 where the
-words are no request or the C file can't be compiled.
+words are no request, or the C file can't be compiled or COMMAND not be run.
 """
 
 import argparse
@@ -142,16 +142,17 @@ def main(arguments):
     options = request_of(arguments)
     command = options.command[options.command[0] == "--" :]
     command[0] = os.path.abspath(shutil.which(command[0]) or command[0])
-    data = Path(options.input).read_bytes() if options.input else b""
     if not compiler():
         print("growths.py: there is no C compiler", file=sys.stderr)
         return 2
-    with tempfile.TemporaryDirectory() as folder:
-        try:
-            library = compiled(folder)
-        except subprocess.CalledProcessError:
-            return 2
-        return 0 if show(runs(command, library, data=data, mark=options.mark, folder=options.folder)) else 1
+    try:
+        data = Path(options.input).read_bytes() if options.input else b""
+        with tempfile.TemporaryDirectory() as folder:
+            all_runs = runs(command, compiled(folder), data=data, mark=options.mark, folder=options.folder)
+            return 0 if show(all_runs) else 1
+    except (OSError, subprocess.CalledProcessError) as fault:
+        print(f"growths.py: {fault}", file=sys.stderr)
+        return 2
 
 
 if __name__ == "__main__":

@@ -127,9 +127,11 @@ class Growths(unittest.TestCase):
 
 
 class Request(unittest.TestCase):
-    def test_wants_a_command(self):
-        done = subprocess.run([sys.executable, "-B", TOOLS / "growths.py"], capture_output=True, check=False)
-        self.assertEqual(done.returncode, 2)
+    def test_wants_a_command_that_runs(self):
+        for words in [], ["./absent"], ["--input", "absent", "true"]:
+            command = [sys.executable, "-B", TOOLS / "growths.py", *words]
+            done = subprocess.run(command, capture_output=True, check=False)
+            self.assertEqual((done.returncode, done.stdout), (2, b""))
 
 
 if __name__ == "__main__":
