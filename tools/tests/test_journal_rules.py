@@ -91,7 +91,9 @@ class Opening(Example):
         self.check(("ok", 1, 1), journal=head.replace(b'{"cursor":1', b'{"cursor":7,"cursor":1') + line)
         self.check(("ok", 1, 1), journal=head.replace(b"linux", b"\\u006cinux") + line)
         self.check((BROKEN, 1), journal=head.replace(b"linux", b"\\ud800") + line)
-        self.check((BROKEN, 1), journal=head.replace(b'{"cursor":1', b'{"x":NaN,"cursor":1') + line)
+        for value in b"NaN", b'"\\udfff"', b"01", b"1.":
+            self.check((BROKEN, 1), journal=head.replace(b'{"cursor":1', b'{"cursor":%b,"cursor":1' % value) + line)
+        self.check((BROKEN, 1), journal=head.replace(b'{"cursor":1', b'{"cursor":-0') + line)
         self.check((BROKEN, 1), journal=b"\xef\xbb\xbf" + head + line)
         self.check((BROKEN, 1), journal=b"[" * 100_000 + b"\n")
 
@@ -116,6 +118,22 @@ class Opening(Example):
             with self.subTest(new=new):
                 self.assertNotEqual(self.lock, lock)
                 self.check((DISAGREE, LOCK))
+
+    def test_of_locks_whose_parts_are_not_in_order(self):
+        one, other = entry("c", "1")["wheels"] + entry("d", "1")["wheels"]
+        sdist = {**one, "name": "c-1.tar.gz"}
+        for part, is_lawful in (
+            ({"dependencies": ["a", "b-b"]}, True), ({"dependencies": ["b-b", "a"]}, False), ({"dependencies": ["a", "a"]}, False),
+            ({"wheels": [one, other]}, True), ({"wheels": [other, one]}, False), ({"wheels": [one, one]}, False),
+            ({"sdist": sdist}, True), ({"sdist": sdist, "wheels": []}, True), ({"sdist": one}, False), ({"wheels": [sdist]}, False),
+        ):
+            self.steps, self.cursor = [], 0
+            self.lock = lock_text(E1, {**ENTRIES, "c": {**entry("c", "1"), **part}})
+            self.check(("ok", 0, 0) if is_lawful else (DISAGREE, LOCK))
+        names = {b'name = "a"': b'name = "c"', b'name = "c"': b'name = "a"'}
+        lines = lock_text(E1, {**ENTRIES, "c": entry("c", "1")}).splitlines()
+        self.lock = b"\n".join(names.get(line, line) for line in lines)
+        self.check((DISAGREE, LOCK))
 
     def test_of_locks_that_are_not_of_the_state(self):
         entries = {**ENTRIES, "c": entry("c", "1")}
@@ -147,6 +165,11 @@ class Steps(Example):
             self.check((BROKEN, 2))
         self.steps = [{**ADDED, "snapshot": [ZEROS, ONES]}]
         self.check((BROKEN, 2))
+        self.cursor = 0
+        for steps in (step([[6, [], ["# x"]]]), step([], [["d", entry("d", "1"), None]])):
+            self.steps = [steps]
+            self.check((BROKEN, 2))
+        self.cursor = 1
         self.steps = [{**ADDED, "snapshot": [ONES, ZEROS]}]
         self.check(("ok", 1, 1))
 
@@ -171,10 +194,8 @@ class Steps(Example):
 
     def test_through_a_state_that_is_none(self):
         self.requirements, self.lock = b"a\n", lock_text(E1, {"a": entry("a", "1")})
-        odd = [[0, ["a\n"], ["-r b\n"]]]
-        cut = [[0, ["a\n"], ["a"]], [2, [], ["b\n"]]]
-        for splices in odd, cut, [[1, [], ["z\n"]]], [[1, [], ["a\n", ""]]], [[1, [], ["a\na\n"]]]:
-            self.steps, self.cursor = [step(splices)], 0
+        for lines in ["-r b\n"], ["a"], ["z\n"], ["a\n", ""], ["a\na\n"]:
+            self.steps, self.cursor = [step([[0, [], lines]])], 0
             self.check((BROKEN, 2))
         self.steps, self.cursor = [step(), step([], [["a", entry("a", "2"), entry("a", "1")]]), step()], 3
         self.check(("ok", 3, 3))
