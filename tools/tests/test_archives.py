@@ -113,6 +113,12 @@ class Agreement(Archives):
             release, _ = self.release({})
             self.assertEqual((release["requires_dist"], len(release["files"])), (["b"], 2))
 
+    def test_compares_no_python_that_an_sdist_leaves_to_its_build(self):
+        wheel(self.folder, "a", "1", python=">=3.8")
+        sdist(self.folder, "a", "1", dynamic="Requires-Python", python=">=3")
+        release, lines = self.release({})
+        self.assertEqual((release["requires_python"], len(release["files"]), lines), (">=3.8", 2, []))
+
     def test_leaves_out_an_sdist_alone_that_does_not_tell(self):
         sdist(self.folder, "a", "1", "b", metadata="2.1")
         sdist(self.folder, "a", "2", dynamic="Requires-Dist")
@@ -140,7 +146,7 @@ class Refusals(Archives):
     def test_of_broken_archives(self):
         for path in wheel(self.folder, "a", "1"), sdist(self.folder, "a", "1"), sdist(self.folder, "a", "1", end=".zip"):
             data = path.read_bytes()
-            altered = bytes([*data[:50], data[50] ^ 1, *data[51:]])
+            altered = bytes([*data[:40], data[40] ^ 1, *data[41:]])
             for broken in b"", b"no archive", data[: len(data) // 2], data[:-5], altered:
                 path.write_bytes(broken)
                 with self.subTest(path=path.name, size=len(broken)):

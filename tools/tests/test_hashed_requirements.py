@@ -76,6 +76,9 @@ class HashedRequirements(unittest.TestCase):
 
     def test_prints_the_packages_in_the_form_of_pip(self):
         self.assertEqual(self.run_on(LOCK), (0, spelled(WANTED), ""))
+        begin, *packages = LOCK.removesuffix(end := "\n[tool.reqlock]\nsnapshot = \"0\"\n").split("[[packages]]")
+        other = "[[packages]]".join([begin, *reversed(packages)]) + end
+        self.assertEqual(self.run_on(other), (0, spelled(WANTED), ""))
 
     def test_prints_nothing_of_a_lock_without_packages(self):
         self.assertEqual(self.run_on('lock-version = "1.0"\npackages = []\n'), (0, "", ""))
