@@ -57,11 +57,15 @@ class Rules(unittest.TestCase):
             self.assertEqual(opens(*files(cursor)), ("ok", cursor, 3))
 
 
-def knows_check():
-    return PROGRAM.exists() and subprocess.run([PROGRAM, "check", "--help"], capture_output=True, check=False).returncode == 0
+def knows(subcommand):
+    return PROGRAM.exists() and subprocess.run([PROGRAM, subcommand, "--help"], capture_output=True, check=False).returncode == 0
 
 
-@unittest.skipUnless(knows_check(), "the program isn't built, or doesn't know check")
+# (`show` opens the files as `check` does, and prints the lock)
+SUBCOMMAND = next(filter(knows, ("check", "show")), None)
+
+
+@unittest.skipIf(SUBCOMMAND is None, "the program isn't built, or knows neither check nor show")
 class Program(unittest.TestCase):
     def setUp(self):
         folder = tempfile.TemporaryDirectory()
@@ -73,9 +77,12 @@ class Program(unittest.TestCase):
         for name, data in zip(NAMES, given):
             (self.folder / name).write_bytes(data)
         done = subprocess.run(
-            [PROGRAM, "--dir", self.folder, "check"], capture_output=True, encoding="utf-8", check=False
+            [PROGRAM, "--dir", self.folder, SUBCOMMAND], capture_output=True, encoding="utf-8", check=False
         )
-        self.assertEqual((done.returncode, done.stdout, done.stderr), answer(*opens(*given)), text)
+        status, output, errors = answer(*opens(*given))
+        self.assertEqual((done.returncode, done.stderr), (status, errors), text)
+        if SUBCOMMAND == "check" or status != 0:
+            self.assertEqual(done.stdout, output, text)
         self.assertEqual(tuple((self.folder / name).read_bytes() for name in NAMES), given, text)
 
     def test_opens_at_each_place(self):

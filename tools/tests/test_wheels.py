@@ -124,14 +124,15 @@ class Wheels(unittest.TestCase):
         self.assertIn("DO NOT MATCH THE HASHES", output)
 
     def test_the_job_that_checks(self):
-        if not knows("check"):
-            self.skipTest("the program doesn't know check")
+        lines = [line.removeprefix("  - run: ") for line in self.job.splitlines()[1:]]
+        subcommand = lines[0].removeprefix("reqlock ")
+        if not knows(subcommand):
+            self.skipTest(f"the program doesn't know {subcommand}")
         make_wheels(self.folder / "wheels")
         self.check_runs(self.begin, "ok 0", "ok 1")
-        lines = [line.removeprefix("  - run: ") for line in self.job.splitlines()[1:]]
         job = "\n".join(lines) + " --target site\n"
         stands = {path: path.read_bytes() for path in self.folder.glob("*") if path.is_file()}
-        self.check_runs(job, "ok 1")
+        self.check_runs(job, *["ok 1"][: subcommand == "check"])
         self.assertEqual({path: path.read_bytes() for path in stands}, stands)
         for name in "requirements.txt", "pylock.toml":
             (self.folder / name).write_bytes(stands[self.folder / name] + b"# by hand\n")
