@@ -17,7 +17,8 @@ These files in FOLDER and the folders below it are read. Others are passed over.
 The body of /pypi/NAME/json lists the files of all releases, and tells the dependencies
 of one. The others need bodies of their own: a release with files whose dependencies no
 document tells is left out, and named on standard error. So is a release whose archives
-ask for different things. A release that has archives is made of these alone.
+ask for different things. A release that has archives is made of these alone; only
+whether it is yanked is taken from documents.
 
 Nothing is fetched, unless --fetch gives the base URL. Then BASE_URL/NAME/json and each
 BASE_URL/NAME/VERSION/json that FOLDER hasn't yet are saved in it first.
@@ -125,11 +126,15 @@ def refuse_other_digests(release, files, path):
 
 
 def put_archives(archived, own, listed):
-    """Puts the releases of archives in place of what documents tell of them, and leaves out those that disagree."""
+    """Puts the releases of archives in place of what documents tell of them, save whether they are yanked, and leaves out those
+    that disagree."""
     for release in archived:
-        refuse_other_digests(release, *listed.pop(release.version, ([], "")))
+        files, path = listed.pop(release.version, ([], ""))
+        refuse_other_digests(release, files, path)
+        release.yanked = files != [] and all(file.yanked for file in files)
         if document := own.pop(release.version, None):
             refuse_other_digests(release, document.files, document.path)
+            release.yanked = release.yanked or document.yanked
         if not release.is_left_out:
             own[release.version] = release
 

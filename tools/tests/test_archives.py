@@ -136,6 +136,17 @@ class Agreement(Archives):
         releases = {it["version"]: (it["requires_dist"], len(it["files"])) for it in packages[0]["releases"]}
         self.assertEqual(releases, {"1": (["b"], 1), "2": ([], 1)})
 
+    def test_asks_documents_whether_a_release_is_yanked(self):
+        for version in "12345":
+            wheel(self.folder, "a", version)
+        listed = {
+            "1": [file("a-1.zip", yanked=True)], "2": [file("x", yanked=True), file("y")], "3": [], "4": [file(yanked=False)],
+        }
+        self.write({"a.json": body("4", releases=listed), "5.json": body("5", yanked=True), "3.json": body("3", [file()])})
+        packages, _ = self.made({})
+        yanked = {it["version"] for it in packages[0]["releases"] if it["yanked"]}
+        self.assertEqual(yanked, {"1", "5"})
+
     def test_refuses_a_document_with_another_digest(self):
         wheel(self.folder, "a", "1")
         documents = {"a.json": body(urls=[file("a-1-py3-none-any.whl")])}
