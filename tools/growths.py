@@ -15,6 +15,7 @@ words are no request, or the C file can't be compiled or COMMAND not be run.
 """
 
 import argparse
+import itertools
 import os
 import shlex
 import shutil
@@ -29,11 +30,13 @@ SOURCE = Path(__file__).resolve().parent / "refuse_growth.c"
 
 @dataclass
 class Run:
-    """How a run ended. `refused` is the call that was refused, as `malloc 64`, or None where none was; `files` has what
-    the files of its folder hold, by their paths in it. The status is that of Python's subprocess, None where there is none."""
+    """How a run ended. `refused` is the call that was refused, as `malloc 64`, or None where none was; `growths` counts all, or
+    is None where the program didn't end by exit; `files` has what the files of its folder hold, by their paths in it. The status
+    is that of Python's subprocess, None where there is none."""
 
     number: int = field(compare=False)
     refused: str | None = field(compare=False)
+    growths: int | None = field(compare=False)
     status: int | None
     output: bytes
     errors: bytes
@@ -79,15 +82,20 @@ def run_once(command, library, number, data=b"", mark=None, folder=None, seconds
         except subprocess.TimeoutExpired as ended:
             status, output, errors = None, ended.stdout or b"", ended.stderr or b""
         report.seek(0)
-        refused = report.read().decode().strip() or None
-        return Run(number, refused, status, output, errors, files_in(place))
+        return Run(number, *read_report(report.read().decode()), status, output, errors, files_in(place))
+
+
+def read_report(text):
+    """The call that was refused and the count of all growths."""
+    lines = text.splitlines()
+    counts = [int(line.removeprefix("growths ")) for line in lines if line.startswith("growths ")]
+    refused = [line for line in lines if not line.startswith("growths ")]
+    return next(iter(refused), None), next(iter(counts), None)
 
 
 def runs(command, library, **others):
     """The runs with the first growth refused, the second, and so on. The last one is the first that meets none."""
-    number = 0
-    while True:
-        number += 1
+    for number in itertools.count(1):
         run = run_once(command, library, number, **others)
         yield run
         if run.refused is None:

@@ -2,7 +2,8 @@
    tools/growths.py; it needs glibc.
 
    REFUSE_GROWTH         which growth is refused, counted from 1
-   REFUSE_GROWTH_REPORT  the descriptor on which the refusal is told, in one line: "malloc 64"
+   REFUSE_GROWTH_REPORT  the descriptor on which the refusal is told, in one line: "malloc 64"; and where the program ends by
+                         exit, the count of all growths, in another: "growths 121"
    REFUSE_GROWTH_MARK    counting begins behind a write whose bytes begin with this text; without it, where main begins
 
    A growth is a malloc, a calloc, a realloc to more than the block holds, or one of their aligned kin. The program finds
@@ -34,12 +35,16 @@ static char mark[256];
 static atomic_int is_counting;
 static atomic_long growths;
 
+static void tell(const char *word, size_t number) {
+    char line[64];
+    int length = snprintf(line, sizeof line, "%s %zu\n", word, number);
+    syscall(SYS_write, report, line, (size_t)length);
+}
+
 static int is_refused(const char *call, size_t size) {
     if (!atomic_load(&is_counting) || atomic_fetch_add(&growths, 1) + 1 != refused_growth)
         return 0;
-    char line[64];
-    int length = snprintf(line, sizeof line, "%s %zu\n", call, size);
-    syscall(SYS_write, report, line, (size_t)length);
+    tell(call, size);
     errno = ENOMEM;
     return 1;
 }
@@ -95,6 +100,11 @@ static int counted_main(int count, char **words, char **variables) {
         snprintf(mark, sizeof mark, "%s", text);
     atomic_store(&is_counting, text == NULL);
     return program(count, words, variables);
+}
+
+__attribute__((destructor)) static void tell_count(void) {
+    if (program != NULL)
+        tell("growths", (size_t)atomic_load(&growths));
 }
 
 int __libc_start_main(main_function *function, int count, char **words, void (*init)(void), void (*fini)(void),

@@ -78,6 +78,7 @@ class Growths(unittest.TestCase):
         outputs = [b"malloc\nbegin\n", *(b"begin\n" + word for word in (b"calloc\n", b"realloc\n", b"aligned\n", b"posix\n"))]
         self.assertEqual([run.output for run in found], [*outputs, b"begin\n"])
         self.assertEqual([run.status for run in found], [1, 1, 1, 1, 1, 0])
+        self.assertEqual([run.growths for run in found], [5] * 6)
 
     def test_counts_behind_the_mark(self):
         found = list(growths.runs([self.program], self.library, mark="begin\n"))
@@ -115,7 +116,7 @@ class Growths(unittest.TestCase):
 
     def test_tells_runs_that_show_the_same_together(self):
         def run(number, refused, status):
-            return growths.Run(number, refused, status, b"a\nb\n", b"", {})
+            return growths.Run(number, refused, None, status, b"a\nb\n", b"", {})
 
         found = [run(1, "malloc 1", 5), run(2, "malloc 2", 5), run(3, "malloc 1", 0), run(4, None, 0)]
         lines = []
