@@ -35,9 +35,11 @@ class Archive:
 
 @dataclass
 class ArchivedRelease(Document):
-    """A release that its archives tell of. It is left out where they disagree."""
+    """A release that its archives tell of. It is left out where they disagree; `assumed` are the dependencies that are listed
+    where it isn't told that these are all."""
 
     is_left_out: bool = field(compare=False)
+    assumed: list[str] = field(compare=False)
 
 
 def normal(name):
@@ -184,9 +186,8 @@ def difference(one, other):
     return "; ".join(found)
 
 
-def release_of_archives(archives, assume_none, say):
-    """The release of archives, wheels first. An archive that doesn't tell its dependencies is one more file of it; where
-    none tells them, they are not known, save where none are to be assumed besides those that it lists."""
+def release_of_archives(archives, say):
+    """The release of archives, wheels first. An archive that doesn't tell its dependencies is one more file of it."""
     telling = [archive for archive in archives if archive.tells_dependencies]
     first = telling[0] if telling else archives[0]
     differences = [(other.told, difference(first, other)) for other in telling[1:]]
@@ -197,17 +198,18 @@ def release_of_archives(archives, assume_none, say):
     return ArchivedRelease(
         **{
             **vars(first.told),
-            "requires_dist": first.told.requires_dist if telling or assume_none else None,
+            "requires_dist": first.told.requires_dist if telling else None,
             "files": [archive.told.files[0] for archive in archives],
         },
         is_left_out=any(text for _, text in differences),
+        assumed=first.told.requires_dist,
     )
 
 
-def releases_of(archives, assume_none, say):
+def releases_of(archives, say):
     """The releases that archives tell of."""
     by_release = {}
     for archive in sorted(archives, key=lambda archive: not archive.is_wheel):
         key = normal(archive.told.name), version_key(archive.told.version)
         by_release.setdefault(key, []).append(archive)
-    return [release_of_archives(of_one, assume_none, say) for of_one in by_release.values()]
+    return [release_of_archives(of_one, say) for of_one in by_release.values()]

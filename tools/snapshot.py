@@ -17,8 +17,8 @@ These files in FOLDER and the folders below it are read. Others are passed over.
 The body of /pypi/NAME/json lists the files of all releases, and tells the dependencies
 of one. The others need bodies of their own: a release with files whose dependencies no
 document tells is left out, and named on standard error. So is a release whose archives
-ask for different things. A release that has archives is made of these alone; only
-whether it is yanked is taken from documents.
+ask for different things. A release that has archives is made of these; documents are
+asked whether it is yanked, and for its dependencies where no archive tells them.
 
 Nothing is fetched, unless --fetch gives the base URL. Then BASE_URL/NAME/json and each
 BASE_URL/NAME/VERSION/json that FOLDER hasn't yet are saved in it first.
@@ -125,9 +125,9 @@ def refuse_other_digests(release, files, path):
             raise Refusal(f"{path}: it tells another sha256 of {file.name} than {release.path} has")
 
 
-def put_archives(archived, own, listed):
-    """Puts the releases of archives in place of what documents tell of them, save whether they are yanked, and leaves out those
-    that disagree."""
+def put_archives(archived, own, listed, assume_none):
+    """Puts the releases of archives in place of what documents tell of them, and leaves out those that disagree. Documents are
+    asked whether a release is yanked, and for its dependencies where no archive tells them."""
     for release in archived:
         files, path = listed.pop(release.version, ([], ""))
         refuse_other_digests(release, files, path)
@@ -135,6 +135,10 @@ def put_archives(archived, own, listed):
         if document := own.pop(release.version, None):
             refuse_other_digests(release, document.files, document.path)
             release.yanked = release.yanked or document.yanked
+            if release.requires_dist is None and document.requires_dist is not None:
+                release.requires_python, release.requires_dist = document.requires_python, document.requires_dist
+        if release.requires_dist is None and assume_none:
+            release.requires_dist = release.assumed
         if not release.is_left_out:
             own[release.version] = release
 
@@ -144,7 +148,7 @@ def package_of(documents, assume_none):
     archived = [document for document in documents if isinstance(document, ArchivedRelease)]
     others = [document for document in documents if not isinstance(document, ArchivedRelease)]
     name, own, listed = documents[0].name, own_documents(others), listed_files(others)
-    put_archives(archived, own, listed)
+    put_archives(archived, own, listed, assume_none)
     releases, unknown = [], {}
     for version in dict.fromkeys([*listed, *own]):
         files, path = listed.get(version) or (own[version].files, own[version].path)
@@ -257,7 +261,7 @@ def make(options):
     if not paths and not documents:
         raise Refusal(f"{options.folder}: no archive and no document is in it")
     archives = [read_archive(path, url_of(path, options)) for path in counted(paths)]
-    documents += releases_of(archives, options.assume_no_dependencies, say)
+    documents += releases_of(archives, say)
     packages = packages_of(documents, options.assume_no_dependencies)
     say_absent(packages)
     data = snapshot_text(packages).encode()

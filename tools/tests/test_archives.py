@@ -128,6 +128,14 @@ class Agreement(Archives):
         packages, _ = self.made({}, "--assume-no-dependencies")
         self.assertEqual([it["requires_dist"] for it in packages[0]["releases"]], [["b"], [], []])
 
+    def test_asks_a_document_for_dependencies_that_no_archive_tells(self):
+        sdist(self.folder, "a", "1", "b", metadata="2.1", python=">=2")
+        self.write({"a.json": body("1", urls=[file("x")], requires_dist=["c"], requires_python=">=3")})
+        for words in [], ["--assume-no-dependencies"]:
+            release, _ = self.release({}, *words)
+            self.assertEqual((release["requires_dist"], release["requires_python"]), (["c"], ">=3"))
+            self.assertEqual([it["name"] for it in release["files"]], ["a-1.tar.gz"])
+
     def test_takes_a_release_that_has_archives_from_these_alone(self):
         wheel(self.folder, "a", "1", "b")
         listed = {"1": [file("a-1.zip")], "2": [file("a-2.zip")]}
