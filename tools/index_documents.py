@@ -101,13 +101,16 @@ def is_name(text):
     return re.fullmatch("[A-Za-z0-9]([A-Za-z0-9._-]*[A-Za-z0-9])?", text) is not None
 
 
-def read_text(path):
-    with open(path, "rb") as file:
-        data = file.read()
+def decoded(path, data):
     try:
         return data.decode("utf-8-sig")
     except UnicodeDecodeError as error:
         raise Refusal(f"{path}: not UTF-8: {error}") from None
+
+
+def read_text(path):
+    with open(path, "rb") as file:
+        return decoded(path, file.read())
 
 
 def read_json(path):
@@ -156,42 +159,50 @@ def read_api_body(path):
     )
 
 
-def read_headers(path):
-    """A function from a header's name to its values, each on one line."""
-    message = HeaderParser().parsestr(read_text(path))
+def headers_of(path, text):
+    """A function from a header's name to its values, each on one line. The headers that snapshot.py reads are there as
+    often as they may be."""
+    message = HeaderParser().parsestr(text)
     if message.defects:
         raise Refusal(f"{path}: a line among the headers is neither a header nor the continuation of one")
+    for header, fewest in ("Name", 1), ("Version", 1), ("Requires-Python", 0):
+        count = len(message.get_all(header, []))
+        if not fewest <= count <= 1:
+            raise Refusal(f"{path}: {header} stands {count} times")
     return lambda name: [re.sub(r"\s*[\r\n]+\s*", " ", value).strip() for value in message.get_all(name, [])]
 
 
-def read_metadata(path):
-    """A METADATA or PKG-INFO with the list of files beside it."""
-    headers = read_headers(path)
-    for header, fewest in ("Name", 1), ("Version", 1), ("Requires-Python", 0):
-        if not fewest <= len(headers(header)) <= 1:
-            raise Refusal(f"{path}: {header} stands {len(headers(header))} times")
-    files = os.path.join(os.path.dirname(path), FILE_LIST)
-    if not os.path.exists(files):
-        raise Refusal(f"{path}: no {FILE_LIST} is beside it")
+def told_by_headers(path, headers, files, requires_dist):
+    """What the headers of a METADATA or PKG-INFO tell of a release that has these files."""
     return Document(
         path,
         name=Node(path, headers("Name")[0], "Name").name(),
         version=headers("Version")[0],
         requires_python=next(iter(headers("Requires-Python")), None),
-        requires_dist=headers("Requires-Dist") if tells_dependencies(path, headers) else None,
+        requires_dist=requires_dist,
         yanked=None,
-        files=[file_of(item, "name", item.member("sha256")) for item in read_json(files).items()],
+        files=files,
         listed=None,
     )
 
 
-def tells_dependencies(path, headers):
-    """Whether the headers tell all dependencies. An sdist may leave them to its build, and before metadata 2.2 it
-    doesn't say whether it does (PEP 643)."""
-    if os.path.basename(path) == "METADATA" or headers("Requires-Dist"):
-        return True
+def read_metadata(path):
+    """A METADATA or PKG-INFO with the list of files beside it."""
+    headers = headers_of(path, read_text(path))
+    files = os.path.join(os.path.dirname(path), FILE_LIST)
+    if not os.path.exists(files):
+        raise Refusal(f"{path}: no {FILE_LIST} is beside it")
+    items = [file_of(item, "name", item.member("sha256")) for item in read_json(files).items()]
+    dependencies = headers("Requires-Dist")
+    is_told = os.path.basename(path) == "METADATA" or dependencies or tells(headers, "Requires-Dist")
+    return told_by_headers(path, headers, items, dependencies if is_told else None)
+
+
+def tells(headers, header):
+    """Whether the headers of an sdist tell all that its wheels will have of a header. An sdist may leave that to its
+    build, and before metadata 2.2 it doesn't say whether it does (PEP 643)."""
     version = [int(number) for number in re.findall("[0-9]+", " ".join(headers("Metadata-Version")))]
-    return version >= [2, 2] and "requires-dist" not in map(str.lower, headers("Dynamic"))
+    return version >= [2, 2] and header.lower() not in map(str.lower, headers("Dynamic"))
 
 
 def documents_of(folder):
@@ -207,6 +218,4 @@ def documents_of(folder):
         bodies = [name for name in names if re.search(r"(^|\.)json\Z", name) and not (headers and name == FILE_LIST)]
         found += [(os.path.join(place, name), read_metadata) for name in headers[:1]]
         found += [(os.path.join(place, name), read_api_body) for name in bodies]
-    if not found:
-        raise Refusal(f"{folder}: no document is in it")
     return [read(path) for path, read in sorted(found, key=lambda pair: pair[0])]

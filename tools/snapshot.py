@@ -1,8 +1,11 @@
 #!/usr/bin/env python3
-"""Make a snapshot, the index that reqlock locks from, of a folder of documents.
+"""Make a snapshot, the index that reqlock locks from, of a folder of wheels, sdists and documents.
 
-These files in FOLDER and the folders below it are documents. Others are passed over.
+These files in FOLDER and the folders below it are read. Others are passed over.
 
+  *.whl, *.tar.gz, *.zip
+            wheels and sdists. Their URLs are those of the files here, unless --base-url
+            tells where the folder will be served
   *.json    (or just "json") a body of the JSON API of package indexes: that of
             /pypi/NAME/json, or of /pypi/NAME/VERSION/json
   METADATA  of a wheel, or
@@ -13,7 +16,9 @@ These files in FOLDER and the folders below it are documents. Others are passed 
 
 The body of /pypi/NAME/json lists the files of all releases, and tells the dependencies
 of one. The others need bodies of their own: a release with files whose dependencies no
-document tells is left out, and named on standard error.
+document tells is left out, and named on standard error. So is a release whose archives
+ask for different things. A release that has archives is made of these; documents are
+asked whether it is yanked, and for its dependencies where no archive tells them.
 
 Nothing is fetched, unless --fetch gives the base URL. Then BASE_URL/NAME/json and each
 BASE_URL/NAME/VERSION/json that FOLDER hasn't yet are saved in it first.
@@ -26,23 +31,22 @@ import argparse
 import http.client
 import json
 import os
+import pathlib
 import re
 import sys
+import time
 import urllib.parse
 import urllib.request
 
+from archives import ArchivedRelease, archive_paths, normal, read_archive, releases_of
 from index_documents import Refusal, documents_of, is_name, read_api_body
 
 SECONDS_TO_ANSWER = 60
+SECONDS_BETWEEN_COUNTS = 0.1
 
 
 def say(text):
     print(f"snapshot.py: {text}", file=sys.stderr)
-
-
-def normal(name):
-    """The form of a name by which packages are compared (PEP 503)."""
-    return re.sub("[-_.]+", "-", name).lower()
 
 
 def own_documents(documents):
@@ -113,9 +117,38 @@ def release_of(version, own, files, say_of):
     }
 
 
+def refuse_other_digests(release, files, path):
+    """A document lists no file with another digest than the archive of that name has."""
+    digests = {file.name: file.sha256 for file in release.files}
+    for file in files:
+        if file.name in digests and file.sha256 and file.sha256.lower() != digests[file.name]:
+            raise Refusal(f"{path}: it tells another sha256 of {file.name} than {release.path} has")
+
+
+def put_archives(archived, own, listed, assume_none):
+    """Puts the releases of archives in place of what documents tell of them, and leaves out those that disagree. Documents are
+    asked whether a release is yanked, and for its dependencies where no archive tells them."""
+    for release in archived:
+        files, path = listed.pop(release.version, ([], ""))
+        refuse_other_digests(release, files, path)
+        release.yanked = files != [] and all(file.yanked for file in files)
+        if document := own.pop(release.version, None):
+            refuse_other_digests(release, document.files, document.path)
+            release.yanked = release.yanked or document.yanked
+            if release.requires_dist is None and document.requires_dist is not None:
+                release.requires_python, release.requires_dist = document.requires_python, document.requires_dist
+        if release.requires_dist is None and assume_none:
+            release.requires_dist = release.assumed
+        if not release.is_left_out:
+            own[release.version] = release
+
+
 def package_of(documents, assume_none):
     """The package that the documents tell of: the releases in the order in which they are listed, then others."""
-    name, own, listed = documents[0].name, own_documents(documents), listed_files(documents)
+    archived = [document for document in documents if isinstance(document, ArchivedRelease)]
+    others = [document for document in documents if not isinstance(document, ArchivedRelease)]
+    name, own, listed = documents[0].name, own_documents(others), listed_files(others)
+    put_archives(archived, own, listed, assume_none)
     releases, unknown = [], {}
     for version in dict.fromkeys([*listed, *own]):
         files, path = listed.get(version) or (own[version].files, own[version].path)
@@ -134,7 +167,7 @@ def package_of(documents, assume_none):
 def packages_of(documents, assume_none):
     """The packages of the documents, by normal name."""
     by_name = {}
-    for document in documents:
+    for document in sorted(documents, key=lambda document: document.path):
         by_name.setdefault(normal(document.name), []).append(document)
     return {name: package_of(by_name[name], assume_none) for name in sorted(by_name)}
 
@@ -197,12 +230,39 @@ def fetch(url, name, folder):
     say(f"{name}: {count} documents fetched")
 
 
+def counted(paths):
+    """The paths one by one, while a terminal at standard error shows how many are done."""
+    shown = 0.0
+    try:
+        for count, path in enumerate(paths):
+            if sys.stderr.isatty() and time.monotonic() - shown >= SECONDS_BETWEEN_COUNTS:
+                print(f"\r{count} of {len(paths)} archives read", end="", file=sys.stderr, flush=True)
+                shown = time.monotonic()
+            yield path
+    finally:
+        if shown:
+            print("\r\033[K", end="", file=sys.stderr, flush=True)
+
+
+def url_of(path, options):
+    """Where a file is: below the base URL as it is below the folder, or on this machine."""
+    if options.base_url is None:
+        return pathlib.Path(path).resolve().as_uri()
+    below = os.path.relpath(path, options.folder).replace(os.sep, "/")
+    return f"{options.base_url.rstrip('/')}/{urllib.parse.quote(below)}"
+
+
 def make(options):
-    """Fetches what is asked for, reads the documents, and writes the snapshot."""
+    """Fetches what is asked for, reads archives and documents, and writes the snapshot."""
     base, *names = options.fetch or [""]
     for name in names:
         fetch(f"{base.rstrip('/')}/{normal(name)}", normal(name), options.folder)
-    packages = packages_of(documents_of(options.folder), options.assume_no_dependencies)
+    paths, documents = archive_paths(options.folder), documents_of(options.folder)
+    if not paths and not documents:
+        raise Refusal(f"{options.folder}: no archive and no document is in it")
+    archives = [read_archive(path, url_of(path, options)) for path in counted(paths)]
+    documents += releases_of(archives, say)
+    packages = packages_of(documents, options.assume_no_dependencies)
     say_absent(packages)
     data = snapshot_text(packages).encode()
     if options.output is None:
@@ -216,8 +276,9 @@ def request_of(arguments):
     parser = argparse.ArgumentParser(
         prog="snapshot.py", description=__doc__, formatter_class=argparse.RawDescriptionHelpFormatter
     )
-    parser.add_argument("folder", metavar="FOLDER", help="the folder of the documents")
+    parser.add_argument("folder", metavar="FOLDER", help="the folder of the archives and documents")
     parser.add_argument("--output", metavar="FILE", help="write the snapshot to FILE, not to standard output")
+    parser.add_argument("--base-url", metavar="URL", help="where the folder with its archives will be served")
     parser.add_argument("--fetch", metavar=("BASE_URL", "NAME"), nargs="+", help="fetch the documents of NAME.. first")
     parser.add_argument(
         "--assume-no-dependencies",

@@ -251,7 +251,7 @@ class Faults(Folder):
         self.check_refused({"a.json": one, "b.json": other}, "b.json: .*a.json lists other files of a 1$")
 
     def test_of_folders(self):
-        self.assertIn("no document is in it", run(self.folder)[2])
+        self.assertIn("no archive and no document is in it", run(self.folder)[2])
         status, output, errors = run(self.folder / "absent")
         self.assertEqual((status, output), (1, ""))
         self.assertIn("absent", errors)

@@ -1,0 +1,167 @@
+#!/usr/bin/env python3
+"""Run a program again and again, each time with another growth of its memory refused, and show how it ends.
+
+usage: tools/growths.py [--folder FOLDER] [--input FILE] [--mark TEXT] COMMAND..
+
+In run N the Nth growth is refused (malloc, calloc, realloc to more), and no other, for
+N = 1, 2, .. until a run meets none. Each run is in a fresh copy of FOLDER. What a run
+shows is its status, its standard output and standard error, and the files that it
+leaves; runs in turn that show the same are told together, and the last one is that
+which meets none. The count begins where main does, or behind the write of TEXT.
+
+It needs a C compiler (`cc`, or the one that CC names) and glibc: refuse_growth.c beside
+it is preloaded. The status is 0; or 1 where a run doesn't end in time; or 2 where the
+words are no request, or the C file can't be compiled or COMMAND not be run.
+"""
+
+import argparse
+import itertools
+import os
+import shlex
+import shutil
+import subprocess
+import sys
+import tempfile
+from dataclasses import dataclass, field
+from pathlib import Path
+
+SOURCE = Path(__file__).resolve().parent / "refuse_growth.c"
+
+
+@dataclass
+class Run:
+    """How a run ended. `refused` is the call that was refused, as `malloc 64`, or None where none was; `growths` counts all, or
+    is None where the program didn't end by exit; `files` has what the files of its folder hold, by their paths in it. The status
+    is that of Python's subprocess, None where there is none."""
+
+    number: int = field(compare=False)
+    refused: str | None = field(compare=False)
+    growths: int | None = field(compare=False)
+    status: int | None
+    output: bytes
+    errors: bytes
+    files: dict[str, bytes]
+
+
+def compiler():
+    """The words that call the C compiler; none where there is none."""
+    words = shlex.split(os.environ.get("CC", "cc"))
+    return words if words and shutil.which(words[0]) else []
+
+
+def compiled(folder):
+    """Compiles the C file into a folder, and gives the path of the library."""
+    library = Path(folder).resolve() / "refuse_growth.so"
+    command = [*compiler(), "-shared", "-fPIC", "-O2", "-fno-builtin", "-o", library, SOURCE, "-ldl"]
+    subprocess.run(command, check=True)
+    return library
+
+
+def files_in(folder):
+    paths = [path for path in sorted(folder.rglob("*")) if path.is_file()]
+    return {str(path.relative_to(folder)): path.read_bytes() for path in paths}
+
+
+def run_once(command, library, number, data=b"", mark=None, folder=None, seconds=60):
+    """Runs a command with one growth refused, in a copy of a folder."""
+    variables = {**os.environ, "LD_PRELOAD": str(library), "REFUSE_GROWTH": str(number)}
+    variables |= {} if mark is None else {"REFUSE_GROWTH_MARK": mark}
+    with tempfile.TemporaryDirectory() as scratch, tempfile.TemporaryFile() as report:
+        place = Path(scratch) / "run"
+        if folder is None:
+            place.mkdir()
+        else:
+            shutil.copytree(folder, place, symlinks=True)
+        variables["REFUSE_GROWTH_REPORT"] = str(report.fileno())
+        try:
+            done = subprocess.run(
+                command, input=data, env=variables, cwd=place, capture_output=True, timeout=seconds, check=False,
+                pass_fds=[report.fileno()],
+            )
+            status, output, errors = done.returncode, done.stdout, done.stderr
+        except subprocess.TimeoutExpired as ended:
+            status, output, errors = None, ended.stdout or b"", ended.stderr or b""
+        report.seek(0)
+        return Run(number, *read_report(report.read().decode()), status, output, errors, files_in(place))
+
+
+def read_report(text):
+    """The call that was refused and the count of all growths."""
+    lines = text.splitlines()
+    counts = [int(line.removeprefix("growths ")) for line in lines if line.startswith("growths ")]
+    refused = [line for line in lines if not line.startswith("growths ")]
+    return next(iter(refused), None), next(iter(counts), None)
+
+
+def runs(command, library, **others):
+    """The runs with the first growth refused, the second, and so on. The last one is the first that meets none."""
+    for number in itertools.count(1):
+        run = run_once(command, library, number, **others)
+        yield run
+        if run.refused is None:
+            return
+
+
+def shown(run):
+    """A run's status, and the last line of what it wrote."""
+    lines = [*run.output.splitlines(), *run.errors.splitlines()] or [b""]
+    status = "no end in time" if run.status is None else f"status {run.status}"
+    return f"{status}  {lines[-1].decode('utf-8', 'backslashreplace')}".rstrip()
+
+
+def told(found):
+    """A line for runs in turn that show the same."""
+    first, last = found[0], found[-1]
+    if last.refused is None:
+        return f"none refused: {shown(last)}"
+    numbers = str(first.number) if first is last else f"{first.number}-{last.number}"
+    return f"{numbers}: {shown(first)}"
+
+
+def show(all_runs):
+    """Prints the runs, those that show the same together, and tells whether each ended."""
+    together, has_ended = [], True
+    for run in all_runs:
+        has_ended = has_ended and run.status is not None
+        if together and (run != together[0] or run.refused is None):
+            print(told(together), flush=True)
+            together = []
+        together.append(run)
+    print(told(together))
+    print(f"{together[-1].number - 1} growths refused, one in each run")
+    return has_ended
+
+
+def request_of(arguments):
+    parser = argparse.ArgumentParser(
+        prog="growths.py", description=__doc__, formatter_class=argparse.RawDescriptionHelpFormatter
+    )
+    parser.add_argument("--folder", metavar="FOLDER", help="the folder of which each run gets a copy to run in")
+    parser.add_argument("--input", metavar="FILE", help="the file that each run reads as its standard input")
+    parser.add_argument("--mark", metavar="TEXT", help="count the growths behind the write of TEXT alone")
+    parser.add_argument("command", metavar="COMMAND", nargs=argparse.REMAINDER, help="the program and its words")
+    options = parser.parse_args(arguments)
+    if not options.command:
+        parser.error("it takes a command")
+    return options
+
+
+def main(arguments):
+    options = request_of(arguments)
+    command = options.command[options.command[0] == "--" :]
+    command[0] = os.path.abspath(shutil.which(command[0]) or command[0])
+    if not compiler():
+        print("growths.py: there is no C compiler", file=sys.stderr)
+        return 2
+    try:
+        data = Path(options.input).read_bytes() if options.input else b""
+        with tempfile.TemporaryDirectory() as folder:
+            all_runs = runs(command, compiled(folder), data=data, mark=options.mark, folder=options.folder)
+            return 0 if show(all_runs) else 1
+    except (OSError, subprocess.CalledProcessError) as fault:
+        print(f"growths.py: {fault}", file=sys.stderr)
+        return 2
+
+
+if __name__ == "__main__":
+    sys.exit(main(sys.argv[1:]))

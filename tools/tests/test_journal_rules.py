@@ -1,0 +1,267 @@
+"""Tests of journal_rules.py, by worked examples of the rules."""
+
+import unittest
+
+from journal_rules import Change, State, after, inverse, is_minimal, is_state, opens, read_step
+from made_journals import ZEROS, altered, compact, entry, header, journal, lock_text, step
+from requirement_rules import Fault
+from test_requirement_rules import E1
+
+ONES = "1" * 64
+BROKEN, DISAGREE = "journal-broken", "files-disagree"
+LOCK = "pylock.toml"
+
+# `add c` to a file whose last line has no ending, of which all endings are CRLF
+ADDED_LINES = [2, ["a"], ["a\r\n", "c\r\n"]]
+ADDED = step([ADDED_LINES], [["c", None, entry("c", "1")]])
+BEFORE = b"# web\r\nB_b >=1 # pin\r\na"
+AFTER = b"# web\r\nB_b >=1 # pin\r\na\r\nc\r\n"
+ENTRIES = {"a": entry("a", "1"), "b-b": entry("b-b", "1")}
+
+
+class Example(unittest.TestCase):
+    """A test of the files after `add c`, which it may alter."""
+
+    def setUp(self):
+        self.requirements = AFTER
+        self.lock = lock_text(E1, {**ENTRIES, "c": entry("c", "1")})
+        self.steps = [ADDED]
+        self.cursor = 1
+
+    def header(self):
+        return header(self.requirements, self.lock, E1, self.cursor, len(self.steps))
+
+    def journal(self):
+        return journal(self.requirements, self.lock, E1, self.cursor, *self.steps)
+
+    def check(self, wanted, *, journal=None, lock=None, requirements=None):
+        given = (requirements, self.requirements), (lock, self.lock), (journal, self.journal())
+        self.assertEqual(opens(*(own if other is None else other for other, own in given)), wanted)
+
+
+class Opening(Example):
+    def test_opens_at_each_cursor(self):
+        self.check(("ok", 1, 1))
+        self.requirements, self.lock, self.cursor = BEFORE, lock_text(E1, ENTRIES), 0
+        self.check(("ok", 0, 1))
+
+    def test_has_the_form_that_is_written_down(self):
+        file = '{"name":"c-1-py3-none-any.whl","sha256":"Z","size":1000,"url":"https://files.example/c-1-py3-none-any.whl"}'
+        text = (
+            '{"entries":[["c",null,{"dependencies":[],"requires_python":null,"sdist":null,"version":"1","wheels":['
+            + file + ']}]],"lines":[[2,["a"],["a\\r\\n","c\\r\\n"]]],"snapshot":null}\n'
+        )
+        self.assertEqual(self.journal().splitlines(keepends=True)[1], text.replace("Z", ZEROS).encode())
+
+    def test_of_an_empty_file(self):
+        self.requirements, self.lock, self.steps, self.cursor = b"", lock_text(E1, {}), [], 0
+        digest = "e3b0c44298fc1c149afbf4c8996fb92427ae41e4649b934ca495991b7852b855"
+        self.assertEqual(self.header()["requirements"], digest)
+        self.assertEqual(opens(b"", self.lock, self.journal()), ("ok", 0, 0))
+
+    def test_of_cut_journals(self):
+        whole = self.journal()
+        first = whole.index(b"\n") + 1
+        for place in range(len(whole)):
+            self.check((BROKEN, 1 if place < first else 2), journal=whole[:place])
+        self.check((BROKEN, 2), journal=whole[:-5])
+
+    def test_of_bytes_behind_the_steps(self):
+        whole = self.journal()
+        for more in compact(ADDED), b"\n", b"x":
+            self.check((BROKEN, 3), journal=whole + more)
+
+    def test_of_headers(self):
+        line = compact(ADDED)
+        for change in (
+            {"cursor": 2}, {"x": 1}, {"journal": 2}, {"journal": True}, {"steps": "1"}, {"cursor": -1}, {"cursor": 1.0},
+            {"lock": "0"}, {"requirements": ZEROS.replace("0", "A")}, {"environment": {**E1, "platform_machine": "arm64"}},
+            {"environment": {**E1, "x": ""}}, {"environment": {**E1, "python_version": ""}}, {"steps": 2**64},
+        ):
+            with self.subTest(change=change):
+                self.check((BROKEN, 1), journal=compact({**self.header(), **change}) + line)
+        for key in self.header():
+            header = {name: value for name, value in self.header().items() if name != key}
+            self.check((BROKEN, 1), journal=compact(header) + line)
+
+    def test_of_other_spellings_of_a_header(self):
+        head, line = compact(self.header()), compact(ADDED)
+        self.check(("ok", 1, 1), journal=head.replace(b":", b": ", 1) + line)
+        self.check(("ok", 1, 1), journal=head.replace(b'"3.12.3","python_v', b'"3.12.3+","python_v') + line)
+        self.check(("ok", 1, 1), journal=head.replace(b'{"cursor":1', b'{"cursor":7,"cursor":1') + line)
+        self.check(("ok", 1, 1), journal=head.replace(b"linux", b"\\u006cinux") + line)
+        self.check((BROKEN, 1), journal=head.replace(b"linux", b"\\ud800") + line)
+        for value in b"NaN", b'"\\udfff"', b"01", b"1.":
+            self.check((BROKEN, 1), journal=head.replace(b'{"cursor":1', b'{"cursor":%b,"cursor":1' % value) + line)
+        self.check((BROKEN, 1), journal=head.replace(b'{"cursor":1', b'{"cursor":-0') + line)
+        self.check((BROKEN, 1), journal=b"\xef\xbb\xbf" + head + line)
+        self.check((BROKEN, 1), journal=b"[" * 100_000 + b"\n")
+
+    def test_of_files_that_disagree(self):
+        for requirements in BEFORE, AFTER + b"\n", b"\xff":
+            self.check((DISAGREE, "requirements.txt"), requirements=requirements, journal=self.journal())
+        self.check((DISAGREE, LOCK), lock=self.lock.replace(b"1000", b"1001", 1), journal=self.journal())
+        for requirements in b"a\n-r b\n", b"\xff":
+            self.requirements = requirements
+            self.check((DISAGREE, "requirements.txt"))
+
+    def test_of_locks_that_do_not_read(self):
+        for old, new in (
+            (b'"1.0"', b'"1.1"'), (b"reqlock]", b"reqlock.x]"), (b"reqlock\"", b"reqloc\""), (b"size", b"sizes"),
+            (b'version = "1"', b'version = "01"'), (b'name = "b-b"', b'name = "b.b"'), (b".whl", b".egg"), (b"]", b""),
+            (b'version = "1"', b'version = "1"\nmarker = "x"'), (b"1000", b"9223372036854775808"), (b"[tool", b"x = 1\n[tool"),
+            (b'version = "1"', b'version = "1"\ndependencies = []'), (b'version = "1"', b'version = "1"\nrequires-python = " "'),
+            (b'version = "1"', b'version = "1"\ndependencies = [{name = "a"}]'), (b'name = "a"', b'name = "z"'),
+        ):
+            lock = lock_text(E1, {**ENTRIES, "c": entry("c", "1")})
+            self.lock = lock.replace(old, new, 1)
+            with self.subTest(new=new):
+                self.assertNotEqual(self.lock, lock)
+                self.check((DISAGREE, LOCK))
+
+    def test_of_locks_whose_parts_are_not_in_order(self):
+        one, other = entry("c", "1")["wheels"] + entry("d", "1")["wheels"]
+        sdist = {**one, "name": "c-1.tar.gz"}
+        for part, is_lawful in (
+            ({"dependencies": ["a", "b-b"]}, True), ({"dependencies": ["b-b", "a"]}, False), ({"dependencies": ["a", "a"]}, False),
+            ({"wheels": [one, other]}, True), ({"wheels": [other, one]}, False), ({"wheels": [one, one]}, False),
+            ({"sdist": sdist}, True), ({"sdist": sdist, "wheels": []}, True), ({"sdist": one}, False), ({"wheels": [sdist]}, False),
+        ):
+            self.steps, self.cursor = [], 0
+            self.lock = lock_text(E1, {**ENTRIES, "c": {**entry("c", "1"), **part}})
+            self.check(("ok", 0, 0) if is_lawful else (DISAGREE, LOCK))
+        names = {b'name = "a"': b'name = "c"', b'name = "c"': b'name = "a"'}
+        lines = lock_text(E1, {**ENTRIES, "c": entry("c", "1")}).splitlines()
+        self.lock = b"\n".join(names.get(line, line) for line in lines)
+        self.check((DISAGREE, LOCK))
+
+    def test_of_locks_that_are_not_of_the_state(self):
+        entries = {**ENTRIES, "c": entry("c", "1")}
+        for name, other in (
+            ("a", None), ("z", entry("z", "1")), ("a", entry("a", "1", "z")), ("b-b", entry("b-b", "0.9")),
+            ("a", entry("a", "1", python="<3")),
+        ):
+            changed = {**entries, name: other}
+            self.lock = lock_text(E1, {key: value for key, value in changed.items() if value is not None})
+            self.check((DISAGREE, LOCK))
+        self.lock = lock_text({**E1, "os_name": "nt"}, entries)
+        self.check((BROKEN, 1))
+
+    def test_the_first_fault_is_answered(self):
+        self.check((DISAGREE, "requirements.txt"), requirements=BEFORE, lock=b"", journal=compact(self.header()))
+        self.check((DISAGREE, LOCK), lock=b"", journal=compact(self.header()))
+        self.steps = [step(), {**ADDED, "snapshot": [ZEROS, ZEROS]}, step([[9, ["x"], []]])]
+        self.cursor = 3
+        self.check((BROKEN, 3))
+
+
+class Steps(Example):
+    def test_that_do_not_apply(self):
+        for lines in ([[2, ["b"], ["b\r\n", "c\r\n"]]], [[1, ["a"], ["a\r\n", "c\r\n"]]], [[3, ["a"], ["a\r\n", "c\r\n"]]]):
+            self.steps = [step(lines, ADDED["entries"])]
+            self.check((BROKEN, 2))
+        for entries in ([["c", None, entry("c", "2")]], [["d", None, entry("d", "1")]], []):
+            self.steps = [step([ADDED_LINES], entries)]
+            self.check((BROKEN, 2))
+        self.steps = [{**ADDED, "snapshot": [ZEROS, ONES]}]
+        self.check((BROKEN, 2))
+        self.cursor = 0
+        for steps in (step([[6, [], ["# x"]]]), step([], [["d", entry("d", "1"), None]])):
+            self.steps = [steps]
+            self.check((BROKEN, 2))
+        self.cursor = 1
+        self.steps = [{**ADDED, "snapshot": [ONES, ZEROS]}]
+        self.check(("ok", 1, 1))
+
+    def test_that_are_no_minimal_changes(self):
+        for splices in (
+            [[2, ["a"], []], [3, [], ["a\r\n", "c\r\n"]]], [[2, [], []]], [[2, ["a"], ["a", "c"]]], [[2, ["c", "a"], ["a"]]],
+            [[2, ["a"], ["b"]], [1, ["a"], ["b"]]], [[2**64, ["a"], ["b"]]], [[2**64 - 1, [], ["a"]], [2**64, [], ["a"]]],
+            [[0, [], ["a"]], [2**64 - 1, [], ["b"]]], [["2", ["a"], ["b"]]], [[2, ["a"]]], [[2, ["a"], [1]]],
+        ):
+            self.assertRaises(Fault, read_step, compact(step(splices)))
+        one, other = entry("a", "1"), entry("a", "1.0")
+        for entries in (
+            [["a", one, one]], [["a", None, None]], [["b", None, entry("b", "1")], ["a", None, one]], [["A", None, one]],
+            [["a", None, one], ["a", one, None]], [["a", None, {**one, "x": 1}]], [["a", None, {**one, "wheels": []}]],
+        ):
+            self.assertRaises(Fault, read_step, compact(step([], entries)))
+        self.assertEqual(read_step(compact(step([], [["a", one, other]]))), Change([], [("a", one, other)], None))
+        for snapshot in [ZEROS, ZEROS], [ZEROS], [ZEROS, None], "":
+            self.assertRaises(Fault, read_step, compact(step(snapshot=snapshot)))
+        self.assertEqual(read_step(compact(step())), Change([], [], None))
+        self.assertTrue(is_minimal(read_step(compact(step([[0, [], ["a"]], [2**64 - 2, [], ["b"]]])))))
+
+    def test_through_a_state_that_is_none(self):
+        self.requirements, self.lock = b"a\n", lock_text(E1, {"a": entry("a", "1")})
+        for lines in ["-r b\n"], ["a"], ["z\n"], ["a\n", ""], ["a\na\n"]:
+            self.steps, self.cursor = [step([[0, [], lines]])], 0
+            self.check((BROKEN, 2))
+        self.steps, self.cursor = [step(), step([], [["a", entry("a", "2"), entry("a", "1")]]), step()], 3
+        self.check(("ok", 3, 3))
+        self.steps[0] = step([], [["a", entry("a", "2"), entry("a", "3")]])
+        self.check((BROKEN, 2))
+
+    def test_go_back_first_and_then_on(self):
+        self.requirements, self.lock = b"a\n", lock_text(E1, {"a": entry("a", "1")})
+        bad = step([[5, ["x"], []]])
+        for steps, line in ([bad, step(), bad], 2), ([step(), bad, bad], 3), ([step(), step(), bad], 4), ([bad, bad, step()], 3):
+            self.steps, self.cursor = steps, 2
+            self.check((BROKEN, line))
+
+    def test_of_removed_and_relocked_lines(self):
+        first, second = b"# top\nb==1\n\n# tail\na\n", b"# top\n\n# tail\na\n"
+        removed = step([[1, ["b==1\n"], []]], [["b", entry("b", "1"), None]])
+        both = {"a": entry("a", "1"), "b": entry("b", "1")}
+        for requirements, entries, cursor in (first, both, 0), (second, {"a": both["a"]}, 1):
+            self.requirements, self.lock = requirements, lock_text(E1, entries)
+            self.steps, self.cursor = [removed], cursor
+            self.check(("ok", cursor, 1))
+        relocked = step([], [["a", entry("a", "1"), entry("a", "1.0")]], [ZEROS, ONES])
+        self.requirements, self.steps, self.cursor = b"a\n", [relocked], 1
+        self.lock = lock_text(E1, {"a": entry("a", "1.0")}, ONES)
+        self.check(("ok", 1, 1))
+        self.lock = lock_text(E1, {"a": entry("a", "1")}, ONES)
+        self.check((BROKEN, 2))
+
+    def test_of_packages_that_need_each_other(self):
+        both = {"p": entry("p", "1", "q"), "q": entry("q", "1", "p")}
+        gone = step([[0, ["p\n"], []]], [["p", both["p"], None], ["q", both["q"], None]])
+        self.requirements, self.lock, self.steps, self.cursor = b"p\n", lock_text(E1, both), [gone], 0
+        self.check(("ok", 0, 1))
+        self.requirements = b"# p\n"
+        self.check((DISAGREE, LOCK))
+
+
+class Laws(Example):
+    def test_an_inverse_leads_back(self):
+        state = State(["a\n", "b\n", "c\n", "d\n", "e"], E1, ZEROS, {})
+        change = Change([(0, ["a\n"], ["x\n", "y\n"]), (2, ["c\n"], []), (5, [], ["z"])], [], (ZEROS, ONES))
+        found = after(state, change)
+        self.assertEqual(found.lines, ["x\n", "y\n", "b\n", "d\n", "e", "z"])
+        self.assertEqual((found.digest, is_minimal(inverse(change))), (ONES, True))
+        self.assertEqual(inverse(change).splices, [(0, ["x\n", "y\n"], ["a\n"]), (3, [], ["c\n"]), (5, ["z"], [])])
+        self.assertEqual(after(found, inverse(change)), state)
+        self.assertIsNone(after(state, inverse(change)))
+
+    def test_a_state_has_no_entry_that_nothing_needs(self):
+        lines, entries = ["a\n"], {"a": entry("a", "1", "b"), "b": entry("b", "1")}
+        self.assertTrue(is_state(State(lines, E1, ZEROS, entries)))
+        self.assertFalse(is_state(State(["# a\n"], E1, ZEROS, entries)))
+        self.assertFalse(is_state(State(['a;os_name=="nt"\n'], E1, ZEROS, entries)))
+        self.assertFalse(is_state(State(["b\n"], E1, ZEROS, entries)))
+
+    def test_alterations_are_others_than_the_journal_and_answered(self):
+        self.steps.append(step([[4, [], ["d\r\n"]]], [["d", None, entry("d", "1")]]))
+        whole, found, answers = self.journal(), list(altered(self.journal())), set()
+        self.assertEqual(len({text for text, _ in found}), len(found))
+        self.assertNotIn(whole, {data for _, data in found})
+        self.assertIn(("cut at byte 0", b""), found)
+        self.assertEqual(found[-1][0], "lines 2 and 3 exchanged")
+        for _, data in found[::9]:
+            answers.add(opens(self.requirements, self.lock, data)[0])
+        self.assertEqual(answers, {"ok", BROKEN, DISAGREE})
+
+
+if __name__ == "__main__":
+    unittest.main()

@@ -1,0 +1,110 @@
+"""The program on journals, locks and requirements files that are cut and altered: it answers what journal_rules.py does, which
+is written from the rules and not from the program. Every hundredth alteration is tried, or with LONG_TESTS=1 each."""
+
+import os
+import subprocess
+import tempfile
+import unittest
+from itertools import islice
+from pathlib import Path
+
+from journal_rules import opens
+from made_journals import altered, entry, journal, lock_text, step
+from test_readme import PROGRAM
+from test_requirement_rules import E1
+
+PACE = 1 if os.environ.get("LONG_TESTS") == "1" else 100
+NAMES = "requirements.txt", "pylock.toml", "reqlock.journal"
+
+# The states: `a` and `b-b`, one with `c` behind them, one without `b-b`, and one with another `a`.
+LINES = ["# web\r\nB_b >=1 # pin\r\na", "# web\r\nB_b >=1 # pin\r\na\r\nc ; os_name=='posix'\r\n", "# web\r\na\r\nc ; os_name=='posix'\r\n"]
+ENTRIES = [
+    {"a": entry("a", "1"), "b-b": entry("b-b", "1")},
+    {"a": entry("a", "1"), "b-b": entry("b-b", "1"), "c": entry("c", "1", "d"), "d": entry("d", "2.0", python=">=3.8")},
+    {"a": entry("a", "1"), "c": entry("c", "1", "d"), "d": entry("d", "2.0", python=">=3.8")},
+    {"a": entry("a", "1.1"), "c": entry("c", "1", "d"), "d": entry("d", "2.0", python=">=3.8")},
+]
+DIGESTS = ["0" * 64] * 3 + ["1" * 64]
+STEPS = [
+    step(
+        [[2, ["a"], ["a\r\n", "c ; os_name=='posix'\r\n"]]],
+        [["c", None, ENTRIES[1]["c"]], ["d", None, ENTRIES[1]["d"]]],
+    ),
+    step([[1, ["B_b >=1 # pin\r\n"], []]], [["b-b", ENTRIES[1]["b-b"], None]]),
+    step([], [["a", ENTRIES[2]["a"], ENTRIES[3]["a"]]], DIGESTS[2:]),
+]
+
+
+def files(cursor):
+    """The three files at a place in the history."""
+    requirements = LINES[min(cursor, 2)].encode()
+    lock = lock_text(E1, ENTRIES[cursor], DIGESTS[cursor])
+    return requirements, lock, journal(requirements, lock, E1, cursor, *STEPS)
+
+
+def answer(fault_or_ok, *others):
+    """The status, the standard output and the standard error of `check` for an answer of the rules."""
+    if fault_or_ok == "ok":
+        return 0, f"ok {others[0]}\n", ""
+    if fault_or_ok == "files-disagree":
+        return 4, "", f"reqlock: {others[0]}: files-disagree\n"
+    return 4, "", f"reqlock: reqlock.journal: line {others[0]}: journal-broken\n"
+
+
+class Rules(unittest.TestCase):
+    def test_the_files_open_at_each_place(self):
+        for cursor in range(4):
+            self.assertEqual(opens(*files(cursor)), ("ok", cursor, 3))
+
+
+def knows(subcommand):
+    return PROGRAM.exists() and subprocess.run([PROGRAM, subcommand, "--help"], capture_output=True, check=False).returncode == 0
+
+
+# (`show` opens the files as `check` does, and prints the lock)
+SUBCOMMAND = next(filter(knows, ("check", "show")), None)
+
+
+@unittest.skipIf(SUBCOMMAND is None, "the program isn't built, or knows neither check nor show")
+class Program(unittest.TestCase):
+    def setUp(self):
+        folder = tempfile.TemporaryDirectory()
+        self.addCleanup(folder.cleanup)
+        self.folder = Path(folder.name)
+
+    def check(self, given, text):
+        """The program answers of these files what the rules do, and leaves them."""
+        for name, data in zip(NAMES, given):
+            (self.folder / name).write_bytes(data)
+        done = subprocess.run(
+            [PROGRAM, "--dir", self.folder, SUBCOMMAND], capture_output=True, encoding="utf-8", check=False
+        )
+        status, output, errors = answer(*opens(*given))
+        self.assertEqual((done.returncode, done.stderr), (status, errors), text)
+        if SUBCOMMAND == "check" or status != 0:
+            self.assertEqual(done.stdout, output, text)
+        self.assertEqual(tuple((self.folder / name).read_bytes() for name in NAMES), given, text)
+
+    def test_opens_at_each_place(self):
+        for cursor in range(4):
+            self.check(files(cursor), cursor)
+
+    def test_altered_journals(self):
+        for cursor in 1, 3:
+            requirements, lock, whole = files(cursor)
+            for text, data in islice(altered(whole), cursor, None, PACE):
+                self.check((requirements, lock, data), text)
+
+    def test_altered_requirements_with_their_digest(self):
+        requirements, lock, _ = files(1)
+        for text, data in islice(altered(requirements), 0, None, PACE // 10 + 1):
+            self.check((data, lock, journal(data, lock, E1, 1, *STEPS)), text)
+
+    def test_altered_locks_with_their_digest(self):
+        requirements, lock, _ = files(1)
+        for text, data in islice(altered(lock), 0, None, PACE):
+            self.check((requirements, data, journal(requirements, data, E1, 1, *STEPS)), text)
+
+
+if __name__ == "__main__":
+    unittest.main()

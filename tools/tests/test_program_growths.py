@@ -1,0 +1,195 @@
+"""The program with one growth of its memory refused: each in turn with LONG_TESTS=1 in the environment, without it each 50th and
+the last 40, which save. A run shows what a run with ample memory does, or that memory was refused, and then nothing has changed."""
+
+import functools
+import os
+import subprocess
+import sys
+import tempfile
+import unittest
+from pathlib import Path
+
+from test_journals import PROGRAM, knows
+from test_requirement_rules import E1
+
+sys.path.insert(0, str(Path(__file__).resolve().parent.parent))
+import growths  # noqa: E402
+from snapshot import compact  # noqa: E402
+
+PACE = 1 if os.environ.get("LONG_TESTS") == "1" else 50
+LAST = 40
+AMPLE = 10**12
+NEVER = b"refused nothing-to-undo", b"refused nothing-to-redo"
+OUT_OF_MEMORY = b"reqlock: out of memory\n"
+
+# Packages with their releases, each with what it depends on.
+INDEX = {
+    "a": {"1": ["b-b"], "2": ["b-b<2"]}, "b-b": {"1": [], "2": []}, "c": {"1": ["b-b>=2"]}, "d": {"1": []},
+    "x": {"1": ["d>=2; extra == 'e'"]},
+}
+REQUIREMENTS = b"# web\r\nB.b (>=1) ; os_name=='posix' # keep\r\na"
+COMMANDS = [
+    b"add d", b"bogus", b"undo", b"undo", b"redo", b"constrain a >=1", b"add c", b"redo", b"upgrade a", b"remove d", b"undo",
+    b"add D", b"relock",
+]
+
+
+def index_text():
+    packages = []
+    for name, releases in INDEX.items():
+        package = {"name": name, "releases": []}
+        for version, requires in releases.items():
+            file = f"{name.replace('-', '_')}-{version}-py3-none-any.whl"
+            files = [{"name": file, "url": f"https://files.example/{file}", "size": 1000, "sha256": "0" * 64}]
+            package["releases"].append({"version": version, "requires_dist": requires, "files": files})
+        packages.append(package)
+    return compact({"snapshot": 1, "packages": packages})
+
+
+def numbers(ample):
+    """The growths that are refused, of those that a run with ample memory has."""
+    return sorted({*range(1, ample.growths + 1, PACE), *range(max(1, ample.growths - LAST + 1), ample.growths + 1)})
+
+
+def is_refused_whole(run, before):
+    """Whether a run told that memory was refused, and changed no file."""
+    return run.status == 5 and run.errors == OUT_OF_MEMORY and run.files == before
+
+
+def is_lawful(run, ample, before):
+    """Whether a run of a single subcommand is one with ample memory, or gave up without a reply and changed nothing."""
+    return run == ample or is_refused_whole(run, before) and run.output == b""
+
+
+def are_lawful(run, ample, before, without):
+    """Whether a run of several commands is one with ample memory; or one where a single command met the refusal, and all else is
+    as if it hadn't been given; or gave up as a whole. `without(place)` is the run with ample memory of the others."""
+    if run == ample:
+        return True
+    if is_refused_whole(run, before):
+        return ample.output.startswith(run.output)
+    wanted, replies = ample.output.splitlines(), run.output.splitlines()
+    if replies.count(b"refused out-of-memory") != 1:
+        return False
+    place = replies.index(b"refused out-of-memory")
+    other = without(place)
+    rest = replies[:place] + replies[place + 1 :]
+    if place >= len(COMMANDS) or wanted[place] in NEVER or rest != other.output.splitlines():
+        return False
+    return (run.status, run.errors, run.files) == (other.status, other.errors, other.files)
+
+
+def made_run(status, output, errors=b"", files=()):
+    return growths.Run(1, "malloc 1", None, status, output, errors, dict(files))
+
+
+class Law(unittest.TestCase):
+    """Which runs are as they have to be, on runs that are made up."""
+
+    def test_of_single_subcommands(self):
+        before, after = {"a": b"1"}, {"a": b"2"}
+        ample = made_run(0, b"ok 1\n", files=after)
+        self.assertTrue(is_lawful(made_run(0, b"ok 1\n", files=after), ample, before))
+        self.assertTrue(is_lawful(made_run(5, b"", OUT_OF_MEMORY, before), ample, before))
+        for run in (
+            made_run(0, b"ok 1\n", files=before), made_run(5, b"ok 1\n", OUT_OF_MEMORY, before),
+            made_run(5, b"", OUT_OF_MEMORY, after), made_run(1, b"", OUT_OF_MEMORY, before), made_run(5, b"", b"", before),
+            made_run(1, b"refused no-solution\n", files=before), made_run(-6, b"", b"", before),
+        ):
+            self.assertFalse(is_lawful(run, ample, before))
+
+    def test_of_several_commands(self):
+        before, after = {"a": b"1"}, {"a": b"2"}
+        ample = made_run(0, b"ok 1\nok 2\nrefused nothing-to-redo\n", files=after)
+        others = {0: made_run(0, b"ok 1\nrefused nothing-to-redo\n", files={"a": b"3"})}
+
+        def lawful(*parts, files=after):
+            return are_lawful(made_run(*parts, files=files), ample, before, lambda place: others.get(place, ample))
+
+        self.assertTrue(lawful(0, ample.output))
+        self.assertTrue(lawful(0, b"refused out-of-memory\nok 1\nrefused nothing-to-redo\n", files={"a": b"3"}))
+        self.assertTrue(lawful(5, b"ok 1\n", OUT_OF_MEMORY, files=before))
+        self.assertFalse(lawful(0, b"refused out-of-memory\nok 1\nrefused nothing-to-redo\n"))
+        self.assertFalse(lawful(0, b"refused out-of-memory\nok 2\nrefused nothing-to-redo\n", files={"a": b"3"}))
+        self.assertFalse(lawful(0, b"refused out-of-memory\nrefused out-of-memory\nrefused nothing-to-redo\n"))
+        self.assertFalse(lawful(0, b"ok 1\nok 2\nrefused out-of-memory\n"))
+        self.assertFalse(lawful(5, b"ok 2\n", OUT_OF_MEMORY, files=before))
+        self.assertFalse(lawful(5, b"ok 1\n", OUT_OF_MEMORY))
+
+
+@unittest.skipUnless(knows("init"), "the program isn't built, or doesn't know init")
+@unittest.skipUnless(sys.platform == "linux" and growths.compiler(), "there is no C compiler, or no glibc")
+class Program(unittest.TestCase):
+    def setUp(self):
+        folder = tempfile.TemporaryDirectory()
+        self.addCleanup(folder.cleanup)
+        self.folder = Path(folder.name) / "files"
+        self.folder.mkdir()
+        self.library = growths.compiled(folder.name)
+        (self.folder / "requirements.txt").write_bytes(REQUIREMENTS)
+        (self.folder / "index.json").write_text(index_text(), encoding="utf-8")
+        (self.folder / "environment.json").write_text(compact(E1), encoding="utf-8")
+
+    def words(self, *words):
+        return [PROGRAM, "--index", "index.json", "--env", "environment.json", *words]
+
+    def prepare(self, *words, reply="ok"):
+        """Does a subcommand with ample memory, in the folder itself."""
+        done = subprocess.run(self.words(*words), cwd=self.folder, capture_output=True, check=False)
+        self.assertTrue(done.stdout.startswith(reply.encode()), done)
+
+    def check_single(self, *words, starts):
+        """Each growth of a subcommand is refused in turn; with ample memory its reply starts so."""
+        before, command = growths.files_in(self.folder), self.words(*words)
+        ample = growths.run_once(command, self.library, AMPLE, folder=self.folder)
+        self.assertTrue(ample.output.startswith(starts.encode()), ample)
+        for number in numbers(ample):
+            run = growths.run_once(command, self.library, number, folder=self.folder)
+            self.assertTrue(is_lawful(run, ample, before), (words, run))
+
+    def check_several(self, subcommand):
+        command = self.words(subcommand)
+
+        def ample_run(commands):
+            data = b"".join(line + b"\n" for line in commands)
+            return growths.run_once(command, self.library, AMPLE, data=data, folder=self.folder)
+
+        @functools.cache
+        def without(place):
+            return ample_run(COMMANDS[:place] + COMMANDS[place + 1 :])
+
+        before, ample = growths.files_in(self.folder), ample_run(COMMANDS)
+        data = b"".join(line + b"\n" for line in COMMANDS)
+        for number in numbers(ample):
+            run = growths.run_once(command, self.library, number, data=data, folder=self.folder)
+            self.assertTrue(are_lawful(run, ample, before, without), run)
+
+    def test_init(self):
+        self.check_single("init", starts="ok 0")
+
+    def test_edits(self):
+        self.prepare("init")
+        for words, starts in (
+            (["add", "d"], "ok 1"), (["add", "x[e]"], "refused no-solution"), (["remove", "a"], "ok 1"),
+            (["constrain", "B_b", ">=1"], "ok 1"), (["upgrade"], "same"), (["upgrade", "z"], "refused not-locked"),
+            (["relock"], "same"), (["undo"], "refused nothing-to-undo"),
+        ):
+            self.check_single(*words, starts=starts)
+
+    def test_undo_and_redo(self):
+        self.prepare("init")
+        self.prepare("add", "d")
+        self.prepare("remove", "a")
+        self.check_single("undo", starts="ok 1")
+        self.prepare("undo")
+        self.check_single("redo", starts="ok 2")
+        self.check_single("add", "c", starts="ok 2")
+
+    def test_several_commands(self):
+        self.prepare("init")
+        for subcommand in "batch", "try":
+            self.check_several(subcommand)
+
+
+if __name__ == "__main__":
+    unittest.main()

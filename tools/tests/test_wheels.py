@@ -1,0 +1,144 @@
+"""From a folder of wheels to an installed environment, as README.md tells it: each line of that section is run by a shell, with
+wheels that the test makes, the program, and the machine's own pip. Nothing is fetched."""
+
+import os
+import re
+import shutil
+import subprocess
+import tempfile
+import tomllib
+import unittest
+from pathlib import Path
+
+from made_archives import wheel
+from test_readme import PROGRAM, TOP
+
+SECTION = "## From a folder of wheels to an installed environment\n"
+REQUIREMENTS = b"# web\r\nclick<8  # the old one\r\n"
+FIRST = {"asgiref": "3.1", "click": "7.0", "flask": "2.0", "werkzeug": "2.0"}
+UPGRADED = {"asgiref": "3.2", "click": "7.0", "flask": "2.1", "werkzeug": "2.1"}
+
+
+def blocks():
+    """The indented blocks of the section, by the words that their first lines begin with."""
+    text = (TOP / "README.md").read_text(encoding="utf-8").split(SECTION)[1].split("\n## ")[0]
+    found = re.findall(r"(?m)(?:^ {4}.*\n)+", text)
+    return [re.sub("(?m)^ {4}", "", block) for block in found]
+
+
+def make_wheels(folder):
+    """Two versions of each package, of which not all go together."""
+    for version in "3.0", "3.1":
+        wheel(folder, "asgiref", version)
+    for version in "7.0", "8.0":
+        wheel(folder, "click", version, 'colorama ; platform_system == "Windows"')
+    for version in "2.0", "2.1":
+        wheel(folder, "Werkzeug", version, python=">=3.6")
+    wheel(folder, "Flask", "1.9", "Werkzeug", "click")
+    wheel(folder, "Flask", "2.0", "Werkzeug<2.1,>=2.0", "click (>=7)", "asgiref>=3; extra == 'async'")
+
+
+def make_newer_wheels(folder):
+    wheel(folder, "asgiref", "3.2")
+    wheel(folder, "Flask", "2.1", "Werkzeug>=2.1", "click (>=7)", "asgiref>=3.2; extra == 'async'")
+
+
+def knows(subcommand):
+    return subprocess.run([PROGRAM, subcommand, "--help"], capture_output=True, check=False).returncode == 0
+
+
+@unittest.skipUnless(PROGRAM.exists(), "the program isn't built")
+class Wheels(unittest.TestCase):
+    def setUp(self):
+        if not knows("init"):
+            self.skipTest("the program doesn't know init")
+        if subprocess.run(["python3", "-m", "pip", "--version"], capture_output=True, check=False).returncode != 0:
+            self.skipTest("python3 has no pip")
+        folder = tempfile.TemporaryDirectory()
+        self.addCleanup(folder.cleanup)
+        self.folder = Path(folder.name)
+        os.symlink(TOP / "tools", self.folder / "tools")
+        (self.folder / "requirements.txt").write_bytes(REQUIREMENTS)
+        self.begin, self.install, self.later, _, self.job = blocks()
+
+    def run_lines(self, text):
+        """The status and the output of the lines, of which the first that fails ends the run."""
+        kept = {name: value for name, value in os.environ.items() if not name.startswith(("PIP_", "PYTHON"))}
+        variables = {
+            **kept,
+            "PATH": f"{PROGRAM.parent}:{os.environ['PATH']}",
+            "HOME": str(self.folder),
+            "PIP_CONFIG_FILE": os.devnull,
+            "PIP_DISABLE_PIP_VERSION_CHECK": "1",
+            "PIP_NO_CACHE_DIR": "1",
+            "PYTHONDONTWRITEBYTECODE": "1",
+        }
+        done = subprocess.run(
+            ["bash", "-e"], input=text, env=variables, cwd=self.folder, stdout=subprocess.PIPE,
+            stderr=subprocess.STDOUT, encoding="utf-8", check=False,
+        )
+        return done.returncode, done.stdout
+
+    def check_runs(self, text, *replies):
+        """The lines all end well, and the program gives these replies."""
+        status, output = self.run_lines(text)
+        self.assertEqual(status, 0, output)
+        found = [line for line in output.splitlines() if re.match("ok |same|refused ", line)]
+        self.assertEqual(found, list(replies), output)
+
+    def check_installs(self, wanted):
+        """What is installed is what the lock says, and that is what is wanted."""
+        shutil.rmtree(self.folder / "site", ignore_errors=True)
+        self.check_runs(self.install)
+        lock = tomllib.loads((self.folder / "pylock.toml").read_text(encoding="utf-8"))
+        self.assertEqual({it["name"]: it["version"] for it in lock["packages"]}, wanted)
+        found = [path.name.removesuffix(".dist-info") for path in (self.folder / "site").glob("*.dist-info")]
+        self.assertEqual({name.lower(): version for name, version in (it.split("-") for it in found)}, wanted)
+
+    def files(self):
+        return [(self.folder / name).read_bytes() for name in ("requirements.txt", "pylock.toml")]
+
+    def test_the_lines_of_the_readme(self):
+        make_wheels(self.folder / "wheels")
+        self.check_runs(self.begin, "ok 0", "ok 1")
+        before = self.files()
+        self.assertEqual(before[0], REQUIREMENTS + b"flask[async]>=2\r\n")
+        self.check_installs(FIRST)
+        make_newer_wheels(self.folder / "wheels")
+        upgrade, undo = self.later.split("reqlock undo")
+        self.check_runs(upgrade, "ok 2")
+        self.check_installs(UPGRADED)
+        self.check_runs(f"reqlock undo{undo}", "ok 1")
+        self.check_installs(FIRST)
+        self.assertEqual(self.files(), before)
+        self.check_refuses_another_wheel()
+
+    def check_refuses_another_wheel(self):
+        """pip refuses a wheel of which one byte is another one than when it was locked."""
+        path = self.folder / "wheels" / "Flask-2.0-py3-none-any.whl"
+        data = bytearray(path.read_bytes())
+        data[-30] ^= 1
+        path.write_bytes(data)
+        status, output = self.run_lines(self.install)
+        self.assertNotEqual(status, 0)
+        self.assertIn("DO NOT MATCH THE HASHES", output)
+
+    def test_the_job_that_checks(self):
+        lines = [line.removeprefix("  - run: ") for line in self.job.splitlines()[1:]]
+        subcommand = lines[0].removeprefix("reqlock ")
+        if not knows(subcommand):
+            self.skipTest(f"the program doesn't know {subcommand}")
+        make_wheels(self.folder / "wheels")
+        self.check_runs(self.begin, "ok 0", "ok 1")
+        job = "\n".join(lines) + " --target site\n"
+        stands = {path: path.read_bytes() for path in self.folder.glob("*") if path.is_file()}
+        self.check_runs(job, *["ok 1"][: subcommand == "check"])
+        self.assertEqual({path: path.read_bytes() for path in stands}, stands)
+        for name in "requirements.txt", "pylock.toml":
+            (self.folder / name).write_bytes(stands[self.folder / name] + b"# by hand\n")
+            self.assertEqual(self.run_lines(job), (4, f"reqlock: {name}: files-disagree\n"))
+            (self.folder / name).write_bytes(stands[self.folder / name])
+
+
+if __name__ == "__main__":
+    unittest.main()
