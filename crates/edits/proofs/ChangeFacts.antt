@@ -8,7 +8,7 @@ use Rattle.edits.specs.Content.{Content}
 use Rattle.edits.specs.declared.change.parts.DigestChange.{DigestChange}
 use Rattle.edits.specs.declared.change.parts.EntryChange.{EntryChange}
 use Rattle.edits.proofs.BackFacts.{AreSplices-back, Splices-back, back-back}
-use Rattle.edits.proofs.Members.{Contains-map, Contains-map_of}
+use Rattle.lists.proofs.Members.{Contains-map, Contains-map_of}
 
 -- ---- entries
 

@@ -11,7 +11,7 @@ use Rattle.edits.specs.Changes.{entry_on}
 use Rattle.edits.specs.State.{IsAnEntry, IsLockFor, IsMet, Meets, Reached}
 use Rattle.edits.specs.Tied.Deciding.{IsClosed, IsLineMet}
 use Rattle.edits.proofs.EntryFacts.{entry-from, entry-there}
-use Rattle.edits.proofs.Members.{Contains-cons_cases, Contains-flat_map, Contains-flat_map_of, Contains-here, Contains-nil, Contains-there}
+use Rattle.lists.proofs.Members.{Contains-cons_cases, Contains-flat_map, Contains-flat_map_of, Contains-here, Contains-nil, Contains-there}
 
 All-member : {X : Type 0} (P : X → Type 0) (xs : List X) (x : X) → AllByRecursion P xs → Contains xs x → P x
 All-member P [] x all there = absurd (Contains-nil x there)

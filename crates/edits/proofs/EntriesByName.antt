@@ -8,7 +8,7 @@ use Rattle.pep440.specs.Version.{Parts}
 use Rattle.pylock.specs.Packages.{Package}
 use Rattle.resolve.specs.Resolves.{version_in}
 use Rattle.edits.specs.Locking.{versions_of}
-use Rattle.edits.proofs.Members.{Contains-map, Contains-map_of}
+use Rattle.lists.proofs.Members.{Contains-map, Contains-map_of}
 
 -- an entry of a name, with its version
 pub record Has (entries : List Package) (name : List ℕ) (version : Parts) : Type 0 where

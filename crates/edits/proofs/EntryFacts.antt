@@ -9,7 +9,7 @@ use Rattle.pylock.specs.Locks.{are_entries}
 use Rattle.pylock.specs.Order.{rises}
 use Rattle.pylock.specs.Packages.{Package}
 use Rattle.edits.specs.Changes.{entry_on}
-use Rattle.edits.proofs.Members.{Contains-cons_cases, Contains-here, Contains-map_of, Contains-nil, Contains-there}
+use Rattle.lists.proofs.Members.{Contains-cons_cases, Contains-here, Contains-map_of, Contains-nil, Contains-there}
 
 -- an entry that is found is one of the entries, on its name
 pub entry-from : (entries : List Package) (name : List ℕ) (e : Package) → entry_on entries name ≡ Some e → Contains entries e × (e.name ≡ name)

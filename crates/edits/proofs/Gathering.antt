@@ -20,7 +20,7 @@ use Rattle.resolve.specs.Given.{Given}
 use Rattle.resolve.specs.declared.node.Node.{Node}
 use Rattle.edits.specs.Dependencies.{names_at, names_in, names_of, names_wanted, release_chosen, with_names}
 use Rattle.edits.specs.Entries.{AreNeeds, entry_of}
-use Rattle.edits.proofs.Members.{Contains-nil}
+use Rattle.lists.proofs.Members.{Contains-nil}
 
 -- a look-up by bytes is the look-up of a map
 pub lookup-get : {X : Type 0} (name : List ℕ) (entries : List (List ℕ × X)) → lookup (bytes_eq name) entries ≡ lookup (is_at (slice_cmp nat_cmp name)) entries

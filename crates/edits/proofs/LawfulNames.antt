@@ -11,7 +11,7 @@ use Rattle.markers.specs.Names.{is_normal}
 use Rattle.pylock.specs.Order.{rises}
 use Rattle.pylock.specs.Packages.{are_dependencies, is_other}
 use Rattle.edits.specs.Entries.{AreNeeds}
-use Rattle.edits.proofs.Members.{Contains-here, Contains-there}
+use Rattle.lists.proofs.Members.{Contains-here, Contains-there}
 
 -- other names have other bytes
 pub apart : (a b : List ℕ) → bytes_eq a b ≡ false → b ≢ a

@@ -13,7 +13,6 @@ pub mod LawfulFiles
 pub mod LawfulNames
 pub mod LinesOnName
 pub mod LockFacts
-pub mod Members
 pub mod NamesInOrder
 pub mod NamesRead
 pub mod PartFacts

@@ -28,7 +28,7 @@ use Rattle.edits.specs.Edits.{IsLocked, IsNew}
 use Rattle.edits.specs.Entries.{AreEntries, AreNeeds, HasRelease, entry_of}
 use Rattle.edits.specs.Locking.{IsDependency, IsEntry, versions_of}
 use Rattle.edits.proofs.LawfulNames.{apart, differ, rises-from}
-use Rattle.edits.proofs.Members.{Contains-cons_cases, Contains-filter, Contains-filter_of, Contains-flat_map, Contains-flat_map_of, Contains-map, Contains-map_of, Contains-nil}
+use Rattle.lists.proofs.Members.{Contains-cons_cases, Contains-filter, Contains-filter_of, Contains-flat_map, Contains-flat_map_of, Contains-map, Contains-map_of, Contains-nil}
 use Rattle.edits.proofs.NamesInOrder.{from-names, put-names, sorted-names}
 
 and-both : (a b : Bool) → (a && b) ≡ true → (a ≡ true) × (b ≡ true)

@@ -18,7 +18,7 @@ use Rattle.search.specs.Solutions.{IsBest}
 use Rattle.edits.specs.Locking.{IsDependency, IsEntry, IsLockOf, python_text, sdist_of, versions_of, wheels_of}
 use Rattle.edits.proofs.EntriesByName.{Has-from}
 use Rattle.edits.proofs.Gathering.{lookup-there}
-use Rattle.edits.proofs.Members.{Contains-cons_cases, Contains-here, Contains-map_of, Contains-nil, Contains-there}
+use Rattle.lists.proofs.Members.{Contains-cons_cases, Contains-here, Contains-map_of, Contains-nil, Contains-there}
 
 -- what stands in a list that rises has its key there
 below-member : {A : Type 0} (key : A → List ℕ) (x : A) (xs : List A) (y : A) → AllByRecursion (λ k. slice_cmp nat_cmp (key x) k ≡ Less) (map key xs) → Contains xs y

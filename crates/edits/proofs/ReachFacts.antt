@@ -14,7 +14,7 @@ use Rattle.edits.specs.Changes.{entry_on}
 use Rattle.edits.specs.State.{Reached, by_entry, by_line}
 use Rattle.edits.specs.Tied.Deciding.{AreReached, IsGrown, needs_of}
 use Rattle.edits.proofs.EntryFacts.{entry-from, entry-there}
-use Rattle.edits.proofs.Members.{Contains-cons_cases, Contains-here, Contains-map, Contains-map_of, Contains-nil}
+use Rattle.lists.proofs.Members.{Contains-cons_cases, Contains-here, Contains-map, Contains-map_of, Contains-nil}
 
 -- ---- names that are put behind others
 

@@ -15,7 +15,7 @@ use Rattle.snapshot.specs.Release.{Release}
 use Rattle.resolve.specs.Admission.{has_version, release_at}
 use Rattle.resolve.specs.Given.{Given, releases_on}
 use Rattle.resolve.specs.Rules.{candidates, kept_version, preferring, rules_of, versions_of}
-use Rattle.edits.proofs.Members.{Contains-cons_cases, Contains-filter, Contains-here, Contains-nil, Contains-there}
+use Rattle.lists.proofs.Members.{Contains-cons_cases, Contains-filter, Contains-here, Contains-nil, Contains-there}
 
 -- a version of releases is found among them
 found-in : (releases : List Release) (version : Parts) → Contains (versions_of releases) version → is_some (find (has_version version) releases) ≡ true

@@ -33,7 +33,7 @@ use Rattle.edits.specs.Edits.{IsLocked}
 use Rattle.edits.specs.Locking.{IsDependency, IsEntry, versions_of}
 use Rattle.edits.specs.State.{IsAnEntry, IsMet, IsState, Reached, by_entry, by_line as by_active, has_python, has_version as set_has}
 use Rattle.edits.proofs.EntriesByName.{Has-from, version-there}
-use Rattle.edits.proofs.Members.{Contains-cons_cases, Contains-map}
+use Rattle.lists.proofs.Members.{Contains-cons_cases, Contains-map}
 
 -- each entry is that of the solution of the entries' versions
 abbrev pub AreEntriesOf : Given → List Package → Type 0

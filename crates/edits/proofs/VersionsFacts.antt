@@ -10,7 +10,7 @@ use Rattle.pylock.specs.Locks.{are_entries}
 use Rattle.pylock.specs.Packages.{Package}
 use Rattle.edits.specs.Locking.{versions_of}
 use Rattle.edits.proofs.EntryFacts.{rises-above, rises-rest}
-use Rattle.edits.proofs.Members.{Contains-cons_cases, Contains-here, Contains-map_of, Contains-nil, Contains-there}
+use Rattle.lists.proofs.Members.{Contains-cons_cases, Contains-here, Contains-map_of, Contains-nil, Contains-there}
 
 -- entries before a place are below the one there
 below-at : (entries : List Package) (place : ℕ) (d : Package) → are_entries entries ≡ true → place < length entries → (x : Package) → Contains (take place entries) x

@@ -17,7 +17,7 @@ use Rattle.resolve.specs.Resolves.{AreNeeded, version_in}
 use Rattle.resolve.specs.Rules.{counts, nodes_of, rules_of, wants}
 use Rattle.resolve.specs.declared.node.Node.{Node}
 use Rattle.resolve.proofs.Preferring.{lookup-get}
-use Rattle.resolve.proofs.Growing.{Contains-cons_cases, Contains-here, Contains-nil, Contains-there}
+use Rattle.lists.proofs.Members.{Contains-cons_cases, Contains-here, Contains-nil, Contains-there}
 
 -- the walk through needed nodes, as far as the first `at` nodes have been followed
 pub record IsClosing (given : Given) (chosen : List ℕ → Option Parts) (nodes : List Node) (at : ℕ) : Type 0 where

@@ -8,22 +8,7 @@ use Rattle.std.proofs.lemmas.List.{map-append}
 use Rattle.resolve.specs.Growing.{Grows}
 use Rattle.resolve.specs.Standing.{IsWith, Stands}
 use Rattle.resolve.specs.declared.node.Node.{Node}
-
-pub Contains-here : {X : Type 0} (x : X) (xs : List X) → Contains (x ∷ xs) x
-Contains-here x xs = (zero, omega arith, refl)
-
-pub Contains-there : {X : Type 0} (y : X) (xs : List X) (x : X) → Contains xs x → Contains (y ∷ xs) x
-Contains-there y xs x h = (suc h.0, omega arith, h.2)
-
-pub Contains-nil : {X : Type 0} (x : X) → Contains [] x → ⊥
-Contains-nil x h = omega arith
-
-Contains-cons_at : {X : Type 0} (y : X) (xs : List X) (x : X) (k : ℕ) → k < length (y ∷ xs) → get_or (y ∷ xs) k x ≡ x → (y ≡ x) ⊎ Contains xs x
-Contains-cons_at y xs x zero l e = inl e
-Contains-cons_at y xs x (suc k) l e = inr (k, omega arith, e)
-
-pub Contains-cons_cases : {X : Type 0} (y : X) (xs : List X) (x : X) → Contains (y ∷ xs) x → (y ≡ x) ⊎ Contains xs x
-Contains-cons_cases y xs x h = Contains-cons_at y xs x h.0 h.1 h.2
+use Rattle.lists.proofs.Members.{Contains-cons_cases, Contains-here, Contains-nil, Contains-there}
 
 -- what stands at a place is there
 Contains-standing : (nodes : List Node) (place : ℕ) (node : Node) → Stands nodes place node → Contains nodes node

@@ -6,7 +6,7 @@ use Rattle.std.specs.Ordering.{nat_cmp, is_eq}
 use Rattle.search.proofs.Entries.{off-of}
 use Rattle.search.proofs.LearnedSearch.{Lies, held-lie}
 use Rattle.search.proofs.Least.{nat-order}
-use Rattle.search.proofs.Lists.{Contains-here, Contains-there, Contains-cons_cases, Contains-nil, Contains-map, Contains-map_of, Contains-take_suc, take-whole, nat_cases}
+use Rattle.lists.proofs.Members.{Contains-here, Contains-there, Contains-cons_cases, Contains-nil, Contains-map, Contains-map_of, Contains-take_suc, take-whole, nat_cases}
 use Rattle.search.proofs.Theory.{version_in-cons_cases}
 use Rattle.search.specs.declared.conflict.NodeChoice.{NodeChoice}
 use Rattle.search.specs.declared.agenda.Ask.{Ask}

@@ -1,6 +1,6 @@
 -- Bounds on lists without repeats.
 use Rattle.std.proofs.Common.{ℕ, zero, suc, List, [], ◌∷◌, ◌++◌, ◌≡◌, ◌<◌, ◌≤◌, ◌⊎◌, inl, inr, Contains, length, refl, sym, ◌∙◌, ap, subst, arith}
-use Rattle.search.proofs.Lists.{Contains-here, Contains-there, Contains-cons_cases, Contains-nil, nat_cases}
+use Rattle.lists.proofs.Members.{Contains-here, Contains-there, Contains-cons_cases, Contains-nil, nat_cases}
 use Rattle.search.specs.Nodes.{Distinct}
 
 Distinct-not_last : {X : Type 0} (xs : List X) (y x : X) → (Contains xs x → ⊥) → (y ≡ x → ⊥) → Contains (xs ++ y ∷ []) x → ⊥

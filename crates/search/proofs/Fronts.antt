@@ -3,7 +3,7 @@ use Rattle.std.proofs.Common.{ℕ, List, [], ◌∷◌, ◌++◌, ◌≡◌, ◌
 use Rattle.std.specs.List.{list_any}
 use Rattle.std.specs.Ordering.{nat_cmp}
 use Rattle.search.proofs.Clashes.{any-false}
-use Rattle.search.proofs.Lists.{Contains-take_zero}
+use Rattle.lists.proofs.Members.{Contains-take_zero}
 use Rattle.search.proofs.Stack.{pins_of-push}
 use Rattle.search.proofs.TakenFacts.{first-step}
 use Rattle.search.specs.declared.parts.Frame.{Frame}

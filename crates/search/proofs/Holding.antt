@@ -3,7 +3,7 @@ use Rattle.std.proofs.Common.{ℕ, List, [], ◌∷◌, ◌++◌, ◌≡◌, ◌
 use Rattle.std.proofs.lemmas.List.{length-map}
 use Rattle.std.specs.Ordering.{nat_cmp, is_eq}
 use Rattle.search.proofs.Least.{nat-order}
-use Rattle.search.proofs.Lists.{nat_cases, take-whole}
+use Rattle.lists.proofs.Members.{nat_cases, take-whole}
 use Rattle.search.proofs.Marks.{set-same, set-other, set-length}
 use Rattle.search.proofs.Nodes.{take-front}
 use Rattle.search.proofs.Theory.{option_cases, is_eq-same, version_in-append_some, version_in-append_none, version_in-last}

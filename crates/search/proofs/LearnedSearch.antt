@@ -3,7 +3,7 @@ use Rattle.std.proofs.Common.{ℕ, List, [], ◌∷◌, ◌++◌, ◌≡◌, ◌
 use Rattle.std.proofs.lemmas.Bool.{eqb-true}
 use Rattle.std.proofs.lemmas.List.Elements.{Contains-append_left, Contains-push}
 use Rattle.search.proofs.Entries.{eq-itself}
-use Rattle.search.proofs.Lists.{Contains-cons_cases, Contains-nil}
+use Rattle.lists.proofs.Members.{Contains-cons_cases, Contains-nil}
 use Rattle.search.proofs.Refutations.{list-excluded}
 use Rattle.search.proofs.Stack.{search-best}
 use Rattle.search.proofs.Theory.{some-inj, Needed-more, version_in-last, Has-front}

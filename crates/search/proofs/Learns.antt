@@ -6,7 +6,7 @@ use Rattle.search.proofs.Asked.{leader-version}
 use Rattle.search.proofs.Entries.{eq-itself}
 use Rattle.search.proofs.Holding.{decisions-push}
 use Rattle.search.proofs.LearnedSearch.{IsLearning-push, IsLearning-pop, learning-more, follows-excluded}
-use Rattle.search.proofs.Lists.{Contains-here, Contains-cons_cases, Contains-nil, Contains-take_suc, take-whole}
+use Rattle.lists.proofs.Members.{Contains-here, Contains-cons_cases, Contains-nil, Contains-take_suc, take-whole}
 use Rattle.search.proofs.Ranges.{lines-known, wants-known, nodes-known}
 use Rattle.search.proofs.Work.{table-lawful}
 use Rattle.search.specs.declared.conflict.NodeChoice.{NodeChoice}

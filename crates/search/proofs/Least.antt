@@ -7,7 +7,7 @@ use Rattle.std.proofs.lemmas.List.Elements.{Contains-append_left, Contains-push,
 use Rattle.std.specs.Cmp.{nat_cmp_is}
 use Rattle.std.proofs.lemmas.Bool.{ltb-true, ltb-false}
 use Rattle.search.proofs.Counts.{nat_less}
-use Rattle.search.proofs.Lists.{get_or-any}
+use Rattle.lists.proofs.Members.{get_or-any}
 use Rattle.search.proofs.Nodes.{take-more}
 use Rattle.search.specs.Rules.{Rules, IsOrder}
 use Rattle.search.specs.Solutions.{IsNext, version_in, Pin}

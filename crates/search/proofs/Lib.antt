@@ -1,4 +1,3 @@
-pub mod Lists
 pub mod Theory
 pub mod Unique
 pub mod Ranges

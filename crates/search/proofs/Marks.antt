@@ -3,7 +3,7 @@ use Rattle.std.proofs.Common.{ℕ, zero, suc, List, [], ◌∷◌, ◌++◌, ◌
 use Rattle.std.proofs.Math.ListN.{replicate}
 use Rattle.std.proofs.lemmas.List.Elements.{Contains-append_left, Contains-append_right, Contains-append_cases, Contains-push, Contains-push_cases}
 use Rattle.search.proofs.Counts.{Distinct-push, distinct-below}
-use Rattle.search.proofs.Lists.{Contains-cons_cases, Contains-nil, nat_cases}
+use Rattle.lists.proofs.Members.{Contains-cons_cases, Contains-nil, nat_cases}
 use Rattle.search.specs.Nodes.{IsMarked, Grows}
 
 pub no-marks : (room node : ℕ) → get_or (replicate room false) node false ≡ false

@@ -4,7 +4,7 @@ use Rattle.std.specs.Ordering.{nat_cmp}
 use Rattle.search.proofs.Asked.{AreFirst, IsAskedBy, asks-sound, asks-whole, first-some, first-none, first-version}
 use Rattle.search.proofs.LearnedSearch.{AllHeld, Lies, held-lie}
 use Rattle.search.proofs.Least.{not_greater}
-use Rattle.search.proofs.Lists.{Contains-here, Contains-cons_cases, Contains-nil, Contains-take_suc, Contains-take_zero, take-whole}
+use Rattle.lists.proofs.Members.{Contains-here, Contains-cons_cases, Contains-nil, Contains-take_suc, Contains-take_zero, take-whole}
 use Rattle.search.proofs.Theory.{option_cases, some-inj}
 use Rattle.search.specs.declared.conflict.NodeChoice.{NodeChoice}
 use Rattle.search.specs.declared.agenda.Ask.{Ask}

@@ -1,7 +1,7 @@
 -- Lemmas on sets of nodes that grow, and on the walk through needed nodes.
 use Rattle.std.proofs.Common.{ℕ, zero, suc, List, [], ◌∷◌, ◌++◌, ◌≡◌, ◌<◌, ◌≤◌, ◌+◌, inl, inr, Contains, length, get_or, take, refl, sym, ◌∙◌, ap, subst, arith, Some, None, Option, append_assoc, append-nil, add-one}
 use Rattle.std.proofs.lemmas.List.Elements.{Contains-append_left, Contains-append_right, Contains-append_cases}
-use Rattle.search.proofs.Lists.{Contains-here, Contains-there, Contains-cons_cases, Contains-nil, Contains-take_suc, Contains-take_zero, take-whole, get_or-any}
+use Rattle.lists.proofs.Members.{Contains-here, Contains-there, Contains-cons_cases, Contains-nil, Contains-take_suc, Contains-take_zero, take-whole, get_or-any}
 use Rattle.search.proofs.Marks.{Grows-none}
 use Rattle.search.specs.Nodes.{Nodes, Grows, IsGrown, nodes_asked, nodes_linked, IsClosing}
 use Rattle.search.specs.Rules.{Rules}

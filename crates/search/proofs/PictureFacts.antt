@@ -2,7 +2,7 @@
 use Rattle.std.proofs.Common.{ℕ, ◌≡◌, ◌<◌, Contains, length, map, refl, sym, ◌∙◌, ap, subst, arith, Some, None, Option, true}
 use Rattle.std.proofs.lemmas.Cmp.{tied_itself}
 use Rattle.search.proofs.Least.{nat-order}
-use Rattle.search.proofs.Lists.{Contains-here, Contains-map, Contains-map_of}
+use Rattle.lists.proofs.Members.{Contains-here, Contains-map, Contains-map_of}
 use Rattle.search.proofs.Ranges.{lines-known, wants-known, nodes-known, name-known}
 use Rattle.search.proofs.Theory.{some-inj}
 use Rattle.search.proofs.Work.{candidates-named}

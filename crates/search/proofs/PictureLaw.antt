@@ -3,7 +3,7 @@ use Rattle.std.proofs.Common.{ℕ, List, [], ◌∷◌, ◌++◌, ◌≡◌, ◌
 use Rattle.std.specs.Ordering.{nat_cmp, is_eq}
 use Rattle.std.proofs.lemmas.List.Elements.{Contains-append_left}
 use Rattle.search.proofs.Least.{nat-order}
-use Rattle.search.proofs.Lists.{map-append, Contains-here, Contains-there, Contains-cons_cases, Contains-nil, Contains-map}
+use Rattle.lists.proofs.Members.{map-append, Contains-here, Contains-there, Contains-cons_cases, Contains-nil, Contains-map}
 use Rattle.search.proofs.PictureFacts.{image, image-some, image-none, IsAlike, AreNamed, IsStoodFor, candidate-known, needed-up, needed-down, solution-up, solution-down}
 use Rattle.search.proofs.Ranges.{name-known}
 use Rattle.search.proofs.TakenFacts.{IsListed, listed, listed-all, split-nat}

@@ -2,7 +2,7 @@
 use Rattle.std.proofs.Common.{ℕ, zero, suc, List, [], ◌∷◌, ◌≡◌, ◌<◌, ◌&&◌, ◌==◌, inl, inr, Contains, length, get_or, refl, sym, ap, subst, arith, Bool, true, false, nat_lt}
 use Rattle.std.specs.List.{list_all}
 use Rattle.std.proofs.lemmas.Bool.{ltb-true, eqb-true}
-use Rattle.search.proofs.Lists.{Contains-here, Contains-there, Contains-cons_cases, Contains-nil}
+use Rattle.lists.proofs.Members.{Contains-here, Contains-there, Contains-cons_cases, Contains-nil}
 use Rattle.search.specs.declared.parts.Requirement.{Requirement}
 use Rattle.search.specs.Ranges.{EachBelow}
 use Rattle.search.specs.Table.{Parts, all_below, is_on, requirement_in_range, in_range, requirement_at, name_of, name_at, nodes_of, wants_at}

@@ -1,7 +1,7 @@
 -- A conflict that follows from conflicts that lie in no solution lies in none either.
 use Rattle.std.proofs.Common.{List, [], ◌∷◌, ◌++◌, ◌≡◌, inl, inr, Contains, sym, ◌∙◌, ap, subst, Some, Option, Bool, true, false, append_assoc, append-nil}
 use Rattle.std.proofs.lemmas.List.Elements.{Contains-push_cases, Contains-append_right}
-use Rattle.search.proofs.Lists.{Contains-here, Contains-nil}
+use Rattle.lists.proofs.Members.{Contains-here, Contains-nil}
 use Rattle.search.proofs.Theory.{Needed-in_solution, some-inj}
 use Rattle.search.specs.declared.conflict.NodeChoice.{NodeChoice}
 use Rattle.search.specs.Rules.{Rules, IsLawful}

@@ -15,7 +15,7 @@ use Rattle.std.specs.declared.cmp.Ordering.{Ordering}
 use Rattle.std.specs.declared.cmp.Ordering.TheVariants.{Less, Equal, Greater}
 use Rattle.search.proofs.Entries.{eq-itself, off-of}
 use Rattle.search.proofs.Least.{nat-order}
-use Rattle.search.proofs.Lists.{Contains-here, Contains-there, Contains-cons_cases, Contains-nil, nat_cases, take-whole}
+use Rattle.lists.proofs.Members.{Contains-here, Contains-there, Contains-cons_cases, Contains-nil, nat_cases, take-whole}
 use Rattle.search.proofs.Nodes.{take-front}
 use Rattle.search.proofs.Ranges.{name-known, nodes-known}
 use Rattle.search.proofs.TakenFacts.{split-nat}

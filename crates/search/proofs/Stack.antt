@@ -1,6 +1,6 @@
 -- What a search learns of solutions, as its frames come and go.
 use Rattle.std.proofs.Common.{ℕ, suc, List, [], ◌∷◌, ◌++◌, ◌≡◌, ◌≢◌, ◌≤◌, ◌⊎◌, inl, inr, Contains, length, take, drop, refl, sym, ◌∙◌, ap, subst, Some, None, Option, append_assoc, append-nil}
-use Rattle.search.proofs.Lists.{Contains-take_suc, take-whole, nat_cases, split_at, get_or-any}
+use Rattle.lists.proofs.Members.{Contains-take_suc, take-whole, nat_cases, split_at, get_or-any}
 use Rattle.search.proofs.Theory.{version_in-cons_cases, version_in-last, Has-front, Has-push, Needed-more, next-in_solution, complete-same}
 use Rattle.search.specs.declared.parts.Frame.{Frame}
 use Rattle.search.specs.Rules.{Rules, IsLawful}

@@ -1,6 +1,6 @@
 -- What the steps of a search keep.
 use Rattle.std.proofs.Common.{ℕ, List, [], ◌∷◌, ◌++◌, ◌≡◌, ◌<◌, ◌+◌, length, get_or, sym, ◌∙◌, subst, subst₂, Some, None, true, false, append_assoc, add-one}
-use Rattle.search.proofs.Lists.{Contains-take_zero}
+use Rattle.lists.proofs.Members.{Contains-take_zero}
 use Rattle.search.proofs.Stack.{Refutes-more, IsRefuted-exhausted, IsSearch-push, IsSearch-pop, pins_of-push}
 use Rattle.search.proofs.Work.{table-lawful}
 use Rattle.search.specs.declared.parts.Frame.{Frame}

@@ -5,7 +5,7 @@ use Rattle.std.proofs.lemmas.List.Elements.{Contains-push_cases}
 use Rattle.std.specs.Ordering.{nat_cmp, is_eq}
 use Rattle.search.proofs.Counts.{nat_less}
 use Rattle.search.proofs.Least.{nat-order}
-use Rattle.search.proofs.Lists.{Contains-map, map-append, Contains-nil, Contains-here, Contains-there, nat_cases}
+use Rattle.lists.proofs.Members.{Contains-map, map-append, Contains-nil, Contains-here, Contains-there, nat_cases}
 use Rattle.search.proofs.Nodes.{take-more}
 use Rattle.search.proofs.Stack.{pins_of-push}
 use Rattle.search.proofs.Theory.{pin-member, is_eq-same, option_cases, version_in-append_some, version_in-append_none, version_in-last}

@@ -3,7 +3,7 @@ use Rattle.std.proofs.Common.{List, [], ◌∷◌, ◌++◌, ◌≡◌, ◌⊎�
 use Rattle.std.specs.Ordering.{is_eq}
 use Rattle.std.specs.Cmp.{Equal-is}
 use Rattle.std.proofs.lemmas.Cmp.{tied_itself}
-use Rattle.search.proofs.Lists.{Contains-here, Contains-there}
+use Rattle.lists.proofs.Members.{Contains-here, Contains-there}
 use Rattle.search.specs.Rules.{Rules, IsOrder, IsLawful}
 use Rattle.search.specs.Solutions.{Pin, Needed, by_line, by_dependency, IsNeededName, IsMet, Solution, version_in, IsNext, Has}
 use Rattle.search.specs.Search.{IsRefuted, IsComplete}

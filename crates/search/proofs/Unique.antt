@@ -1,7 +1,7 @@
 -- There is at most one best solution, and none is better.
 use Rattle.std.proofs.Common.{List, [], ◌∷◌, ◌++◌, ◌≡◌, ◌≢◌, inl, inr, Contains, refl, sym, ◌∙◌, ap, subst, subst₂, Some, Option, Greater, Less, Equal, Ordering, append_assoc, append-nil, ap₂}
 use Rattle.std.specs.Ordering.{ordering_reverse}
-use Rattle.search.proofs.Lists.{Contains-here, Contains-there}
+use Rattle.lists.proofs.Members.{Contains-here, Contains-there}
 use Rattle.search.proofs.Theory.{version_in-last, version_in-append_some, some-inj}
 use Rattle.search.specs.Rules.{Rules, IsOrder}
 use Rattle.search.specs.Solutions.{Pin, IsNext, IsWalk, Has, ComesFirst, IsBetter, IsBest, Solution, version_in}

@@ -1,7 +1,7 @@
 -- The walk through needed nodes, and what is known of it from before.
 use Rattle.std.proofs.Common.{ℕ, zero, suc, List, [], ◌∷◌, ◌++◌, ◌≡◌, ◌≢◌, ◌<◌, ◌≤◌, ◌+◌, inl, inr, Contains, length, get_or, take, refl, sym, ◌∙◌, ap, subst, arith, Some, None, Option, add-one, length-append, append_assoc}
 use Rattle.std.proofs.lemmas.List.Elements.{Contains-append_left}
-use Rattle.search.proofs.Lists.{Contains-here, Contains-there, Contains-nil, Contains-take_suc, Contains-take_zero, take-whole}
+use Rattle.lists.proofs.Members.{Contains-here, Contains-there, Contains-nil, Contains-take_suc, Contains-take_zero, take-whole}
 use Rattle.search.proofs.Nodes.{asked-to, linked-needed, take-front, closing-start, closing-step, closing-end}
 use Rattle.search.proofs.Theory.{Needed-more}
 use Rattle.search.specs.declared.parts.Since.{Since}

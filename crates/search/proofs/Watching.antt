@@ -2,7 +2,7 @@
 use Rattle.std.proofs.Common.{ℕ, List, [], ◌∷◌, ◌++◌, ◌≡◌, ◌<◌, ◌≤◌, ◌⊎◌, inl, inr, Contains, length, slice_set, sym, ◌∙◌, ap, subst, Some, None, Option, true}
 use Rattle.std.proofs.lemmas.List.Elements.{Contains-append_left, Contains-push, Contains-push_cases}
 use Rattle.std.specs.BTreeSet.{keys}
-use Rattle.search.proofs.Lists.{Contains-cons_cases, Contains-nil, nat_cases}
+use Rattle.lists.proofs.Members.{Contains-cons_cases, Contains-nil, nat_cases}
 use Rattle.search.proofs.Marks.{set-same, set-other}
 use Rattle.search.proofs.Ranges.{nodes-own}
 use Rattle.search.specs.declared.agenda.Agenda.{Agenda}

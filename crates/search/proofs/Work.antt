@@ -3,7 +3,7 @@ use Rattle.std.proofs.Common.{ℕ, zero, suc, List, [], ◌∷◌, ◌++◌, ◌
 use Rattle.std.proofs.lemmas.List.{length-map}
 use Rattle.search.proofs.Counts.{distinct-below}
 use Rattle.search.proofs.Least.{nat-order}
-use Rattle.search.proofs.Lists.{Contains-here, Contains-cons_cases, Contains-nil, Contains-map_of, map-append}
+use Rattle.lists.proofs.Members.{Contains-here, Contains-cons_cases, Contains-nil, Contains-map_of, map-append}
 use Rattle.search.proofs.Ranges.{nodes-own}
 use Rattle.search.proofs.Stack.{IsSearch-pop}
 use Rattle.search.proofs.Theory.{version_in-append_some, version_in-last}

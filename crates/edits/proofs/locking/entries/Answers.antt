@@ -8,7 +8,7 @@ use Rattle.edits.specs.Dependencies.{names_in, names_of}
 use Rattle.edits.proofs.Gathering.{entries-more, lookup-there, needs-rest}
 use Rattle.edits.proofs.LawfulNames.{dependencies-from}
 use Rattle.edits.proofs.LockFacts.{releases-more}
-use Rattle.edits.proofs.Members.{Contains-here, Contains-nil, Contains-there}
+use Rattle.lists.proofs.Members.{Contains-here, Contains-nil, Contains-there}
 use Rattle.edits.proofs.locking.entries.Goals as goal
 
 pub loop-name-init : goal.loop-name-init

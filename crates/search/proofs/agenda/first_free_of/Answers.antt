@@ -1,5 +1,5 @@
 use Rattle.std.proofs.Common.{ℕ, List, Option, Some, None, MatchOption, Contains, map, ◌≡◌, ◌∷◌, inl, inr, sym, subst}
-use Rattle.search.proofs.Lists.{Contains-here, Contains-there, Contains-cons_cases}
+use Rattle.lists.proofs.Members.{Contains-here, Contains-there, Contains-cons_cases}
 use Rattle.search.specs.declared.conflict.NodeChoice.{NodeChoice}
 use Rattle.search.specs.declared.parts.Requirement.{Requirement}
 use Rattle.search.specs.Gathering.{choice_at, decision}

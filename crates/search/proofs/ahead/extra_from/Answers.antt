@@ -1,5 +1,5 @@
 use Rattle.std.proofs.Common.{List, ℕ, [], ◌∙◌, Contains, refl, sym, ap, subst}
-use Rattle.search.proofs.Lists.{Contains-here, Contains-there}
+use Rattle.lists.proofs.Members.{Contains-here, Contains-there}
 use Rattle.search.specs.declared.parts.Requirement.{Requirement}
 use Rattle.search.specs.Learned.{first_at}
 use Rattle.search.specs.Table.{nodes_of}

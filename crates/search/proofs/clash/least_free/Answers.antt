@@ -1,6 +1,6 @@
 use Rattle.std.proofs.Common.{List, ℕ, Option, MatchOption, cond, nat_lt, take, ◌≡◌, ◌+◌, subst, sym, ◌∙◌, ap}
 use Rattle.search.proofs.Least.{IsFound, found-passed, found-lesser}
-use Rattle.search.proofs.Lists.{take-whole}
+use Rattle.lists.proofs.Members.{take-whole}
 use Rattle.search.proofs.Ranges.{at-member}
 use Rattle.search.specs.Rules.{Rules}
 use Rattle.search.specs.Search.{taken_at}

@@ -1,5 +1,5 @@
 use Rattle.std.proofs.Common.{ℕ, List, ◌≡◌, ◌∙◌, ◌<◌, length, get_or, sym, ap, subst, arith}
-use Rattle.search.proofs.Lists.{get_or-any}
+use Rattle.lists.proofs.Members.{get_or-any}
 use Rattle.search.proofs.Learns.{trial-known, leads-first, learned-push}
 use Rattle.search.specs.declared.trial.Trial.{Trial}
 use Rattle.search.specs.Gathering.{decision}

@@ -1,5 +1,5 @@
 use Rattle.std.proofs.Common.{List, ℕ, Contains, ◌<◌, ◌∷◌, [], length, subst, sym, ◌∙◌}
-use Rattle.search.proofs.Lists.{Contains-here, Contains-there}
+use Rattle.lists.proofs.Members.{Contains-here, Contains-there}
 use Rattle.search.proofs.Nodes.{grown-then}
 use Rattle.search.specs.declared.parts.Requirement.{Requirement}
 use Rattle.search.specs.Nodes.{IsGrown}

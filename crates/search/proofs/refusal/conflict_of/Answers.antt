@@ -1,5 +1,5 @@
 use Rattle.std.proofs.Common.{ℕ, List, ◌∷◌, [], ◌++◌, Contains, inl, inr, sym, ap, ◌∙◌, subst}
-use Rattle.search.proofs.Lists.{Contains-here, Contains-cons_cases, Contains-nil}
+use Rattle.lists.proofs.Members.{Contains-here, Contains-cons_cases, Contains-nil}
 use Rattle.search.specs.declared.conflict.NodeChoice.{NodeChoice}
 use Rattle.search.proofs.refusal.conflict_of.Goals as goal
 

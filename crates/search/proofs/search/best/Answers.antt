@@ -1,6 +1,6 @@
 use Rattle.std.proofs.Common.{ℕ, Option, List, ◌<◌, ◌≡◌, [], sym, ◌∙◌, ap, subst, length}
 use Rattle.std.specs.Ordering.{nat_cmp}
-use Rattle.search.proofs.Lists.{Contains-nil}
+use Rattle.lists.proofs.Members.{Contains-nil}
 use Rattle.search.proofs.Stack.{search-best}
 use Rattle.search.proofs.Work.{work_of, work-push, work-forward, frames-known, table-lawful}
 use Rattle.search.specs.declared.parts.Frame.{Frame}

@@ -1,5 +1,5 @@
 use Rattle.std.proofs.Common.{◌<◌, ◌∙◌, sym, subst, get_or}
-use Rattle.search.proofs.Lists.{get_or-any}
+use Rattle.lists.proofs.Members.{get_or-any}
 use Rattle.search.proofs.Ranges.{at-member}
 use Rattle.search.proofs.TakenFacts.{first-more}
 use Rattle.search.specs.declared.parts.Frame.{Frame}

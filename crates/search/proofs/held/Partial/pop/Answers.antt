@@ -3,7 +3,7 @@ use Rattle.std.proofs.lemmas.List.Elements.{Contains-append_left}
 use Rattle.std.specs.BTreeSet.{keys, insert_key}
 use Rattle.std.specs.Ordering.{nat_cmp}
 use Rattle.search.proofs.Holding.{asks-length, asks-pop, asks-push, entries-pop, entries-push, partial-pop_first, partial-pop_tied}
-use Rattle.search.proofs.Lists.{map-append}
+use Rattle.lists.proofs.Members.{map-append}
 use Rattle.search.proofs.Rows.{inserted, rowed-same}
 use Rattle.search.proofs.Watching.{watched-back_first, watched-back_tied}
 use Rattle.search.specs.declared.agenda.Agenda.{Agenda}

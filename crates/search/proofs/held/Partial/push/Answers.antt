@@ -2,7 +2,7 @@ use Rattle.std.proofs.Common.{ℕ, List, Option, Bool, true, false, ◌≡◌, �
 use Rattle.std.specs.Global.{Vec}
 use Rattle.search.proofs.Entries.{entries-decisions, insert-free}
 use Rattle.search.proofs.Holding.{partial-push_first, partial-push_tied}
-use Rattle.search.proofs.Lists.{map-append}
+use Rattle.lists.proofs.Members.{map-append}
 use Rattle.search.proofs.Rows.{rowed-same}
 use Rattle.search.proofs.Watching.{watched-first, watched-tied}
 use Rattle.search.specs.declared.agenda.Agenda.{Agenda}

@@ -1,5 +1,5 @@
 use Rattle.std.proofs.Common.{[], ◌∷◌, ◌<◌, true, length, refl, sym, ◌∙◌, subst, slice_set}
-use Rattle.search.proofs.Lists.{get_or-any}
+use Rattle.lists.proofs.Members.{get_or-any}
 use Rattle.search.proofs.Marks.{Grows-there, Grows-push, marked-push, set-length}
 use Rattle.search.specs.Nodes.{Nodes, IsMarked, IsGrown, Grows}
 use Rattle.search.proofs.node_set.NodeSet.insert.Goals as goal

@@ -1,5 +1,5 @@
 use Rattle.std.proofs.Common.{◌<◌, length, subst, sym}
-use Rattle.search.proofs.Lists.{Contains-here}
+use Rattle.lists.proofs.Members.{Contains-here}
 use Rattle.search.specs.declared.parts.Requirement.{Requirement}
 use Rattle.search.proofs.table.Table.name_asked.Goals as goal
 
