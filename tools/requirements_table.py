@@ -1,7 +1,7 @@
 #!/usr/bin/env python3
 """Prints a test file of what packaging reads in markers and requirements: requirements_table.py > FILE.
 
-Run it with Debian's /usr/bin/python3 and python3-packaging. The printed file is crates/rows/src/requirement_table.rt.
+Run it with Debian's /usr/bin/python3 and python3-packaging. The printed file is crates/conformance/src/requirement_table.rt.
 Texts on which reqlock's rules differ by design, or packaging's answer is a mistake, are counted in the file's first
 comment; their class is told from the text, never from reqlock's answer.
 """

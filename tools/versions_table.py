@@ -1,7 +1,7 @@
 #!/usr/bin/env python3
 """Prints a test file of what packaging answers on versions and specifiers: versions_table.py > FILE.
 
-Run it with Debian's /usr/bin/python3 and python3-packaging. The printed file is crates/rows/src/version_table.rt.
+Run it with Debian's /usr/bin/python3 and python3-packaging. The printed file is crates/conformance/src/version_table.rt.
 Pairs on which reqlock's rules differ by design are marked `-` and counted in the file's first comment.
 """
 import platform

@@ -74,7 +74,7 @@ class Demo(unittest.TestCase):
         self.assertEqual((status, errors), (0, ""))
         self.assertEqual(calls[0], "lists: check")
         self.assertEqual(calls[-2:], ["reqlock: check", "reqlock: run"])
-        self.assertNotIn("rows: check", calls)
+        self.assertNotIn("conformance: check", calls)
         for call in calls[:-1]:
             self.assertIn(f"  {call.removesuffix(': check'):9}    2 functions proved, 0 min 0", output)
         self.assertIn("built: --dir examples/web", output)

@@ -20,8 +20,8 @@ class Times(unittest.TestCase):
         words = ["/kit/bin/rattle", "check", "--crate-name", "lists", "src/lib.rt"]
         self.assertEqual(gate_times.check_of(words, "/a/crates/lists"), ("lists", "proofs"))
         self.assertEqual(gate_times.check_of(words, "/tmp/rt-edit-x1"), ("lists", "edits"))
-        tests = ["rattle", "build", "--crate-name", "rows", "--test"]
-        self.assertEqual(gate_times.check_of(tests, "/a"), ("rows", "tests"))
+        tests = ["rattle", "build", "--crate-name", "conformance", "--test"]
+        self.assertEqual(gate_times.check_of(tests, "/a"), ("conformance", "tests"))
         for other in [], ["rattle"], ["rattle", "fmt", "--crate-name", "a"], ["python3", "check"], ["rattle", "check"]:
             self.assertIsNone(gate_times.check_of(other, "/a"))
 

@@ -2,9 +2,9 @@
 use Rattle.std.proofs.Common.{◌≡◌, ◌≢◌, ◌∙◌, ◌≤◌, ℕ, List, [], ◌∷◌, Contains, Option, Some, None, IfSome, map, option_map, true, refl, sym, ap, subst, arith}
 use Rattle.std.specs.List.{AllByRecursion}
 use Rattle.pylock.specs.Order.{rises}
-use Rattle.pylock.specs.Packages.{Package}
+use Rattle.pylock.specs.Packages.{EntryParts}
 use Rattle.edits.specs.Changes.{After, AreEntryChanges, AreSplices, ChangeParts, ChangesDigest, ChangesEntries, ChangesLock, IsEntryChange, IsMinimal, IsOn, back, digest_back, entry_back, inverse}
-use Rattle.edits.specs.Content.{Content}
+use Rattle.edits.specs.StateParts.{StateParts}
 use Rattle.edits.specs.declared.change.parts.DigestChange.{DigestChange}
 use Rattle.edits.specs.declared.change.parts.EntryChange.{EntryChange}
 use Rattle.edits.proofs.BackFacts.{AreSplices-back, Splices-back, back-back}
@@ -24,7 +24,7 @@ twice-back : (changes : List EntryChange) → map entry_back (map entry_back cha
 twice-back [] = refl
 twice-back (c ∷ rest) = ap (λ (more : List EntryChange). c ∷ more) (twice-back rest)
 
-ChangesEntries-back : (changes : List EntryChange) (old new : List Package) → ChangesEntries changes old new → ChangesEntries (map entry_back changes) new old
+ChangesEntries-back : (changes : List EntryChange) (old new : List EntryParts) → ChangesEntries changes old new → ChangesEntries (map entry_back changes) new old
 ChangesEntries-back changes old new is = record {
   changed = λ change there.
       let k = Contains-map entry_back changes change there in
@@ -63,7 +63,7 @@ IsMinimal-inverse change is = record {
 }
 
 -- it leads back
-pub After-inverse : (change : ChangeParts) (old new : Content) → After old change new → After new (inverse change) old
+pub After-inverse : (change : ChangeParts) (old new : StateParts) → After old change new → After new (inverse change) old
 After-inverse change old new after = record {
   lines = Splices-back 0 0 0 change.splices old.lines new.lines (omega arith) after.lines;
   lock = record {

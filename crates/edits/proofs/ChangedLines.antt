@@ -3,14 +3,14 @@ use Rattle.std.proofs.Common.{◌≡◌, ◌⊎◌, ℕ, Bool, true, false, List
 use Rattle.std.proofs.lemmas.Bool.{cases_Bool}
 use Rattle.markers.specs.declared.fault.Cause.{Cause}
 use Rattle.pep508.specs.Lines.{AreLines}
-use Rattle.pep508.specs.Requirement.{IsSpecifier, MayStandFor, Wanted, requirement_of}
+use Rattle.pep508.specs.Requirement.{IsSpecifier, MayStandFor, RequirementParts, requirement_of}
 use Rattle.pep508.specs.Slices.{joined, slices_of, with_version}
 use Rattle.edits.specs.Asking.{asked, is_on, wanted_of}
 use Rattle.edits.specs.Naming.{line_with, with_set_on}
 
 -- a line that asks for something may stand for itself with other specifiers, and lines may be exchanged so
 abbrev pub MayGetSpecifiers : Type 0
-MayGetSpecifiers = (line specifiers : List ℕ) (wanted : Wanted) → requirement_of line ≡ Ok (Some wanted) → IsSpecifier specifiers
+MayGetSpecifiers = (line specifiers : List ℕ) (wanted : RequirementParts) → requirement_of line ≡ Ok (Some wanted) → IsSpecifier specifiers
     → MayStandFor line (joined (with_version specifiers (slices_of line)))
 
 abbrev pub MayBeExchanged : Type 0
@@ -18,12 +18,12 @@ MayBeExchanged = (change : List ℕ → List ℕ) (lines : List (List ℕ)) → 
     → ((line : List ℕ) → Contains lines line → (change line ≡ line) ⊎ MayStandFor line (change line)) → AreLines (map change lines)
 
 -- a line on a name asks for something
-asks : (name : List ℕ) (read : Result (Option Wanted) Cause) → is_on name (asked read) ≡ true → (wanted : Wanted) × (read ≡ Ok (Some wanted))
+asks : (name : List ℕ) (read : Result (Option RequirementParts) Cause) → is_on name (asked read) ≡ true → (wanted : RequirementParts) × (read ≡ Ok (Some wanted))
 asks name (Ok None) on = cc
 asks name (Ok (Some wanted)) on = (wanted, refl)
 asks name (Err cause) on = cc
 
-pub asks_on : (name line : List ℕ) → is_on name (wanted_of line) ≡ true → (wanted : Wanted) × (requirement_of line ≡ Ok (Some wanted))
+pub asks_on : (name line : List ℕ) → is_on name (wanted_of line) ≡ true → (wanted : RequirementParts) × (requirement_of line ≡ Ok (Some wanted))
 asks_on name line on = asks name (requirement_of line) on
 
 -- a line stays, or asks for something with its specifiers

@@ -1,9 +1,9 @@
 -- What an edit leads to, from the state that its lines were locked as.
 use Rattle.std.proofs.Common.{◌≡◌, ◌≢◌, ◌⊎◌, ◌∙◌, ℕ, Bool, true, false, List, Option, Some, None, Result, Ok, Err, refl, sym, ap, subst, inl, inr}
 use Rattle.std.specs.Prelude.{IsTrue, ◌↔◌}
-use Rattle.pep440.specs.Version.{Parts}
+use Rattle.pep440.specs.Version.{VersionParts}
 use Rattle.snapshot.specs.Packages.{Index}
-use Rattle.edits.specs.Content.{Content}
+use Rattle.edits.specs.StateParts.{StateParts}
 use Rattle.edits.specs.Edits.{EditResult, IsLocked, IsNew, given_of, kept_pins, lines_after, refusal_of}
 use Rattle.edits.specs.Locking.{versions_of}
 use Rattle.edits.specs.Refused.{or_refused, refused_by_lines, refused_by_lock}
@@ -12,16 +12,16 @@ use Rattle.edits.specs.declared.refusal.Refusal.TheVariants.{NothingChanges}
 use Rattle.edits.proofs.Refusals.{accepted}
 
 -- the edit is not refused, these are its lines and these the versions that it keeps
-pub record IsAccepted (state : Content) (edit : Edit) (lines : List (List ℕ)) (kept : List (List ℕ × Parts)) : Type 0 where
+pub record IsAccepted (state : StateParts) (edit : Edit) (lines : List (List ℕ)) (kept : List (List ℕ × VersionParts)) : Type 0 where
   pub lines_are : or_refused (refused_by_lines state.lines edit) (lines_after state.lines edit) ≡ Ok lines
   pub lock : refused_by_lock state.lock.entries edit ≡ None
   pub kept_are : kept ≡ kept_pins (versions_of state.lock.entries) edit
 
 -- the same lines and lock make the same state
-same-state : (edited state : Content) → edited.environment ≡ state.environment → edited.lines ≡ state.lines → edited.lock ≡ state.lock → edited ≡ state
+same-state : (edited state : StateParts) → edited.environment ≡ state.environment → edited.lines ≡ state.lines → edited.lock ≡ state.lock → edited ≡ state
 same-state edited state environment lines lock = λ i. record { lines = lines i; environment = environment i; lock = lock i }
 
-pub nothing-changes : (state edited : Content) (edit : Edit) (index : Index) (lines : List (List ℕ)) (kept : List (List ℕ × Parts)) → IsAccepted state edit lines kept
+pub nothing-changes : (state edited : StateParts) (edit : Edit) (index : Index) (lines : List (List ℕ)) (kept : List (List ℕ × VersionParts)) → IsAccepted state edit lines kept
     → IsLocked (given_of lines state.environment index kept) lines edited → edited.lines ≡ state.lines → edited.lock ≡ state.lock → EditResult state edit index (Err NothingChanges)
 nothing-changes state edited edit index lines kept a locked lines_same lock_same =
     let k = accepted (refused_by_lines state.lines edit) (lines_after state.lines edit) lines a.lines_are in
@@ -29,12 +29,12 @@ nothing-changes state edited edit index lines kept a locked lines_same lock_same
     rw (k.0, a.lock, k.1, ← a.kept_are) (inr (refl, old))
 
 -- a state that holds something else is new
-other-state : (state edited : Content) → (edited.lines ≡ state.lines → edited.lock ≡ state.lock → ⊥) → IsNew (Some state) edited
+other-state : (state edited : StateParts) → (edited.lines ≡ state.lines → edited.lock ≡ state.lock → ⊥) → IsNew (Some state) edited
 other-state state edited other e =
     let same : edited ≡ state = cc in
-    other (ap (λ (s : Content). s.lines) same) (ap (λ (s : Content). s.lock) same)
+    other (ap (λ (s : StateParts). s.lines) same) (ap (λ (s : StateParts). s.lock) same)
 
-pub changes : (state edited : Content) (edit : Edit) (index : Index) (lines : List (List ℕ)) (kept : List (List ℕ × Parts)) → IsAccepted state edit lines kept
+pub changes : (state edited : StateParts) (edit : Edit) (index : Index) (lines : List (List ℕ)) (kept : List (List ℕ × VersionParts)) → IsAccepted state edit lines kept
     → IsLocked (given_of lines state.environment index kept) lines edited → (edited.lines ≡ state.lines → edited.lock ≡ state.lock → ⊥) → EditResult state edit index (Ok edited)
 changes state edited edit index lines kept a locked other =
     let k = accepted (refused_by_lines state.lines edit) (lines_after state.lines edit) lines a.lines_are in

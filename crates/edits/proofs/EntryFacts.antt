@@ -7,17 +7,17 @@ use Rattle.std.specs.Ordering.{is_lt, nat_cmp, ordering_reverse}
 use Rattle.std.specs.Str.{bytes_eq}
 use Rattle.pylock.specs.Locks.{are_entries}
 use Rattle.pylock.specs.Order.{rises}
-use Rattle.pylock.specs.Packages.{Package}
+use Rattle.pylock.specs.Packages.{EntryParts}
 use Rattle.edits.specs.Changes.{entry_on}
 use Rattle.lists.proofs.Members.{Contains-cons_cases, Contains-here, Contains-map_of, Contains-nil, Contains-there}
 
 -- an entry that is found is one of the entries, on its name
-pub entry-from : (entries : List Package) (name : List ℕ) (e : Package) → entry_on entries name ≡ Some e → Contains entries e × (e.name ≡ name)
+pub entry-from : (entries : List EntryParts) (name : List ℕ) (e : EntryParts) → entry_on entries name ≡ Some e → Contains entries e × (e.name ≡ name)
 entry-from [] name e is = absurd (cc is)
 entry-from (x ∷ rest) name e is = elim (cases_Bool (bytes_eq name x.name)) [
   | inl same ↦
       let this : x ≡ e = cc (rw same at is) in
-      (subst (λ (y : Package). Contains (x ∷ rest) y) this (Contains-here x rest), ap (λ (y : Package). y.name) (sym this) ∙ sym ((bytes_eq-Decides name x.name).0 same))
+      (subst (λ (y : EntryParts). Contains (x ∷ rest) y) this (Contains-here x rest), ap (λ (y : EntryParts). y.name) (sym this) ∙ sym ((bytes_eq-Decides name x.name).0 same))
   | inr other ↦
       let more = entry-from rest name e (rw other at is) in
       (Contains-there x rest e more.0, more.1)
@@ -56,15 +56,15 @@ rises-rest n [] rise = refl
 rises-rest n (k ∷ rest) rise = (and_parts (is_lt (slice_cmp nat_cmp n k)) (rises (k ∷ rest)) rise).1
 
 -- an entry is found on its name, since no other one has it
-pub entry-there : (entries : List Package) (e : Package) → are_entries entries ≡ true → Contains entries e → entry_on entries e.name ≡ Some e
+pub entry-there : (entries : List EntryParts) (e : EntryParts) → are_entries entries ≡ true → Contains entries e → entry_on entries e.name ≡ Some e
 entry-there [] e rise there = absurd (Contains-nil e there)
 entry-there (x ∷ rest) e rise there = elim (Contains-cons_cases x rest e there) [
   | inl same ↦
-      let own : bytes_eq e.name x.name ≡ true = (bytes_eq-Decides e.name x.name).1 (ap (λ (y : Package). y.name) (sym same)) in
+      let own : bytes_eq e.name x.name ≡ true = (bytes_eq-Decides e.name x.name).1 (ap (λ (y : EntryParts). y.name) (sym same)) in
       rw own (ap Some same)
   | inr more ↦ elim (cases_Bool (bytes_eq e.name x.name)) [
     | inl twice ↦
-        let below = rises-above x.name (map (λ p. p.name) rest) e.name rise (Contains-map_of (λ (p : Package). p.name) rest e more) in
+        let below = rises-above x.name (map (λ p. p.name) rest) e.name rise (Contains-map_of (λ (p : EntryParts). p.name) rest e more) in
         let same : e.name ≡ x.name = (bytes_eq-Decides e.name x.name).0 twice in
         absurd (not-below x.name (subst (λ (n : List ℕ). slice_cmp nat_cmp x.name n ≡ Less) same below))
     | inr other ↦ rw other (entry-there rest e (rises-rest x.name (map (λ p. p.name) rest) rise) more)

@@ -13,10 +13,10 @@ use Rattle.std.specs.List.Sorted.{IsStrictlySortedBy}
 use Rattle.std.specs.Map.{keys_of, lookup}
 use Rattle.std.specs.Ordering.{is_eq, nat_cmp}
 use Rattle.std.specs.Str.{bytes_eq}
-use Rattle.pep440.specs.Version.{Parts}
-use Rattle.pylock.specs.Packages.{Package}
+use Rattle.pep440.specs.Version.{VersionParts}
+use Rattle.pylock.specs.Packages.{EntryParts}
 use Rattle.snapshot.specs.Release.{Release}
-use Rattle.resolve.specs.Given.{Given}
+use Rattle.resolve.specs.Problem.{ProblemParts}
 use Rattle.resolve.specs.declared.node.Node.{Node}
 use Rattle.edits.specs.Dependencies.{names_at, names_in, names_of, names_wanted, release_chosen, with_names}
 use Rattle.edits.specs.Entries.{AreNeeds, entry_of}
@@ -35,7 +35,7 @@ lookup-there {X} name value entries rising there =
     (subst (λ (e : List ℕ → List ℕ → Bool). IsDistinct e (keys_of entries)) (λ i x y. is_eq-slice_cmp x y i) distinct) there
 
 -- the names of a node's package are taken out, and put back with those that its release needs there
-pub gathered-more : (given : Given) (chosen : List ℕ → Option Parts) (node : Node) (release : Release) (old rest new : BTreeMap (List ℕ) (BTreeSet (List ℕ))) (names more : BTreeSet (List ℕ))
+pub gathered-more : (given : ProblemParts) (chosen : List ℕ → Option VersionParts) (node : Node) (release : Release) (old rest new : BTreeMap (List ℕ) (BTreeSet (List ℕ))) (names more : BTreeSet (List ℕ))
     → Some release ≡ release_chosen given chosen node.name → names_in old node.name ≡ names.keys
     → UpdatesBy (slice_cmp nat_cmp) (slice_cmp nat_cmp node.name) old rest None
     → more.keys ≡ with_names names.keys (names_wanted given.environment node release.dependencies)
@@ -55,7 +55,7 @@ gathered-more given chosen node release old rest new names more picked taken out
     ]
 
 -- what is locked for names above one stays where the names of that one are taken out
-entries-rest : (given : Given) (name : List ℕ) (old new : BTreeMap (List ℕ) (BTreeSet (List ℕ))) (rest : List (List ℕ × Parts))
+entries-rest : (given : ProblemParts) (name : List ℕ) (old new : BTreeMap (List ℕ) (BTreeSet (List ℕ))) (rest : List (List ℕ × VersionParts))
     → UpdatesBy (slice_cmp nat_cmp) (slice_cmp nat_cmp name) old new None → AllByRecursion (λ y. slice_cmp nat_cmp name y ≡ Less) (keys_of rest)
     → map (entry_of given (names_in new)) rest ≡ map (entry_of given (names_in old)) rest
 entries-rest given name old new [] out above = refl
@@ -65,7 +65,7 @@ entries-rest given name old new (p ∷ rest) out above =
     rw (kept, entries-rest given name old new rest out above.1) refl
 
 -- one more entry is locked
-pub entries-more : (given : Given) (name : List ℕ) (version : Parts) (e : Package) (items target : List Package) (rest : List (List ℕ × Parts)) (old new : BTreeMap (List ℕ) (BTreeSet (List ℕ)))
+pub entries-more : (given : ProblemParts) (name : List ℕ) (version : VersionParts) (e : EntryParts) (items target : List EntryParts) (rest : List (List ℕ × VersionParts)) (old new : BTreeMap (List ℕ) (BTreeSet (List ℕ)))
     → IsStrictlySortedBy (slice_cmp nat_cmp) (keys_of ((name, version) ∷ rest)) → UpdatesBy (slice_cmp nat_cmp) (slice_cmp nat_cmp name) old new None
     → e ≡ entry_of given (names_in old) (name, version) → items ++ map (entry_of given (names_in old)) ((name, version) ∷ rest) ≡ target
     → (items ++ e ∷ []) ++ map (entry_of given (names_in new)) rest ≡ target

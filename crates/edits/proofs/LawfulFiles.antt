@@ -11,7 +11,7 @@ use Rattle.std.specs.Ordering.{nat_cmp}
 use Rattle.std.specs.Prelude.{codes, is_ok, is_some, nat_le, nat_lt, if◌then◌else◌}
 use Rattle.markers.specs.Names.{is_normal}
 use Rattle.pep440.specs.Tied.Sets.{set_of}
-use Rattle.pep440.specs.Version.{Parts}
+use Rattle.pep440.specs.Version.{VersionParts}
 use Rattle.pep440.specs.declared.fault.Fault.{Fault}
 use Rattle.pep440.specs.declared.specifier.Clause.{Clause}
 use Rattle.pylock.specs.Files.{has_ending, is_digest, is_digest_byte, is_file, is_sdist, is_wheel}
@@ -137,11 +137,11 @@ some_python-fits (Some p) h = python-fits p h
 -- ---- entries
 
 -- the entry of a release that can be used is lawful
-entry-fits : (name : List ℕ) (version : Parts) (names : List (List ℕ)) (r : Release) → is_normal name ≡ true → are_dependencies name names ≡ true → IsRelease r
+entry-fits : (name : List ℕ) (version : VersionParts) (names : List (List ℕ)) (r : Release) → is_normal name ≡ true → are_dependencies name names ≡ true → IsRelease r
     → is_package (entry_with (name, version) names (Some r)) ≡ true
 entry-fits name version names r normal needs h =
     rw (normal, needs, some_python-fits r.requires_python h.python, some_sdist-fits r.sdist h.sdist, wheels-fit r.wheels h.wheels h.order, some_file r.sdist r.wheels h.files) refl
 
-pub entry-made : (name : List ℕ) (version : Parts) (names : List (List ℕ)) (r : Release) → is_normal name ≡ true → are_dependencies name names ≡ true → IsRelease r
+pub entry-made : (name : List ℕ) (version : VersionParts) (names : List (List ℕ)) (r : Release) → is_normal name ≡ true → are_dependencies name names ≡ true → IsRelease r
     → entry_of (entry_with (name, version) names (Some r)) ≡ Some (entry_with (name, version) names (Some r))
 entry-made name version names r normal needs h = rw (entry-fits name version names r normal needs h) refl

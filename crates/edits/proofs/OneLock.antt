@@ -6,11 +6,11 @@ use Rattle.std.specs.List.{AllByRecursion}
 use Rattle.std.specs.List.Sorted.{IsStrictlySortedBy}
 use Rattle.std.specs.Map.{keys_of}
 use Rattle.std.specs.Ordering.{nat_cmp, ordering_reverse}
-use Rattle.pep440.specs.Version.{Parts}
-use Rattle.pylock.specs.Locks.{Locked}
-use Rattle.pylock.specs.Packages.{Package}
+use Rattle.pep440.specs.Version.{VersionParts}
+use Rattle.pylock.specs.Locks.{LockParts}
+use Rattle.pylock.specs.Packages.{EntryParts}
 use Rattle.resolve.specs.Admission.{release_at}
-use Rattle.resolve.specs.Given.{Given}
+use Rattle.resolve.specs.Problem.{ProblemParts}
 use Rattle.resolve.specs.Resolves.{version_in}
 use Rattle.resolve.specs.Rules.{rules_of}
 use Rattle.search.specs.Rules.{IsOrder}
@@ -69,16 +69,16 @@ members-one key (x ∷ xs) (y ∷ ys) s t there back =
 
 -- ---- locks
 
-keys-are : (es : List Package) → keys_of (versions_of es) ≡ map (λ e. e.name) es
+keys-are : (es : List EntryParts) → keys_of (versions_of es) ≡ map (λ e. e.name) es
 keys-are [] = refl
 keys-are (e ∷ es) = ap (λ rest. e.name ∷ rest) (keys-are es)
 
-version-of : (es : List Package) (e : Package) → IsStrictlySortedBy (slice_cmp nat_cmp) (map (λ e. e.name) es) → Contains es e → version_in (versions_of es) e.name ≡ Some e.version
+version-of : (es : List EntryParts) (e : EntryParts) → IsStrictlySortedBy (slice_cmp nat_cmp) (map (λ e. e.name) es) → Contains es e → version_in (versions_of es) e.name ≡ Some e.version
 version-of es e rising there =
     lookup-there e.name e.version (versions_of es) (subst (IsStrictlySortedBy (slice_cmp nat_cmp)) (sym (keys-are es)) rising)
-    (Contains-map_of (λ (e : Package). (e.name, e.version)) es e there)
+    (Contains-map_of (λ (e : EntryParts). (e.name, e.version)) es e there)
 
-dependencies-one : (given : Given) (chosen : List ℕ → Option Parts) (e f : Package) → e.name ≡ f.name → IsEntry given chosen e → IsEntry given chosen f → e.dependencies ≡ f.dependencies
+dependencies-one : (given : ProblemParts) (chosen : List ℕ → Option VersionParts) (e f : EntryParts) → e.name ≡ f.name → IsEntry given chosen e → IsEntry given chosen f → e.dependencies ≡ f.dependencies
 dependencies-one given chosen e f named one another =
     members-one (λ name. name) e.dependencies f.dependencies
     (subst (IsStrictlySortedBy (slice_cmp nat_cmp)) (sym (map-id e.dependencies)) one.rising)
@@ -86,7 +86,7 @@ dependencies-one given chosen e f named one another =
     (λ name there. (another.dependencies name).1 (subst (λ own. IsDependency given chosen own name) named ((one.dependencies name).0 there)))
     (λ name there. (one.dependencies name).1 (subst (λ own. IsDependency given chosen own name) (sym named) ((another.dependencies name).0 there)))
 
-entry-one : (given : Given) (chosen : List ℕ → Option Parts) (e f : Package) → e.name ≡ f.name → e.version ≡ f.version → IsEntry given chosen e → IsEntry given chosen f → e ≡ f
+entry-one : (given : ProblemParts) (chosen : List ℕ → Option VersionParts) (e f : EntryParts) → e.name ≡ f.name → e.version ≡ f.version → IsEntry given chosen e → IsEntry given chosen f → e ≡ f
 entry-one given chosen e f named versioned one another =
     let released : release_at given e.name e.version ≡ release_at given f.name f.version = λ i. release_at given (named i) (versioned i) in
     let python : e.requires_python ≡ f.requires_python = one.python ∙ ap python_text released ∙ sym another.python in
@@ -95,7 +95,7 @@ entry-one given chosen e f named versioned one another =
     let needs = dependencies-one given chosen e f named one another in
     λ i. record { name = named i; version = versioned i; requires_python = python i; dependencies = needs i; sdist = sdist i; wheels = wheels i }
 
-entries-there : (given : Given) (one another : Locked) → IsLockOf given one → IsLockOf given another → version_in (versions_of another.entries) ≡ version_in (versions_of one.entries)
+entries-there : (given : ProblemParts) (one another : LockParts) → IsLockOf given one → IsLockOf given another → version_in (versions_of another.entries) ≡ version_in (versions_of one.entries)
     → Has-all one.entries another.entries
 entries-there given one another l m same e there =
     let found = (λ i. same i e.name) ∙ version-of one.entries e l.rising there in
@@ -106,12 +106,12 @@ entries-there given one another l m same e there =
 pub bytes-order : IsOrder (slice_cmp nat_cmp)
 bytes-order = record { total = nat_list_cmp_total; exact = λ a b e. exact_bytes a b e }
 
-pub lock-one : (given : Given) (one another : Locked) → ((s t : List ℕ → Option Parts) → IsBest (rules_of given) s → IsBest (rules_of given) t → (n : List ℕ) → t n ≡ s n)
+pub lock-one : (given : ProblemParts) (one another : LockParts) → ((s t : List ℕ → Option VersionParts) → IsBest (rules_of given) s → IsBest (rules_of given) t → (n : List ℕ) → t n ≡ s n)
     → IsLockOf given one → IsLockOf given another → one ≡ another
 lock-one given one another unique l m =
     let same : version_in (versions_of another.entries) ≡ version_in (versions_of one.entries) = λ i n. unique _ _ l.best m.best n i in
     let entries : one.entries ≡ another.entries =
-    members-one (λ (e : Package). e.name) one.entries another.entries l.rising m.rising (entries-there given one another l m same) (entries-there given another one m l (sym same)) in
+    members-one (λ (e : EntryParts). e.name) one.entries another.entries l.rising m.rising (entries-there given one another l m same) (entries-there given another one m l (sym same)) in
     let environment : one.environment ≡ another.environment = l.environment ∙ sym m.environment in
     let snapshot : one.snapshot ≡ another.snapshot = l.snapshot ∙ sym m.snapshot in
     λ i. record { environment = environment i; snapshot = snapshot i; entries = entries i }

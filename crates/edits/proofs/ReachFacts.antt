@@ -5,11 +5,11 @@ use Rattle.std.proofs.Math.Seq.{take-length}
 use Rattle.std.proofs.lemmas.List.Elements.{Contains-append_cases, Contains-append_left, Contains-append_right, Contains-get_or}
 use Rattle.std.specs.List.{AllByRecursion}
 use Rattle.markers.specs.Environment.{Texts}
-use Rattle.pep508.specs.Requirement.{Wanted, requirement_of}
-use Rattle.resolve.specs.Given.{active_in, requirements}
+use Rattle.pep508.specs.Requirement.{RequirementParts, requirement_of}
+use Rattle.resolve.specs.Problem.{active_in, requirements}
 use Rattle.std.proofs.lemmas.List.Concat.{flat_map-append}
 use Rattle.pylock.specs.Locks.{are_entries}
-use Rattle.pylock.specs.Packages.{Package}
+use Rattle.pylock.specs.Packages.{EntryParts}
 use Rattle.edits.specs.Changes.{entry_on}
 use Rattle.edits.specs.State.{Reached, by_entry, by_line}
 use Rattle.edits.specs.Tied.Deciding.{AreReached, IsGrown, needs_of}
@@ -68,40 +68,40 @@ IsGrown-line environment old mid new lines place line within is g h =
     let f = λ (l : List ℕ). active_in environment (requirement_of l) in
     let one : take (place + 1) lines ≡ take place lines ++ line ∷ [] = take_more lines place line within ∙ ap (λ (n : List ℕ). take place lines ++ n ∷ []) (sym is) in
     let asked : requirements environment (take (place + 1) lines) ≡ requirements environment (take place lines) ++ f line =
-    ap (requirements environment) one ∙ flat_map-append f (take place lines) (line ∷ []) ∙ ap (λ (l : List Wanted). requirements environment (take place lines) ++ l) (append-nil (f line)) in
-    let names : map (λ (w : Wanted). w.name) (requirements environment (take (place + 1) lines)) ≡ map (λ (w : Wanted). w.name) (requirements environment (take place lines)) ++ map (λ (w : Wanted). w.name) (f line) =
-    ap (map (λ (w : Wanted). w.name)) asked ∙ map-append (λ (w : Wanted). w.name) (requirements environment (take place lines)) (f line) in
+    ap (requirements environment) one ∙ flat_map-append f (take place lines) (line ∷ []) ∙ ap (λ (l : List RequirementParts). requirements environment (take place lines) ++ l) (append-nil (f line)) in
+    let names : map (λ (w : RequirementParts). w.name) (requirements environment (take (place + 1) lines)) ≡ map (λ (w : RequirementParts). w.name) (requirements environment (take place lines)) ++ map (λ (w : RequirementParts). w.name) (f line) =
+    ap (map (λ (w : RequirementParts). w.name)) asked ∙ map-append (λ (w : RequirementParts). w.name) (requirements environment (take place lines)) (f line) in
     subst (IsGrown old new) (sym names) (IsGrown-then old mid new (map (λ wanted. wanted.name) (requirements environment (take place lines))) (map (λ wanted. wanted.name) (f line)) g h)
 
 -- ---- names that are followed
 
-pub record IsFollowed (active : List Wanted) (entries : List Package) (names : List (List ℕ)) (followed : ℕ) : Type 0 where
+pub record IsFollowed (active : List RequirementParts) (entries : List EntryParts) (names : List (List ℕ)) (followed : ℕ) : Type 0 where
   pub within : followed ≤ length names
   pub sound : (name : List ℕ) → Contains names name → Reached active entries name
-  pub asked : (wanted : Wanted) → Contains active wanted → Contains names wanted.name
-  pub closed : (name : List ℕ) (e : Package) (other : List ℕ) → Contains (take followed names) name → entry_on entries name ≡ Some e → Contains e.dependencies other → Contains names other
+  pub asked : (wanted : RequirementParts) → Contains active wanted → Contains names wanted.name
+  pub closed : (name : List ℕ) (e : EntryParts) (other : List ℕ) → Contains (take followed names) name → entry_on entries name ≡ Some e → Contains e.dependencies other → Contains names other
 
-pub IsFollowed-start : (active : List Wanted) (entries : List Package) (names : List (List ℕ)) → IsGrown [] names (map (λ wanted. wanted.name) active) → IsFollowed active entries names 0
+pub IsFollowed-start : (active : List RequirementParts) (entries : List EntryParts) (names : List (List ℕ)) → IsGrown [] names (map (λ wanted. wanted.name) active) → IsFollowed active entries names 0
 IsFollowed-start active entries names g = record {
   within = omega arith;
   sound = λ name there.
-      let k = Contains-map (λ (wanted : Wanted). wanted.name) active name (g.from name (subst (λ (l : List (List ℕ)). Contains l name) g.whole there)) in
+      let k = Contains-map (λ (wanted : RequirementParts). wanted.name) active name (g.from name (subst (λ (l : List (List ℕ)). Contains l name) g.whole there)) in
       subst (Reached active entries) k.2 (by_line k.0 k.1);
-  asked = λ wanted there. g.all wanted.name (Contains-map_of (λ (w : Wanted). w.name) active wanted there);
+  asked = λ wanted there. g.all wanted.name (Contains-map_of (λ (w : RequirementParts). w.name) active wanted there);
   closed = λ name e other none is there. absurd (Contains-nil name none);
 }
 
-needs-reached : (active : List Wanted) (entries : List Package) (name : List ℕ) (o : Option Package) → entry_on entries name ≡ o → Reached active entries name → (other : List ℕ) → Contains (needs_of o) other → Reached active entries other
+needs-reached : (active : List RequirementParts) (entries : List EntryParts) (name : List ℕ) (o : Option EntryParts) → entry_on entries name ≡ o → Reached active entries name → (other : List ℕ) → Contains (needs_of o) other → Reached active entries other
 needs-reached active entries name None is reached other none = absurd (Contains-nil other none)
 needs-reached active entries name (Some e) is reached other there =
     let k = entry-from entries name e is in
     by_entry e other k.0 (subst (Reached active entries) (sym k.1) reached) there
 
-needs-there : (o : Option Package) (e : Package) (other : List ℕ) → o ≡ Some e → Contains e.dependencies other → Contains (needs_of o) other
-needs-there o e other is there = subst (λ (p : Option Package). Contains (needs_of p) other) (sym is) there
+needs-there : (o : Option EntryParts) (e : EntryParts) (other : List ℕ) → o ≡ Some e → Contains e.dependencies other → Contains (needs_of o) other
+needs-there o e other is there = subst (λ (p : Option EntryParts). Contains (needs_of p) other) (sym is) there
 
 -- one more name
-pub IsFollowed-next : (active : List Wanted) (entries : List Package) (names new : List (List ℕ)) (followed : ℕ) → followed < length names
+pub IsFollowed-next : (active : List RequirementParts) (entries : List EntryParts) (names new : List (List ℕ)) (followed : ℕ) → followed < length names
     → IsFollowed active entries names followed → IsGrown names new (needs_of (entry_on entries (get_or names followed []))) → IsFollowed active entries new (followed + 1)
 IsFollowed-next active entries names new followed within is g =
     let here = get_or names followed [] in
@@ -125,14 +125,14 @@ IsFollowed-next active entries names new followed within is g =
     }
 
 -- what is reached is among names that were all followed
-all-reached : (active : List Wanted) (entries : List Package) (names : List (List ℕ)) → are_entries entries ≡ true → IsFollowed active entries names (length names)
+all-reached : (active : List RequirementParts) (entries : List EntryParts) (names : List (List ℕ)) → are_entries entries ≡ true → IsFollowed active entries names (length names)
     → (name : List ℕ) → Reached active entries name → Contains names name
 all-reached active entries names rise is _ (by_line wanted there) = is.asked wanted there
 all-reached active entries names rise is _ (by_entry e name there reached depends) =
     let own = all-reached active entries names rise is e.name reached in
     is.closed e.name e name (subst (λ (l : List (List ℕ)). Contains l e.name) (sym (take-length names)) own) (entry-there entries e rise there) depends
 
-pub AreReached-from : (active : List Wanted) (entries : List Package) (names : List (List ℕ)) (followed : ℕ) → are_entries entries ≡ true → length names ≤ followed
+pub AreReached-from : (active : List RequirementParts) (entries : List EntryParts) (names : List (List ℕ)) (followed : ℕ) → are_entries entries ≡ true → length names ≤ followed
     → IsFollowed active entries names followed → AreReached active entries names
 AreReached-from active entries names followed rise past is =
     let within = is.within in
@@ -140,7 +140,7 @@ AreReached-from active entries names followed rise past is =
     let done : IsFollowed active entries names (length names) = subst (IsFollowed active entries names) end is in
     record { sound = is.sound; whole = all-reached active entries names rise done }
 
-each-reached : (active : List Wanted) (all entries : List Package) (names : List (List ℕ)) → AreReached active all names
+each-reached : (active : List RequirementParts) (all entries : List EntryParts) (names : List (List ℕ)) → AreReached active all names
     → (AllByRecursion (λ e. Contains names e.name) entries → AllByRecursion (λ e. Reached active all e.name) entries) × (AllByRecursion (λ e. Reached active all e.name) entries → AllByRecursion (λ e. Contains names e.name) entries)
 each-reached active all [] names are = ((λ h. tt), (λ h. tt))
 each-reached active all (e ∷ rest) names are =
@@ -148,6 +148,6 @@ each-reached active all (e ∷ rest) names are =
     ((λ h. (are.sound e.name h.0, more.0 h.1)), (λ h. (are.whole e.name h.0, more.1 h.1)))
 
 -- all entries are reached just where their names are among those
-pub reached-alike : (active : List Wanted) (entries : List Package) (names : List (List ℕ)) → AreReached active entries names
+pub reached-alike : (active : List RequirementParts) (entries : List EntryParts) (names : List (List ℕ)) → AreReached active entries names
     → (AllByRecursion (λ e. Contains names e.name) entries → AllByRecursion (λ e. Reached active entries e.name) entries) × (AllByRecursion (λ e. Reached active entries e.name) entries → AllByRecursion (λ e. Contains names e.name) entries)
 reached-alike active entries names are = each-reached active entries entries names are

@@ -9,16 +9,16 @@ use Rattle.std.specs.Prelude.{filter, not}
 use Rattle.std.specs.Str.{bytes_eq}
 use Rattle.pep440.specs.Order.{version_cmp}
 use Rattle.pep440.specs.Tied.OrderLaws.{version_total}
-use Rattle.pep440.specs.Version.{Parts}
+use Rattle.pep440.specs.Version.{VersionParts}
 use Rattle.search.specs.Solutions.{Solution}
 use Rattle.snapshot.specs.Release.{Release}
 use Rattle.resolve.specs.Admission.{has_version, release_at}
-use Rattle.resolve.specs.Given.{Given, releases_on}
+use Rattle.resolve.specs.Problem.{ProblemParts, releases_on}
 use Rattle.resolve.specs.Rules.{candidates, kept_version, preferring, rules_of, versions_of}
 use Rattle.lists.proofs.Members.{Contains-cons_cases, Contains-filter, Contains-here, Contains-nil, Contains-there}
 
 -- a version of releases is found among them
-found-in : (releases : List Release) (version : Parts) → Contains (versions_of releases) version → is_some (find (has_version version) releases) ≡ true
+found-in : (releases : List Release) (version : VersionParts) → Contains (versions_of releases) version → is_some (find (has_version version) releases) ≡ true
 found-in [] version h = absurd (Contains-nil version h)
 found-in (r ∷ rest) version h = elim (cases_Bool (has_version version r)) [
   | inl is ↦ rw is refl
@@ -29,19 +29,19 @@ found-in (r ∷ rest) version h = elim (cases_Bool (has_version version r)) [
 ]
 
 -- what is found is a version of releases
-version-of : (test : Release → Bool) (releases : List Release) (version : Parts) → option_map (λ r. r.version) (find test releases) ≡ Some version → Contains (versions_of releases) version
+version-of : (test : Release → Bool) (releases : List Release) (version : VersionParts) → option_map (λ r. r.version) (find test releases) ≡ Some version → Contains (versions_of releases) version
 version-of test [] version h = cc
 version-of test (r ∷ rest) version h = elim (cases_Bool (test r)) [
   | inl is ↦ let same : r.version ≡ version = let here = rw is at h in cc in subst (λ v. Contains (versions_of (r ∷ rest)) v) same (Contains-here r.version (versions_of rest))
   | inr other ↦ Contains-there r.version (versions_of rest) version (version-of test rest version (rw other at h))
 ]
 
-kept-by : (given : Given) (name : List ℕ) (kept : Option Parts) (version : Parts)
+kept-by : (given : ProblemParts) (name : List ℕ) (kept : Option VersionParts) (version : VersionParts)
     → option_and_then (λ v. option_map (λ release. release.version) (release_at given name v)) kept ≡ Some version → Contains (versions_of (releases_on given name)) version
 kept-by given name None version h = cc
 kept-by given name (Some v) version h = version-of (has_version v) (releases_on given name) version h
 
-preferred-by : (versions : List Parts) (kept : Option Parts) (version : Parts) → ((v : Parts) → kept ≡ Some v → Contains versions v) → Contains (preferring kept versions) version → Contains versions version
+preferred-by : (versions : List VersionParts) (kept : Option VersionParts) (version : VersionParts) → ((v : VersionParts) → kept ≡ Some v → Contains versions v) → Contains (preferring kept versions) version → Contains versions version
 preferred-by versions None version there h = h
 preferred-by versions (Some k) version there h = elim (Contains-cons_cases k (filter (λ v. not (is_eq (version_cmp k v))) versions) version h) [
   | inl same ↦ subst (λ v. Contains versions v) same (there k refl)
@@ -49,12 +49,12 @@ preferred-by versions (Some k) version there h = elim (Contains-cons_cases k (fi
 ]
 
 -- a candidate of a name is the version of a release
-candidate-released : (given : Given) (name : List ℕ) (version : Parts) → Contains (candidates given name) version → IsSome (release_at given name version)
+candidate-released : (given : ProblemParts) (name : List ℕ) (version : VersionParts) → Contains (candidates given name) version → IsSome (release_at given name version)
 candidate-released given name version h =
     found-in (releases_on given name) version
     (preferred-by (versions_of (releases_on given name)) (kept_version given name) version (kept-by given name (lookup (bytes_eq name) given.kept)) h)
 
 -- each version of a solution is that of a release
-pub solution-released : (given : Given) (chosen : List ℕ → Option Parts) → Solution (rules_of given) chosen → (name : List ℕ) (version : Parts) → chosen name ≡ Some version
+pub solution-released : (given : ProblemParts) (chosen : List ℕ → Option VersionParts) → Solution (rules_of given) chosen → (name : List ℕ) (version : VersionParts) → chosen name ≡ Some version
     → IsSome (release_at given name version)
 solution-released given chosen solution name version picked = candidate-released given name version (solution.released name version picked)

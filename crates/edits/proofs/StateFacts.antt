@@ -12,23 +12,23 @@ use Rattle.markers.specs.declared.variable.Variable.TheVariants.{PythonFullVersi
 use Rattle.pep440.specs.Matching.{matches}
 use Rattle.pep440.specs.Order.{version_cmp}
 use Rattle.pep440.specs.Tied.Sets.{set_of}
-use Rattle.pep440.specs.Version.{Parts}
+use Rattle.pep440.specs.Version.{VersionParts}
 use Rattle.pep440.specs.declared.fault.Fault.{Fault}
 use Rattle.pep440.specs.declared.specifier.Clause.{Clause}
-use Rattle.pep508.specs.Requirement.{Wanted, file_of}
+use Rattle.pep508.specs.Requirement.{RequirementParts, file_of}
 use Rattle.pylock.specs.Locks.{IsLock}
-use Rattle.pylock.specs.Packages.{Package}
+use Rattle.pylock.specs.Packages.{EntryParts}
 use Rattle.search.specs.Solutions.{Needed, Solution, by_dependency, by_line}
 use Rattle.snapshot.specs.Lawful.{IsRelease}
 use Rattle.snapshot.specs.Release.{Release}
 use Rattle.snapshot.specs.Python.{is_blank, python_of, python_with}
 use Rattle.snapshot.specs.declared.python.RequiresPython.{RequiresPython}
 use Rattle.resolve.specs.Admission.{admits, admits_release, fits, has_python as runs_with, has_version, meets_python, release_at}
-use Rattle.resolve.specs.Given.{Given, releases_on, requirements}
+use Rattle.resolve.specs.Problem.{ProblemParts, releases_on, requirements}
 use Rattle.resolve.specs.Resolves.{version_in}
 use Rattle.resolve.specs.Rules.{bare, nodes_of, rules_of, wants, with_extra}
 use Rattle.resolve.specs.declared.node.Node.{Node}
-use Rattle.edits.specs.Content.{Content}
+use Rattle.edits.specs.StateParts.{StateParts}
 use Rattle.edits.specs.Edits.{IsLocked}
 use Rattle.edits.specs.Locking.{IsDependency, IsEntry, versions_of}
 use Rattle.edits.specs.State.{IsAnEntry, IsMet, IsState, Reached, by_entry, by_line as by_active, has_python, has_version as set_has}
@@ -36,16 +36,16 @@ use Rattle.edits.proofs.EntriesByName.{Has-from, version-there}
 use Rattle.lists.proofs.Members.{Contains-cons_cases, Contains-map}
 
 -- each entry is that of the solution of the entries' versions
-abbrev pub AreEntriesOf : Given → List Package → Type 0
-AreEntriesOf given entries = (e : Package) → Contains entries e → IsEntry given (version_in (versions_of entries)) e
+abbrev pub AreEntriesOf : ProblemParts → List EntryParts → Type 0
+AreEntriesOf given entries = (e : EntryParts) → Contains entries e → IsEntry given (version_in (versions_of entries)) e
 
 -- the release of each entry is there, and lawful
-abbrev pub AreReleased : Given → List Package → Type 0
-AreReleased given entries = (e : Package) → Contains entries e → (r : Release) × (release_at given e.name e.version ≡ Some r) × IsRelease r
+abbrev pub AreReleased : ProblemParts → List EntryParts → Type 0
+AreReleased given entries = (e : EntryParts) → Contains entries e → (r : Release) × (release_at given e.name e.version ≡ Some r) × IsRelease r
 
 -- versions that are equal in their order match alike
 abbrev pub MatchAlike : Type 0
-MatchAlike = (clauses : List Clause) (v w : Parts) → version_cmp v w ≡ Equal → matches clauses v ≡ matches clauses w
+MatchAlike = (clauses : List Clause) (v w : VersionParts) → version_cmp v w ≡ Equal → matches clauses v ≡ matches clauses w
 
 -- ---- what a release asks of Python
 
@@ -61,7 +61,7 @@ set-unless p false r e = set-with p r e
 set-read : (p : RequiresPython) → python_of p.text ≡ Ok (Some p) → set_of p.text ≡ Ok p.set
 set-read p e = set-unless p (is_blank p.text) (set_of p.text) e
 
-set-has : (p : RequiresPython) (version : Option Parts) → runs_with p version ≡ true → set_has (Ok p.set) version ≡ true
+set-has : (p : RequiresPython) (version : Option VersionParts) → runs_with p version ≡ true → set_has (Ok p.set) version ≡ true
 set-has p None met = met
 set-has p (Some version) met = met
 
@@ -82,7 +82,7 @@ found-passes p (y ∷ ys) x e = elim (cases_Bool (p y)) [
 ]
 
 -- a requirement that admits the version of its name is met by the entry
-met-by : (given : Given) (entries : List Package) → MatchAlike → AreEntriesOf given entries → AreReleased given entries → (wanted : Wanted) (version : Parts)
+met-by : (given : ProblemParts) (entries : List EntryParts) → MatchAlike → AreEntriesOf given entries → AreReleased given entries → (wanted : RequirementParts) (version : VersionParts)
     → version_in (versions_of entries) wanted.name ≡ Some version → admits given wanted version ≡ true → IsMet given.environment entries wanted
 met-by given entries alike are released wanted version picked admitted =
     let k = Has-from entries wanted.name version picked in
@@ -103,11 +103,11 @@ met-by given entries alike are released wanted version picked admitted =
 -- ---- closed
 
 -- a dependency of an entry is an entry
-closed-by : (given : Given) (entries : List Package) → AreEntriesOf given entries → Solution (rules_of given) (version_in (versions_of entries)) → (e : Package) (name : List ℕ)
+closed-by : (given : ProblemParts) (entries : List EntryParts) → AreEntriesOf given entries → Solution (rules_of given) (version_in (versions_of entries)) → (e : EntryParts) (name : List ℕ)
     → Contains entries e → Contains e.dependencies name → IsAnEntry entries name
 closed-by given entries are solution e name there depends =
     let d = ((are e there).dependencies name).0 depends in
-    let m : (v : Parts) × (version_in (versions_of entries) d.wanted.name ≡ Some v) × (admits given d.wanted v ≡ true) =
+    let m : (v : VersionParts) × (version_in (versions_of entries) d.wanted.name ≡ Some v) × (admits given d.wanted v ≡ true) =
     solution.dependencies_met d.node d.version d.wanted d.needed (rw d.on d.picked) d.counts in
     let k = Has-from entries d.wanted.name m.0 m.1 in
     record { entry = k.entry; there = k.there; named = k.named ∙ d.named }
@@ -115,14 +115,14 @@ closed-by given entries are solution e name there depends =
 -- ---- reached
 
 -- a node that a requirement needs is on its name
-on-own : (wanted : Wanted) (node : Node) → Contains (nodes_of wanted) node → wanted.name ≡ node.name
+on-own : (wanted : RequirementParts) (node : Node) → Contains (nodes_of wanted) node → wanted.name ≡ node.name
 on-own wanted node h = elim (Contains-cons_cases (bare wanted.name) (map (with_extra wanted.name) wanted.extras) node h) [
   | inl e ↦ ap (λ (n : Node). n.name) e
   | inr r ↦ let k = Contains-map (with_extra wanted.name) wanted.extras node r in ap (λ (n : Node). n.name) k.2
 ]
 
 -- what counts at a needed node is on the node's name, or on that of a dependency of its entry
-reached-from : (given : Given) (entries : List Package) → AreEntriesOf given entries → (link : Node) (version : Parts) (wanted : Wanted)
+reached-from : (given : ProblemParts) (entries : List EntryParts) → AreEntriesOf given entries → (link : Node) (version : VersionParts) (wanted : RequirementParts)
     → Needed (rules_of given) (version_in (versions_of entries)) link → version_in (versions_of entries) link.name ≡ Some version → Contains (wants given link version) wanted
     → Reached given.active entries link.name → Reached given.active entries wanted.name
 reached-from given entries are link version wanted needed picked counted reached = elim (cases_Bool (bytes_eq wanted.name link.name)) [
@@ -144,22 +144,22 @@ reached-from given entries are link version wanted needed picked counted reached
 ]
 
 -- the name of a needed node is reached
-reached-by : (given : Given) (entries : List Package) → AreEntriesOf given entries → (node : Node) → Needed (rules_of given) (version_in (versions_of entries)) node → Reached given.active entries node.name
+reached-by : (given : ProblemParts) (entries : List EntryParts) → AreEntriesOf given entries → (node : Node) → Needed (rules_of given) (version_in (versions_of entries)) node → Reached given.active entries node.name
 reached-by given entries are _ (by_line wanted node there own) = subst (Reached given.active entries) (on-own wanted node own) (by_active wanted there)
 reached-by given entries are _ (by_dependency link version wanted node needed picked counted own) =
     subst (Reached given.active entries) (on-own wanted node own) (reached-from given entries are link version wanted needed picked counted (reached-by given entries are link needed))
 
 -- an entry is reached
-entry-reached : (given : Given) (entries : List Package) → AreEntriesOf given entries → Solution (rules_of given) (version_in (versions_of entries)) → (e : Package) → Contains entries e → Reached given.active entries e.name
+entry-reached : (given : ProblemParts) (entries : List EntryParts) → AreEntriesOf given entries → Solution (rules_of given) (version_in (versions_of entries)) → (e : EntryParts) → Contains entries e → Reached given.active entries e.name
 entry-reached given entries are solution e there =
-    let v : (v : Parts) × (version_in (versions_of entries) e.name ≡ Some v) = version-there entries e there in
+    let v : (v : VersionParts) × (version_in (versions_of entries) e.name ≡ Some v) = version-there entries e there in
     let k : (node : Node) × Needed (rules_of given) (version_in (versions_of entries)) node × (node.name ≡ e.name) = solution.each_needed e.name v.0 v.1 in
     subst (Reached given.active entries) k.2 (reached-by given entries are k.0 k.1)
 
 -- ---- states
 
 -- the lock of a problem makes a state
-pub IsState-from : (given : Given) (lines : List (List ℕ)) (state : Content) → IsLocked given lines state → given.active ≡ requirements given.environment lines → file_of (concat lines) ≡ Ok lines
+pub IsState-from : (given : ProblemParts) (lines : List (List ℕ)) (state : StateParts) → IsLocked given lines state → given.active ≡ requirements given.environment lines → file_of (concat lines) ≡ Ok lines
     → IsLock state.lock → AreReleased given state.lock.entries → MatchAlike → IsState state
 IsState-from given lines state is active read lock released alike =
     let solution = is.lock.best.solution in
@@ -169,7 +169,7 @@ IsState-from given lines state is active read lock released alike =
       lock = record {
         lawful = lock;
         met = λ wanted there.
-            let m : (v : Parts) × (version_in (versions_of state.lock.entries) wanted.name ≡ Some v) × (admits given wanted v ≡ true) = solution.lines_met wanted (rw asked at there) in
+            let m : (v : VersionParts) × (version_in (versions_of state.lock.entries) wanted.name ≡ Some v) × (admits given wanted v ≡ true) = solution.lines_met wanted (rw asked at there) in
             rw is.environment (met-by given state.lock.entries alike is.lock.entries released wanted m.0 m.1 m.2);
         closed = closed-by given state.lock.entries is.lock.entries solution;
         reached = λ e there. rw asked (entry-reached given state.lock.entries is.lock.entries solution e there);

@@ -2,11 +2,11 @@
 use Rattle.std.specs.Prelude.{ℕ, ◌+◌, ◌==◌, List, [], ◌∷◌, ◌++◌, length, Option, Some, None, if◌then◌else◌}
 use Rattle.std.specs.List.{list_any}
 use Rattle.pep508.specs.Parts.{ended, ending_of}
-use Rattle.pep508.specs.Requirement.{Wanted}
+use Rattle.pep508.specs.Requirement.{RequirementParts}
 use Rattle.edits.specs.Asking.{is_on, wanted_of}
 
 -- what a text asks for that is to be a line: it has no LF and reads as a requirement
-abbrev pub asked_by : List ℕ → Option Wanted
+abbrev pub asked_by : List ℕ → Option RequirementParts
 asked_by text = if list_any (λ b. b == 10) text then None else wanted_of text
 
 -- the number, counted up from this one, of the first line on the name

@@ -1,19 +1,19 @@
 -- What lines ask for. All of it is reqlock's own rule.
 use Rattle.std.specs.Prelude.{ℕ, Bool, false, List, Option, Some, None, Result, Ok, Err}
 use Rattle.std.specs.Str.{bytes_eq}
-use Rattle.pep508.specs.Requirement.{Wanted, requirement_of}
+use Rattle.pep508.specs.Requirement.{RequirementParts, requirement_of}
 use Rattle.markers.specs.declared.fault.Cause.{Cause}
 
 -- what was read, where it is a requirement
-abbrev pub asked : Result (Option Wanted) Cause → Option Wanted
+abbrev pub asked : Result (Option RequirementParts) Cause → Option RequirementParts
 asked (Ok wanted) = wanted
 asked (Err cause) = None
 
 -- what a line asks for
-abbrev pub wanted_of : List ℕ → Option Wanted
+abbrev pub wanted_of : List ℕ → Option RequirementParts
 wanted_of line = asked (requirement_of line)
 
 -- whether the requirement is one on the name
-abbrev pub is_on : List ℕ → Option Wanted → Bool
+abbrev pub is_on : List ℕ → Option RequirementParts → Bool
 is_on name None = false
 is_on name (Some wanted) = bytes_eq name wanted.name

@@ -2,10 +2,10 @@
 use Rattle.std.specs.Prelude.{◌≡◌, ◌≢◌, ℕ, ◌+◌, ◌-◌, ◌^◌, ◌<◌, ◌≤◌, true, List, [], ◌∷◌, ◌++◌, find, length, map, slice_get, Option, Some, None, option_map, IfSome}
 use Rattle.std.specs.List.{AllByRecursion, Contains}
 use Rattle.std.specs.Str.{bytes_eq}
-use Rattle.pylock.specs.Locks.{Locked, are_entries}
+use Rattle.pylock.specs.Locks.{LockParts, are_entries}
 use Rattle.pylock.specs.Order.{rises}
-use Rattle.pylock.specs.Packages.{Package}
-use Rattle.edits.specs.Content.{Content}
+use Rattle.pylock.specs.Packages.{EntryParts}
+use Rattle.edits.specs.StateParts.{StateParts}
 use Rattle.edits.specs.declared.change.parts.Splice.{Splice}
 use Rattle.edits.specs.declared.change.parts.EntryChange.{EntryChange}
 use Rattle.edits.specs.declared.change.parts.DigestChange.{DigestChange}
@@ -37,16 +37,16 @@ Splices from (splice ∷ rest) old new = AtSplice from splice (λ place. Splices
 -- ---- the lock of one environment
 
 -- the entry of a name, if there is one
-abbrev pub entry_on : List Package → List ℕ → Option Package
+abbrev pub entry_on : List EntryParts → List ℕ → Option EntryParts
 entry_on entries name = find (λ e. bytes_eq name e.name) entries
 
 -- on the name of a change the old entries have its old one, or none, and the new entries its new one, or none
-abbrev pub Exchanges : List Package → List Package → EntryChange → Type 0
+abbrev pub Exchanges : List EntryParts → List EntryParts → EntryChange → Type 0
 Exchanges old new change = (entry_on old change.name ≡ change.old) × (entry_on new change.name ≡ change.new)
 
 -- changes lead from old entries to new ones: they hold on their names, each other name has the same entry in both, and names
 -- rise in both
-pub record ChangesEntries (changes : List EntryChange) (old new : List Package) : Type 0 where
+pub record ChangesEntries (changes : List EntryChange) (old new : List EntryParts) : Type 0 where
   pub changed : (change : EntryChange) → Contains changes change → Exchanges old new change
   pub others : (name : List ℕ) → ((change : EntryChange) → Contains changes change → change.name ≢ name) → entry_on new name ≡ entry_on old name
   pub old_rises : are_entries old ≡ true
@@ -58,7 +58,7 @@ ChangesDigest None old new = new ≡ old
 ChangesDigest (Some digests) old new = (old ≡ digests.old) × (new ≡ digests.new)
 
 -- a change leads from one lock to another, of the same environment
-pub record ChangesLock (change : ChangeParts) (old new : Locked) : Type 0 where
+pub record ChangesLock (change : ChangeParts) (old new : LockParts) : Type 0 where
   pub entries : ChangesEntries change.entries old.entries new.entries
   pub digest : ChangesDigest change.digests old.snapshot new.snapshot
   pub environment : new.environment ≡ old.environment
@@ -66,7 +66,7 @@ pub record ChangesLock (change : ChangeParts) (old new : Locked) : Type 0 where
 -- ---- states
 
 -- a change leads from one state to another; it leads to one at most, and to none where an old part doesn't stand in its place
-pub record After (old : Content) (change : ChangeParts) (new : Content) : Type 0 where
+pub record After (old : StateParts) (change : ChangeParts) (new : StateParts) : Type 0 where
   pub lines : Splices 0 change.splices old.lines new.lines
   pub lock : ChangesLock change old.lock new.lock
   pub environment : new.environment ≡ old.environment
@@ -84,7 +84,7 @@ RiseFrom from [] = Unit {0}
 RiseFrom from (splice ∷ rest) = (from ≤ splice.place) × RiseFrom (splice.place + length splice.old + 1) rest
 
 -- what is there of an entry is on the name
-abbrev pub IsOn : List ℕ → Option Package → Type 0
+abbrev pub IsOn : List ℕ → Option EntryParts → Type 0
 IsOn name entry = IfSome entry (λ e. e.name ≡ name)
 
 -- the entry of a name becomes another, or one is put in, or taken out
@@ -142,7 +142,7 @@ pub record IsMinimal (change : ChangeParts) : Type 0 where
 
 -- a minimal change that leads from one state to another has a minimal one back, which leads from there to the first
 abbrev pub AChangeCanBeTakenBack : Type 0
-AChangeCanBeTakenBack = (change : ChangeParts) (old new : Content) → IsMinimal change → After old change new → IsMinimal (inverse change) × After new (inverse change) old
+AChangeCanBeTakenBack = (change : ChangeParts) (old new : StateParts) → IsMinimal change → After old change new → IsMinimal (inverse change) × After new (inverse change) old
 
 -- back and back again is the change itself
 abbrev pub BackAndBackIsTheChange : Type 0

@@ -7,21 +7,21 @@ use Rattle.std.specs.Cmp.Lexicographic.{slice_cmp}
 use Rattle.std.specs.List.{flat_map, fold}
 use Rattle.std.specs.Ordering.{nat_cmp}
 use Rattle.std.specs.Str.{bytes_eq}
-use Rattle.pep440.specs.Version.{Parts}
-use Rattle.pep508.specs.Requirement.{Wanted}
+use Rattle.pep440.specs.Version.{VersionParts}
+use Rattle.pep508.specs.Requirement.{RequirementParts}
 use Rattle.markers.specs.Environment.{Texts}
 use Rattle.snapshot.specs.Release.{Release}
 use Rattle.resolve.specs.Admission.{release_at}
-use Rattle.resolve.specs.Given.{Given}
+use Rattle.resolve.specs.Problem.{ProblemParts}
 use Rattle.resolve.specs.Rules.{counts}
 use Rattle.resolve.specs.declared.node.Node.{Node}
 
 -- whether a dependency counts at a node and is on another name than the node
-abbrev pub leads_away : Texts → Node → Wanted → Bool
+abbrev pub leads_away : Texts → Node → RequirementParts → Bool
 leads_away environment node wanted = counts environment node.extra wanted && not (bytes_eq node.name wanted.name)
 
 -- the names of the dependencies that lead away from a node
-abbrev pub names_wanted : Texts → Node → List Wanted → List (List ℕ)
+abbrev pub names_wanted : Texts → Node → List RequirementParts → List (List ℕ)
 names_wanted environment node dependencies = map (λ wanted. wanted.name) (filter (leads_away environment node) dependencies)
 
 -- the names that a release needs at a node, where there is a release
@@ -30,15 +30,15 @@ names_needed environment node None = []
 names_needed environment node (Some release) = names_wanted environment node release.dependencies
 
 -- the release of the version that is chosen for a name
-abbrev pub release_chosen : Given → (List ℕ → Option Parts) → List ℕ → Option Release
+abbrev pub release_chosen : ProblemParts → (List ℕ → Option VersionParts) → List ℕ → Option Release
 release_chosen given chosen name = option_and_then (release_at given name) (chosen name)
 
 -- the names that a package needs at a node: none where the node is another's
-abbrev pub names_at : Given → (List ℕ → Option Parts) → List ℕ → Node → List (List ℕ)
+abbrev pub names_at : ProblemParts → (List ℕ → Option VersionParts) → List ℕ → Node → List (List ℕ)
 names_at given chosen own node = if bytes_eq own node.name then names_needed given.environment node (release_chosen given chosen node.name) else []
 
 -- the names that a package needs at nodes
-abbrev pub names_over : Given → (List ℕ → Option Parts) → List ℕ → List Node → List (List ℕ)
+abbrev pub names_over : ProblemParts → (List ℕ → Option VersionParts) → List ℕ → List Node → List (List ℕ)
 names_over given chosen own nodes = flat_map (names_at given chosen own) nodes
 
 -- names with more of them, each once and in the order of their bytes

@@ -5,14 +5,14 @@ use Rattle.std.specs.Option.{option_or}
 use Rattle.std.specs.Str.{bytes_eq}
 use Rattle.markers.specs.Environment.{Texts}
 use Rattle.markers.specs.Names.{normal_of}
-use Rattle.pep440.specs.Version.{Parts}
+use Rattle.pep440.specs.Version.{VersionParts}
 use Rattle.pep508.specs.Parts.{trim}
 use Rattle.snapshot.specs.Packages.{Index}
 use Rattle.search.specs.Solutions.{HasNoSolution}
-use Rattle.resolve.specs.Given.{Given, requirements}
+use Rattle.resolve.specs.Problem.{ProblemParts, requirements}
 use Rattle.resolve.specs.Rules.{rules_of}
 use Rattle.edits.specs.Adding.{with_line}
-use Rattle.edits.specs.Content.{Content}
+use Rattle.edits.specs.StateParts.{StateParts}
 use Rattle.edits.specs.Locking.{IsLockOf, versions_of}
 use Rattle.edits.specs.Naming.{with_set_on, without_line}
 use Rattle.edits.specs.Refused.{refused_by_lines, refused_by_lock}
@@ -22,34 +22,34 @@ use Rattle.edits.specs.declared.refusal.Refusal.{Refusal}
 use Rattle.edits.specs.declared.refusal.Refusal.TheVariants.{NoSolution, NothingChanges}
 
 -- the problem of lines in an environment over an index, with the versions that are kept
-abbrev pub given_of : List (List ℕ) → Texts → Index → List (List ℕ × Parts) → Given
+abbrev pub given_of : List (List ℕ) → Texts → Index → List (List ℕ × VersionParts) → ProblemParts
 given_of lines environment index kept = record { active = requirements environment lines; environment = environment; index = index; kept = kept }
 
 -- the state of these lines, this environment and this index with the lock of their problem
-pub record IsLocked (given : Given) (lines : List (List ℕ)) (state : Content) : Type 0 where
+pub record IsLocked (given : ProblemParts) (lines : List (List ℕ)) (state : StateParts) : Type 0 where
   pub lines_are : state.lines ≡ lines
   pub environment : state.environment ≡ given.environment
   pub lock : IsLockOf given state.lock
 
 -- the new state is another than the old one
-abbrev pub IsNew : Option Content → Content → Type 0
+abbrev pub IsNew : Option StateParts → StateParts → Type 0
 IsNew old state = old ≢ Some state
 
 -- what lines in an environment over an index lead to, with the versions that are kept and the old state, where there is one:
 -- the state of the lines with their lock; that they have none; or that this state is the old one, to the byte of each line,
 -- the index's digest and the text of each entry
-abbrev pub Locks : Option Content → List (List ℕ) → Texts → Index → List (List ℕ × Parts) → Result Content Refusal → Type 0
+abbrev pub Locks : Option StateParts → List (List ℕ) → Texts → Index → List (List ℕ × VersionParts) → Result StateParts Refusal → Type 0
 Locks old lines environment index kept (Ok state) = IsLocked (given_of lines environment index kept) lines state × IsNew old state
 Locks old lines environment index kept (Err refusal) =
     ((refusal ≡ NoSolution) × HasNoSolution (rules_of (given_of lines environment index kept)))
     ⊎ ((refusal ≡ NothingChanges) × IsSomeAnd old (IsLocked (given_of lines environment index kept) lines))
 
 -- what a history of these lines begins with: there is no old state, and no version is kept
-abbrev pub InitResult : List (List ℕ) → Texts → Index → Result Content Refusal → Type 0
+abbrev pub InitResult : List (List ℕ) → Texts → Index → Result StateParts Refusal → Type 0
 InitResult lines environment index answer = Locks None lines environment index [] answer
 
 -- the first refusal that lines and lock alone give
-abbrev pub refusal_of : Content → Edit → Option Refusal
+abbrev pub refusal_of : StateParts → Edit → Option Refusal
 refusal_of state edit = option_or (refused_by_lines state.lines edit) (refused_by_lock state.lock.entries edit)
 
 -- the lines after an edit
@@ -60,23 +60,23 @@ lines_after lines (Constrain name specifiers) = with_set_on (normal_of name) (tr
 lines_after lines edit = lines
 
 -- the names with versions, without those named
-abbrev pub without_pins : List (List ℕ) → List (List ℕ × Parts) → List (List ℕ × Parts)
+abbrev pub without_pins : List (List ℕ) → List (List ℕ × VersionParts) → List (List ℕ × VersionParts)
 without_pins names pins = filter (λ pin. not (list_any (bytes_eq pin.0) names)) pins
 
 -- what an edit keeps of the old lock's versions
-abbrev pub kept_pins : List (List ℕ × Parts) → Edit → List (List ℕ × Parts)
+abbrev pub kept_pins : List (List ℕ × VersionParts) → Edit → List (List ℕ × VersionParts)
 kept_pins pins (Upgrade names) = without_pins (map normal_of names) pins
 kept_pins pins UpgradeAll = []
 kept_pins pins edit = pins
 
 -- this is answered where a refusal applies, and else what else is
-abbrev pub Unless : Option Refusal → (Result Content Refusal → Type 0) → Result Content Refusal → Type 0
+abbrev pub Unless : Option Refusal → (Result StateParts Refusal → Type 0) → Result StateParts Refusal → Type 0
 Unless (Some refusal) otherwise answer = answer ≡ Err refusal
 Unless None otherwise answer = otherwise answer
 
 -- what an edit answers, memory aside: the first refusal that lines and lock give, else what the edited lines lead to with the
 -- kept versions
-abbrev pub EditResult : Content → Edit → Index → Result Content Refusal → Type 0
+abbrev pub EditResult : StateParts → Edit → Index → Result StateParts Refusal → Type 0
 EditResult state edit index answer =
     Unless (refusal_of state edit)
     (Locks (Some state) (lines_after state.lines edit) state.environment index (kept_pins (versions_of state.lock.entries) edit)) answer

@@ -1,6 +1,6 @@
 pub mod Asking
 pub mod Adding
-pub mod Content
+pub mod StateParts
 pub mod Locking
 pub mod Dependencies
 pub mod Entries

@@ -7,22 +7,22 @@ use Rattle.std.specs.List.Sorted.{IsStrictlySortedBy}
 use Rattle.std.specs.Option.{option_and_then, option_map_or}
 use Rattle.std.specs.Ordering.{nat_cmp}
 use Rattle.markers.specs.Environment.{marker_text}
-use Rattle.pep440.specs.Version.{Parts}
-use Rattle.pep508.specs.Requirement.{Wanted}
-use Rattle.pylock.specs.Locks.{Locked}
-use Rattle.pylock.specs.Packages.{Package}
+use Rattle.pep440.specs.Version.{VersionParts}
+use Rattle.pep508.specs.Requirement.{RequirementParts}
+use Rattle.pylock.specs.Locks.{LockParts}
+use Rattle.pylock.specs.Packages.{EntryParts}
 use Rattle.pylock.specs.declared.file.FileEntry.{FileEntry}
 use Rattle.search.specs.Solutions.{IsBest, Needed}
 use Rattle.snapshot.specs.Release.{Release}
 use Rattle.snapshot.specs.declared.file.ReleaseFile.{ReleaseFile}
 use Rattle.resolve.specs.Admission.{release_at}
-use Rattle.resolve.specs.Given.{Given}
+use Rattle.resolve.specs.Problem.{ProblemParts}
 use Rattle.resolve.specs.Resolves.{version_in}
 use Rattle.resolve.specs.Rules.{rules_of, wants}
 use Rattle.resolve.specs.declared.node.Node.{Node}
 
 -- the names of a lock, each with its version: what a later lock keeps
-abbrev pub versions_of : List Package → List (List ℕ × Parts)
+abbrev pub versions_of : List EntryParts → List (List ℕ × VersionParts)
 versions_of entries = map (λ e. (e.name, e.version)) entries
 
 -- what a release asks of Python, as the index has it
@@ -43,19 +43,19 @@ abbrev pub wheels_of : Option Release → List FileEntry
 wheels_of release = option_map_or (λ r. map listed r.wheels) release []
 
 -- a dependency of a package, on another name, counts at a needed node of the package
-pub record IsDependency (given : Given) (chosen : List ℕ → Option Parts) (own name : List ℕ) : Type 0 where
+pub record IsDependency (given : ProblemParts) (chosen : List ℕ → Option VersionParts) (own name : List ℕ) : Type 0 where
   pub other : name ≢ own
   pub node : Node
   pub on : node.name ≡ own
   pub needed : Needed (rules_of given) chosen node
-  pub version : Parts
+  pub version : VersionParts
   pub picked : chosen own ≡ Some version
-  pub wanted : Wanted
+  pub wanted : RequirementParts
   pub counts : Contains (wants given node version) wanted
   pub named : wanted.name ≡ name
 
 -- what is locked for a name: its release's text and files, and the names of its dependencies, which rise by their bytes
-pub record IsEntry (given : Given) (chosen : List ℕ → Option Parts) (e : Package) : Type 0 where
+pub record IsEntry (given : ProblemParts) (chosen : List ℕ → Option VersionParts) (e : EntryParts) : Type 0 where
   pub python : e.requires_python ≡ python_text (release_at given e.name e.version)
   pub sdist : e.sdist ≡ sdist_of (release_at given e.name e.version)
   pub wheels : e.wheels ≡ wheels_of (release_at given e.name e.version)
@@ -64,9 +64,9 @@ pub record IsEntry (given : Given) (chosen : List ℕ → Option Parts) (e : Pac
 
 -- the lock: it names its environment and its index; names rise by their bytes, their versions are the best solution, and each
 -- entry is that of its release
-pub record IsLockOf (given : Given) (lock : Locked) : Type 0 where
+pub record IsLockOf (given : ProblemParts) (lock : LockParts) : Type 0 where
   pub environment : lock.environment ≡ marker_text given.environment
   pub snapshot : lock.snapshot ≡ given.index.digest
   pub rising : IsStrictlySortedBy (slice_cmp nat_cmp) (map (λ e. e.name) lock.entries)
   pub best : IsBest (rules_of given) (version_in (versions_of lock.entries))
-  pub entries : (e : Package) → Contains lock.entries e → IsEntry given (version_in (versions_of lock.entries)) e
+  pub entries : (e : EntryParts) → Contains lock.entries e → IsEntry given (version_in (versions_of lock.entries)) e

@@ -2,8 +2,8 @@
 use Rattle.std.specs.Prelude.{ℕ, ◌==◌, not, Bool, List, [], find, is_some, map, Option, Some, None, option_map, Result, Ok, Err, if◌then◌else◌}
 use Rattle.std.specs.List.{list_all}
 use Rattle.markers.specs.Names.{is_name, normal_of}
-use Rattle.pep508.specs.Requirement.{Wanted}
-use Rattle.pylock.specs.Packages.{Package}
+use Rattle.pep508.specs.Requirement.{RequirementParts}
+use Rattle.pylock.specs.Packages.{EntryParts}
 use Rattle.resolve.specs.Resolves.{version_in}
 use Rattle.edits.specs.Adding.{asked_by, line_number}
 use Rattle.edits.specs.Locking.{versions_of}
@@ -14,7 +14,7 @@ use Rattle.edits.specs.declared.refusal.Refusal.{Refusal}
 use Rattle.edits.specs.declared.refusal.Refusal.TheVariants.{AlreadyPresent, Ambiguous, BadText, NotLocked, NotPresent}
 
 -- of an added line, given what it asks for: its name may not be that of a line that is there
-abbrev pub refused_addition : List (List ℕ) → Option Wanted → Option Refusal
+abbrev pub refused_addition : List (List ℕ) → Option RequirementParts → Option Refusal
 refused_addition lines None = Some BadText
 refused_addition lines (Some wanted) = option_map AlreadyPresent (line_number wanted.name 1 lines)
 
@@ -38,16 +38,16 @@ refused_by_lines lines (Constrain name specifiers) = refused_constraint lines na
 refused_by_lines lines edit = None
 
 -- whether a lock has the name
-abbrev pub is_locked : List Package → List ℕ → Bool
+abbrev pub is_locked : List EntryParts → List ℕ → Bool
 is_locked entries name = is_some (version_in (versions_of entries) name)
 
 -- of an upgrade of the names that texts are: all of them are names, and in the lock; the first that isn't there is told
-abbrev pub refused_upgrade : List Package → List (List ℕ) → Option Refusal
+abbrev pub refused_upgrade : List EntryParts → List (List ℕ) → Option Refusal
 refused_upgrade entries texts =
     if list_all is_name texts then option_map NotLocked (find (λ name. not (is_locked entries name)) (map normal_of texts)) else Some BadText
 
 -- the first refusal that the entries of the lock give
-abbrev pub refused_by_lock : List Package → Edit → Option Refusal
+abbrev pub refused_by_lock : List EntryParts → Edit → Option Refusal
 refused_by_lock entries (Upgrade names) = refused_upgrade entries names
 refused_by_lock entries edit = None
 

@@ -10,8 +10,8 @@ ghost use Rattle.edits.specs.Dependencies.{names_in, names_of};
 ghost use Rattle.edits.specs.Entries.{AreEntries, AreNeeds, HasRelease, entry_of};
 ghost use Rattle.markers.specs.Environment.{marker_text};
 ghost use Rattle.markers.specs.Names.{is_normal};
-ghost use Rattle.pep440.specs.Version.{Parts};
-ghost use Rattle.pylock.specs.Packages.{Package};
+ghost use Rattle.pep440.specs.Version.{VersionParts};
+ghost use Rattle.pylock.specs.Packages.{EntryParts};
 ghost use Rattle.resolve.specs.Admission.{release_at};
 ghost use Rattle.resolve.specs.Resolves.{version_in};
 ghost use Rattle.resolve.specs.Rules.{rules_of};
@@ -59,7 +59,7 @@ fn entries(
     versions: &BTreeMap<Name, Version>,
     mut gathered: BTreeMap<Name, BTreeSet<Name>>,
 ) -> Result<Seq<Entry>, AllocError>
-    requires released { (name : List ℕ) (version : Parts)
+    requires released { (name : List ℕ) (version : VersionParts)
         → version_in versions.now.entries name ≡ Some version
         → IsSome (release_at problem.now name version) }
     requires needs { (own : List ℕ) → AreNeeds own (names_in gathered own) }
@@ -67,7 +67,7 @@ fn entries(
         ≡ map (entry_of problem.now (names_in gathered)) versions.now.entries) }
     ensures rising { IfOk result
         (λ _. IsStrictlySortedBy (slice_cmp nat_cmp) (keys_of versions.now.entries)) }
-    ensures releases { IfOk result (λ lock. (e : Package) → Contains lock e
+    ensures releases { IfOk result (λ lock. (e : EntryParts) → Contains lock e
         → HasRelease problem.now e.name e.version) }
 {
     let mut lock = Vec::new(alloc);

@@ -5,7 +5,7 @@ ghost use Rattle.std.specs.BTreeMap.{insert_entry};
 ghost use Rattle.std.specs.Cmp.Lexicographic.{slice_cmp};
 ghost use Rattle.std.specs.Ordering.{nat_cmp};
 ghost use Rattle.std.specs.Option.{option_copied};
-ghost use Rattle.edits.specs.Content.{Content};
+ghost use Rattle.edits.specs.StateParts.{StateParts};
 ghost use Rattle.edits.specs.Locking.{versions_of};
 ghost use Rattle.edits.specs.State.{IsState};
 ghost use Rattle.resolve.specs.Resolves.{version_in};
@@ -43,10 +43,10 @@ impl Drop for State {
 }
 
 impl Model for State {
-    ghost use Rattle.edits.specs.Content.{Content};
+    ghost use Rattle.edits.specs.StateParts.{StateParts};
     ghost use Rattle.edits.specs.State.{IsHeld};
 
-    ghost Value = { Content };
+    ghost Value = { StateParts };
 
     ghost view = { λ s. record { lines = s.lines; environment = s.environment; lock = s.lock } };
 
@@ -111,7 +111,7 @@ impl State {
         lock: Lock,
     ) -> Result<Option<State>, AllocError>
         ensures { IfOk result (λ made.
-            let parts : Content =
+            let parts : StateParts =
             record { lines = lines; environment = environment; lock = lock } in
             MatchOption made (IsState parts → ⊥) (λ state. state ≡ parts)) }
     {

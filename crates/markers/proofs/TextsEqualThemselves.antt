@@ -16,7 +16,7 @@ use Rattle.pep440.specs.SetGrammar.{IsClause}
 use Rattle.pep440.specs.Tied.Sets.{◌>>=◌, clause_of, clause_text, clauses_from, is_arbitrary, set_of}
 use Rattle.lists.specs.Spaces.{is_space_or_tab}
 use Rattle.pep440.specs.Text.{pieces, trim_blank, trim_end, trim_front}
-use Rattle.pep440.specs.Version.{Parts, fits}
+use Rattle.pep440.specs.Version.{VersionParts, fits}
 use Rattle.pep440.specs.declared.fault.Fault.{Fault}
 use Rattle.pep440.specs.declared.fault.Fault.TheVariants.{ArbitraryEquality}
 use Rattle.pep440.specs.declared.specifier.Clause.{Clause}
@@ -116,7 +116,7 @@ unless_ok false e r x h = h
 equal_clause : (text : List ℕ) (c : Clause) → clause_of 1 (61 ∷ 61 ∷ text) ≡ Ok c → clause_text 1 operators.Equal (trim_front is_space_or_tab text) ≡ Ok c
 equal_clause text c h = unless_ok (is_arbitrary (61 ∷ 61 ∷ text)) ArbitraryEquality (clause_text 1 operators.Equal (trim_front is_space_or_tab text)) c h
 
-fitting_ok : (o : Option Parts) (v : Parts) → fitting o ≡ Ok v → (o ≡ Some v) × (fits v ≡ true)
+fitting_ok : (o : Option VersionParts) (v : VersionParts) → fitting o ≡ Ok v → (o ≡ Some v) × (fits v ≡ true)
 fitting_ok None v h = cc
 fitting_ok (Some w) v h = elim (cases_Bool (fits w)) [
   | inl good ↦ let g = rw good at h in let e : w ≡ v = cc in (ap Some e, rw (← e) good)
@@ -139,13 +139,13 @@ abbrev pub FindsClauses : Type 0
 FindsClauses = (place : ℕ) (piece : List ℕ) (c : Clause) → IsClause piece c → fits c.version ≡ true → clause_of place piece ≡ Ok c
 
 abbrev pub ReadsVersions : Type 0
-ReadsVersions = (text : List ℕ) (v : Parts) → bare_parts text ≡ Some v → IsVersionText text v
+ReadsVersions = (text : List ℕ) (v : VersionParts) → bare_parts text ≡ Some v → IsVersionText text v
 
-abbrev equal_to : Parts → Clause
+abbrev equal_to : VersionParts → Clause
 equal_to v = record { operator = operators.Equal; version = v }
 
 -- `==` and the text of a version: the clause of that version
-bare_clause : FindsClauses → ReadsVersions → (text : List ℕ) (v : Parts) → bare_parts text ≡ Some v → fits v ≡ true → clause_of 1 (61 ∷ 61 ∷ text) ≡ Ok (equal_to v)
+bare_clause : FindsClauses → ReadsVersions → (text : List ℕ) (v : VersionParts) → bare_parts text ≡ Some v → fits v ≡ true → clause_of 1 (61 ∷ 61 ∷ text) ≡ Ok (equal_to v)
 bare_clause finds reads text v h fine = finds 1 (61 ∷ 61 ∷ text) (equal_to v) (record {
   blanks = [];
   version = text;
@@ -155,14 +155,14 @@ bare_clause finds reads text v h fine = finds 1 (61 ∷ 61 ∷ text) (equal_to v
   taken = refl;
 }) fine
 
-equals_itself : (v : Parts) → equals v v ≡ true
+equals_itself : (v : VersionParts) → equals v v ≡ true
 equals_itself v = elim (cases_Bool (length v.local == 0)) [
   | inl none ↦ rw none ((eq_by_cmp_equiv public_total).refl v)
   | inr some ↦ rw some ((eq_by_cmp_equiv version_total).refl v)
 ]
 
 -- the clause that a text of a version reads as behind `==`
-the_clause : FindsClauses → ReadsVersions → (text : List ℕ) (v : Parts) (c : Clause) → bare_parts (trim_blank text) ≡ Some v → fits v ≡ true
+the_clause : FindsClauses → ReadsVersions → (text : List ℕ) (v : VersionParts) (c : Clause) → bare_parts (trim_blank text) ≡ Some v → fits v ≡ true
     → clause_of 1 (61 ∷ 61 ∷ trim_end is_space_or_tab text) ≡ Ok c → c ≡ equal_to v
 the_clause finds reads text v c bare fine h =
     let read : clause_text 1 operators.Equal (trim_blank text) ≡ Ok c = rw (← trims_swap text) (equal_clause (trim_end is_space_or_tab text) c h) in
@@ -171,7 +171,7 @@ the_clause finds reads text v c bare fine h =
     cc
 
 -- a text of a version matches its own clauses
-matches_itself : FindsClauses → ReadsVersions → (text : List ℕ) → list_all is_printable text ≡ true → (v : Parts) (cs : List Clause)
+matches_itself : FindsClauses → ReadsVersions → (text : List ℕ) → list_all is_printable text ≡ true → (v : VersionParts) (cs : List Clause)
     → version_read text ≡ Some v → clauses_read comparisons.Equal text ≡ Some cs → matches cs v ≡ true
 unfolding version_read clauses_read
 matches_itself finds reads text printable v cs version clauses =
@@ -185,8 +185,8 @@ matches_itself finds reads text printable v cs version clauses =
           rw (one.2, same, equals_itself v) refl
     ]
 
-decides_true : (o : Option Parts) (cs : Option (List Clause)) (texts : Bool) → texts ≡ true
-    → ((v : Parts) (ds : List Clause) → o ≡ Some v → cs ≡ Some ds → matches ds v ≡ true) → decides o cs texts ≡ true
+decides_true : (o : Option VersionParts) (cs : Option (List Clause)) (texts : Bool) → texts ≡ true
+    → ((v : VersionParts) (ds : List Clause) → o ≡ Some v → cs ≡ Some ds → matches ds v ≡ true) → decides o cs texts ≡ true
 decides_true (Some v) (Some ds) texts h clauses = clauses v ds refl refl
 decides_true (Some v) None texts h clauses = h
 decides_true None cs texts h clauses = h

@@ -8,7 +8,7 @@ use Rattle.std.specs.declared.cmp.Ordering.{Ordering}
 use Rattle.pep440.specs.Matching.{matches}
 use Rattle.pep440.specs.Tied.Reading.{version_of}
 use Rattle.pep440.specs.Tied.Sets.{set_of}
-use Rattle.pep440.specs.Version.{Parts}
+use Rattle.pep440.specs.Version.{VersionParts}
 use Rattle.pep440.specs.declared.specifier.Clause.{Clause}
 use Rattle.markers.specs.declared.comparison.Comparison.{Comparison}
 use Rattle.markers.specs.declared.comparison.Comparison.TheVariants as comparisons
@@ -24,7 +24,7 @@ sign comparisons.Below = codes "<"
 sign comparisons.Above = codes ">"
 
 -- the version that a text reads as, or none (PEP 440, "Version scheme")
-unfoldable pub version_read : List ℕ → Option Parts
+unfoldable pub version_read : List ℕ → Option VersionParts
 version_read text = result_ok (version_of text)
 
 -- a comma stands in the text
@@ -50,7 +50,7 @@ text_compares comparisons.Below left right = is_lt (text_cmp left right)
 text_compares comparisons.Above left right = is_gt (text_cmp left right)
 
 -- the clauses decide of the version; where either is missing, what the texts say
-abbrev pub decides : Option Parts → Option (List Clause) → Bool → Bool
+abbrev pub decides : Option VersionParts → Option (List Clause) → Bool → Bool
 decides (Some version) (Some clauses) texts = matches clauses version
 decides (Some version) None texts = texts
 decides None clauses texts = texts

@@ -9,7 +9,7 @@ use Rattle.pep440.specs.declared.parts.Pre.{Pre}
 use Rattle.pep440.specs.declared.parts.Pre.TheVariants as pres
 use Rattle.pep440.specs.declared.parts.LocalPart.{LocalPart}
 use Rattle.pep440.specs.declared.parts.LocalPart.TheVariants.{Number, Word}
-use Rattle.pep440.specs.Version.{Parts}
+use Rattle.pep440.specs.Version.{VersionParts}
 use Rattle.pep440.specs.Grammar.{IsAlphaWord, IsBetaWord, IsCandidateWord, IsDev, IsDevWord, IsEpoch, IsLabelled, IsLead, IsLocal, IsLocalPart, IsLocalParts, IsPost, IsPostWord, IsPre, IsRelease, IsSeparator, IsVersionText, Says, is_separator}
 use Rattle.pep440.proofs.HeadFacts.{are_digits}
 
@@ -122,7 +122,7 @@ module _ (test : ℕ → Bool) (p : Covers test) where
   local-pass text [] h = rw h refl
   local-pass text (q ∷ ps) (body, whole, parts) = ap (list_all test) whole ∙ rw (p.plus, local-parts-pass (q ∷ ps) body parts) refl
 
-  pub version-pass : (text : List ℕ) (v : Parts) → IsVersionText text v → list_all test text ≡ true
+  pub version-pass : (text : List ℕ) (v : VersionParts) → IsVersionText text v → list_all test text ≡ true
   version-pass text v h =
       ap (list_all test) h.whole ∙ all-append test h.lead _ (lead-pass h.lead h.is_lead)
       (all-append test h.epoch _ (epoch-pass h.epoch v.epoch h.is_epoch)

@@ -17,7 +17,7 @@ use Rattle.std.proofs.lemmas.Bool.{eqb-true, ltb-true}
 use Rattle.std.proofs.lemmas.Fmt.{decimal_by_steps, decimal_nonempty}
 use Rattle.std.proofs.lemmas.List.Concat.{flat_map-cons}
 use Rattle.pep440.specs.Canonical.{canonical, dev_text, epoch_text, local_text, part_text, post_text, pre_text, release_text}
-use Rattle.pep440.specs.Version.{IsVersion, Parts, is_part, is_word_byte, pre_numbers}
+use Rattle.pep440.specs.Version.{IsVersion, VersionParts, is_part, is_word_byte, pre_numbers}
 use Rattle.pep440.specs.Grammar.{IsAlphaWord, IsBetaWord, IsCandidateWord, IsDev, IsDevWord, IsEpoch, IsLabelled, IsLocal, IsLocalPart, IsLocalParts, IsNumeral, IsPost, IsPostWord, IsPre, IsRelease, IsSeparator, Says, Spells, value_from}
 use Rattle.std.specs.Prelude.{option_to_list}
 use Rattle.pep440.specs.Tied.Views.{part_fits}
@@ -152,7 +152,7 @@ local-spelled (p ∷ ps) h g = (body_text p ps, refl, parts-spelled p ps h g)
 -- ---- the whole
 
 -- the canonical text of a version spells it
-pub canonical-spells : (v : Parts) → IsVersion v → Spells (canonical v) v
+pub canonical-spells : (v : VersionParts) → IsVersion v → Spells (canonical v) v
 canonical-spells v h =
     let all = sym (fits-parts v) ∙ h.numbers in
     let a = all_fit v.release in

@@ -12,7 +12,7 @@ use Rattle.pep440.specs.declared.fault.Fault.TheVariants.{ArbitraryEquality, Bad
 use Rattle.pep440.specs.declared.specifier.Operator.{Operator}
 use Rattle.pep440.specs.declared.specifier.Operator.TheVariants as operators
 use Rattle.pep440.specs.declared.specifier.Clause.{Clause}
-use Rattle.pep440.specs.Version.{Parts, fits}
+use Rattle.pep440.specs.Version.{VersionParts, fits}
 use Rattle.pep440.specs.Grammar.{IsVersionText}
 use Rattle.pep440.specs.Tied.Reading.{Spans, bare_parts, parts_in, spans_of}
 use Rattle.lists.specs.Spaces.{is_space_or_tab}
@@ -122,7 +122,7 @@ and-false : (b : Bool) → (b && false) ≡ false
 and-false true = refl
 and-false false = refl
 
-version-no_star : (text : List ℕ) (v : Parts) → IsVersionText text v → ends_in_star text ≡ false
+version-no_star : (text : List ℕ) (v : VersionParts) → IsVersionText text v → ends_in_star text ≡ false
 version-no_star text v h =
     let last = no_star-at text (length text - 1) (version-pass (λ b. not (eqb b 42)) no_star text v h) in
     rw (last, and-false, and-false) refl
@@ -150,14 +150,14 @@ at-end text =
 with_star : (text : List ℕ) → (ends_in_star (text ++ codes ".*") ≡ true) × (version_text true (text ++ codes ".*") ≡ text)
 with_star text = let e = at-end text in (rw (le-leb 2 _ e.3, e.0, e.1) refl, e.2)
 
-bare-end : (o : Operator) (text : List ℕ) (v : Parts) → IsVersionText text v
+bare-end : (o : Operator) (text : List ℕ) (v : VersionParts) → IsVersionText text v
     → (star_operator (ends_in_star (text ++ [])) o ≡ Some o) × (version_text (ends_in_star (text ++ [])) (text ++ []) ≡ text)
 bare-end o text v h =
     let e : ends_in_star (text ++ []) ≡ false = ap ends_in_star (append-nil text) ∙ version-no_star text v h in
     (rw e refl, rw e (append-nil text))
 
 -- what stands behind the blanks is read
-starred : (o : Operator) (text : List ℕ) (v : Parts) → IsVersionText text v
+starred : (o : Operator) (text : List ℕ) (v : VersionParts) → IsVersionText text v
     → (star_operator (ends_in_star (text ++ star o)) (base o) ≡ Some o) × (version_text (ends_in_star (text ++ star o)) (text ++ star o) ≡ text)
 unfolding base
 starred operators.EqualPrefix text v h = let w = with_star text in (rw w.0 refl, rw w.0 w.1)
@@ -315,7 +315,7 @@ ended true operators.AtLeast q text e usual h = absurd cc
 ended true operators.Below q text e usual h = absurd cc
 ended true operators.Above q text e usual h = absurd cc
 
-record ForCut (o : Option Operator) (v : Option Parts) (c : Clause) : Type 0 where
+record ForCut (o : Option Operator) (v : Option VersionParts) (c : Clause) : Type 0 where
   operator : o ≡ Some c.operator
   version : v ≡ Some c.version
   taken : takes c.operator c.version ≡ true
@@ -323,7 +323,7 @@ record ForCut (o : Option Operator) (v : Option Parts) (c : Clause) : Type 0 whe
 ok-is : (x y : Clause) → ◌≡◌ {A = Result Clause Fault} (Ok x) (Ok y) → x ≡ y
 ok-is x y h = cc
 
-for-cut : (k : ℕ) (o : Option Operator) (v : Option Parts) (c : Clause) → clause_for k o v ≡ Ok c → ForCut o v c × (fits c.version ≡ true)
+for-cut : (k : ℕ) (o : Option Operator) (v : Option VersionParts) (c : Clause) → clause_for k o v ≡ Ok c → ForCut o v c × (fits c.version ≡ true)
 for-cut k None v c h = absurd cc
 for-cut k (Some o) None c h = absurd cc
 for-cut k (Some o) (Some v) c h = elim (chosen (takes o v) (cond (fits v) (Ok (record { operator = o; version = v })) (Err NumberTooLarge)) (Err (BadClause k)) (Ok c) h) [
@@ -335,7 +335,7 @@ for-cut k (Some o) (Some v) c h = elim (chosen (takes o v) (cond (fits v) (Ok (r
 ]
 
 -- a fault behind the operator: a number is too large where all else is a clause, and any other is that of a bad clause
-for-fault : (k : ℕ) (o : Option Operator) (v : Option Parts) (e : Fault) → clause_for k o v ≡ Err e
+for-fault : (k : ℕ) (o : Option Operator) (v : Option VersionParts) (e : Fault) → clause_for k o v ≡ Err e
     → (e ≡ BadClause k) ⊎ ((e ≡ NumberTooLarge) × ((c : Clause) × ForCut o v c × (fits c.version ≡ false)))
 for-fault k None v e h = inl cc
 for-fault k (Some o) None e h = inl cc
@@ -347,12 +347,12 @@ for-fault k (Some o) (Some v) e h = elim (chosen (takes o v) (cond (fits v) (Ok 
   | inr x ↦ inl (let bad = x.1 in cc)
 ]
 
-map-some : (o : Option Spans) (v : Parts) → option_map parts_in o ≡ Some v → (s : Spans) × (o ≡ Some s) × (parts_in s ≡ v)
+map-some : (o : Option Spans) (v : VersionParts) → option_map parts_in o ≡ Some v → (s : Spans) × (o ≡ Some s) × (parts_in s ≡ v)
 map-some None v h = absurd cc
 map-some (Some s) v h = (s, refl, cc)
 
-pub bare-spells : (text : List ℕ) (v : Parts) → bare_parts text ≡ Some v → IsVersionText text v
-bare-spells text v h = let m = map-some (spans_of text) v h in subst (λ (w : Parts). IsVersionText text w) m.2 (read-spells text m.0 m.1)
+pub bare-spells : (text : List ℕ) (v : VersionParts) → bare_parts text ≡ Some v → IsVersionText text v
+bare-spells text v h = let m = map-some (spans_of text) v h in subst (λ (w : VersionParts). IsVersionText text w) m.2 (read-spells text m.0 m.1)
 
 -- what was found behind the operator is a clause of the grammar
 found-clause : (piece : List ℕ) (p : Operator × List ℕ) (c : Clause) → operator_of piece ≡ Some p

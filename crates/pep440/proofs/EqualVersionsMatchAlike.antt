@@ -11,7 +11,7 @@ use Rattle.pep440.specs.declared.parts.Pre.TheVariants.{Alpha, Beta, Candidate}
 use Rattle.pep440.specs.declared.specifier.Operator.{Operator}
 use Rattle.pep440.specs.declared.specifier.Operator.TheVariants as operators
 use Rattle.pep440.specs.declared.specifier.Clause.{Clause}
-use Rattle.pep440.specs.Version.{Parts, is_post, is_pre}
+use Rattle.pep440.specs.Version.{VersionParts, is_post, is_pre}
 use Rattle.pep440.specs.Order.{dev_key, part_cmp, post_key, pre_key, pre_key_of, public_cmp, rank_cmp, trimmed, version_cmp}
 use Rattle.pep440.specs.Tied.OrderLaws.{first_tie, list_tie, nat_tie, public_total, second_tie, version_total}
 use Rattle.pep440.specs.Matching.{begins, equals, has_prefix, matches, operator_matches, same_release, without_last}
@@ -68,15 +68,15 @@ dev-known None = refl
 dev-known (Some n) = refl
 
 -- what specifiers read of a version is the same
-record Alike (v w : Parts) : Type 0 where
-  whole : (u : Parts) → version_cmp v u ≡ version_cmp w u
-  public : (u : Parts) → public_cmp v u ≡ public_cmp w u
+record Alike (v w : VersionParts) : Type 0 where
+  whole : (u : VersionParts) → version_cmp v u ≡ version_cmp w u
+  public : (u : VersionParts) → public_cmp v u ≡ public_cmp w u
   epoch : v.epoch ≡ w.epoch
   release : trimmed v.release ≡ trimmed w.release
   pre : is_pre v ≡ is_pre w
   post : is_post v ≡ is_post w
 
-Alike-from : (v w : Parts) → version_cmp v w ≡ Equal → Alike v w
+Alike-from : (v w : VersionParts) → version_cmp v w ≡ Equal → Alike v w
 Alike-from v w equal =
     let epoch = nat_cmp v.epoch w.epoch in
     let release = slice_cmp nat_cmp (trimmed v.release) (trimmed w.release) in
@@ -103,19 +103,19 @@ Alike-from v w equal =
 
 -- ---- matching
 
-equals-alike : (u v w : Parts) → Alike v w → equals u v ≡ equals u w
+equals-alike : (u v w : VersionParts) → Alike v w → equals u v ≡ equals u w
 equals-alike u v w a = λ i. is_eq (if length u.local == 0 then a.public u i else a.whole u i)
 
-prefix-alike : (epoch : ℕ) (release : List ℕ) (v w : Parts) → Alike v w → has_prefix epoch release v ≡ has_prefix epoch release w
+prefix-alike : (epoch : ℕ) (release : List ℕ) (v w : VersionParts) → Alike v w → has_prefix epoch release v ≡ has_prefix epoch release w
 prefix-alike epoch release v w a =
     let same : begins v.release release ≡ begins w.release release =
     begins-trimmed v.release release ∙ ap (λ (ns : List ℕ). begins ns release) a.release ∙ sym (begins-trimmed w.release release) in
     λ i. (a.epoch i == epoch) && same i
 
-release-alike : (u v w : Parts) → Alike v w → same_release v u ≡ same_release w u
+release-alike : (u v w : VersionParts) → Alike v w → same_release v u ≡ same_release w u
 release-alike u v w a = λ i. (a.epoch i == u.epoch) && pointwise nat_eq (a.release i) (trimmed u.release)
 
-operator-alike : (operator : Operator) (u v w : Parts) → Alike v w → operator_matches operator u v ≡ operator_matches operator u w
+operator-alike : (operator : Operator) (u v w : VersionParts) → Alike v w → operator_matches operator u v ≡ operator_matches operator u w
 operator-alike operators.Compatible u v w a = λ i. is_ge (a.public u i) && prefix-alike u.epoch (without_last u.release) v w a i
 operator-alike operators.Equal u v w a = equals-alike u v w a
 operator-alike operators.NotEqual u v w a = ap not (equals-alike u v w a)
@@ -127,5 +127,5 @@ operator-alike operators.Below u v w a = λ i. is_lt (a.public u i) && (is_pre u
 operator-alike operators.Above u v w a = λ i. is_gt (a.public u i) && (is_post u || not (a.post i && release-alike u v w a i))
 
 -- sets match versions alike that are equal in their order
-pub matches-alike : (clauses : List Clause) (v w : Parts) → version_cmp v w ≡ Equal → matches clauses v ≡ matches clauses w
+pub matches-alike : (clauses : List Clause) (v w : VersionParts) → version_cmp v w ≡ Equal → matches clauses v ≡ matches clauses w
 matches-alike clauses v w equal = λ i. list_all (λ c. operator-alike c.operator c.version v w (Alike-from v w equal) i) clauses

@@ -5,7 +5,7 @@ use Rattle.std.specs.Option.{option_map}
 use Rattle.std.specs.Prelude.{codes}
 use Rattle.std.specs.Cmp.{first_so, second_so}
 use Rattle.std.proofs.lemmas.List.{append-nil}
-use Rattle.pep440.specs.Version.{Parts}
+use Rattle.pep440.specs.Version.{VersionParts}
 use Rattle.pep440.specs.Grammar.{IsEpoch, IsLead, IsRelease, IsVersionText, value_from}
 use Rattle.pep440.specs.Tied.Reading.{Spans, after_digits, after_lead, after_release, bare_parts, digits_of, epoch_at, epoch_end, numbers_from, parts_in, release_of, release_spans, spans_of, starts_digit}
 use Rattle.pep440.proofs.HeadFacts.{are_digits, digit-no_dot, digit-no_lead, head_is, opens, opens-no_bang, opens-no_digit}
@@ -106,7 +106,7 @@ lead-read (b ∷ c ∷ more) rest (inr says) s = absurd (let no : (to_ascii_lowe
 -- ---- the whole
 
 -- what the grammar spells is read
-pub spells-read : (text : List ℕ) (v : Parts) → IsVersionText text v → bare_parts text ≡ Some v
+pub spells-read : (text : List ℕ) (v : VersionParts) → IsVersionText text v → bare_parts text ≡ Some v
 unfolding spans_of
 spells-read text v h =
     let tail = h.pre ++ (h.post ++ (h.dev ++ h.local)) in
@@ -143,7 +143,7 @@ lead-start (b ∷ lead) rest (inr says) s = let e : to_ascii_lowercase b ≡ 118
     or-true true b h = refl
     or-true false b h = h
 
-pub version-start : (text : List ℕ) (v : Parts) → IsVersionText text v → starts_version text ≡ true
+pub version-start : (text : List ℕ) (v : VersionParts) → IsVersionText text v → starts_version text ≡ true
 version-start text v h =
     let tail = h.pre ++ (h.post ++ (h.dev ++ h.local)) in
     let t = release-tail h.pre h.post h.dev h.local v.pre v.post v.dev v.local h.is_pre h.is_post h.is_dev h.is_local in

@@ -5,7 +5,7 @@ use Rattle.std.specs.Option.{option_map}
 use Rattle.std.specs.Cmp.{first_so, second_so}
 use Rattle.std.proofs.lemmas.Bool.{cases_Bool}
 use Rattle.std.proofs.lemmas.Bool.Decides.{nat_tests}
-use Rattle.pep440.specs.Version.{Parts}
+use Rattle.pep440.specs.Version.{VersionParts}
 use Rattle.pep440.specs.Grammar.{IsVersionText, Spells, is_space}
 use Rattle.pep440.specs.Text.{trim_end, trim_front}
 use Rattle.pep440.specs.Tied.Reading.{Spans, parts_of, trim_space, bare_parts, parts_in, spans_of}
@@ -26,7 +26,7 @@ no_space = record {
 }
 
 -- no white space stands within a version
-version-clear : (text : List ℕ) (v : Parts) → IsVersionText text v → clear text ≡ true
+version-clear : (text : List ℕ) (v : VersionParts) → IsVersionText text v → clear text ≡ true
 version-clear text v h = version-pass (λ b. not (is_space b)) no_space text v h
 
 -- ---- white space around a text
@@ -86,15 +86,15 @@ end-cut (b ∷ text) = elim (cases_Bool (list_all is_space (b ∷ text))) [
 
 -- ---- the law
 
-no_text : (v : Parts) → IsVersionText [] v → ⊥
+no_text : (v : VersionParts) → IsVersionText [] v → ⊥
 unfolding spans_of
 no_text v h = let e = spells-read [] v h in cc
 
-version-some : (text : List ℕ) (v : Parts) → IsVersionText text v → 0 < length text
+version-some : (text : List ℕ) (v : VersionParts) → IsVersionText text v → 0 < length text
 version-some [] v h = absurd (no_text v h)
 version-some (b ∷ text) v h = omega arith
 
-pub spells-parts : (text : List ℕ) (v : Parts) → Spells text v → parts_of text ≡ Some v
+pub spells-parts : (text : List ℕ) (v : VersionParts) → Spells text v → parts_of text ≡ Some v
 spells-parts text v h =
     let c = version-clear h.inner v h.version in
     let some = version-some h.inner v h.version in
@@ -104,11 +104,11 @@ spells-parts text v h =
     ∙ end-run h.inner h.after h.spaces_after ∙ end-stays h.inner c in
     ap bare_parts trimmed ∙ spells-read h.inner v h.version
 
-map-some : (o : Option Spans) (v : Parts) → option_map parts_in o ≡ Some v → (s : Spans) × (o ≡ Some s) × (parts_in s ≡ v)
+map-some : (o : Option Spans) (v : VersionParts) → option_map parts_in o ≡ Some v → (s : Spans) × (o ≡ Some s) × (parts_in s ≡ v)
 map-some None v h = absurd cc
 map-some (Some s) v h = (s, refl, cc)
 
-pub parts-spell : (text : List ℕ) (v : Parts) → parts_of text ≡ Some v → Spells text v
+pub parts-spell : (text : List ℕ) (v : VersionParts) → parts_of text ≡ Some v → Spells text v
 parts-spell text v h =
     let m = map-some (spans_of (trim_space text)) v h in
     let f = front-cut text in
@@ -120,5 +120,5 @@ parts-spell text v h =
       whole = f.whole ∙ ap (λ (t : List ℕ). f.before ++ t) e.whole;
       spaces_before = f.spaces;
       spaces_after = e.spaces;
-      version = subst (λ (w : Parts). IsVersionText (trim_space text) w) m.2 (read-spells (trim_space text) m.0 m.1);
+      version = subst (λ (w : VersionParts). IsVersionText (trim_space text) w) m.2 (read-spells (trim_space text) m.0 m.1);
     }

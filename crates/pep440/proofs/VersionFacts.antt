@@ -14,7 +14,7 @@ use Rattle.pep440.specs.declared.words.PreWord.TheVariants as words
 use Rattle.pep440.specs.Grammar.{value_from}
 use Rattle.pep440.specs.Answers.{Fails}
 use Rattle.pep440.specs.Tied.Reading.{Spans, fitting, fitting_numbers, locals_of, numbers_from, parts_in, pre_of, pre_with}
-use Rattle.pep440.specs.Version.{IsVersion, Parts, fits, part_number, pre_number, pre_numbers}
+use Rattle.pep440.specs.Version.{IsVersion, VersionParts, fits, part_number, pre_number, pre_numbers}
 use Rattle.pep440.specs.Tied.Views.{capped, capped_option, capped_pre, fitting_locals, is_local, part_fits}
 use Rattle.pep440.proofs.ReleaseFacts.{all_fit, all_fit-append}
 use Rattle.pep440.proofs.SpanFacts.{locals-lawful}
@@ -25,7 +25,7 @@ local_numbers (Word w ∷ ps) = local_numbers ps
 local_numbers (Number n ∷ ps) = ap (λ b. ltb n (2 ^ 64) && b) (local_numbers ps)
 
 -- the parts fit where each of them does
-pub fits-parts : (v : Parts) → fits v ≡ (ltb v.epoch (2 ^ 64) && (all_fit v.release && (all_fit (pre_numbers v.pre) && (all_fit (option_to_list v.post) && (all_fit (option_to_list v.dev) && list_all part_fits v.local)))))
+pub fits-parts : (v : VersionParts) → fits v ≡ (ltb v.epoch (2 ^ 64) && (all_fit v.release && (all_fit (pre_numbers v.pre) && (all_fit (option_to_list v.post) && (all_fit (option_to_list v.dev) && list_all part_fits v.local)))))
 fits-parts v = ap (λ b. ltb v.epoch (2 ^ 64) && b)
     (all_fit-append v.release _ ∙ ap (λ b. all_fit v.release && b)
     (all_fit-append (pre_numbers v.pre) _ ∙ ap (λ b. all_fit (pre_numbers v.pre) && b)
@@ -76,7 +76,7 @@ numbers_from-some n [] = omega arith
 numbers_from-some n (b ∷ rest) = elim (cases_Bool (eqb b 46)) [ inl dot ↦ rw dot (omega arith) | inr other ↦ rw other (numbers_from-some (n * 10 + (b - 48)) rest) ]
 
 -- what was read of each part
-pub record PartsRead (s : Spans) (v : Parts) : Type 0 where
+pub record PartsRead (s : Spans) (v : VersionParts) : Type 0 where
   pub epoch : capped (value_from 0 s.epoch) ≡ Ok v.epoch
   pub release : fitting_numbers (numbers_from 0 s.release) ≡ Ok v.release
   pub pre : capped_pre s.pre ≡ Ok v.pre
@@ -84,7 +84,7 @@ pub record PartsRead (s : Spans) (v : Parts) : Type 0 where
   pub dev : capped_option s.dev ≡ Ok v.dev
   pub local : fitting_locals (locals_of s.local) ≡ Ok v.local
 
-parts-same : (s : Spans) (v : Parts) → PartsRead s v → (parts_in s ≡ v) × (fits (parts_in s) ≡ true)
+parts-same : (s : Spans) (v : VersionParts) → PartsRead s v → (parts_in s ≡ v) × (fits (parts_in s) ≡ true)
 parts-same s v r =
     let a = capped-ok (value_from 0 s.epoch) v.epoch r.epoch in
     let b = numbers-ok (numbers_from 0 s.release) v.release r.release in
@@ -97,13 +97,13 @@ parts-same s v r =
     )
 
 -- the parts that were read are the version
-pub version-made : (s : Spans) (v : Parts) → PartsRead s v → fitting (Some (parts_in s)) ≡ Ok v
-version-made s v r = let p = parts-same s v r in rw p.1 (ap (λ (w : Parts). Ok w) p.0)
+pub version-made : (s : Spans) (v : VersionParts) → PartsRead s v → fitting (Some (parts_in s)) ≡ Ok v
+version-made s v r = let p = parts-same s v r in rw p.1 (ap (λ (w : VersionParts). Ok w) p.0)
 
-pub version-lawful : (s : Spans) (v : Parts) → is_local s.local ≡ true → PartsRead s v → IsVersion v
+pub version-lawful : (s : Spans) (v : VersionParts) → is_local s.local ≡ true → PartsRead s v → IsVersion v
 version-lawful s v h r =
     let p = parts-same s v r in
-    subst (λ (w : Parts). IsVersion w) p.0 (record { release = numbers_from-some 0 s.release; local = locals-lawful s.local h; numbers = p.1 })
+    subst (λ (w : VersionParts). IsVersion w) p.0 (record { release = numbers_from-some 0 s.release; local = locals-lawful s.local h; numbers = p.1 })
 
 -- ---- a number that is too large
 
@@ -111,7 +111,7 @@ and-false : (b : Bool) → (b && false) ≡ false
 and-false true = refl
 and-false false = refl
 
-fault-from : (e : Fault) (v : Parts) → fits v ≡ false → e ≡ NumberTooLarge → Fails e (fitting (Some v))
+fault-from : (e : Fault) (v : VersionParts) → fits v ≡ false → e ≡ NumberTooLarge → Fails e (fitting (Some v))
 fault-from e v bad same = subst (λ (d : Fault). Fails d (fitting (Some v))) (sym same) (rw bad refl)
 
 locals-large : (ps : List LocalPart) (e : Fault) → fitting_locals ps ≡ Err e → (list_all part_fits ps ≡ false) × (e ≡ NumberTooLarge)
@@ -126,12 +126,12 @@ numbers-large ns e h = elim (cases_Bool (all_fit ns)) [
   | inr bad ↦ (bad, let g = (rw bad at h) in cc)
 ]
 
-local-err : (e : Fault) (v : Parts) → fitting_locals v.local ≡ Err e → Fails e (fitting (Some v))
+local-err : (e : Fault) (v : VersionParts) → fitting_locals v.local ≡ Err e → Fails e (fitting (Some v))
 local-err e v h =
     let p = locals-large v.local e h in
     fault-from e v (fits-parts v ∙ rw (p.0, and-false, and-false, and-false, and-false, and-false) refl) p.1
 
-pub local-fault : (e : Fault) (v : Parts) → Fails e (fitting_locals v.local) → Fails e (fitting (Some v))
+pub local-fault : (e : Fault) (v : VersionParts) → Fails e (fitting_locals v.local) → Fails e (fitting (Some v))
 local-fault OutOfMemory v h = tt
 local-fault NumberTooLarge v h = local-err NumberTooLarge v h
 local-fault BadVersion v h = local-err BadVersion v h

@@ -4,41 +4,41 @@ use Rattle.std.specs.Prelude.{IsOkUnless}
 use Rattle.std.proofs.lemmas.Bool.{cases_Bool}
 use Rattle.pep440.specs.declared.fault.Fault.{Fault}
 use Rattle.pep440.specs.declared.fault.Fault.TheVariants.{ArbitraryEquality, BadClause, BadVersion, NumberTooLarge, OutOfMemory}
-use Rattle.pep440.specs.Version.{Parts, fits}
+use Rattle.pep440.specs.Version.{VersionParts, fits}
 use Rattle.pep440.specs.Grammar.{Spells, ParseAnswers}
 use Rattle.pep440.specs.Answers.{Gives}
 use Rattle.pep440.specs.Tied.Reading.{fitting, parts_of, version_of}
 use Rattle.pep440.proofs.Trims.{parts-spell, spells-parts}
 
 -- a text spells one version at most
-pub one_version : (text : List ℕ) (v w : Parts) → Spells text v → Spells text w → v ≡ w
+pub one_version : (text : List ℕ) (v w : VersionParts) → Spells text v → Spells text w → v ≡ w
 one_version text v w h g =
     let a = spells-parts text v h in
     let b = spells-parts text w g in
     cc
 
-fitting-ok : (o : Option Parts) (v : Parts) → fitting o ≡ Ok v → (o ≡ Some v) × (fits v ≡ true)
+fitting-ok : (o : Option VersionParts) (v : VersionParts) → fitting o ≡ Ok v → (o ≡ Some v) × (fits v ≡ true)
 fitting-ok None v h = absurd cc
 fitting-ok (Some w) v h = elim (cases_Bool (fits w)) [
   | inl good ↦ let g = (rw good at h) in let e : w ≡ v = cc in (ap Some e, ap fits (sym e) ∙ good)
   | inr bad ↦ absurd (let g = (rw bad at h) in cc)
 ]
 
-fitting-large : (o : Option Parts) → fitting o ≡ Err NumberTooLarge → (v : Parts) × (o ≡ Some v) × (fits v ≡ false)
+fitting-large : (o : Option VersionParts) → fitting o ≡ Err NumberTooLarge → (v : VersionParts) × (o ≡ Some v) × (fits v ≡ false)
 fitting-large None h = absurd cc
 fitting-large (Some w) h = elim (cases_Bool (fits w)) [
   | inl good ↦ absurd (let g = (rw good at h) in cc)
   | inr bad ↦ (w, refl, bad)
 ]
 
-pub fitting-fault : (o : Option Parts) (e : Fault) → fitting o ≡ Err e → (o ≡ None) × (e ≡ BadVersion) ⊎ (e ≡ NumberTooLarge)
+pub fitting-fault : (o : Option VersionParts) (e : Fault) → fitting o ≡ Err e → (o ≡ None) × (e ≡ BadVersion) ⊎ (e ≡ NumberTooLarge)
 fitting-fault None e h = inl (refl, cc)
 fitting-fault (Some w) e h = elim (cases_Bool (fits w)) [
   | inl good ↦ absurd (let g = (rw good at h) in cc)
   | inr bad ↦ inr (let g = (rw bad at h) in cc)
 ]
 
-pub answers-read : (text : List ℕ) (r : Result Parts Fault) → Gives (λ v. v) r (version_of text) → ParseAnswers text r
+pub answers-read : (text : List ℕ) (r : Result VersionParts Fault) → Gives (λ v. v) r (version_of text) → ParseAnswers text r
 answers-read text (Ok v) h = let p = fitting-ok (parts_of text) v h in (parts-spell text v p.0, p.1)
 answers-read text (Err BadVersion) h = λ v g.
     elim (fitting-fault (parts_of text) BadVersion h) [
@@ -51,10 +51,10 @@ answers-read text (Err ArbitraryEquality) h = elim (fitting-fault (parts_of text
 answers-read text (Err OutOfMemory) h = tt
 
 -- a version whose numbers fit is what reading gives
-pub spells-version : (text : List ℕ) (v : Parts) → Spells text v → fits v ≡ true → version_of text ≡ Ok v
+pub spells-version : (text : List ℕ) (v : VersionParts) → Spells text v → fits v ≡ true → version_of text ≡ Ok v
 spells-version text v h fine = rw (spells-parts text v h, fine) refl
 
-pub found-read : (text : List ℕ) (r : Result Parts Fault) → Gives (λ v. v) r (version_of text) → (v : Parts) → Spells text v → fits v ≡ true → IsOkUnless r OutOfMemory
+pub found-read : (text : List ℕ) (r : Result VersionParts Fault) → Gives (λ v. v) r (version_of text) → (v : VersionParts) → Spells text v → fits v ≡ true → IsOkUnless r OutOfMemory
 found-read text (Ok w) h v g fine = tt
 found-read text (Err BadVersion) h v g fine = let e = spells-version text v g fine in cc
 found-read text (Err NumberTooLarge) h v g fine = let e = spells-version text v g fine in cc

@@ -4,13 +4,13 @@ use Rattle.std.specs.declared.cmp.Ordering.TheVariants.{Less, Equal}
 use Rattle.pep440.specs.declared.parts.Pre.TheVariants.{Alpha, Candidate}
 use Rattle.pep440.specs.declared.parts.LocalPart.TheVariants.{Number, Word}
 use Rattle.pep440.specs.declared.specifier.Operator.TheVariants as operators
-use Rattle.pep440.specs.Version.{Parts}
+use Rattle.pep440.specs.Version.{VersionParts}
 use Rattle.pep440.specs.Order.{version_cmp}
 use Rattle.pep440.specs.Matching.{operator_matches}
 use Rattle.pep440.specs.SetGrammar.{clause_texts}
 
 -- a version of release numbers alone
-abbrev plain : List ℕ → Parts
+abbrev plain : List ℕ → VersionParts
 plain ns = record { epoch = 0; release = ns; pre = None; post = None; dev = None; local = [] }
 
 -- a version with a dev part alone comes before the first alpha, and that before the release

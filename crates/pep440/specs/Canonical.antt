@@ -6,7 +6,7 @@ use Rattle.pep440.specs.declared.parts.Pre.{Pre}
 use Rattle.pep440.specs.declared.parts.Pre.TheVariants.{Alpha, Beta, Candidate}
 use Rattle.pep440.specs.declared.parts.LocalPart.{LocalPart}
 use Rattle.pep440.specs.declared.parts.LocalPart.TheVariants.{Word, Number}
-use Rattle.pep440.specs.Version.{Parts}
+use Rattle.pep440.specs.Version.{VersionParts}
 
 -- the epoch is written where it isn't 0
 abbrev pub epoch_text : ℕ → List ℕ
@@ -44,5 +44,5 @@ local_text [] = []
 local_text (p ∷ ps) = codes "+" ++ (part_text p ++ flat_map (λ q. codes "." ++ part_text q) ps)
 
 -- `[N!]N(.N)*[{a|b|rc}N][.postN][.devN][+local]`
-abbrev pub canonical : Parts → List ℕ
+abbrev pub canonical : VersionParts → List ℕ
 canonical v = epoch_text v.epoch ++ (release_text v.release ++ (pre_text v.pre ++ (post_text v.post ++ (dev_text v.dev ++ local_text v.local))))

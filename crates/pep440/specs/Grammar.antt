@@ -9,7 +9,7 @@ use Rattle.pep440.specs.declared.parts.Pre.{Pre}
 use Rattle.pep440.specs.declared.parts.Pre.TheVariants.{Alpha, Beta, Candidate}
 use Rattle.pep440.specs.declared.parts.LocalPart.{LocalPart}
 use Rattle.pep440.specs.declared.parts.LocalPart.TheVariants.{Number, Word}
-use Rattle.pep440.specs.Version.{Parts, fits}
+use Rattle.pep440.specs.Version.{VersionParts, fits}
 
 -- the number that digits write, behind a number
 abbrev pub value_from : ℕ → List ℕ → ℕ
@@ -126,7 +126,7 @@ IsLocal text [] = text ≡ []
 IsLocal text (p ∷ ps) = (body : List ℕ) × (text ≡ 43 ∷ body) × IsLocalParts body (p ∷ ps)
 
 -- a version with nothing around it
-pub record IsVersionText (text : List ℕ) (v : Parts) : Type 0 where
+pub record IsVersionText (text : List ℕ) (v : VersionParts) : Type 0 where
   pub lead : List ℕ
   pub epoch : List ℕ
   pub release : List ℕ
@@ -148,7 +148,7 @@ abbrev pub is_space : ℕ → Bool
 is_space b = (b == 32) || (nat_le 9 b && nat_le b 13)
 
 -- the text spells the version, white space around it or not
-pub record Spells (text : List ℕ) (v : Parts) : Type 0 where
+pub record Spells (text : List ℕ) (v : VersionParts) : Type 0 where
   pub before : List ℕ
   pub inner : List ℕ
   pub after : List ℕ
@@ -158,10 +158,10 @@ pub record Spells (text : List ℕ) (v : Parts) : Type 0 where
   pub version : IsVersionText inner v
 
 -- what `Version::parse` may answer to a text
-abbrev pub ParseAnswers : List ℕ → Result Parts Fault → Type 0
+abbrev pub ParseAnswers : List ℕ → Result VersionParts Fault → Type 0
 ParseAnswers text (Ok v) = Spells text v × (fits v ≡ true)
-ParseAnswers text (Err NumberTooLarge) = (v : Parts) × Spells text v × (fits v ≡ false)
-ParseAnswers text (Err BadVersion) = (v : Parts) → ¬ Spells text v
+ParseAnswers text (Err NumberTooLarge) = (v : VersionParts) × Spells text v × (fits v ≡ false)
+ParseAnswers text (Err BadVersion) = (v : VersionParts) → ¬ Spells text v
 ParseAnswers text (Err OutOfMemory) = ⊤
 ParseAnswers text (Err (BadClause k)) = ⊥
 ParseAnswers text (Err ArbitraryEquality) = ⊥

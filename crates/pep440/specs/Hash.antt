@@ -4,7 +4,7 @@ use Rattle.std.specs.Hash as fed
 use Rattle.std.specs.Hash.{HashWrites}
 use Rattle.pep440.specs.declared.parts.LocalPart.{LocalPart}
 use Rattle.pep440.specs.declared.parts.LocalPart.TheVariants.{Word, Number}
-use Rattle.pep440.specs.Version.{Parts}
+use Rattle.pep440.specs.Version.{VersionParts}
 use Rattle.pep440.specs.Order.{dev_key, post_key, pre_key, trimmed}
 
 -- a rank and a number
@@ -16,6 +16,6 @@ part_writes (Word w) = fed.str w
 part_writes (Number n) = fed.u64 n
 
 -- the release is fed without its trailing zeros
-abbrev pub version_writes : Parts → HashWrites
+abbrev pub version_writes : VersionParts → HashWrites
 version_writes v = fed.u64 v.epoch ++ (fed.slice fed.u64 (trimmed v.release) ++ (rank_writes (pre_key v)
     ++ (rank_writes (post_key v.post) ++ (rank_writes (dev_key v.dev) ++ fed.slice part_writes v.local))))

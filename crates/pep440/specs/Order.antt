@@ -8,7 +8,7 @@ use Rattle.pep440.specs.declared.parts.Pre.TheVariants.{Alpha, Beta, Candidate}
 use Rattle.pep440.specs.declared.parts.LocalPart.{LocalPart}
 use Rattle.pep440.specs.declared.parts.LocalPart.TheVariants.{Word, Number}
 use Rattle.pep440.specs.Text.{trim_end}
-use Rattle.pep440.specs.Version.{Parts}
+use Rattle.pep440.specs.Version.{VersionParts}
 
 -- a release without its trailing zeros
 abbrev pub trimmed : List ℕ → List ℕ
@@ -31,7 +31,7 @@ pre_key_of None None (Some n) = (0, 0)
 pre_key_of None None None = (4, 0)
 pre_key_of None (Some n) dev = (4, 0)
 
-abbrev pub pre_key : Parts → ℕ × ℕ
+abbrev pub pre_key : VersionParts → ℕ × ℕ
 pre_key v = pre_key_of v.pre v.post v.dev
 
 -- no post part comes before each post number
@@ -53,7 +53,7 @@ abbrev pub part_cmp : LocalPart → LocalPart → Ordering
 part_cmp = on part_key (slice_cmp nat_cmp)
 
 -- the order of two versions without their local parts
-abbrev pub public_cmp : Parts → Parts → Ordering
+abbrev pub public_cmp : VersionParts → VersionParts → Ordering
 public_cmp = then_cmp (on (λ v. v.epoch) nat_cmp)
     (then_cmp (on (λ v. trimmed v.release) (slice_cmp nat_cmp))
     (then_cmp (on pre_key rank_cmp)
@@ -61,5 +61,5 @@ public_cmp = then_cmp (on (λ v. v.epoch) nat_cmp)
     (on (λ v. dev_key v.dev) rank_cmp))))
 
 -- the order of versions: no local part comes before any, and a list that extends another after it
-abbrev pub version_cmp : Parts → Parts → Ordering
+abbrev pub version_cmp : VersionParts → VersionParts → Ordering
 version_cmp = then_cmp public_cmp (on (λ v. v.local) (slice_cmp part_cmp))

@@ -10,7 +10,7 @@ use Rattle.pep440.specs.declared.specifier.Operator.TheVariants as operators
 use Rattle.pep440.specs.declared.specifier.Clause.{Clause}
 use Rattle.lists.specs.Spaces.{is_space_or_tab}
 use Rattle.pep440.specs.Text.{pieces, trim_blank}
-use Rattle.pep440.specs.Version.{Parts, fits}
+use Rattle.pep440.specs.Version.{VersionParts, fits}
 use Rattle.pep440.specs.Grammar.{IsVersionText, is_separator}
 
 -- a byte that begins an operator: `!`, `<`, `=`, `>` or `~`
@@ -46,12 +46,12 @@ star operators.Below = []
 star operators.Above = []
 
 -- an epoch and a release alone
-abbrev pub is_release_alone : Parts → Bool
+abbrev pub is_release_alone : VersionParts → Bool
 is_release_alone v = is_none v.pre && is_none v.post && is_none v.dev && (length v.local == 0)
 
 -- whether an operator may stand before these parts: `~=` asks for two release numbers, only `==` and `!=`
 -- take a local part, and before `.*` an epoch and a release stand alone
-abbrev pub takes : Operator → Parts → Bool
+abbrev pub takes : Operator → VersionParts → Bool
 takes operators.Compatible v = nat_lt 1 (length v.release) && (length v.local == 0)
 takes operators.Equal v = true
 takes operators.NotEqual v = true

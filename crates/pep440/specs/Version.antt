@@ -8,7 +8,7 @@ use Rattle.pep440.specs.declared.parts.LocalPart.{LocalPart}
 use Rattle.pep440.specs.declared.parts.LocalPart.TheVariants.{Word, Number}
 
 -- the parts of a version, over numbers of any size
-pub record Parts : Type 0 where
+pub record VersionParts : Type 0 where
   pub epoch : ℕ
   pub release : List ℕ
   pub pre : Option Pre
@@ -33,11 +33,11 @@ pre_numbers None = []
 pre_numbers (Some p) = pre_number p ∷ []
 
 -- every number of a version
-abbrev pub numbers : Parts → List ℕ
+abbrev pub numbers : VersionParts → List ℕ
 numbers v = v.epoch ∷ (v.release ++ (pre_numbers v.pre ++ (option_to_list v.post ++ (option_to_list v.dev ++ filter_map part_number v.local))))
 
 -- every number is below 2 ^ 64 (reqlock's own rule)
-abbrev pub fits : Parts → Bool
+abbrev pub fits : VersionParts → Bool
 fits v = list_all (λ n. nat_lt n (2 ^ 64)) (numbers v)
 
 -- a byte of a local word: a letter in lower case, or a digit (PEP 440, "Local version identifiers")
@@ -54,15 +54,15 @@ is_part (Word w) = is_word w
 is_part (Number n) = true
 
 -- what holds of every `Version`
-pub record IsVersion (v : Parts) : Type 0 where
+pub record IsVersion (v : VersionParts) : Type 0 where
   pub release : 0 < length v.release
   pub local : list_all is_part v.local ≡ true
   pub numbers : fits v ≡ true
 
 -- a pre-release has a pre or a dev part (PEP 440, "Handling of pre-releases")
-abbrev pub is_pre : Parts → Bool
+abbrev pub is_pre : VersionParts → Bool
 is_pre v = is_some v.pre || is_some v.dev
 
 -- a post-release has a post part (PEP 440, "Post-releases")
-abbrev pub is_post : Parts → Bool
+abbrev pub is_post : VersionParts → Bool
 is_post v = is_some v.post

@@ -11,29 +11,29 @@ ghost use Rattle.pep440.specs.Order.{version_cmp};
 ghost use Rattle.pep440.specs.Tied.Reading.{bare_parts, version_of};
 ghost use Rattle.pep440.specs.SetGrammar.{IsClause, PieceAnswers, SetAnswers, begins_operator, is_set_byte};
 ghost use Rattle.pep440.specs.Tied.Sets.{clause_of, set_of};
-ghost use Rattle.pep440.specs.Version.{IsVersion, Parts, fits};
+ghost use Rattle.pep440.specs.Version.{IsVersion, VersionParts, fits};
 ghost use Rattle.pep440.specs.declared.fault.Fault.{Fault};
 ghost use Rattle.pep440.specs.declared.specifier.Clause.{Clause};
 
 /// A text spells at most one version.
 pub fn a_text_spells_one_version()
-    ensures { (text : List ℕ) (v w : Parts) → Spells text v → Spells text w → v ≡ w }
+    ensures { (text : List ℕ) (v w : VersionParts) → Spells text v → Spells text w → v ≡ w }
 {}
 
 /// A text with nothing around it reads as the parts that it spells, over numbers of any size.
 pub fn a_bare_text_reads_as_its_parts()
-    ensures read { (text : List ℕ) (v : Parts) → bare_parts text ≡ Some v → IsVersionText text v }
-    ensures found { (text : List ℕ) (v : Parts) → IsVersionText text v → bare_parts text ≡ Some v }
+    ensures read { (text : List ℕ) (v : VersionParts) → bare_parts text ≡ Some v → IsVersionText text v }
+    ensures found { (text : List ℕ) (v : VersionParts) → IsVersionText text v → bare_parts text ≡ Some v }
 {}
 
 /// The canonical text of a version spells that version, trailing zeros too.
 pub fn a_canonical_text_spells_its_version()
-    ensures { (v : Parts) → IsVersion v → Spells (canonical v) v }
+    ensures { (v : VersionParts) → IsVersion v → Spells (canonical v) v }
 {}
 
 /// The canonical text of a version is read as that version.
 pub fn a_canonical_text_is_read()
-    ensures { (v : Parts) → IsVersion v → version_of (canonical v) ≡ Ok v }
+    ensures { (v : VersionParts) → IsVersion v → version_of (canonical v) ≡ Ok v }
 {}
 
 /// A piece of a set reads as a clause exactly where it is one and its numbers fit, whatever its place.
@@ -73,6 +73,6 @@ pub fn a_set_has_its_bytes()
 
 /// Versions that are equal in their order match alike, also where they are spelled differently.
 pub fn equal_versions_match_alike()
-    ensures { (clauses : List Clause) (v w : Parts) → version_cmp v w ≡ Equal
+    ensures { (clauses : List Clause) (v w : VersionParts) → version_cmp v w ≡ Equal
         → matches clauses v ≡ matches clauses w }
 {}

@@ -7,7 +7,7 @@ ghost use Rattle.pep440.specs.Grammar.{Spells, is_separator, is_space, value_fro
 ghost use Rattle.pep440.specs.Answers.{Gives};
 ghost use Rattle.pep440.specs.Tied.Reading.{fitting, fitting_numbers, is_local_from, locals_from, locals_of, numbers_from, part_of, parts_in, pre_with, trim_space, version_of};
 ghost use Rattle.pep440.specs.Text.{trim_end, trim_front};
-ghost use Rattle.pep440.specs.Version.{Parts, fits};
+ghost use Rattle.pep440.specs.Version.{VersionParts, fits};
 ghost use Rattle.pep440.specs.Tied.Views.{capped, capped_option, capped_pre, fitting_locals, fitting_part, is_local, span_view};
 
 use crate::fault::Fault;
@@ -235,7 +235,7 @@ impl Version {
         // what an answer means
         ensures answers { ParseAnswers text.now result }
         // a version whose numbers fit is read
-        ensures found { (v : Parts)
+        ensures found { (v : VersionParts)
             → Spells text.now v → fits v ≡ true → IsOkUnless result Fault.OutOfMemory }
         // and it is the one that reading gives
         ensures exact { Gives (λ v. v) result (version_of text.now) }

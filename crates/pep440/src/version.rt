@@ -36,9 +36,9 @@ impl Drop for Version {
 }
 
 impl Model for Version {
-    ghost use Rattle.pep440.specs.Version.{IsVersion, Parts};
+    ghost use Rattle.pep440.specs.Version.{IsVersion, VersionParts};
 
-    ghost Value = { Parts };
+    ghost Value = { VersionParts };
 
     ghost view = { λ a. record {
       epoch = a.epoch;

@@ -4,7 +4,7 @@ use Rattle.std.proofs.lemmas.Bool.{cases_Bool, eqb-true}
 use Rattle.std.specs.List.{list_any}
 use Rattle.pep508.specs.Lines.{AreLines, lines_of}
 use Rattle.pep508.specs.Parts.{IsEnding, comment_place, content_of, ending_of, has_odd, is_odd}
-use Rattle.pep508.specs.Requirement.{MayStandFor, Wanted, requirement_of, wanted_by}
+use Rattle.pep508.specs.Requirement.{MayStandFor, RequirementParts, requirement_of, wanted_by}
 use Rattle.pep508.proofs.Endings.{wanted_by-plain}
 use Rattle.pep508.proofs.JoinedLines.{lines_of-line}
 use Rattle.pep508.proofs.LineCut.{line_parts}
@@ -59,11 +59,11 @@ one-bare b (c ∷ text) none = elim (cases_Bool (eqb b 10)) [
 ]
 
 -- what has no bytes asks for nothing
-nothing : (wanted : Wanted) → requirement_of [] ≡ Ok (Some wanted) → ⊥
+nothing : (wanted : RequirementParts) → requirement_of [] ≡ Ok (Some wanted) → ⊥
 unfolding requirement_of wanted_by has_odd comment_place
 nothing wanted reads = cc reads
 
-one-with : (line content ending : List ℕ) (wanted : Wanted) → content ++ ending ≡ line → list_any (λ b. eqb b 10) content ≡ false
+one-with : (line content ending : List ℕ) (wanted : RequirementParts) → content ++ ending ≡ line → list_any (λ b. eqb b 10) content ≡ false
     → (ending ≡ []) ⊎ IsEnding ending → requirement_of line ≡ Ok (Some wanted) → lines_of line ≡ line ∷ []
 unfolding lines_of
 one-with line content ending wanted joins none (inr is) reads =
@@ -76,7 +76,7 @@ one-with line (b ∷ content) ending wanted joins none (inl bare) reads =
     subst (λ (l : List ℕ). lines_of l ≡ l ∷ []) same (one-bare b content none)
 
 -- what asks for something is one line
-one-requirement : (line : List ℕ) (wanted : Wanted) → requirement_of line ≡ Ok (Some wanted) → lines_of line ≡ line ∷ []
+one-requirement : (line : List ℕ) (wanted : RequirementParts) → requirement_of line ≡ Ok (Some wanted) → lines_of line ≡ line ∷ []
 one-requirement line wanted reads =
     let plain = wanted_by-plain (content_of line) (Some wanted) (sym (line_asks line) ∙ reads) in
     one-with line (content_of line) (ending_of line) wanted (line_parts line) (no_lf (content_of line) plain) (ending_cases line) reads

@@ -3,7 +3,7 @@ use Rattle.std.proofs.Common.{◌≡◌, ℕ, zero, suc, ◌+◌, ◌-◌, ◌<�
 use Rattle.std.proofs.lemmas.Bool.{cases_Bool, eqb-true}
 use Rattle.std.proofs.lemmas.List.{take_at, take_all, get_or-append-add, get_or_append_left}
 use Rattle.pep508.specs.Parts.{IsEnding, content_of, ending_of, has_odd, is_control, is_marked, is_odd}
-use Rattle.pep508.specs.Requirement.{Wanted, requirement_of, wanted_by}
+use Rattle.pep508.specs.Requirement.{RequirementParts, requirement_of, wanted_by}
 
 -- the content of a line without an ending is the line
 pub content_of-bare : (line : List ℕ) → length (ending_of line) ≡ 0 → content_of line ≡ line
@@ -55,7 +55,7 @@ content_of-ended line ending plain is =
     rw n (take_at line ending (length line) refl)
 
 -- what asks for something has no odd characters
-pub wanted_by-plain : (content : List ℕ) (wanted : Option Wanted) → wanted_by content ≡ Ok wanted → has_odd content ≡ false
+pub wanted_by-plain : (content : List ℕ) (wanted : Option RequirementParts) → wanted_by content ≡ Ok wanted → has_odd content ≡ false
 unfolding wanted_by
 wanted_by-plain content wanted reads = elim (cases_Bool (is_marked content)) [
   | inl marked ↦ cc (rw marked at reads)
@@ -66,7 +66,7 @@ wanted_by-plain content wanted reads = elim (cases_Bool (is_marked content)) [
 ]
 
 -- a line that gets an ending asks for what it asked for
-pub requirement_of-ended : (line ending : List ℕ) (wanted : Option Wanted) → length (ending_of line) ≡ 0 → IsEnding ending
+pub requirement_of-ended : (line ending : List ℕ) (wanted : Option RequirementParts) → length (ending_of line) ≡ 0 → IsEnding ending
     → requirement_of line ≡ Ok wanted → requirement_of (line ++ ending) ≡ Ok wanted
 unfolding requirement_of
 requirement_of-ended line ending wanted bare is reads =

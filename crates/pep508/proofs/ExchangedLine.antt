@@ -5,7 +5,7 @@ use Rattle.pep440.specs.declared.fault.Fault.{Fault}
 use Rattle.pep440.specs.declared.specifier.Clause.{Clause}
 use Rattle.markers.specs.Names.{name_of}
 use Rattle.pep508.specs.Parts.{ending_of}
-use Rattle.pep508.specs.Requirement.{IsSpecifier, MayStandFor, Wanted, requirement_of}
+use Rattle.pep508.specs.Requirement.{IsSpecifier, MayStandFor, RequirementParts, requirement_of}
 use Rattle.pep508.specs.Slices.{IsCut, Slices, joined, slices_of, slices_with, with_version}
 use Rattle.pep508.proofs.LineCut.{line_cut}
 use Rattle.pep508.proofs.SetText.{IsSetText}
@@ -17,7 +17,7 @@ some_name [] normal reads = absurd (no_name_reads normal reads)
 some_name (b ∷ name) normal reads = omega arith
 
 -- a line that asks for something has a name
-pub named : (line : List ℕ) (s : Slices) (wanted : Wanted) → IsCut line s → requirement_of line ≡ Ok (Some wanted) → 0 < length s.name
+pub named : (line : List ℕ) (s : Slices) (wanted : RequirementParts) → IsCut line s → requirement_of line ≡ Ok (Some wanted) → 0 < length s.name
 named line s wanted cut reads =
     let same = sym cut.joins in
     some_name s.name wanted.name
@@ -35,7 +35,7 @@ end_of text = refl
 abbrev pub SetsHaveTheirBytes : Type 0
 SetsHaveTheirBytes = (text : List ℕ) (clauses : List Clause) → set_of text ≡ Ok clauses → IsSpecifier text → IsSetText text
 
-pub stands : SetsHaveTheirBytes → (line specifiers : List ℕ) (wanted : Wanted) → requirement_of line ≡ Ok (Some wanted) → IsSpecifier specifiers
+pub stands : SetsHaveTheirBytes → (line specifiers : List ℕ) (wanted : RequirementParts) → requirement_of line ≡ Ok (Some wanted) → IsSpecifier specifiers
     → MayStandFor line (joined (with_version specifiers (slices_of line)))
 stands own line specifiers wanted reads set =
     let s = slices_of line in

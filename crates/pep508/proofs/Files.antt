@@ -7,23 +7,23 @@ use Rattle.std.specs.Str.{IsUtf8}
 use Rattle.pep508.specs.Lines.{lines_of}
 use Rattle.lists.specs.Answers.{Answers}
 use Rattle.markers.specs.Faults.{fault_of, memory_fault}
-use Rattle.pep508.specs.Requirement.{IsLine, Wanted, checked, fault_or, file_of, first_fault, lines_read, requirement_of, unless}
+use Rattle.pep508.specs.Requirement.{IsLine, RequirementParts, checked, fault_or, file_of, first_fault, lines_read, requirement_of, unless}
 use Rattle.markers.specs.declared.fault.Cause.{Cause}
 use Rattle.markers.specs.declared.fault.Fault.{Fault}
 
 -- a line that passed its check reads, and is the line
-pub checked-Ok : (line found : List ℕ) (read : Result (Option Wanted) Cause) → checked line read ≡ Ok found
-    → ((wanted : Option Wanted) × (read ≡ Ok wanted)) × (found ≡ line)
+pub checked-Ok : (line found : List ℕ) (read : Result (Option RequirementParts) Cause) → checked line read ≡ Ok found
+    → ((wanted : Option RequirementParts) × (read ≡ Ok wanted)) × (found ≡ line)
 checked-Ok line found (Ok wanted) e = ((wanted, refl), cc)
 checked-Ok line found (Err cause) e = cc
 
 -- a line that didn't is refused for the same cause
-pub checked-Err : (line : List ℕ) (cause : Cause) (read : Result (Option Wanted) Cause) → checked line read ≡ Err cause → read ≡ Err cause
+pub checked-Err : (line : List ℕ) (cause : Cause) (read : Result (Option RequirementParts) Cause) → checked line read ≡ Err cause → read ≡ Err cause
 checked-Err line cause (Ok wanted) e = cc
 checked-Err line cause (Err other) e = cc
 
 -- a line that reads has no fault
-pub first_fault-passed : (number : ℕ) (line : List ℕ) (rest : List (List ℕ)) (wanted : Option Wanted) → requirement_of line ≡ Ok wanted
+pub first_fault-passed : (number : ℕ) (line : List ℕ) (rest : List (List ℕ)) (wanted : Option RequirementParts) → requirement_of line ≡ Ok wanted
     → first_fault number (line ∷ rest) ≡ first_fault (number + 1) rest
 unfolding first_fault
 first_fault-passed number line rest wanted e = rw e refl
@@ -75,7 +75,7 @@ lines_of-done text rest lines cut none =
     cut ∙ ap (λ (t : List ℕ). lines ++ lines_of t) none ∙ ap (λ (ls : List (List ℕ)). lines ++ ls) lines_of-nil ∙ append-nil lines
 
 -- a line that reads has no fault of its own
-fault_or-passed : (number : ℕ) (read : Result (Option Wanted) Cause) (later : Option Fault) → is_ok read ≡ true → fault_or number read later ≡ later
+fault_or-passed : (number : ℕ) (read : Result (Option RequirementParts) Cause) (later : Option Fault) → is_ok read ≡ true → fault_or number read later ≡ later
 fault_or-passed number (Ok wanted) later reads = refl
 fault_or-passed number (Err cause) later reads = cc reads
 

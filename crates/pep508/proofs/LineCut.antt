@@ -9,7 +9,7 @@ use Rattle.std.specs.Cmp.{first_so, second_so}
 use Rattle.std.specs.List.{list_all, prefix_len, suffix_len, take_while}
 use Rattle.markers.specs.Names.{is_name_byte}
 use Rattle.pep508.specs.Parts.{begins_with, before_comment, comment_of, comment_place, content_of, ending_of, ends_with, is_space_or_tab, lead_of, place_of, tail_of, trim_end, trim_start}
-use Rattle.pep508.specs.Requirement.{Wanted, asked_in, extras_of, requirement_of}
+use Rattle.pep508.specs.Requirement.{RequirementParts, asked_in, extras_of, requirement_of}
 use Rattle.pep508.specs.Slices.{IsCut, IsExtras, IsMarker, Slices, asking, behind, behind_extras, extras_gap, extras_part, has_extras, marker_field, slices_of, slices_with, version_field}
 use Rattle.pep508.proofs.OneCut.{joined_parts, last_behind}
 use Rattle.pep508.proofs.Runs.{Stops, behind_front, end_cut, front_cut, front_passes, front_stops, stops_first}
@@ -252,7 +252,7 @@ record IsAsked (text : List ℕ) : Type 0 where
   name : take_while is_name_byte text ≡ [] → text ≡ []
   extras : (extras_part (drop (prefix_len is_name_byte text) text) ≡ []) ⊎ (ends_with 93 (extras_part (drop (prefix_len is_name_byte text) text)) ≡ true)
 
-asked_text : (text : List ℕ) (found : Wanted) → asked_in text ≡ Ok found → IsAsked text
+asked_text : (text : List ℕ) (found : RequirementParts) → asked_in text ≡ Ok found → IsAsked text
 unfolding asked_in slices_with
 asked_text text found reads =
     let read = are_read (slices_with [] text [] []) found reads in
@@ -261,7 +261,7 @@ asked_text text found reads =
       extras = extras_end (extras_part (drop (prefix_len is_name_byte text) text)) found.extras read.extras;
     }
 
-is_asked : (line : List ℕ) (wanted : Option Wanted) → requirement_of line ≡ Ok wanted → IsAsked (asking (content_of line))
+is_asked : (line : List ℕ) (wanted : Option RequirementParts) → requirement_of line ≡ Ok wanted → IsAsked (asking (content_of line))
 is_asked line wanted reads = elim (asks line wanted reads) [
   | inl blank ↦ record { name = λ _. blank.0; extras = inl (ap (λ (x : List ℕ). extras_part (drop (prefix_len is_name_byte x) x)) blank.0) }
   | inr some ↦ asked_text (asking (content_of line)) some.0 some.2
@@ -283,7 +283,7 @@ text_cut lead text comment ending =
     }
 
 -- a line that reads is cut into its slices
-pub line_cut : (line : List ℕ) (wanted : Option Wanted) → requirement_of line ≡ Ok wanted → IsCut line (slices_of line)
+pub line_cut : (line : List ℕ) (wanted : Option RequirementParts) → requirement_of line ≡ Ok wanted → IsCut line (slices_of line)
 unfolding slices_of slices_with
 line_cut line wanted reads =
     let content = content_of line in

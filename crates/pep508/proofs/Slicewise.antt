@@ -7,17 +7,17 @@ use Rattle.markers.specs.Marker.{Tree}
 use Rattle.markers.specs.Names.{name_of}
 use Rattle.markers.specs.declared.fault.Cause.{Cause}
 use Rattle.pep508.specs.Parts.{begins_with, content_of, ends_with, has_odd, is_marked, trim_start}
-use Rattle.pep508.specs.Requirement.{Wanted, ◌>>=◌, asked_in, clauses_of, condition_of, extras_of, present, requirement_of, wanted_by, wanted_in}
+use Rattle.pep508.specs.Requirement.{RequirementParts, ◌>>=◌, asked_in, clauses_of, condition_of, extras_of, present, requirement_of, wanted_by, wanted_in}
 use Rattle.pep508.specs.Slices.{Slices, asking}
 
 -- each slice of a requirement reads
-pub record AreRead (s : Slices) (wanted : Wanted) : Type 0 where
+pub record AreRead (s : Slices) (wanted : RequirementParts) : Type 0 where
   pub name : name_of s.name ≡ Ok wanted.name
   pub extras : extras_of s.extras ≡ Ok wanted.extras
   pub clauses : clauses_of s.version ≡ Ok wanted.clauses
   pub marker : condition_of s.marker ≡ Ok wanted.marker
 
-parts_read : (name : Result (List ℕ) Cause) (extras : Result (List (List ℕ)) Cause) (clauses : Result (List Clause) Cause) (marker : Result (Option Tree) Cause) (wanted : Wanted)
+parts_read : (name : Result (List ℕ) Cause) (extras : Result (List (List ℕ)) Cause) (clauses : Result (List Clause) Cause) (marker : Result (Option Tree) Cause) (wanted : RequirementParts)
     → name >>= (λ n. extras >>= λ e. clauses >>= λ c. marker >>= λ m. Ok (record { name = n; extras = e; clauses = c; marker = m })) ≡ Ok wanted
     → (name ≡ Ok wanted.name) × (extras ≡ Ok wanted.extras) × (clauses ≡ Ok wanted.clauses) × (marker ≡ Ok wanted.marker)
 parts_read (Err cause) extras clauses marker wanted reads = cc
@@ -25,28 +25,28 @@ parts_read (Ok n) (Err cause) clauses marker wanted reads = cc
 parts_read (Ok n) (Ok e) (Err cause) marker wanted reads = cc
 parts_read (Ok n) (Ok e) (Ok c) (Err cause) wanted reads = cc
 parts_read (Ok n) (Ok e) (Ok c) (Ok m) wanted reads =
-    let w : Wanted = record { name = n; extras = e; clauses = c; marker = m } in
+    let w : RequirementParts = record { name = n; extras = e; clauses = c; marker = m } in
     let same : w ≡ wanted = cc in
-    (ap (λ (x : Wanted). Ok x.name) same, ap (λ (x : Wanted). Ok x.extras) same, ap (λ (x : Wanted). Ok x.clauses) same, ap (λ (x : Wanted). Ok x.marker) same)
+    (ap (λ (x : RequirementParts). Ok x.name) same, ap (λ (x : RequirementParts). Ok x.extras) same, ap (λ (x : RequirementParts). Ok x.clauses) same, ap (λ (x : RequirementParts). Ok x.marker) same)
 
-pub are_read : (s : Slices) (wanted : Wanted) → wanted_in s ≡ Ok wanted → AreRead s wanted
+pub are_read : (s : Slices) (wanted : RequirementParts) → wanted_in s ≡ Ok wanted → AreRead s wanted
 are_read s wanted reads =
     let parts = parts_read (name_of s.name) (extras_of s.extras) (clauses_of s.version) (condition_of s.marker) wanted reads in
     record { name = parts.0; extras = parts.1; clauses = parts.2; marker = parts.3 }
 
-pub wanted_from : (s : Slices) (wanted : Wanted) → AreRead s wanted → wanted_in s ≡ Ok wanted
+pub wanted_from : (s : Slices) (wanted : RequirementParts) → AreRead s wanted → wanted_in s ≡ Ok wanted
 wanted_from s wanted read = rw (read.name, read.extras, read.clauses, read.marker) refl
 
 -- a name has a byte
 pub no_name_reads : (name : List ℕ) → name_of [] ≡ Ok name → ⊥
 no_name_reads name reads = cc
 
-asked_so : (content : List ℕ) (read : Result Wanted Cause) (wanted : Option Wanted) → present read ≡ Ok wanted → (found : Wanted) × (wanted ≡ Some found) × (read ≡ Ok found)
+asked_so : (content : List ℕ) (read : Result RequirementParts Cause) (wanted : Option RequirementParts) → present read ≡ Ok wanted → (found : RequirementParts) × (wanted ≡ Some found) × (read ≡ Ok found)
 asked_so content (Ok found) wanted reads = (found, cc, refl)
 asked_so content (Err cause) wanted reads = cc
 
-asks_content : (content : List ℕ) (wanted : Option Wanted) → wanted_by content ≡ Ok wanted
-    → ((asking content ≡ []) × (wanted ≡ None)) ⊎ ((found : Wanted) × (wanted ≡ Some found) × (asked_in (asking content) ≡ Ok found))
+asks_content : (content : List ℕ) (wanted : Option RequirementParts) → wanted_by content ≡ Ok wanted
+    → ((asking content ≡ []) × (wanted ≡ None)) ⊎ ((found : RequirementParts) × (wanted ≡ Some found) × (asked_in (asking content) ≡ Ok found))
 unfolding wanted_by
 asks_content content wanted reads = elim (cases_Bool (is_marked content || has_odd content)) [
   | inl odd ↦ cc (rw odd at reads)
@@ -63,8 +63,8 @@ asks_content content wanted reads = elim (cases_Bool (is_marked content || has_o
 ]
 
 -- a line that reads asks for nothing, or its slices read
-pub asks : (line : List ℕ) (wanted : Option Wanted) → requirement_of line ≡ Ok wanted
-    → ((asking (content_of line) ≡ []) × (wanted ≡ None)) ⊎ ((found : Wanted) × (wanted ≡ Some found) × (asked_in (asking (content_of line)) ≡ Ok found))
+pub asks : (line : List ℕ) (wanted : Option RequirementParts) → requirement_of line ≡ Ok wanted
+    → ((asking (content_of line) ≡ []) × (wanted ≡ None)) ⊎ ((found : RequirementParts) × (wanted ≡ Some found) × (asked_in (asking (content_of line)) ≡ Ok found))
 unfolding requirement_of
 asks line wanted reads = asks_content (content_of line) wanted reads
 

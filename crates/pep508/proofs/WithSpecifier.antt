@@ -10,7 +10,7 @@ use Rattle.pep440.specs.Tied.Sets.{set_of}
 use Rattle.pep440.specs.declared.specifier.Clause.{Clause}
 use Rattle.markers.specs.Names.{is_name_byte}
 use Rattle.pep508.specs.Parts.{IsEnding, begins_with, comment_of, content_of, ending_of, ends_with, has_odd, is_marked, is_space_or_tab, trim_start}
-use Rattle.pep508.specs.Requirement.{ReadsWith, Wanted, asked_in, clauses_of, requirement_of, wanted_by, wanted_in}
+use Rattle.pep508.specs.Requirement.{ReadsWith, RequirementParts, asked_in, clauses_of, requirement_of, wanted_by, wanted_in}
 use Rattle.pep508.specs.Slices.{IsCut, IsExtras, IsMarker, IsVersion, Slices, asking, behind, joined, slices_of, slices_with, with_version}
 use Rattle.pep508.proofs.Comments.{Opens, comment_is, opened}
 use Rattle.pep508.proofs.Endings.{ending_of-ended}
@@ -30,7 +30,7 @@ record Passes (content : List ℕ) : Type 0 where
   ends : ends_with 92 content ≡ false
   option : begins_with 45 (trim_start content) ≡ false
 
-passes : (content : List ℕ) (wanted : Option Wanted) → wanted_by content ≡ Ok wanted → Passes content
+passes : (content : List ℕ) (wanted : Option RequirementParts) → wanted_by content ≡ Ok wanted → Passes content
 unfolding wanted_by
 passes content wanted reads = elim (cases_Bool (is_marked content)) [
   | inl marked ↦ cc (rw marked at reads)
@@ -46,15 +46,15 @@ passes content wanted reads = elim (cases_Bool (is_marked content)) [
   ]
 ]
 
-nothing_asked : (found : Wanted) → asked_in [] ≡ Ok found → ⊥
+nothing_asked : (found : RequirementParts) → asked_in [] ≡ Ok found → ⊥
 unfolding asked_in slices_with
 nothing_asked found reads = cc
 
-some_asked : (text : List ℕ) (found : Wanted) → asked_in text ≡ Ok found → eqb (length text) 0 ≡ false
+some_asked : (text : List ℕ) (found : RequirementParts) → asked_in text ≡ Ok found → eqb (length text) 0 ≡ false
 some_asked [] found reads = absurd (nothing_asked found reads)
 some_asked (b ∷ text) found reads = grind (arith, nat_tests)
 
-passed : (content : List ℕ) (found : Wanted) → Passes content → asked_in (asking content) ≡ Ok found → wanted_by content ≡ Ok (Some found)
+passed : (content : List ℕ) (found : RequirementParts) → Passes content → asked_in (asking content) ≡ Ok found → wanted_by content ≡ Ok (Some found)
 unfolding wanted_by
 passed content found p reads = rw (p.marked, p.plain, p.ends, p.option, some_asked (asking content) found reads, reads) refl
 
@@ -180,22 +180,22 @@ unfolding asked_in slices_of slices_with
 slices_ask line = refl
 
 -- what a line of these slices asks for
-some_is : (one other : Wanted) → Some one ≡ Some other → one ≡ other
+some_is : (one other : RequirementParts) → Some one ≡ Some other → one ≡ other
 some_is one other same = cc
 
-pub old_read : (s : Slices) (wanted : Wanted) → IsCut (joined s) s → requirement_of (joined s) ≡ Ok (Some wanted) → AreRead s wanted
+pub old_read : (s : Slices) (wanted : RequirementParts) → IsCut (joined s) s → requirement_of (joined s) ≡ Ok (Some wanted) → AreRead s wanted
 old_read s wanted c reads = elim (asks (joined s) (Some wanted) reads) [
   | inl blank ↦ absurd (let nothing : Some wanted ≡ None = blank.1 in cc)
   | inr some ↦
       let same = some_is wanted some.0 some.1 in
-      are_read s wanted (ap wanted_in (sym (one_cut (joined s) s c)) ∙ sym (slices_ask (joined s)) ∙ some.2 ∙ ap (λ (w : Wanted). Ok w) (sym same))
+      are_read s wanted (ap wanted_in (sym (one_cut (joined s) s c)) ∙ sym (slices_ask (joined s)) ∙ some.2 ∙ ap (λ (w : RequirementParts). Ok w) (sym same))
 ]
 
 -- the text is a clause list of its own
 set_clauses : (text : List ℕ) (clauses : List Clause) → IsSetText text → set_of text ≡ Ok clauses → clauses_of text ≡ Ok clauses
 set_clauses text clauses v reads = rw (set_first 64 text v refl refl, set_text_is text v, reads) refl
 
-new_reads : (s : Slices) (text gap2 version gap3 gap4 : List ℕ) (wanted : Wanted) (clauses : List Clause) → IsCut (joined s) s → Facts s → IsSetText text
+new_reads : (s : Slices) (text gap2 version gap3 gap4 : List ℕ) (wanted : RequirementParts) (clauses : List Clause) → IsCut (joined s) s → Facts s → IsSetText text
     → joined (other s gap2 version gap3 gap4) ≡ content_with text s ++ s.end → MayBe s gap2 version gap3 gap4 → clauses_of version ≡ Ok clauses
     → requirement_of (joined s) ≡ Ok (Some wanted) → ReadsWith s wanted clauses (joined (other s gap2 version gap3 gap4))
 new_reads s text gap2 version gap3 gap4 wanted clauses c f v whole m set reads =
@@ -206,7 +206,7 @@ new_reads s text gap2 version gap3 gap4 wanted clauses c f v whole m set reads =
     let content : content_of line ≡ content_with text s = content_is (content_with text s) s.end line (sym whole) cut.end in
     let slices = one_cut line new cut in
     let read = old_read s wanted c reads in
-    let found : Wanted = record wanted { clauses = clauses } in
+    let found : RequirementParts = record wanted { clauses = clauses } in
     let asked : asked_in (asking (content_of line)) ≡ Ok found =
     slices_ask line ∙ ap wanted_in slices ∙ wanted_from new found (record { name = read.name; extras = read.extras; clauses = set; marker = read.marker }) in
     let pass : Passes (content_of line) = rw content p in
@@ -220,7 +220,7 @@ new_reads s text gap2 version gap3 gap4 wanted clauses c f v whole m set reads =
     }
 
 -- a line without its set: the space before it goes to the next gap
-no_set : (s : Slices) (wanted : Wanted) (clauses : List Clause) → IsCut (joined s) s → Facts s → IsSetText [] → set_of [] ≡ Ok clauses → requirement_of (joined s) ≡ Ok (Some wanted)
+no_set : (s : Slices) (wanted : RequirementParts) (clauses : List Clause) → IsCut (joined s) s → Facts s → IsSetText [] → set_of [] ≡ Ok clauses → requirement_of (joined s) ≡ Ok (Some wanted)
     → (s.marker ≡ []) ⊎ (0 < length s.marker) → ReadsWith s wanted clauses (joined (with_version [] s))
 no_set s wanted clauses c f v set reads (inl none) =
     let whole : joined (other s [] [] [] (s.gap2 ++ s.gap4)) ≡ content_with [] s ++ s.end = rw (none, c.no_marker none) (simp append_assoc) in
@@ -254,7 +254,7 @@ marker_cases [] = inl refl
 marker_cases (m ∷ marker) = inr (omega arith)
 
 -- a requirement line with other specifiers reads as it did, but for these
-pub reads_with : (s : Slices) (text : List ℕ) (wanted : Wanted) (clauses : List Clause) → IsCut (joined s) s → 0 < length s.name → IsSetText text → requirement_of (joined s) ≡ Ok (Some wanted)
+pub reads_with : (s : Slices) (text : List ℕ) (wanted : RequirementParts) (clauses : List Clause) → IsCut (joined s) s → 0 < length s.name → IsSetText text → requirement_of (joined s) ≡ Ok (Some wanted)
     → set_of text ≡ Ok clauses → ReadsWith s wanted clauses (joined (with_version text s))
 reads_with s [] wanted clauses c some v reads set = no_set s wanted clauses c (facts s c some) v set reads (marker_cases s.marker)
 reads_with s (b ∷ text) wanted clauses c some v reads set =

@@ -18,7 +18,7 @@ use Rattle.pep508.specs.Parts.{begins_with, content_of, ending_of, ends_with, ha
 use Rattle.pep508.specs.Slices.{Slices, asking, slices_of, slices_with}
 
 -- a name and extras in their normal form, the clauses that a version has to match, and the marker, if there is one
-pub record Wanted : Type 0 where
+pub record RequirementParts : Type 0 where
   pub name : List ℕ
   pub extras : List (List ℕ)
   pub clauses : List Clause
@@ -82,17 +82,17 @@ abbrev pub condition_of : List ℕ → Result (Option Tree) Cause
 condition_of marker = if begins_with 59 marker then conditional (marker_of (drop 1 marker)) else Ok None
 
 -- a requirement, from its slices (PEP 508, "Grammar")
-abbrev pub wanted_in : Slices → Result Wanted Cause
+abbrev pub wanted_in : Slices → Result RequirementParts Cause
 wanted_in s =
     name_of s.name >>= λ name. extras_of s.extras >>= λ extras. clauses_of s.version >>= λ clauses. condition_of s.marker
     >>= λ marker. Ok (record { name = name; extras = extras; clauses = clauses; marker = marker })
 
 -- the requirement that a text is which no space leads
-unfoldable pub asked_in : List ℕ → Result Wanted Cause
+unfoldable pub asked_in : List ℕ → Result RequirementParts Cause
 asked_in text = wanted_in (slices_with [] text [] [])
 
 -- the requirement that a text is
-abbrev pub requirement_text : List ℕ → Result Wanted Cause
+abbrev pub requirement_text : List ℕ → Result RequirementParts Cause
 requirement_text text = asked_in (trim_start text)
 
 -- whether a marker that may be there holds with no extra
@@ -101,16 +101,16 @@ applies None texts = true
 applies (Some tree) texts = holds tree texts None
 
 -- whether a requirement counts in an environment
-abbrev pub is_active : Wanted → Texts → Bool
+abbrev pub is_active : RequirementParts → Texts → Bool
 is_active wanted texts = applies wanted.marker texts
 
 -- a requirement that is there
-abbrev pub present : Result Wanted Cause → Result (Option Wanted) Cause
+abbrev pub present : Result RequirementParts Cause → Result (Option RequirementParts) Cause
 present (Ok wanted) = Ok (Some wanted)
 present (Err cause) = Err cause
 
 -- what the content of a line asks for: nothing where it is blank or a comment
-unfoldable pub wanted_by : List ℕ → Result (Option Wanted) Cause
+unfoldable pub wanted_by : List ℕ → Result (Option RequirementParts) Cause
 wanted_by content =
     if is_marked content || has_odd content then Err OddCharacter
     else if ends_with 92 content then Err Continuation
@@ -119,7 +119,7 @@ wanted_by content =
     else present (asked_in (asking content))
 
 -- the requirement of a line, or why the line is refused
-unfoldable pub requirement_of : List ℕ → Result (Option Wanted) Cause
+unfoldable pub requirement_of : List ℕ → Result (Option RequirementParts) Cause
 requirement_of line = wanted_by (content_of line)
 
 -- a text that is a line: it is UTF-8, and not refused
@@ -128,7 +128,7 @@ pub record IsLine (line : List ℕ) : Type 0 where
   pub reads : is_ok (requirement_of line) ≡ true
 
 -- a line that is not refused
-abbrev pub checked : List ℕ → Result (Option Wanted) Cause → Result (List ℕ) Cause
+abbrev pub checked : List ℕ → Result (Option RequirementParts) Cause → Result (List ℕ) Cause
 checked line (Ok wanted) = Ok line
 checked line (Err cause) = Err cause
 
@@ -136,7 +136,7 @@ abbrev pub checked_line : List ℕ → Result (List ℕ) Cause
 checked_line line = checked line (requirement_of line)
 
 -- the slices of a line that is not refused
-abbrev pub cut : Slices → Result (Option Wanted) Cause → Result Slices Cause
+abbrev pub cut : Slices → Result (Option RequirementParts) Cause → Result Slices Cause
 cut slices (Ok wanted) = Ok slices
 cut slices (Err cause) = Err cause
 
@@ -144,7 +144,7 @@ abbrev pub cut_line : List ℕ → Result Slices Cause
 cut_line line = cut (slices_of line) (requirement_of line)
 
 -- a text reads as a line of the same name, extras, marker, comment and ending, and asks for the same but for the clauses
-pub record ReadsWith (s : Slices) (wanted : Wanted) (clauses : List Clause) (text : List ℕ) : Type 0 where
+pub record ReadsWith (s : Slices) (wanted : RequirementParts) (clauses : List Clause) (text : List ℕ) : Type 0 where
   pub requirement : requirement_of text ≡ Ok (Some (record wanted { clauses = clauses }))
   pub name : (slices_of text).name ≡ s.name
   pub extras : (slices_of text).extras ≡ s.extras
@@ -154,12 +154,12 @@ pub record ReadsWith (s : Slices) (wanted : Wanted) (clauses : List Clause) (tex
 
 -- a line that may stand in the place of another: it asks for something, and ends as the other does
 pub record MayStandFor (old new : List ℕ) : Type 0 where
-  pub wanted : Wanted
+  pub wanted : RequirementParts
   pub reads : requirement_of new ≡ Ok (Some wanted)
   pub end : ending_of new ≡ ending_of old
 
 -- the fault of a line, or of a later one
-abbrev pub fault_or : ℕ → Result (Option Wanted) Cause → Option Fault → Option Fault
+abbrev pub fault_or : ℕ → Result (Option RequirementParts) Cause → Option Fault → Option Fault
 fault_or number (Ok wanted) later = later
 fault_or number (Err cause) later = Some (fault_of number cause)
 

@@ -4,7 +4,7 @@ ghost use Rattle.std.specs.Prelude.{◌≡◌, ◌⊎◌, ◌==◌, ◌∷◌, �
 ghost use Rattle.std.specs.List.{Contains, concat, list_any};
 ghost use Rattle.pep508.specs.Lines.{AreLines, lines_of};
 ghost use Rattle.pep508.specs.Parts.{IsCommentPlace, IsEnding, comment_place, ended};
-ghost use Rattle.pep508.specs.Requirement.{IsSpecifier, MayStandFor, Wanted, file_of, requirement_of};
+ghost use Rattle.pep508.specs.Requirement.{IsSpecifier, MayStandFor, RequirementParts, file_of, requirement_of};
 ghost use Rattle.pep508.specs.Slices.{IsCut, Slices, joined, slices_of, with_version};
 
 use pep440::laws::a_set_has_its_bytes;
@@ -48,7 +48,7 @@ pub fn lines_may_get_one_more()
 
 /// A line that asks for something may get other specifiers, and then stand where it stood.
 pub fn a_line_may_get_specifiers()
-    ensures { (line specifiers : List ℕ) (wanted : Wanted) → requirement_of line ≡ Ok (Some wanted)
+    ensures { (line specifiers : List ℕ) (wanted : RequirementParts) → requirement_of line ≡ Ok (Some wanted)
         → IsSpecifier specifiers
         → MayStandFor line (joined (with_version specifiers (slices_of line))) }
 {

@@ -4,7 +4,7 @@ ghost use Rattle.lists.specs.Answers.{Answers};
 ghost use Rattle.std.specs.Prelude.{◌≡◌, ◌++◌, Ok, Some, IfOk};
 ghost use Rattle.std.specs.Option.{option_copied};
 ghost use Rattle.pep508.specs.Parts.{IsEnding, ended, ending_of};
-ghost use Rattle.pep508.specs.Requirement.{IsLine, Wanted, checked_line, requirement_of, wanted_by};
+ghost use Rattle.pep508.specs.Requirement.{IsLine, RequirementParts, checked_line, requirement_of, wanted_by};
 ghost use Rattle.pep508.specs.Slices.{joined, slices_of, with_version};
 ghost use Rattle.markers.specs.declared.fault.Cause.TheVariants.{OutOfMemory};
 
@@ -145,7 +145,7 @@ impl Line {
         alloc: Global,
         specifier: &SpecifierText,
     ) -> Result<Line, AllocError>
-        requires { (wanted : Wanted) × (requirement_of self.now ≡ Ok (Some wanted)) }
+        requires { (wanted : RequirementParts) × (requirement_of self.now ≡ Ok (Some wanted)) }
         ensures { IfOk result
             (λ line. line ≡ joined (with_version specifier.now (slices_of self.now))) }
     {

@@ -6,7 +6,7 @@ ghost use Rattle.std.specs.Option.{option_copied};
 ghost use Rattle.pep440.specs.Tied.Sets.{set_of};
 ghost use Rattle.pep440.specs.declared.specifier.Clause.{Clause};
 ghost use Rattle.markers.specs.Faults.{memory_fault, one_line};
-ghost use Rattle.pep508.specs.Requirement.{ReadsWith, Wanted, cut_line, requirement_of};
+ghost use Rattle.pep508.specs.Requirement.{ReadsWith, RequirementParts, cut_line, requirement_of};
 ghost use Rattle.pep508.specs.Slices.{IsCut, joined, with_version};
 
 use crate::line::wanted_by;
@@ -161,7 +161,7 @@ impl<'a> ReqLine<'a> {
     ) -> Result<Text, AllocError>
         requires { 0 < length self.now.name }
         ensures joins { IfOk result (λ text. text ≡ joined (with_version specifier.now self.now)) }
-        ensures reads { IfOk result (λ text. (wanted : Wanted) (clauses : List Clause)
+        ensures reads { IfOk result (λ text. (wanted : RequirementParts) (clauses : List Clause)
             → requirement_of (joined self.now) ≡ Ok (Some wanted) → set_of specifier.now ≡ Ok clauses
             → ReadsWith self.now wanted clauses text) }
     {

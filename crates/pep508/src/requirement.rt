@@ -40,9 +40,9 @@ impl Drop for Requirement {
 impl Model for Requirement {
     ghost use Rattle.std.specs.Coded.{codes};
     ghost use Rattle.markers.specs.Tied.MarkerCode.{tree_code};
-    ghost use Rattle.pep508.specs.Requirement.{Wanted};
+    ghost use Rattle.pep508.specs.Requirement.{RequirementParts};
 
-    ghost Value = { Wanted };
+    ghost Value = { RequirementParts };
 
     ghost coded = { Prim.hlevel (codes, tree_code) };
 

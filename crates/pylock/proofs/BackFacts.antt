@@ -8,15 +8,15 @@ use Rattle.hex.specs.Hex.{encode_lower}
 use Rattle.hex.proofs.HexLemmas.{decode_sized-encode_lower}
 use Rattle.pep440.specs.Canonical.{canonical}
 use Rattle.pep440.specs.Tied.Reading.{version_of}
-use Rattle.pep440.specs.Version.{IsVersion, Parts}
+use Rattle.pep440.specs.Version.{IsVersion, VersionParts}
 use Rattle.toml.specs.Data.{Data, string, Members, no_members, member, get_member}
 use Rattle.toml.specs.View.{items_of}
 use Rattle.pylock.specs.declared.file.FileEntry.{FileEntry}
 use Rattle.pylock.specs.declared.fault.Flaw.{Flaw}
 use Rattle.pylock.specs.Forms.{after, each, optionally, some_each, text_of, unknown_in}
-use Rattle.pylock.specs.Locks.{IsLock, Locked, are_entries}
+use Rattle.pylock.specs.Locks.{IsLock, LockParts, are_entries}
 use Rattle.markers.specs.Names.{is_normal}
-use Rattle.pylock.specs.Packages.{IsPackage, Package, is_other}
+use Rattle.pylock.specs.Packages.{IsPackage, EntryParts, is_other}
 use Rattle.pylock.specs.Reading.{digest_in, dependency_in, entries_in, environment_in, file_in, lock_in, package_in, package_keys, tool_in}
 use Rattle.pylock.specs.Tables.{array_of, dependency_data, file_data, optional, package_data, some_array, table_of, tool_data}
 use Rattle.pylock.proofs.PackageFacts.{parts}
@@ -95,9 +95,9 @@ at (Some d) (Some p) (Some s) (Some w) n v = record { known = refl; dependencies
 
 -- the canonical text of a version is read as that version
 abbrev pub ReadsVersions : Type 0
-ReadsVersions = (v : Parts) → IsVersion v → version_of (canonical v) ≡ Ok v
+ReadsVersions = (v : VersionParts) → IsVersion v → version_of (canonical v) ≡ Ok v
 
-package-back : ReadsVersions → (p : Package) → IsPackage p → package_in (package_data p) ≡ Ok p
+package-back : ReadsVersions → (p : EntryParts) → IsPackage p → package_in (package_data p) ≡ Ok p
 unfolding package_in package_data
 package-back reads p h =
     let a = at (some_array dependency_data p.dependencies) (option_map string p.requires_python) (option_map file_data p.sdist) (some_array file_data p.wheels) (string p.name) (string (canonical p.version)) in
@@ -108,7 +108,7 @@ package-back reads p h =
     let wheels = some-back file_data file_in p.wheels (all-back file_data file_in p.wheels file-back) in
     rw (a.known, a.dependencies, a.name, a.python, a.sdist, a.version, a.wheels, dependencies, q.name, python, sdist, reads p.version h.version, same_bytes (canonical p.version), wheels, h.parts) refl
 
-packages-back : ReadsVersions → (ps : List Package) → AllByRecursion IsPackage ps → Back package_data package_in ps
+packages-back : ReadsVersions → (ps : List EntryParts) → AllByRecursion IsPackage ps → Back package_data package_in ps
 packages-back reads [] h = tt
 packages-back reads (p ∷ ps) h = (package-back reads p h.0, packages-back reads ps h.1)
 
@@ -116,14 +116,14 @@ tool-back : (digest : List ℕ) → digest_in (encode_lower digest) ≡ Ok diges
 unfolding tool_in tool_data unknown_in after
 tool-back digest h = h
 
-digest-back : (l : Locked) → IsLock l → digest_in (encode_lower l.snapshot) ≡ Ok l.snapshot
+digest-back : (l : LockParts) → IsLock l → digest_in (encode_lower l.snapshot) ≡ Ok l.snapshot
 digest-back l h = rw (decode_sized-encode_lower l.snapshot 32 h.length h.bytes, same_bytes (encode_lower l.snapshot)) refl
 
-entries-back : ReadsVersions → (ps : List Package) → AllByRecursion IsPackage ps → are_entries ps ≡ true → entries_in (Some (array_of package_data ps)) ≡ Ok ps
+entries-back : ReadsVersions → (ps : List EntryParts) → AllByRecursion IsPackage ps → are_entries ps ≡ true → entries_in (Some (array_of package_data ps)) ≡ Ok ps
 unfolding entries_in
 entries-back reads ps h order = rw (each-back package_data package_in ps (packages-back reads ps h), order) refl
 
 -- the table of a lock is read as the lock
-pub lock-back : ReadsVersions → (l : Locked) → IsLock l → lock_in (table_of l) ≡ Ok l
+pub lock-back : ReadsVersions → (l : LockParts) → IsLock l → lock_in (table_of l) ≡ Ok l
 unfolding lock_in environment_in unknown_in after
 lock-back reads l h = rw (entries-back reads l.entries h.entries h.order, tool-back l.snapshot (digest-back l h)) refl

@@ -5,8 +5,8 @@ use Rattle.toml.specs.Data.{Data, string, Members, no_members, member, has_valid
 use Rattle.toml.specs.View.{items_of}
 use Rattle.pep440.specs.Canonical.{canonical}
 use Rattle.pylock.specs.declared.file.FileEntry.{FileEntry}
-use Rattle.pylock.specs.Locks.{Locked}
-use Rattle.pylock.specs.Packages.{Package}
+use Rattle.pylock.specs.Locks.{LockParts}
+use Rattle.pylock.specs.Packages.{EntryParts}
 use Rattle.pylock.specs.Tables.{dependency_data, file_data, optional, package_data, some_array, table_of, tool_data}
 
 abbrev some_valid : Option Data → Type 0
@@ -37,7 +37,7 @@ dependency-valid : (name : List ℕ) → has_valid_dates (dependency_data name) 
 unfolding dependency_data
 dependency-valid name = refl
 
-package-valid : (p : Package) → has_valid_dates (package_data p) ≡ true
+package-valid : (p : EntryParts) → has_valid_dates (package_data p) ≡ true
 unfolding package_data
 package-valid p =
     let m6 = optional (codes "wheels") (some_array file_data p.wheels) no_members in
@@ -55,5 +55,5 @@ unfolding tool_data
 tool-valid digest = refl
 
 -- each date-time of a lock's table is valid
-pub lock-valid : (l : Locked) → members_have_valid_dates (table_of l) ≡ true
+pub lock-valid : (l : LockParts) → members_have_valid_dates (table_of l) ≡ true
 lock-valid l = rw (items-valid package_data package-valid l.entries, tool-valid l.snapshot) refl

@@ -4,8 +4,8 @@ use Rattle.toml.specs.Data.{Data, string, depth, items_depth, members_depth, Mem
 use Rattle.pep440.specs.Canonical.{canonical}
 use Rattle.toml.specs.View.{items_of}
 use Rattle.pylock.specs.declared.file.FileEntry.{FileEntry}
-use Rattle.pylock.specs.Locks.{Locked}
-use Rattle.pylock.specs.Packages.{Package}
+use Rattle.pylock.specs.Locks.{LockParts}
+use Rattle.pylock.specs.Packages.{EntryParts}
 use Rattle.std.specs.Option.{option_map}
 use Rattle.pylock.specs.Tables.{array_of, dependency_data, file_data, optional, package_data, package_table, some_array, table_of, tool_data}
 
@@ -58,7 +58,7 @@ dependency-depth : (name : List ℕ) → depth (dependency_data name) ≤ 2
 unfolding dependency_data
 dependency-depth name = omega arith
 
-package-depth : (p : Package) → depth (package_data p) ≤ 4
+package-depth : (p : EntryParts) → depth (package_data p) ≤ 4
 unfolding package_data
 package-depth p =
     let m6 = optional (codes "wheels") (some_array file_data p.wheels) no_members in
@@ -81,7 +81,7 @@ unfolding tool_data
 tool-depth digest = omega arith
 
 -- a lock's table is less deep than what `toml` reads
-pub lock-depth : (l : Locked) → members_depth (table_of l) ≤ 80
+pub lock-depth : (l : LockParts) → members_depth (table_of l) ≤ 80
 lock-depth l =
     let entries : suc (items_depth (items_of (map package_data l.entries))) ≤ 5 = suc_le _ 4 (items-depth package_data 4 package-depth l.entries) in
     let m5 = member (codes "tool") (tool_data l.snapshot) no_members in

@@ -14,11 +14,11 @@ use Rattle.hex.specs.Hex.{decode_sized, encode_lower}
 use Rattle.hex.specs.declared.error.FromHexError.{FromHexError}
 use Rattle.pep440.specs.Canonical.{canonical}
 use Rattle.pep440.specs.Tied.Reading.{version_of}
-use Rattle.pep440.specs.Version.{Parts}
+use Rattle.pep440.specs.Version.{VersionParts}
 use Rattle.pep440.specs.declared.fault.Fault.{Fault as VersionFault}
-use Rattle.pylock.specs.Locks.{Locked, are_entries}
+use Rattle.pylock.specs.Locks.{LockParts, are_entries}
 use Rattle.markers.specs.Names.{is_normal}
-use Rattle.pylock.specs.Packages.{Package, entry_of, is_package}
+use Rattle.pylock.specs.Packages.{EntryParts, entry_of, is_package}
 use Rattle.pylock.specs.Reading.{at_key, creator_in, dependency_in, digest_in, entries_in, environment_in, file_in, format_of, if_canonical, if_known, if_lower, in_order, lock_in, lock_keys, normal_in, only_text, package_in, package_keys, tool_in, version_in}
 use Rattle.pylock.specs.Tables.{array_of, dependency_data, file_data, file_table, only_key, optional, package_data, package_table, some_array, table_of, tool_data}
 use Rattle.pylock.proofs.KeyFacts.{AreDistinct, at_keys, is_at_keys}
@@ -214,7 +214,7 @@ file-is d f h =
     let known = keys-file ms b.value n.value u.value s.value z.value (found-is (get_member (codes "hashes") ms) b.value b.first) hashes (text-is (codes "name") ms n.value n.first) (number-is (codes "size") ms z.value z.first) (text-is (codes "url") ms u.value u.first) in
     p.0 ∙ ap table (whole ∙ known) ∙ ap file_data e
 
-canonical-is : (text : List ℕ) (r : Result Parts VersionFault) (v : Parts) → if_canonical text r ≡ Ok v → text ≡ canonical v
+canonical-is : (text : List ℕ) (r : Result VersionParts VersionFault) (v : VersionParts) → if_canonical text r ≡ Ok v → text ≡ canonical v
 canonical-is text (Err e) v h = absurd cc
 canonical-is text (Ok w) v h = elim (cases_Bool (bytes_eq (canonical w) text)) [
   | inl same ↦
@@ -224,7 +224,7 @@ canonical-is text (Ok w) v h = elim (cases_Bool (bytes_eq (canonical w) text)) [
   | inr other ↦ absurd (let g = (rw other at h) in cc)
 ]
 
-entry-is : (q p : Package) → entry_of q ≡ Some p → q ≡ p
+entry-is : (q p : EntryParts) → entry_of q ≡ Some p → q ≡ p
 entry-is q p h = elim (cases_Bool (is_package q)) [
   | inl good ↦ let g : Some q ≡ Some p = (rw good at h) in cc
   | inr bad ↦ absurd (let g = (rw bad at h) in cc)
@@ -233,13 +233,13 @@ entry-is q p h = elim (cases_Bool (is_package q)) [
 text_of-is : (d : Data) (t : List ℕ) → text_of d ≡ Ok t → d ≡ string t
 text_of-is d t h = let e : Some d ≡ Some (string t) = str-is (Some d) t (found-is (as_str d) t h) in cc
 
-keys-package : (ms : Members) (p : Package) → get_member (codes "dependencies") ms ≡ some_array dependency_data p.dependencies → get_member (codes "name") ms ≡ Some (string p.name)
+keys-package : (ms : Members) (p : EntryParts) → get_member (codes "dependencies") ms ≡ some_array dependency_data p.dependencies → get_member (codes "name") ms ≡ Some (string p.name)
     → get_member (codes "requires-python") ms ≡ option_map string p.requires_python → get_member (codes "sdist") ms ≡ option_map file_data p.sdist
     → get_member (codes "version") ms ≡ Some (string (canonical p.version)) → get_member (codes "wheels") ms ≡ some_array file_data p.wheels
     → at_keys package_keys ms ≡ package_table p
 keys-package ms p h1 h2 h3 h4 h5 h6 = rw (h1, h2, h3, h4, h5, h6) refl
 
-package-is : (d : Data) (p : Package) → package_in d ≡ Ok p → d ≡ package_data p
+package-is : (d : Data) (p : EntryParts) → package_in d ≡ Ok p → d ≡ package_data p
 unfolding package_in package_data
 package-is d p h =
     let a = both (table_with package_keys d) _ p h in
@@ -252,7 +252,7 @@ package-is d p h =
     let o5 = both (text_at (codes "version") ms) _ p o4.next in
     let v = both (version_in o5.value) _ p o5.next in
     let o6 = both (some_each file_in (get_member (codes "wheels") ms)) _ p v.next in
-    let q : Package = record { name = n.value; version = v.value; requires_python = o3.value; dependencies = o1.value; sdist = o4.value; wheels = o6.value } in
+    let q : EntryParts = record { name = n.value; version = v.value; requires_python = o3.value; dependencies = o1.value; sdist = o4.value; wheels = o6.value } in
     let e : q ≡ p = entry-is q p (found-is (entry_of q) p o6.next) in
     let t = table-is package_keys d ms a.first in
     let whole = is_at_keys package_keys ms distinct-package t.1 in
@@ -265,13 +265,13 @@ package-is d p h =
     (some-is file_data file_in file-is (get_member (codes "wheels") ms) o6.value o6.first) in
     t.0 ∙ ap table (whole ∙ known) ∙ ap (λ r. table (package_table r)) e
 
-in_order-is : (qs ps : List Package) → in_order qs ≡ Ok ps → qs ≡ ps
+in_order-is : (qs ps : List EntryParts) → in_order qs ≡ Ok ps → qs ≡ ps
 in_order-is qs ps h = elim (cases_Bool (are_entries qs)) [
   | inl good ↦ let g : Ok qs ≡ Ok ps = (rw good at h) in cc
   | inr bad ↦ absurd (let g = (rw bad at h) in cc)
 ]
 
-entries-is : (o : Option Data) (ps : List Package) → entries_in o ≡ Ok ps → o ≡ Some (array_of package_data ps)
+entries-is : (o : Option Data) (ps : List EntryParts) → entries_in o ≡ Ok ps → o ≡ Some (array_of package_data ps)
 unfolding entries_in
 entries-is o ps h =
     let a = both (found (option_and_then as_array o)) _ ps h in
@@ -344,13 +344,13 @@ known-is : (o : Option (List ℕ)) (u : ⊤) → if_known o ≡ Ok u → o ≡ N
 known-is None u h = refl
 known-is (Some k) u h = absurd cc
 
-keys-lock : (ms : Members) (l : Locked) → get_member (codes "created-by") ms ≡ Some (string (codes "reqlock")) → get_member (codes "environments") ms ≡ Some (array_of string (l.environment ∷ []))
+keys-lock : (ms : Members) (l : LockParts) → get_member (codes "created-by") ms ≡ Some (string (codes "reqlock")) → get_member (codes "environments") ms ≡ Some (array_of string (l.environment ∷ []))
     → get_member (codes "lock-version") ms ≡ Some (string (codes "1.0")) → get_member (codes "packages") ms ≡ Some (array_of package_data l.entries)
     → get_member (codes "tool") ms ≡ Some (tool_data l.snapshot) → at_keys lock_keys ms ≡ table_of l
 keys-lock ms l h1 h2 h3 h4 h5 = rw (h1, h2, h3, h4, h5) refl
 
 -- a table that is read as a lock is the table of that lock
-pub lock-is : (ms : Members) (l : Locked) → lock_in ms ≡ Ok l → ms ≡ table_of l
+pub lock-is : (ms : Members) (l : LockParts) → lock_in ms ≡ Ok l → ms ≡ table_of l
 unfolding lock_in
 lock-is ms l h =
     let f = both (format_of (option_and_then as_str (get_member (codes "lock-version") ms))) _ l h in

@@ -7,14 +7,14 @@ use Rattle.pylock.specs.declared.file.FileEntry.{FileEntry}
 use Rattle.pylock.specs.Files.{has_ending, is_digest, is_file, is_sdist, is_wheel}
 use Rattle.lists.specs.Rising.{rises}
 use Rattle.markers.specs.Names.{is_normal}
-use Rattle.pylock.specs.Packages.{Package, are_dependencies, are_wheels, is_package, is_python}
+use Rattle.pylock.specs.Packages.{EntryParts, are_dependencies, are_wheels, is_package, is_python}
 
 pub all_pass : {X : Type 0} (xs : List X) → list_all (λ _. true) xs ≡ true
 all_pass [] = refl
 all_pass (x ∷ xs) = all_pass xs
 
 -- the parts of an entry, one by one
-pub record Parts (p : Package) : Type 0 where
+pub record Parts (p : EntryParts) : Type 0 where
   pub name : is_normal p.name ≡ true
   pub python : option_map_or is_python p.requires_python true ≡ true
   pub dependencies : are_dependencies p.name p.dependencies ≡ true
@@ -31,7 +31,7 @@ split true true false d e f h = absurd cc
 split true false c d e f h = absurd cc
 split false b c d e f h = absurd cc
 
-pub parts : (p : Package) → is_package p ≡ true → Parts p
+pub parts : (p : EntryParts) → is_package p ≡ true → Parts p
 parts p h =
     let s = split (is_normal p.name) (option_map_or is_python p.requires_python true) (are_dependencies p.name p.dependencies) (option_map_or is_sdist p.sdist true) (are_wheels p.wheels) (is_some p.sdist || not (length p.wheels == 0)) h in
     record { name = s.0; python = s.1; dependencies = s.2; sdist = s.3; wheels = s.4; file = s.5 }
@@ -50,12 +50,12 @@ all_fit [] h = refl
 all_fit (f ∷ fs) h = let h2 = and_parts (is_wheel f) (list_all is_wheel fs) h in rw (wheel_fits f h2.0) (all_fit fs h2.1)
 
 -- the sizes of the files of an entry fit
-pub wheels_fit : (p : Package) → is_package p ≡ true → list_all fits p.wheels ≡ true
+pub wheels_fit : (p : EntryParts) → is_package p ≡ true → list_all fits p.wheels ≡ true
 wheels_fit p h = all_fit p.wheels (and_parts (rises (map (λ f. f.name) p.wheels)) (list_all is_wheel p.wheels) (parts p h).wheels).1
 
 optional_fits : (o : Option FileEntry) → option_map_or is_sdist o true ≡ true → list_all fits (option_to_list o) ≡ true
 optional_fits None h = refl
 optional_fits (Some f) h = rw (sdist_fits f h) refl
 
-pub sdist_fit : (p : Package) → is_package p ≡ true → list_all fits (option_to_list p.sdist) ≡ true
+pub sdist_fit : (p : EntryParts) → is_package p ≡ true → list_all fits (option_to_list p.sdist) ≡ true
 sdist_fit p h = optional_fits p.sdist (parts p h).sdist

@@ -5,16 +5,16 @@ use Rattle.std.specs.Option.{option_map_or}
 use Rattle.std.specs.Str.{bytes_eq}
 use Rattle.pep440.specs.Tied.Sets.{set_of}
 use Rattle.lists.specs.Spaces.{is_blank}
-use Rattle.pep440.specs.Version.{IsVersion, Parts}
+use Rattle.pep440.specs.Version.{IsVersion, VersionParts}
 use Rattle.markers.specs.Names.{is_normal}
 use Rattle.pylock.specs.declared.file.FileEntry.{FileEntry}
 use Rattle.pylock.specs.Files.{is_sdist, is_wheel}
 use Rattle.lists.specs.Rising.{rises}
 
 -- what an entry holds
-pub record Package : Type 0 where
+pub record EntryParts : Type 0 where
   pub name : List ℕ
-  pub version : Parts
+  pub version : VersionParts
   pub requires_python : Option (List ℕ)
   pub dependencies : List (List ℕ)
   pub sdist : Option FileEntry
@@ -37,16 +37,16 @@ abbrev pub are_wheels : List FileEntry → Bool
 are_wheels files = rises (map (λ f. f.name) files) && list_all is_wheel files
 
 -- an entry has a name, lawful parts, and a file at least (reqlock's own rule)
-abbrev pub is_package : Package → Bool
+abbrev pub is_package : EntryParts → Bool
 is_package p =
     is_normal p.name && option_map_or is_python p.requires_python true && are_dependencies p.name p.dependencies
     && option_map_or is_sdist p.sdist true && are_wheels p.wheels && (is_some p.sdist || not (length p.wheels == 0))
 
 -- what holds of every entry
-pub record IsPackage (p : Package) : Type 0 where
+pub record IsPackage (p : EntryParts) : Type 0 where
   pub version : IsVersion p.version
   pub parts : is_package p ≡ true
 
 -- the entry of these parts, where they are lawful
-abbrev pub entry_of : Package → Option Package
+abbrev pub entry_of : EntryParts → Option EntryParts
 entry_of p = if is_package p then Some p else None

@@ -5,7 +5,7 @@ use Rattle.hex.specs.Hex.{decode_sized, encode_lower}
 use Rattle.hex.specs.declared.error.FromHexError.{FromHexError}
 use Rattle.pep440.specs.Canonical.{canonical}
 use Rattle.pep440.specs.Tied.Reading.{version_of}
-use Rattle.pep440.specs.Version.{Parts}
+use Rattle.pep440.specs.Version.{VersionParts}
 use Rattle.pep440.specs.declared.fault.Fault.{Fault as VersionFault}
 use Rattle.markers.specs.Names.{is_normal}
 use Rattle.toml.specs.Data.{Data, Items, no_items, item, Members, as_array, as_str, get_member}
@@ -16,8 +16,8 @@ use Rattle.pylock.specs.declared.fault.Flaw.{Flaw}
 use Rattle.pylock.specs.declared.fault.Flaw.TheVariants.{OtherForm, OutOfMemory}
 use Rattle.pylock.specs.declared.file.FileEntry.{FileEntry}
 use Rattle.pylock.specs.Forms.{◌>>=◌, each, found, optionally, size_at, some_each, table_with, text_at, text_of, unknown_in}
-use Rattle.pylock.specs.Locks.{Locked, are_entries}
-use Rattle.pylock.specs.Packages.{Package, entry_of}
+use Rattle.pylock.specs.Locks.{LockParts, are_entries}
+use Rattle.pylock.specs.Packages.{EntryParts, entry_of}
 
 -- the keys of a file
 abbrev pub file_keys : List (List ℕ)
@@ -47,12 +47,12 @@ dependency_in d = do
   normal_in name
 
 -- the version that was read, where the text is its canonical one
-abbrev pub if_canonical : List ℕ → Result Parts VersionFault → Result Parts Flaw
+abbrev pub if_canonical : List ℕ → Result VersionParts VersionFault → Result VersionParts Flaw
 if_canonical text (Ok v) = if bytes_eq (canonical v) text then Ok v else Err OtherForm
 if_canonical text (Err fault) = Err OtherForm
 
 -- a version in its canonical text
-abbrev pub version_in : List ℕ → Result Parts Flaw
+abbrev pub version_in : List ℕ → Result VersionParts Flaw
 version_in text = if_canonical text (version_of text)
 
 -- the keys of a package
@@ -60,7 +60,7 @@ abbrev pub package_keys : List (List ℕ)
 package_keys = codes "dependencies" ∷ codes "name" ∷ codes "requires-python" ∷ codes "sdist" ∷ codes "version" ∷ codes "wheels" ∷ []
 
 -- a package
-unfoldable pub package_in : Data → Result Package Flaw
+unfoldable pub package_in : Data → Result EntryParts Flaw
 package_in d = do
   ms ← table_with package_keys d
   dependencies ← some_each dependency_in (get_member (codes "dependencies") ms)
@@ -74,11 +74,11 @@ package_in d = do
   found (entry_of (record { name = name; version = version; requires_python = python; dependencies = dependencies; sdist = sdist; wheels = wheels }))
 
 -- entries in the order of their names
-abbrev pub in_order : List Package → Result (List Package) Flaw
+abbrev pub in_order : List EntryParts → Result (List EntryParts) Flaw
 in_order ps = if are_entries ps then Ok ps else Err OtherForm
 
 -- the packages
-unfoldable pub entries_in : Option Data → Result (List Package) Flaw
+unfoldable pub entries_in : Option Data → Result (List EntryParts) Flaw
 entries_in o = do
   ds ← found (option_and_then as_array o)
   ps ← each package_in ds
@@ -142,7 +142,7 @@ abbrev pub lock_keys : List (List ℕ)
 lock_keys = codes "created-by" ∷ codes "environments" ∷ codes "lock-version" ∷ codes "packages" ∷ codes "tool" ∷ []
 
 -- the lock that a table is, or its first fault
-unfoldable pub lock_in : Members → Result Locked Fault
+unfoldable pub lock_in : Members → Result LockParts Fault
 lock_in ms = do
   _ ← format_of (option_and_then as_str (get_member (codes "lock-version") ms))
   environment ← at_key (codes "environments") (environment_in (get_member (codes "environments") ms))
@@ -162,7 +162,7 @@ unfoldable pub toml_of : List ℕ → Result Members Fault
 toml_of bytes = if is_utf8 bytes then unless_toml (parse_document bytes) else Err faults.NotToml
 
 -- the lock that the bytes of a file are, or why they are none
-unfoldable pub lock_in_text : List ℕ → Result Locked Fault
+unfoldable pub lock_in_text : List ℕ → Result LockParts Fault
 lock_in_text bytes = do
   ms ← toml_of bytes
   lock_in ms

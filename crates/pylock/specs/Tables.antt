@@ -6,8 +6,8 @@ use Rattle.pep440.specs.Canonical.{canonical}
 use Rattle.toml.specs.Data.{Data, string, integer, array, table, Members, no_members, member}
 use Rattle.toml.specs.View.{items_of}
 use Rattle.pylock.specs.declared.file.FileEntry.{FileEntry}
-use Rattle.pylock.specs.Packages.{Package}
-use Rattle.pylock.specs.Locks.{Locked}
+use Rattle.pylock.specs.Packages.{EntryParts}
+use Rattle.pylock.specs.Locks.{LockParts}
 
 -- a key that stands only where it has a value
 abbrev pub optional : List ℕ → Option Data → Members → Members
@@ -43,7 +43,7 @@ unfoldable pub dependency_data : List ℕ → Data
 dependency_data name = only_key (codes "name") (string name)
 
 -- a package (PEP 751, "packages")
-abbrev pub package_table : Package → Members
+abbrev pub package_table : EntryParts → Members
 package_table p =
     optional (codes "dependencies") (some_array dependency_data p.dependencies) (
     member (codes "name") (string p.name) (
@@ -52,7 +52,7 @@ package_table p =
     member (codes "version") (string (canonical p.version)) (
     optional (codes "wheels") (some_array file_data p.wheels) no_members)))))
 
-unfoldable pub package_data : Package → Data
+unfoldable pub package_data : EntryParts → Data
 package_data p = table (package_table p)
 
 -- the digest of the index, under the key for tools (PEP 751, "tool")
@@ -60,7 +60,7 @@ unfoldable pub tool_data : List ℕ → Data
 tool_data digest = only_key (codes "reqlock") (only_key (codes "snapshot") (string (encode_lower digest)))
 
 -- a lock
-abbrev pub table_of : Locked → Members
+abbrev pub table_of : LockParts → Members
 table_of l =
     member (codes "created-by") (string (codes "reqlock")) (
     member (codes "environments") (array_of string (l.environment ∷ [])) (

@@ -37,9 +37,9 @@ impl Drop for Entry {
 }
 
 impl Model for Entry {
-    ghost use Rattle.pylock.specs.Packages.{IsPackage, Package};
+    ghost use Rattle.pylock.specs.Packages.{IsPackage, EntryParts};
 
-    ghost Value = { Package };
+    ghost Value = { EntryParts };
 
     ghost view = { λ e. record {
       name = e.name;

@@ -30,9 +30,9 @@ impl Drop for Lock {
 }
 
 impl Model for Lock {
-    ghost use Rattle.pylock.specs.Locks.{IsLock, Locked};
+    ghost use Rattle.pylock.specs.Locks.{IsLock, LockParts};
 
-    ghost Value = { Locked };
+    ghost Value = { LockParts };
 
     ghost view = { λ l. record {
       environment = l.environment;

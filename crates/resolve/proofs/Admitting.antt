@@ -3,10 +3,10 @@ use Rattle.std.proofs.Common.{◌≡◌, ◌&&◌, ◌||◌, not, Bool, true, fa
 use Rattle.std.specs.List.{AllByRecursion, list_any}
 use Rattle.markers.specs.Environment.{Texts}
 use Rattle.pep440.specs.Version.{is_pre}
-use Rattle.pep508.specs.Requirement.{Wanted}
+use Rattle.pep508.specs.Requirement.{RequirementParts}
 use Rattle.snapshot.specs.Release.{Release}
 use Rattle.resolve.specs.Admission.{admits_release, admits_where, takes_pre, takes_yanked}
-use Rattle.resolve.specs.Given.{Given, releases_on}
+use Rattle.resolve.specs.Problem.{ProblemParts, releases_on}
 
 or-first : (a b : Bool) → (a || b) ≡ false → a ≡ false
 or-first true b e = e
@@ -32,7 +32,7 @@ asked : (test : Release → Bool) (some told : Bool) (releases : List Release) �
 asked test true told releases e = alike test told releases
 asked test false told releases e = unasked test told releases e
 
-admitted-by : (environment : Texts) (wanted : Wanted) (pre yanked takes_pre takes_yanked : Bool) (releases : List Release)
+admitted-by : (environment : Texts) (wanted : RequirementParts) (pre yanked takes_pre takes_yanked : Bool) (releases : List Release)
     → AllAlike (λ release. is_pre release.version) pre takes_pre releases → AllAlike (λ release. release.yanked) yanked takes_yanked releases
     → map (admits_where environment wanted pre yanked) releases ≡ map (admits_where environment wanted takes_pre takes_yanked) releases
 admitted-by environment wanted pre yanked takes_pre takes_yanked [] p y = refl
@@ -40,7 +40,7 @@ admitted-by environment wanted pre yanked takes_pre takes_yanked (release ∷ re
     let rest = admitted-by environment wanted pre yanked takes_pre takes_yanked releases p.1 y.1 in
     rw (p.0, y.0, rest) refl
 
-admitted : (environment : Texts) (wanted : Wanted) (takes_pre takes_yanked : Bool) (releases : List Release)
+admitted : (environment : Texts) (wanted : RequirementParts) (takes_pre takes_yanked : Bool) (releases : List Release)
     → map (admits_where environment wanted (list_any (λ release. is_pre release.version) releases && takes_pre) (list_any (λ release. release.yanked) releases && takes_yanked)) releases
     ≡ map (admits_where environment wanted takes_pre takes_yanked) releases
 admitted environment wanted takes_pre takes_yanked releases =
@@ -48,7 +48,7 @@ admitted environment wanted takes_pre takes_yanked releases =
     (asked (λ release. is_pre release.version) _ takes_pre releases refl) (asked (λ release. release.yanked) _ takes_yanked releases refl)
 
 -- what is asked only where a release passes admits the same releases
-pub admitted-all : (given : Given) (wanted : Wanted) (environment : Texts) (pre yanked : Bool) (releases : List Release) → environment ≡ given.environment → releases ≡ releases_on given wanted.name
+pub admitted-all : (given : ProblemParts) (wanted : RequirementParts) (environment : Texts) (pre yanked : Bool) (releases : List Release) → environment ≡ given.environment → releases ≡ releases_on given wanted.name
     → pre ≡ (list_any (λ release. is_pre release.version) releases && takes_pre given wanted) → yanked ≡ (list_any (λ release. release.yanked) releases && takes_yanked given wanted)
     → map (admits_where environment wanted pre yanked) releases ≡ map (admits_release given wanted) (releases_on given wanted.name)
 admitted-all given wanted environment pre yanked releases e r p y =

@@ -6,12 +6,12 @@ use Rattle.std.specs.Map.{lookup}
 use Rattle.std.specs.Ordering.{nat_cmp}
 use Rattle.std.proofs.lemmas.List.{take-append-le, take_all, take_more}
 use Rattle.std.proofs.lemmas.List.Elements.{Contains-append_left, Contains-append_right, Contains-append_cases, Contains-push_cases}
-use Rattle.pep440.specs.Version.{Parts}
-use Rattle.pep508.specs.Requirement.{Wanted}
+use Rattle.pep440.specs.Version.{VersionParts}
+use Rattle.pep508.specs.Requirement.{RequirementParts}
 use Rattle.search.specs.Solutions.{Needed, by_dependency, by_line}
 use Rattle.snapshot.specs.Release.{Release}
 use Rattle.resolve.specs.Admission.{release_at}
-use Rattle.resolve.specs.Given.{Given}
+use Rattle.resolve.specs.Problem.{ProblemParts}
 use Rattle.resolve.specs.Growing.{Grows, nodes_asked, nodes_linked}
 use Rattle.resolve.specs.Resolves.{AreNeeded, version_in}
 use Rattle.resolve.specs.Rules.{counts, nodes_of, rules_of, wants}
@@ -20,57 +20,57 @@ use Rattle.resolve.proofs.Preferring.{lookup-get}
 use Rattle.lists.proofs.Members.{Contains-cons_cases, Contains-here, Contains-nil, Contains-there}
 
 -- the walk through needed nodes, as far as the first `at` nodes have been followed
-pub record IsClosing (given : Given) (chosen : List ℕ → Option Parts) (nodes : List Node) (at : ℕ) : Type 0 where
+pub record IsClosing (given : ProblemParts) (chosen : List ℕ → Option VersionParts) (nodes : List Node) (at : ℕ) : Type 0 where
   pub sound : (node : Node) → Contains nodes node → Needed (rules_of given) chosen node
   pub lines : (node : Node) → Contains (nodes_asked given.active) node → Contains nodes node
   pub linked : (link node : Node) → Contains (take at nodes) link → Contains (nodes_linked given link (chosen link.name)) node → Contains nodes node
 
 -- a node leads nowhere where its name has no version
-pub linked-unchosen : (given : Given) (node : Node) (versions : List (List ℕ × Parts)) → lookup (is_at (slice_cmp nat_cmp node.name)) versions ≡ None → [] ≡ nodes_linked given node (version_in versions node.name)
+pub linked-unchosen : (given : ProblemParts) (node : Node) (versions : List (List ℕ × VersionParts)) → lookup (is_at (slice_cmp nat_cmp node.name)) versions ≡ None → [] ≡ nodes_linked given node (version_in versions node.name)
 linked-unchosen given node versions none = rw (lookup-get node.name versions, none) refl
 
 -- nor where the index has no release with it
-pub linked-unreleased : (given : Given) (node : Node) (versions : List (List ℕ × Parts)) (version : Parts) → lookup (is_at (slice_cmp nat_cmp node.name)) versions ≡ Some version
+pub linked-unreleased : (given : ProblemParts) (node : Node) (versions : List (List ℕ × VersionParts)) (version : VersionParts) → lookup (is_at (slice_cmp nat_cmp node.name)) versions ≡ Some version
     → release_at given node.name version ≡ None → [] ≡ nodes_linked given node (version_in versions node.name)
 linked-unreleased given node versions version some none = rw (lookup-get node.name versions, some, none) refl
 
 -- else to what the dependencies of the release need that count at the node
-pub linked-released : (given : Given) (node : Node) (versions : List (List ℕ × Parts)) (version : Parts) (release : Release) → lookup (is_at (slice_cmp nat_cmp node.name)) versions ≡ Some version
+pub linked-released : (given : ProblemParts) (node : Node) (versions : List (List ℕ × VersionParts)) (version : VersionParts) (release : Release) → lookup (is_at (slice_cmp nat_cmp node.name)) versions ≡ Some version
     → release_at given node.name version ≡ Some release → nodes_asked (filter (counts given.environment node.extra) release.dependencies) ≡ nodes_linked given node (version_in versions node.name)
 linked-released given node versions version release some there = rw (lookup-get node.name versions, some, there) refl
 
-asked-from : (requirements : List Wanted) (wanted : Wanted) (node : Node) → Contains requirements wanted → Contains (nodes_of wanted) node → Contains (nodes_asked requirements) node
+asked-from : (requirements : List RequirementParts) (wanted : RequirementParts) (node : Node) → Contains requirements wanted → Contains (nodes_of wanted) node → Contains (nodes_asked requirements) node
 asked-from [] wanted node h i = absurd (Contains-nil wanted h)
 asked-from (first ∷ others) wanted node h i = elim (Contains-cons_cases first others wanted h) [
   | inl e ↦ Contains-append_left (nodes_of first) (nodes_asked others) node (subst (λ w. Contains (nodes_of w) node) (sym e) i)
   | inr k ↦ Contains-append_right (nodes_of first) (nodes_asked others) node (asked-from others wanted node k i)
 ]
 
-asked-to : (requirements : List Wanted) (node : Node) → Contains (nodes_asked requirements) node → (wanted : Wanted) × Contains requirements wanted × Contains (nodes_of wanted) node
+asked-to : (requirements : List RequirementParts) (node : Node) → Contains (nodes_asked requirements) node → (wanted : RequirementParts) × Contains requirements wanted × Contains (nodes_of wanted) node
 asked-to [] node h = absurd (Contains-nil node h)
 asked-to (first ∷ others) node h = elim (Contains-append_cases (nodes_of first) (nodes_asked others) node h) [
   | inl a ↦ (first, Contains-here first others, a)
-  | inr b ↦ let k : (wanted : Wanted) × Contains others wanted × Contains (nodes_of wanted) node = asked-to others node b in (k.0, Contains-there first others k.0 k.1, k.2)
+  | inr b ↦ let k : (wanted : RequirementParts) × Contains others wanted × Contains (nodes_of wanted) node = asked-to others node b in (k.0, Contains-there first others k.0 k.1, k.2)
 ]
 
-pub closing-start : (given : Given) (chosen : List ℕ → Option Parts) (nodes : List Node) → Grows [] nodes (nodes_asked given.active) → IsClosing given chosen nodes 0
+pub closing-start : (given : ProblemParts) (chosen : List ℕ → Option VersionParts) (nodes : List Node) → Grows [] nodes (nodes_asked given.active) → IsClosing given chosen nodes 0
 closing-start given chosen nodes g = record {
   sound = λ node h. elim (g.only node h) [
     | inl a ↦ absurd (Contains-nil node a)
-    | inr b ↦ let k : (wanted : Wanted) × Contains given.active wanted × Contains (nodes_of wanted) node = asked-to given.active node b in by_line k.0 node k.1 k.2
+    | inr b ↦ let k : (wanted : RequirementParts) × Contains given.active wanted × Contains (nodes_of wanted) node = asked-to given.active node b in by_line k.0 node k.1 k.2
   ];
   lines = g.added;
   linked = λ link node h i. absurd (Contains-nil link h);
 }
 
-linked-needed : (given : Given) (chosen : List ℕ → Option Parts) (link node : Node) (o : Option Parts) → chosen link.name ≡ o → Needed (rules_of given) chosen link → Contains (nodes_linked given link o) node → Needed (rules_of given) chosen node
+linked-needed : (given : ProblemParts) (chosen : List ℕ → Option VersionParts) (link node : Node) (o : Option VersionParts) → chosen link.name ≡ o → Needed (rules_of given) chosen link → Contains (nodes_linked given link o) node → Needed (rules_of given) chosen node
 linked-needed given chosen link node None e n h = absurd (Contains-nil node h)
 linked-needed given chosen link node (Some version) e n h =
-    let k : (wanted : Wanted) × Contains (wants given link version) wanted × Contains (nodes_of wanted) node = asked-to (wants given link version) node h in
+    let k : (wanted : RequirementParts) × Contains (wants given link version) wanted × Contains (nodes_of wanted) node = asked-to (wants given link version) node h in
     by_dependency link version k.0 node n e k.1 k.2
 
 -- one node more is followed
-pub closing-step : (given : Given) (chosen : List ℕ → Option Parts) (nodes new : List Node) (at : ℕ) (link : Node) → IsClosing given chosen nodes at → at < length nodes → link ≡ get_or nodes at link
+pub closing-step : (given : ProblemParts) (chosen : List ℕ → Option VersionParts) (nodes new : List Node) (at : ℕ) (link : Node) → IsClosing given chosen nodes at → at < length nodes → link ≡ get_or nodes at link
     → Grows nodes new (nodes_linked given link (chosen link.name)) → IsClosing given chosen new (at + 1)
 closing-step given chosen nodes new at link c within is g =
     let front : take (at + 1) new ≡ take at nodes ++ link ∷ [] =
@@ -88,7 +88,7 @@ closing-step given chosen nodes new at link c within is g =
           ];
     }
 
-closing-whole : (given : Given) (chosen : List ℕ → Option Parts) (nodes : List Node) (at : ℕ) → IsClosing given chosen nodes at → length nodes ≤ at → (node : Node) → Needed (rules_of given) chosen node → Contains nodes node
+closing-whole : (given : ProblemParts) (chosen : List ℕ → Option VersionParts) (nodes : List Node) (at : ℕ) → IsClosing given chosen nodes at → length nodes ≤ at → (node : Node) → Needed (rules_of given) chosen node → Contains nodes node
 closing-whole given chosen nodes at c past _ (by_line wanted node h i) = c.lines node (asked-from given.active wanted node h i)
 closing-whole given chosen nodes at c past _ (by_dependency link version wanted node k e w i) =
     let there : Contains nodes link = closing-whole given chosen nodes at c past link k in
@@ -96,5 +96,5 @@ closing-whole given chosen nodes at c past _ (by_dependency link version wanted 
     (subst (λ o. Contains (nodes_linked given link o) node) (sym e) (asked-from (wants given link version) wanted node w i))
 
 -- all nodes have been followed
-pub closing-end : (given : Given) (chosen : List ℕ → Option Parts) (nodes : List Node) (at : ℕ) → IsClosing given chosen nodes at → length nodes ≤ at → AreNeeded given chosen nodes
+pub closing-end : (given : ProblemParts) (chosen : List ℕ → Option VersionParts) (nodes : List Node) (at : ℕ) → IsClosing given chosen nodes at → length nodes ≤ at → AreNeeded given chosen nodes
 closing-end given chosen nodes at c past = record { sound = c.sound; whole = closing-whole given chosen nodes at c past }

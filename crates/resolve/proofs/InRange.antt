@@ -3,11 +3,11 @@ use Rattle.std.proofs.Common.{◌≡◌, ◌<◌, ◌==◌, ℕ, List, [], ◌�
 use Rattle.std.proofs.lemmas.Bool.{eq-eqb, lt-ltb}
 use Rattle.std.proofs.lemmas.Option.{slice_get_within}
 use Rattle.std.specs.List.{AllZip, list_all}
-use Rattle.pep508.specs.Requirement.{Wanted}
-use Rattle.search.specs.Table.{Parts, all_below, in_range, is_on, name_of, requirement_in_range}
+use Rattle.pep508.specs.Requirement.{RequirementParts}
+use Rattle.search.specs.Table.{TableParts, all_below, in_range, is_on, name_of, requirement_in_range}
 use Rattle.search.specs.declared.parts.Requirement.{Requirement as Entry}
 use Rattle.resolve.specs.Building.{Gathered, IsEntry, IsWanted}
-use Rattle.resolve.specs.Given.{Given, releases_on}
+use Rattle.resolve.specs.Problem.{ProblemParts, releases_on}
 use Rattle.resolve.specs.Rules.{bare, wants_of, with_extra}
 use Rattle.resolve.specs.Standing.{AllStand, Stands}
 use Rattle.resolve.specs.declared.node.Node.{Node}
@@ -21,10 +21,10 @@ all-meet R p [] (y ∷ ys) f all = absurd all
 all-meet R p (x ∷ xs) [] f all = absurd all
 all-meet R p (x ∷ xs) (y ∷ ys) f all = rw (f x y all.0) (all-meet R p xs ys f all.1)
 
-rows-below : (asked : List Wanted) (bound : ℕ) → length asked ≡ bound → (rows : List (List ℕ)) (wanted : List (List Wanted)) → AllZip (AllStand asked) rows wanted → list_all (all_below bound) rows ≡ true
+rows-below : (asked : List RequirementParts) (bound : ℕ) → length asked ≡ bound → (rows : List (List ℕ)) (wanted : List (List RequirementParts)) → AllZip (AllStand asked) rows wanted → list_all (all_below bound) rows ≡ true
 rows-below asked bound long rows wanted all = all-meet (AllStand asked) (all_below bound) rows wanted (λ numbers ws h. AllStand-below asked numbers ws bound long h) all
 
-wants-below : (given : Given) (asked : List Wanted) (bound : ℕ) → length asked ≡ bound → (rows : List (List (List ℕ))) (nodes : List Node) → AllZip (IsWanted given asked) rows nodes → list_all (list_all (all_below bound)) rows ≡ true
+wants-below : (given : ProblemParts) (asked : List RequirementParts) (bound : ℕ) → length asked ≡ bound → (rows : List (List (List ℕ))) (nodes : List Node) → AllZip (IsWanted given asked) rows nodes → list_all (list_all (all_below bound)) rows ≡ true
 wants-below given asked bound long rows nodes all =
     all-meet (IsWanted given asked) (list_all (all_below bound)) rows nodes (λ row node h. rows-below asked bound long row (map (wants_of given.environment node.extra) (releases_on given node.name)) h) all
 
@@ -34,7 +34,7 @@ same-number n m e = eq-eqb n m e
 less : (n m : ℕ) → n < m → nat_lt n m ≡ true
 less n m l = lt-ltb n m l
 
-module _ (given : Given) (g : Gathered) (names : List (List ℕ)) (t : Parts) (is : IsGathered given g names t) where
+module _ (given : ProblemParts) (g : Gathered) (names : List (List ℕ)) (t : TableParts) (is : IsGathered given g names t) where
   inside : (k : ℕ) (node : Node) → Stands g.nodes k node → nat_lt k (length t.nodes) ≡ true
   inside k node at = less k (length t.nodes) (subst (λ n. k < n) (sym (node-count given g names t is)) (slice_get_within g.nodes k node at))
 
@@ -45,7 +45,7 @@ module _ (given : Given) (g : Gathered) (names : List (List ℕ)) (t : Parts) (i
   more-on n name at (m ∷ ms) (x ∷ xs) all =
       rw (inside m (with_extra name x) all.0, same-number (name_of t m) n (place-once names (name_of t m) n name is.rising (node-named given g names t is m (with_extra name x) all.0) at)) (more-on n name at ms xs all.1)
 
-  entry-in : (entry : Entry) (wanted : Wanted) → IsEntry given g.nodes entry wanted → requirement_in_range t.nodes entry ≡ true
+  entry-in : (entry : Entry) (wanted : RequirementParts) → IsEntry given g.nodes entry wanted → requirement_in_range t.nodes entry ≡ true
   entry-in entry wanted h =
       rw (inside entry.node (bare wanted.name) h.numbers.0) (more-on (name_of t entry.node) wanted.name (node-named given g names t is entry.node (bare wanted.name) h.numbers.0) entry.more wanted.extras h.numbers.1)
 

@@ -7,15 +7,15 @@ use Rattle.std.specs.List.{AllZip, slice_get}
 use Rattle.std.specs.List.Sorted.{IsStrictlySortedBy}
 use Rattle.std.specs.Option.{option_map_or}
 use Rattle.std.specs.Ordering.{nat_cmp}
-use Rattle.pep508.specs.Requirement.{Wanted}
+use Rattle.pep508.specs.Requirement.{RequirementParts}
 use Rattle.search.specs.Picture.{name_asked}
 use Rattle.search.specs.Rules.{IsOrder}
-use Rattle.search.specs.Table.{Parts, candidates_of, name_of, nodes_of as numbers_of, requirement_at}
+use Rattle.search.specs.Table.{TableParts, candidates_of, name_of, nodes_of as numbers_of, requirement_at}
 use Rattle.snapshot.specs.Release.{Release}
 use Rattle.snapshot.specs.Releases.{newer_cmp}
 use Rattle.resolve.specs.Admission.{admits, admits_release, has_version}
 use Rattle.resolve.specs.Building.{Gathered, IsEntry, IsWanted}
-use Rattle.resolve.specs.Given.{Given, releases_on}
+use Rattle.resolve.specs.Problem.{ProblemParts, releases_on}
 use Rattle.resolve.specs.Pictured.{AreListed, IsListed, IsPictured, name_at}
 use Rattle.resolve.specs.Places.{version_at}
 use Rattle.resolve.specs.Rules.{bare, nodes_of, wants, wants_of}
@@ -26,7 +26,7 @@ use Rattle.resolve.proofs.Standing.{length-map}
 use Rattle.resolve.proofs.Picturing.{AllStand-map, AllZip-at, AllZip-length, Rising, order-places}
 
 -- what the code knows of the parts of a table
-pub record IsGathered (given : Given) (g : Gathered) (names : List (List ℕ)) (t : Parts) : Type 0 where
+pub record IsGathered (given : ProblemParts) (g : Gathered) (names : List (List ℕ)) (t : TableParts) : Type 0 where
   pub entries : AllZip (IsEntry given g.nodes) t.requirements g.asked
   pub lines : AllStand g.asked t.lines given.active
   pub wanted : AllZip (IsWanted given g.asked) t.wants g.nodes
@@ -57,19 +57,19 @@ found-at releases place release fall at = rw (version_at-get releases place rele
 mapped-at : {A B : Type 0} (f : A → B) (xs : List A) (i : ℕ) (x : A) (d : B) → slice_get xs i ≡ Some x → get_or (map f xs) i d ≡ f x
 mapped-at f xs i x d at = get_or_from_slice_get (map f xs) i (f x) d (slice_get-map f xs i ∙ ap (option_map f) at)
 
-admits-own : (given : Given) (wanted : Wanted) (place : ℕ) → falls (releases_on given wanted.name) → place < length (releases_on given wanted.name)
+admits-own : (given : ProblemParts) (wanted : RequirementParts) (place : ℕ) → falls (releases_on given wanted.name) → place < length (releases_on given wanted.name)
     → admits given wanted (version_at (releases_on given wanted.name) place) ≡ get_or (map (admits_release given wanted) (releases_on given wanted.name)) place false
 admits-own given wanted place fall within =
     let releases = releases_on given wanted.name in
     let at = at-place releases place within in
     ap (λ found. option_map_or (admits_release given wanted) found false) (found-at releases place at.0 fall at.1) ∙ sym (mapped-at (admits_release given wanted) releases place at.0 false at.1)
 
-admits-named : (given : Given) (wanted : Wanted) (name : List ℕ) (place : ℕ) → wanted.name ≡ name → falls (releases_on given name) → place < length (releases_on given name)
+admits-named : (given : ProblemParts) (wanted : RequirementParts) (name : List ℕ) (place : ℕ) → wanted.name ≡ name → falls (releases_on given name) → place < length (releases_on given name)
     → admits given wanted (version_at (releases_on given name) place) ≡ get_or (map (admits_release given wanted) (releases_on given wanted.name)) place false
 admits-named given wanted name place e = subst (λ n. falls (releases_on given n) → place < length (releases_on given n)
     → admits given wanted (version_at (releases_on given n) place) ≡ get_or (map (admits_release given wanted) (releases_on given wanted.name)) place false) e (admits-own given wanted place)
 
-wants-own : (given : Given) (node : Node) (asked : List Wanted) (rows : List (List ℕ)) (place : ℕ) (d : Wanted) → IsWanted given asked rows node → falls (releases_on given node.name) → place < length (releases_on given node.name)
+wants-own : (given : ProblemParts) (node : Node) (asked : List RequirementParts) (rows : List (List ℕ)) (place : ℕ) (d : RequirementParts) → IsWanted given asked rows node → falls (releases_on given node.name) → place < length (releases_on given node.name)
     → wants given node (version_at (releases_on given node.name) place) ≡ map (λ r. get_or asked r d) (get_or rows place [])
 wants-own given node asked rows place d is fall within =
     let releases = releases_on given node.name in
@@ -82,13 +82,13 @@ wants-own given node asked rows place d is fall within =
     ap (λ found. option_map_or test found []) (found-at releases place at.0 fall at.1)
     ∙ AllStand-map asked (get_or rows place []) (test at.0) d (AllZip-at (AllStand asked) rows (map test releases) place (get_or rows place []) (test at.0) is (slice_get-get_or rows place [] inside) there)
 
-wants-named : (given : Given) (node : Node) (asked : List Wanted) (rows : List (List ℕ)) (name : List ℕ) (place : ℕ) (d : Wanted) → node.name ≡ name → IsWanted given asked rows node → falls (releases_on given name) → place < length (releases_on given name)
+wants-named : (given : ProblemParts) (node : Node) (asked : List RequirementParts) (rows : List (List ℕ)) (name : List ℕ) (place : ℕ) (d : RequirementParts) → node.name ≡ name → IsWanted given asked rows node → falls (releases_on given name) → place < length (releases_on given name)
     → wants given node (version_at (releases_on given name) place) ≡ map (λ r. get_or asked r d) (get_or rows place [])
 wants-named given node asked rows name place d e is = subst (λ n. falls (releases_on given n) → place < length (releases_on given n)
     → wants given node (version_at (releases_on given n) place) ≡ map (λ r. get_or asked r d) (get_or rows place [])) e (wants-own given node asked rows place d is)
 
-module _ (given : Given) (g : Gathered) (names : List (List ℕ)) (t : Parts) (is : IsGathered given g names t) where
-  abbrev no_wanted : Wanted
+module _ (given : ProblemParts) (g : Gathered) (names : List (List ℕ)) (t : TableParts) (is : IsGathered given g names t) where
+  abbrev no_wanted : RequirementParts
   no_wanted = record { name = []; extras = []; clauses = []; marker = None }
 
   pub node-count : length t.nodes ≡ length g.nodes

@@ -18,11 +18,11 @@ use Rattle.std.proofs.lemmas.Map.Text.{is_eq-slice_cmp}
 use borrow.Author.Tests.{eqb-true, eqb-false, ltb-true, ltb-false}
 use Rattle.pep440.specs.Order.{version_cmp}
 use Rattle.pep440.specs.Tied.OrderLaws.{version_total}
-use Rattle.pep440.specs.Version.{Parts}
+use Rattle.pep440.specs.Version.{VersionParts}
 use Rattle.snapshot.specs.Release.{Release}
 use Rattle.snapshot.specs.Releases.{newer_cmp}
 use Rattle.resolve.specs.Admission.{has_version}
-use Rattle.resolve.specs.Given.{Given, releases_on}
+use Rattle.resolve.specs.Problem.{ProblemParts, releases_on}
 use Rattle.resolve.specs.Places.{AreCandidates, version_at}
 use Rattle.resolve.specs.Rules.{kept_version, preferring, versions_of}
 use Rattle.resolve.proofs.Falling.{version_at-tie}
@@ -52,11 +52,11 @@ pub version-found : (test : Release → Bool) (rs : List Release) → option_map
 version-found test rs = get-within rs (position_or_len test rs) ∙ ap (option_map (λ r. r.version)) (sym (find_at test rs))
 
 -- no version is kept for the name
-pub kept-none : (given : Given) (name : List ℕ) → lookup (is_at (slice_cmp nat_cmp name)) given.kept ≡ None → None ≡ kept_version given name
+pub kept-none : (given : ProblemParts) (name : List ℕ) → lookup (is_at (slice_cmp nat_cmp name)) given.kept ≡ None → None ≡ kept_version given name
 kept-none given name none = rw (lookup-get name given.kept, none) refl
 
 -- the release that has the version kept for the name
-pub kept-some : (given : Given) (name : List ℕ) (version : Parts) → lookup (is_at (slice_cmp nat_cmp name)) given.kept ≡ Some version
+pub kept-some : (given : ProblemParts) (name : List ℕ) (version : VersionParts) → lookup (is_at (slice_cmp nat_cmp name)) given.kept ≡ Some version
     → option_map (version_at (releases_on given name)) (position (has_version version) (releases_on given name)) ≡ kept_version given name
 kept-some given name version some = rw (lookup-get name given.kept, some) (version-found (has_version version) (releases_on given name))
 
@@ -79,14 +79,14 @@ not-true false e = refl
 take-place : (rs : List Release) (place : ℕ) → place < length rs → take (place + 1) (versions_of rs) ≡ take place (versions_of rs) ++ version_at rs place ∷ []
 take-place rs place within = take_more (versions_of rs) place _ (subst (λ n. place < n) (sym (length-map rs (λ r. r.version))) within)
 
-preferring-more : (rs : List Release) (kept : Option ℕ) (vs : List Parts) (place : ℕ) → IsStrictlySortedBy newer_cmp rs → IfSome kept (λ k. k < length rs) → place < length rs
+preferring-more : (rs : List Release) (kept : Option ℕ) (vs : List VersionParts) (place : ℕ) → IsStrictlySortedBy newer_cmp rs → IfSome kept (λ k. k < length rs) → place < length rs
     → option_eq nat_eq (Some place) kept ≡ false → preferring (option_map (version_at rs) kept) (vs ++ version_at rs place ∷ []) ≡ preferring (option_map (version_at rs) kept) vs ++ version_at rs place ∷ []
 preferring-more rs None vs place fall known within other = refl
 preferring-more rs (Some kept) vs place fall known within other =
     let apart = version_at-tie rs kept place fall known within (λ e. eqb-false place kept other (sym e)) in
     ap (λ zs. version_at rs kept ∷ zs) (filter-append (λ v. not (is_eq (version_cmp (version_at rs kept) v))) vs (version_at rs place ∷ []) ∙ rw apart refl)
 
-preferring-same : (rs : List Release) (kept : Option ℕ) (vs : List Parts) (place : ℕ) → option_eq nat_eq (Some place) kept ≡ true
+preferring-same : (rs : List Release) (kept : Option ℕ) (vs : List VersionParts) (place : ℕ) → option_eq nat_eq (Some place) kept ≡ true
     → preferring (option_map (version_at rs) kept) (vs ++ version_at rs place ∷ []) ≡ preferring (option_map (version_at rs) kept) vs
 preferring-same rs None vs place same = absurd cc
 preferring-same rs (Some kept) vs place same =
@@ -115,10 +115,10 @@ preferring-kept rs kept places place within same h = record {
     not-false false e = sym e
 
 -- the places of all releases
-pub preferring-all : (given : Given) (name : List ℕ) (kept : Option ℕ) (places : List ℕ) (so_far : ℕ) → option_map (version_at (releases_on given name)) kept ≡ kept_version given name
+pub preferring-all : (given : ProblemParts) (name : List ℕ) (kept : Option ℕ) (places : List ℕ) (so_far : ℕ) → option_map (version_at (releases_on given name)) kept ≡ kept_version given name
     → length (releases_on given name) ≤ so_far → IsPreferring (releases_on given name) kept places so_far → AreCandidates given name places
 preferring-all given name kept places so_far is whole h =
-    let vs : List Parts = versions_of (releases_on given name) in
+    let vs : List VersionParts = versions_of (releases_on given name) in
     let long = length-map (releases_on given name) (λ r. r.version) in
     record {
       versions = h.versions ∙ ap (preferring (option_map (version_at (releases_on given name)) kept)) (take_all so_far vs (omega arith)) ∙ ap (λ o. preferring o vs) is;

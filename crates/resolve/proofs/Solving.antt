@@ -5,14 +5,14 @@ use Rattle.std.specs.BTreeMap.{BTreeMap, Updates, is_at}
 use Rattle.std.specs.Cmp.{nat_cmp_total, tied_itself}
 use Rattle.std.specs.Cmp.Lexicographic.{slice_cmp}
 use Rattle.std.specs.Ordering.{is_eq, nat_cmp}
-use Rattle.pep440.specs.Version.{Parts as Version}
-use Rattle.pep508.specs.Requirement.{Wanted}
+use Rattle.pep440.specs.Version.{VersionParts as Version}
+use Rattle.pep508.specs.Requirement.{RequirementParts}
 use Rattle.search.specs.Picture.{pictured}
 use Rattle.search.specs.Solutions.{IsBest, version_in as version_in_pins}
-use Rattle.search.specs.Table.{IsAscending, Parts, place_in, rules_of as rules_of_table}
+use Rattle.search.specs.Table.{IsAscending, TableParts, place_in, rules_of as rules_of_table}
 use Rattle.search.specs.declared.parts.Choice.{Choice}
 use Rattle.snapshot.specs.Release.{Release}
-use Rattle.resolve.specs.Given.{Given, releases_on}
+use Rattle.resolve.specs.Problem.{ProblemParts, releases_on}
 use Rattle.resolve.specs.Pictured.{AreKnown, IsKnown, IsPictured, chosen, name_at, picture_of}
 use Rattle.resolve.specs.Places.{version_at}
 use Rattle.resolve.specs.Resolves.{version_in}
@@ -24,7 +24,7 @@ use Rattle.resolve.proofs.Picturing.{nat_cmp-less}
 use Rattle.resolve.proofs.Preferring.{lookup-get}
 
 -- what the code puts at a name
-pub put-as : (given : Given) (names : List (List ℕ)) (choice : Choice) (name key : List ℕ) (rs : List Release) (release : Release) (v : Version) (old new : BTreeMap (List ℕ) Version) → IsKnown given names choice
+pub put-as : (given : ProblemParts) (names : List (List ℕ)) (choice : Choice) (name key : List ℕ) (rs : List Release) (release : Release) (v : Version) (old new : BTreeMap (List ℕ) Version) → IsKnown given names choice
     → name ≡ get_or names choice.name name → rs ≡ releases_on given name → release ≡ get_or rs choice.place release → key ≡ name → v ≡ release.version
     → Updates (slice_cmp nat_cmp) old new key (Some v) → Updates (slice_cmp nat_cmp) old new (name_at names choice.name) (Some (version_at (releases_on given (name_at names choice.name)) choice.place))
 put-as given names choice name key rs release v old new known named listed placed keyed versioned updates =
@@ -40,7 +40,7 @@ drop-at (y ∷ ys) zero x within is = ap (λ z. z ∷ ys) (sym is)
 drop-at (y ∷ ys) (suc n) x within is = drop-at ys n x (omega arith) is
 
 -- one choice more, in front of those that were put
-pub put-more : (given : Given) (names : List (List ℕ)) (choices : List Choice) (n : ℕ) (choice : Choice) (old new : BTreeMap (List ℕ) Version) → n < length choices → choice ≡ get_or choices n choice
+pub put-more : (given : ProblemParts) (names : List (List ℕ)) (choices : List Choice) (n : ℕ) (choice : Choice) (old new : BTreeMap (List ℕ) Version) → n < length choices → choice ≡ get_or choices n choice
     → ((name : List ℕ) → version_in old.entries name ≡ chosen given names (drop (suc n) choices) name)
     → Updates (slice_cmp nat_cmp) old new (name_at names choice.name) (Some (version_at (releases_on given (name_at names choice.name)) choice.place))
     → (name : List ℕ) → version_in new.entries name ≡ chosen given names (drop n choices) name
@@ -60,13 +60,13 @@ ascending-place (c ∷ cs) up choice (suc k, within, is) =
     ap (λ o. cond (is_eq o) (Some c.place) (place_in cs choice.name)) (nat_cmp-less c.name choice.name (up.0 choice there)) ∙ ascending-place cs up.1 choice there
 
 -- the choices of a solution are releases that are there
-pub best-known : (given : Given) (names : List (List ℕ)) (t : Parts) (choices : List Choice) → IsPictured given names t → IsBest (rules_of_table t) (place_in choices) → IsAscending choices → AreKnown given names choices
+pub best-known : (given : ProblemParts) (names : List (List ℕ)) (t : TableParts) (choices : List Choice) → IsPictured given names t → IsBest (rules_of_table t) (place_in choices) → IsAscending choices → AreKnown given names choices
 best-known given names t choices is best up choice h =
     let there = best.solution.released choice.name choice.place (ascending-place choices up choice h) in
     (subst (λ n. choice.name < n) is.counted (within-member t.candidates choice.name choice.place there), is.within choice.name choice.place there)
 
 -- the best solution of the table stands for that of the problem
-pub best-same : (given : Given) (names : List (List ℕ)) (choices : List Choice) (nodes : List Node) (asked : List Wanted) (versions : List (List ℕ × Version)) → ((name : List ℕ) → version_in versions name ≡ chosen given names choices name)
+pub best-same : (given : ProblemParts) (names : List (List ℕ)) (choices : List Choice) (nodes : List Node) (asked : List RequirementParts) (versions : List (List ℕ × Version)) → ((name : List ℕ) → version_in versions name ≡ chosen given names choices name)
     → IsBest (rules_of given) (version_in_pins (slice_cmp nat_cmp) (pictured (picture_of given names nodes asked) choices)) → IsBest (rules_of given) (version_in versions)
 best-same given names choices nodes asked versions same best = subst (λ (s : List ℕ → Option Version). IsBest (rules_of given) s) (λ i name. sym (same name) i) best
 

@@ -1,9 +1,9 @@
 -- A table of the parts that were gathered.
 use Rattle.std.proofs.Common.{◌≡◌, ◌∙◌, ℕ, List, Option, Some, None, map, if◌then◌else◌, sym, ap, subst}
 use Rattle.std.specs.List.{AllZip}
-use Rattle.search.specs.Table.{Parts, in_range}
+use Rattle.search.specs.Table.{TableParts, in_range}
 use Rattle.resolve.specs.Building.{AreEntries, Gathered, IsEntry, IsGrown, IsWanted}
-use Rattle.resolve.specs.Given.{Given}
+use Rattle.resolve.specs.Problem.{ProblemParts}
 use Rattle.resolve.specs.Pictured.{AreListed, IsPictured}
 use Rattle.resolve.specs.Standing.{AllStand}
 use Rattle.resolve.specs.declared.node.Node.{Node}
@@ -13,7 +13,7 @@ use Rattle.resolve.proofs.Picturing.{Rising}
 use Rattle.resolve.proofs.Standing.{AllStand-longer}
 
 -- the steps of the code, put together; the lines were asked first
-pub gathered-as : (given : Given) (first g : Gathered) (names : List (List ℕ)) (t : Parts) → AreEntries given g → t.requirements ≡ g.entries → IsGrown first g → AllStand first.asked t.lines given.active
+pub gathered-as : (given : ProblemParts) (first g : Gathered) (names : List (List ℕ)) (t : TableParts) → AreEntries given g → t.requirements ≡ g.entries → IsGrown first g → AllStand first.asked t.lines given.active
     → AllZip (IsWanted given g.asked) t.wants g.nodes → Rising names → AllStand names t.nodes (map (λ (node : Node). node.name) g.nodes) → AreListed given t.candidates names → IsGathered given g names t
 gathered-as given first g names t entries requirements grown lines wanted rising numbers listed = record {
   entries = subst (λ es. AllZip (IsEntry given g.nodes) es g.asked) (sym requirements) entries;
@@ -25,13 +25,13 @@ gathered-as given first g names t entries requirements grown lines wanted rising
 }
 
 -- such parts make a table
-made : (given : Given) (g : Gathered) (names : List (List ℕ)) (t : Parts) (result : Option Parts) → IsGathered given g names t → result ≡ (if in_range t then Some t else None) → result ≡ Some t
+made : (given : ProblemParts) (g : Gathered) (names : List (List ℕ)) (t : TableParts) (result : Option TableParts) → IsGathered given g names t → result ≡ (if in_range t then Some t else None) → result ≡ Some t
 made given g names t result is e = e ∙ ap (λ b. if b then Some t else None) (is-in_range given g names t is)
 
-pub never-none : (given : Given) (g : Gathered) (names : List (List ℕ)) (t : Parts) (result : Option Parts) → IsGathered given g names t → result ≡ (if in_range t then Some t else None) → result ≡ None → ⊥
+pub never-none : (given : ProblemParts) (g : Gathered) (names : List (List ℕ)) (t : TableParts) (result : Option TableParts) → IsGathered given g names t → result ≡ (if in_range t then Some t else None) → result ≡ None → ⊥
 never-none given g names t result is e none = let k : Some t ≡ None = sym (made given g names t result is e) ∙ none in cc
 
-pub made-pictured : (given : Given) (g : Gathered) (names : List (List ℕ)) (t table : Parts) (result : Option Parts) → IsGathered given g names t → result ≡ (if in_range t then Some t else None) → result ≡ Some table → IsPictured given names table
+pub made-pictured : (given : ProblemParts) (g : Gathered) (names : List (List ℕ)) (t table : TableParts) (result : Option TableParts) → IsGathered given g names t → result ≡ (if in_range t then Some t else None) → result ≡ Some table → IsPictured given names table
 made-pictured given g names t table result is e some =
     let k : Some t ≡ Some table = sym (made given g names t result is e) ∙ some in
     let same : t ≡ table = cc in

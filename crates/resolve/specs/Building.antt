@@ -2,11 +2,11 @@
 -- Tied to `rules_of` by the contract of `Resolver::resolve`; need not be read.
 use Rattle.std.specs.Prelude.{◌≡◌, ℕ, List, map}
 use Rattle.std.specs.List.{AllZip}
-use Rattle.pep508.specs.Requirement.{Wanted}
+use Rattle.pep508.specs.Requirement.{RequirementParts}
 use Rattle.search.specs.Table.{nodes_of as numbers_of}
 use Rattle.search.specs.declared.parts.Requirement.{Requirement as Entry}
 use Rattle.resolve.specs.Admission.{admits_release}
-use Rattle.resolve.specs.Given.{Given, releases_on}
+use Rattle.resolve.specs.Problem.{ProblemParts, releases_on}
 use Rattle.resolve.specs.Rules.{nodes_of, wants_of}
 use Rattle.resolve.specs.Standing.{AllStand, IsLonger}
 use Rattle.resolve.specs.declared.node.Node.{Node}
@@ -14,15 +14,15 @@ use Rattle.resolve.specs.declared.node.Node.{Node}
 -- the nodes, the requirements that lines and dependencies ask for, and the table's entry of each requirement
 pub record Gathered : Type 0 where
   pub nodes : List Node
-  pub asked : List Wanted
+  pub asked : List RequirementParts
   pub entries : List Entry
 
 -- the entry of a requirement: the numbers of its nodes, and for each release of its name whether it is admitted
-pub record IsEntry (given : Given) (nodes : List Node) (entry : Entry) (wanted : Wanted) : Type 0 where
+pub record IsEntry (given : ProblemParts) (nodes : List Node) (entry : Entry) (wanted : RequirementParts) : Type 0 where
   pub numbers : AllStand nodes (numbers_of entry) (nodes_of wanted)
   pub admitted : entry.admits ≡ map (admits_release given wanted) (releases_on given wanted.name)
 
-abbrev pub AreEntries : Given → Gathered → Type 0
+abbrev pub AreEntries : ProblemParts → Gathered → Type 0
 AreEntries given gathered = AllZip (IsEntry given gathered.nodes) gathered.entries gathered.asked
 
 -- nodes and requirements are put behind those that are there
@@ -31,9 +31,9 @@ pub record IsGrown (old new : Gathered) : Type 0 where
   pub asked_more : IsLonger old.asked new.asked
 
 -- for each release the numbers of its dependencies that count
-abbrev pub AreWants : List Wanted → List (List ℕ) → List (List Wanted) → Type 0
+abbrev pub AreWants : List RequirementParts → List (List ℕ) → List (List RequirementParts) → Type 0
 AreWants asked rows wants = AllZip (AllStand asked) rows wants
 
 -- the same at a node
-abbrev pub IsWanted : Given → List Wanted → List (List ℕ) → Node → Type 0
+abbrev pub IsWanted : ProblemParts → List RequirementParts → List (List ℕ) → Node → Type 0
 IsWanted given asked rows node = AreWants asked rows (map (wants_of given.environment node.extra) (releases_on given node.name))

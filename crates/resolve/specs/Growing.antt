@@ -2,9 +2,9 @@
 -- Tied to `AreNeeded` by the contract of `Problem::needed`; need not be read.
 use Rattle.std.specs.Prelude.{◌≡◌, ◌⊎◌, List, [], ◌++◌, Option, Some, None}
 use Rattle.std.specs.List.{Contains, flat_map}
-use Rattle.pep440.specs.Version.{Parts}
-use Rattle.pep508.specs.Requirement.{Wanted}
-use Rattle.resolve.specs.Given.{Given}
+use Rattle.pep440.specs.Version.{VersionParts}
+use Rattle.pep508.specs.Requirement.{RequirementParts}
+use Rattle.resolve.specs.Problem.{ProblemParts}
 use Rattle.resolve.specs.Rules.{nodes_of, wants}
 use Rattle.resolve.specs.declared.node.Node.{Node}
 
@@ -16,10 +16,10 @@ pub record Grows (old new wanted : List Node) : Type 0 where
   pub only : (node : Node) → Contains new node → Contains old node ⊎ Contains wanted node
 
 -- the nodes that requirements need
-abbrev pub nodes_asked : List Wanted → List Node
+abbrev pub nodes_asked : List RequirementParts → List Node
 nodes_asked requirements = flat_map nodes_of requirements
 
 -- the nodes that a node leads to, with this version of its name
-abbrev pub nodes_linked : Given → Node → Option Parts → List Node
+abbrev pub nodes_linked : ProblemParts → Node → Option VersionParts → List Node
 nodes_linked given node None = []
 nodes_linked given node (Some version) = nodes_asked (wants given node version)

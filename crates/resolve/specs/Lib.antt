@@ -1,4 +1,4 @@
-pub mod Given
+pub mod Problem
 pub mod Admission
 pub mod Rules
 pub mod Places

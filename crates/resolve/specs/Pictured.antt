@@ -5,14 +5,14 @@ use Rattle.std.specs.Cmp.Lexicographic.{slice_cmp}
 use Rattle.std.specs.Ordering.{nat_cmp}
 use Rattle.std.specs.List.{AllZip, Contains, slice_index_or}
 use Rattle.std.specs.List.Sorted.{IsStrictlySortedBy}
-use Rattle.pep440.specs.Version.{Parts as Version}
-use Rattle.pep508.specs.Requirement.{Wanted}
+use Rattle.pep440.specs.Version.{VersionParts as Version}
+use Rattle.pep508.specs.Requirement.{RequirementParts}
 use Rattle.search.specs.Picture.{Picture, IsPicture, pictured}
 use Rattle.search.specs.Solutions.{version_in}
-use Rattle.search.specs.Table.{Parts, candidates_of}
+use Rattle.search.specs.Table.{TableParts, candidates_of}
 use Rattle.search.specs.declared.parts.Choice.{Choice}
 use Rattle.snapshot.specs.Releases.{newer_cmp}
-use Rattle.resolve.specs.Given.{Given, releases_on}
+use Rattle.resolve.specs.Problem.{ProblemParts, releases_on}
 use Rattle.resolve.specs.Places.{AreCandidates, version_at}
 use Rattle.resolve.specs.Rules.{bare, rules_of}
 use Rattle.resolve.specs.declared.node.Node.{Node}
@@ -21,7 +21,7 @@ abbrev pub name_at : List (List ℕ) → ℕ → List ℕ
 name_at names n = slice_index_or names n []
 
 -- names, nodes and requirements by their places; a version by that of its release
-abbrev pub picture_of : Given → List (List ℕ) → List Node → List Wanted → Picture (List ℕ) Node Version Wanted
+abbrev pub picture_of : ProblemParts → List (List ℕ) → List Node → List RequirementParts → Picture (List ℕ) Node Version RequirementParts
 picture_of given names nodes asked = record {
   name = name_at names;
   node = λ node. slice_index_or nodes node (bare []);
@@ -30,28 +30,28 @@ picture_of given names nodes asked = record {
 }
 
 -- the table stands for the problem; its names are these
-pub record IsPictured (given : Given) (names : List (List ℕ)) (t : Parts) : Type 0 where
+pub record IsPictured (given : ProblemParts) (names : List (List ℕ)) (t : TableParts) : Type 0 where
   pub nodes : List Node
-  pub asked : List Wanted
+  pub asked : List RequirementParts
   pub pictured : IsPicture t (picture_of given names nodes asked) (rules_of given)
   pub counted : length t.candidates ≡ length names
   pub within : (n place : ℕ) → Contains (candidates_of t n) place → place < length (releases_on given (name_at names n))
 
 -- a choice of a name that is there, with the place of one of its releases
-abbrev pub IsKnown : Given → List (List ℕ) → Choice → Type 0
+abbrev pub IsKnown : ProblemParts → List (List ℕ) → Choice → Type 0
 IsKnown given names choice = (choice.name < length names) × (choice.place < length (releases_on given (name_at names choice.name)))
 
-abbrev pub AreKnown : Given → List (List ℕ) → List Choice → Type 0
+abbrev pub AreKnown : ProblemParts → List (List ℕ) → List Choice → Type 0
 AreKnown given names choices = (choice : Choice) → Contains choices choice → IsKnown given names choice
 
 -- a name's candidates by their places; its releases fall by version
-pub record IsListed (given : Given) (places : List ℕ) (name : List ℕ) : Type 0 where
+pub record IsListed (given : ProblemParts) (places : List ℕ) (name : List ℕ) : Type 0 where
   pub candidates : AreCandidates given name places
   pub fall : IsStrictlySortedBy newer_cmp (releases_on given name)
 
-abbrev pub AreListed : Given → List (List ℕ) → List (List ℕ) → Type 0
+abbrev pub AreListed : ProblemParts → List (List ℕ) → List (List ℕ) → Type 0
 AreListed given rows names = AllZip (IsListed given) rows names
 
 -- the version that the first choice on a name stands for
-abbrev pub chosen : Given → List (List ℕ) → List Choice → List ℕ → Option Version
+abbrev pub chosen : ProblemParts → List (List ℕ) → List Choice → List ℕ → Option Version
 chosen given names choices = version_in (slice_cmp nat_cmp) (pictured (picture_of given names [] []) choices)

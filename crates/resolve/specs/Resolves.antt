@@ -3,24 +3,24 @@ use Rattle.std.specs.Prelude.{ℕ, List, Option}
 use Rattle.std.specs.List.{Contains}
 use Rattle.std.specs.Map.{lookup}
 use Rattle.std.specs.Str.{bytes_eq}
-use Rattle.pep440.specs.Version.{Parts}
+use Rattle.pep440.specs.Version.{VersionParts}
 use Rattle.search.specs.Solutions.{HasNoSolution, IsBest, Needed}
-use Rattle.resolve.specs.Given.{Given}
+use Rattle.resolve.specs.Problem.{ProblemParts}
 use Rattle.resolve.specs.Rules.{rules_of}
 use Rattle.resolve.specs.declared.answer.Answer.{Answer}
 use Rattle.resolve.specs.declared.node.Node.{Node}
 use Rattle.resolve.specs.declared.answer.Answer.TheVariants.{Solution, NoSolution}
 
 -- the version that a list of names with versions has for a name
-abbrev pub version_in : List (List ℕ × Parts) → List ℕ → Option Parts
+abbrev pub version_in : List (List ℕ × VersionParts) → List ℕ → Option VersionParts
 version_in versions name = lookup (bytes_eq name) versions
 
 -- the best solution, or that there is none
-abbrev pub Resolves : Given → Answer → Type 0
+abbrev pub Resolves : ProblemParts → Answer → Type 0
 Resolves given (Solution versions) = IsBest (rules_of given) (version_in versions.entries)
 Resolves given NoSolution = HasNoSolution (rules_of given)
 
 -- the nodes that are needed with these versions, and no others
-pub record AreNeeded (given : Given) (chosen : List ℕ → Option Parts) (nodes : List Node) : Type 0 where
+pub record AreNeeded (given : ProblemParts) (chosen : List ℕ → Option VersionParts) (nodes : List Node) : Type 0 where
   pub sound : (node : Node) → Contains nodes node → Needed (rules_of given) chosen node
   pub whole : (node : Node) → Needed (rules_of given) chosen node → Contains nodes node

@@ -7,7 +7,7 @@ ghost use Rattle.std.specs.Str.{bytes_eq};
 ghost use Rattle.pep440.specs.Matching as clauses;
 ghost use Rattle.pep440.specs.Version.{is_pre};
 ghost use Rattle.resolve.specs.Admission as spec;
-ghost use Rattle.resolve.specs.Given.{releases_on};
+ghost use Rattle.resolve.specs.Problem.{releases_on};
 
 use crate::question::Question;
 use lists::Seq;

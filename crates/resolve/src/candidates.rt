@@ -4,7 +4,7 @@ ghost use Rattle.std.specs.Prelude.{◌≡◌, ◌<◌, IfOk, IfSome, length};
 ghost use Rattle.std.specs.List.{position};
 ghost use Rattle.std.specs.Option.{option_map, option_to_list};
 ghost use Rattle.resolve.specs.Admission.{has_version};
-ghost use Rattle.resolve.specs.Given.{releases_on};
+ghost use Rattle.resolve.specs.Problem.{releases_on};
 ghost use Rattle.resolve.specs.Places.{AreCandidates, version_at};
 ghost use Rattle.resolve.specs.Rules.{kept_version};
 

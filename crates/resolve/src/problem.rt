@@ -3,7 +3,7 @@
 ghost use Rattle.std.specs.Prelude.{◌≡◌, IfOk};
 ghost use Rattle.std.specs.Option.{option_copied};
 ghost use Rattle.resolve.specs.Admission.{release_at};
-ghost use Rattle.resolve.specs.Given.{Given, requirements};
+ghost use Rattle.resolve.specs.Problem.{ProblemParts, requirements};
 ghost use Rattle.resolve.specs.Resolves.{AreNeeded, Resolves, version_in};
 ghost use Rattle.resolve.specs.Rules.{counts};
 
@@ -42,10 +42,10 @@ impl<'a> Drop for Problem<'a> {
 impl<'a> Model for Problem<'a> {
     ghost use Rattle.std.specs.Coded.{codes};
     ghost use Rattle.markers.specs.Tied.MarkerCode.{tree_code};
-    ghost use Rattle.resolve.specs.Given.{Given};
+    ghost use Rattle.resolve.specs.Problem.{ProblemParts};
     ghost use Rattle.resolve.specs.Pictured.{IsPictured};
 
-    ghost Value = { Given };
+    ghost Value = { ProblemParts };
 
     ghost coded = { Prim.hlevel (codes, tree_code) };
 

@@ -6,7 +6,7 @@ ghost use Rattle.std.specs.Option.{option_copied, option_to_list};
 ghost use Rattle.pep508.specs.Requirement.{requirement_of};
 ghost use Rattle.snapshot.specs.Releases.{newer_cmp};
 ghost use Rattle.resolve.specs.Admission.{release_at};
-ghost use Rattle.resolve.specs.Given.{active_in, releases_on, requirements};
+ghost use Rattle.resolve.specs.Problem.{active_in, releases_on, requirements};
 
 use crate::releases;
 use lists::Seq;
@@ -40,9 +40,9 @@ impl<'a> Drop for Question<'a> {
 impl<'a> Model for Question<'a> {
     ghost use Rattle.std.specs.Coded.{codes};
     ghost use Rattle.markers.specs.Tied.MarkerCode.{tree_code};
-    ghost use Rattle.resolve.specs.Given.{Given};
+    ghost use Rattle.resolve.specs.Problem.{ProblemParts};
 
-    ghost Value = { Given };
+    ghost Value = { ProblemParts };
 
     ghost coded = { Prim.hlevel (codes, tree_code) };
 

@@ -5,7 +5,7 @@ ghost use Rattle.std.specs.BTreeMap.{Updates};
 ghost use Rattle.std.specs.Cmp.Lexicographic.{slice_cmp};
 ghost use Rattle.std.specs.Ordering.{nat_cmp};
 ghost use Rattle.search.specs.Solutions.{version_in as version_of_pins};
-ghost use Rattle.resolve.specs.Given.{releases_on};
+ghost use Rattle.resolve.specs.Problem.{releases_on};
 ghost use Rattle.resolve.specs.Pictured.{AreKnown, IsKnown, chosen, name_at};
 ghost use Rattle.resolve.specs.Places.{version_at};
 ghost use Rattle.resolve.specs.Resolves.{version_in};

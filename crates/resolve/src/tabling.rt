@@ -3,7 +3,7 @@
 ghost use Rattle.std.specs.Prelude.{◌≡◌, IfOk};
 ghost use Rattle.std.specs.List.Sorted.{IsStrictlySortedBy};
 ghost use Rattle.snapshot.specs.Releases.{newer_cmp};
-ghost use Rattle.resolve.specs.Given.{releases_on};
+ghost use Rattle.resolve.specs.Problem.{releases_on};
 ghost use Rattle.resolve.specs.Pictured.{AreListed, IsListed, IsPictured};
 
 use crate::candidates::candidates;

@@ -18,7 +18,7 @@ use Rattle.search.specs.Learning.{version_of}
 use Rattle.search.specs.Rules.{Rules, IsLawful}
 use Rattle.search.specs.Search.{pins_of}
 use Rattle.search.specs.Solutions.{Pin, version_in}
-use Rattle.search.specs.Table.{Parts, rules_of}
+use Rattle.search.specs.Table.{TableParts, rules_of}
 
 -- ---- the first choice on each name
 
@@ -167,7 +167,7 @@ clash-wanted rules hs first same c other r w h = elim h.is [
 ]
 
 -- where nothing clashes the candidate fits
-pub none-clashes : (t : Parts) (law : IsLawful (rules_of t)) (conflicts : List (List (NodeChoice ℕ ℕ))) (hs : List Held) (first : ℕ → Option (NodeChoice ℕ ℕ)) → AreFirst (rules_of t) hs first → IsLearning (rules_of t) conflicts [] hs → (c : NodeChoice ℕ ℕ) → ((d : NodeChoice ℕ ℕ) → first ((rules_of t).on c.node) ≡ Some d → d.version ≡ c.version) → AsksFit (rules_of t) (asks_of (rules_of t) hs) c → ((r : ℕ) → Contains ((rules_of t).wants c.node c.version) r → WantedFits (rules_of t) first c r) → FitsBefore (rules_of t) hs c
+pub none-clashes : (t : TableParts) (law : IsLawful (rules_of t)) (conflicts : List (List (NodeChoice ℕ ℕ))) (hs : List Held) (first : ℕ → Option (NodeChoice ℕ ℕ)) → AreFirst (rules_of t) hs first → IsLearning (rules_of t) conflicts [] hs → (c : NodeChoice ℕ ℕ) → ((d : NodeChoice ℕ ℕ) → first ((rules_of t).on c.node) ≡ Some d → d.version ≡ c.version) → AsksFit (rules_of t) (asks_of (rules_of t) hs) c → ((r : ℕ) → Contains ((rules_of t).wants c.node c.version) r → WantedFits (rules_of t) first c r) → FitsBefore (rules_of t) hs c
 none-clashes t law conflicts hs first same l c tied asks wants =
     let rules : Rules ℕ ℕ ℕ ℕ = rules_of t in
     let one : (v : ℕ) → version_in nat_cmp (names_held (rules_of t) hs) ((rules_of t).on c.node) ≡ Some v → v ≡ c.version = λ v e.

@@ -13,7 +13,7 @@ use Rattle.search.specs.Rules.{Rules}
 use Rattle.search.specs.Search.{pins_of, taken_at, clash_at, clash_in}
 use Rattle.search.specs.Solutions.{version_in}
 use Rattle.search.specs.Steps.{IsTried, TakesFirst}
-use Rattle.search.specs.Table.{Parts}
+use Rattle.search.specs.Table.{TableParts}
 
 -- before anything is known, nothing has to fit
 pub fit-none : (rules : Rules ℕ ℕ ℕ ℕ) (chosen : ℕ → Option ℕ) (asked : List ℕ) (since : Since) → since.asked ≡ 0 → HaveFit rules chosen asked since
@@ -39,5 +39,5 @@ last-pushed fs xs f d e =
     ap (λ k. get_or xs k d) l ∙ ap (λ ys. get_or ys (length fs) d) e ∙ last-step fs f d
 
 -- what was pushed is the last of the frames
-pub entered-is : (t : Parts) (fs xs ys : List Frame) (n : ℕ) (g : Frame) → (h : IsTried t n 0 fs xs true) → ys ≡ xs → g ≡ get_or ys (length ys - 1) g → g ≡ h.0
+pub entered-is : (t : TableParts) (fs xs ys : List Frame) (n : ℕ) (g : Frame) → (h : IsTried t n 0 fs xs true) → ys ≡ xs → g ≡ get_or ys (length ys - 1) g → g ≡ h.0
 entered-is t fs xs ys n g h e i = i ∙ ap (λ zs. get_or zs (length zs - 1) g) e ∙ last-pushed fs xs h.0 g h.2

@@ -15,7 +15,7 @@ use Rattle.search.specs.Gathering.{choice_at}
 use Rattle.search.specs.Learned.{decision_of, decisions_of, entry_of, entries_of, with_leader, leaders_held, ask_of, asks_by, asks_held, asks_of, first_at, IsPartial}
 use Rattle.search.specs.Rules.{Rules}
 use Rattle.search.specs.Solutions.{Pin, version_in}
-use Rattle.search.specs.Table.{Parts, rules_of, name_of}
+use Rattle.search.specs.Table.{TableParts, rules_of, name_of}
 
 pub decisions-push : (hs : List Held) (h : Held) → decisions_of (hs ++ h ∷ []) ≡ decisions_of hs ++ decision_of h ∷ []
 decisions-push [] h = refl
@@ -77,7 +77,7 @@ taken-pop taken ps p l none same n = elim (nat_cases p.name n) [
 
 -- ---- one choice more
 
-pub partial-push_first : (t : Parts) (p q : Partial) (h : Held) → IsPartial t p → name_of t h.trial.node < length t.candidates → h.trial.leads ≡ true → version_in nat_cmp (leaders_held (rules_of t) p.held.items) (name_of t h.trial.node) ≡ None → q.held.items ≡ p.held.items ++ h ∷ [] → q.choices.entries ≡ p.choices.entries ++ entry_of h ∷ [] → q.agenda.asks.items ≡ p.agenda.asks.items ++ asks_by (rules_of t) h → q.taken.items ≡ slice_set p.taken.items (name_of t h.trial.node) (Some (decision_of h)) → AreRowed t q.agenda → IsWatched t q.agenda q.taken.items (map choice_at q.choices.entries) → IsPartial t q
+pub partial-push_first : (t : TableParts) (p q : Partial) (h : Held) → IsPartial t p → name_of t h.trial.node < length t.candidates → h.trial.leads ≡ true → version_in nat_cmp (leaders_held (rules_of t) p.held.items) (name_of t h.trial.node) ≡ None → q.held.items ≡ p.held.items ++ h ∷ [] → q.choices.entries ≡ p.choices.entries ++ entry_of h ∷ [] → q.agenda.asks.items ≡ p.agenda.asks.items ++ asks_by (rules_of t) h → q.taken.items ≡ slice_set p.taken.items (name_of t h.trial.node) (Some (decision_of h)) → AreRowed t q.agenda → IsWatched t q.agenda q.taken.items (map choice_at q.choices.entries) → IsPartial t q
 partial-push_first t p q h s l leads none held choices asks taken rowed watched =
     let ps : List (Pin ℕ (NodeChoice ℕ ℕ)) = leaders_held (rules_of t) p.held.items in
     let pin : Pin ℕ (NodeChoice ℕ ℕ) = record { name = name_of t h.trial.node; version = decision_of h } in
@@ -91,7 +91,7 @@ partial-push_first t p q h s l leads none held choices asks taken rowed watched 
       watched = watched;
     }
 
-pub partial-push_tied : (t : Parts) (p q : Partial) (h : Held) → IsPartial t p → h.trial.leads ≡ false → q.held.items ≡ p.held.items ++ h ∷ [] → q.choices.entries ≡ p.choices.entries ++ entry_of h ∷ [] → q.agenda.asks.items ≡ p.agenda.asks.items ++ asks_by (rules_of t) h → q.taken.items ≡ p.taken.items → AreRowed t q.agenda → IsWatched t q.agenda q.taken.items (map choice_at q.choices.entries) → IsPartial t q
+pub partial-push_tied : (t : TableParts) (p q : Partial) (h : Held) → IsPartial t p → h.trial.leads ≡ false → q.held.items ≡ p.held.items ++ h ∷ [] → q.choices.entries ≡ p.choices.entries ++ entry_of h ∷ [] → q.agenda.asks.items ≡ p.agenda.asks.items ++ asks_by (rules_of t) h → q.taken.items ≡ p.taken.items → AreRowed t q.agenda → IsWatched t q.agenda q.taken.items (map choice_at q.choices.entries) → IsPartial t q
 partial-push_tied t p q h s leads held choices asks taken rowed watched =
     let ps : List (Pin ℕ (NodeChoice ℕ ℕ)) = leaders_held (rules_of t) p.held.items in
     let leaders : leaders_held (rules_of t) q.held.items ≡ ps = ap (leaders_held (rules_of t)) held ∙ leaders-push (rules_of t) p.held.items h ∙ ap (λ b. ps ++ with_leader (rules_of t) b h []) leads ∙ append-nil ps in
@@ -126,19 +126,19 @@ entries-pop new (Some x) hs h e f = snoc-front new (entries_of hs) x (entry_of h
 pub take-length : {X : Type 0} (xs ys : List X) → take (length xs) (xs ++ ys) ≡ xs
 take-length xs ys = take-front xs ys (length xs) (omega arith) ∙ take-whole xs (length xs) (omega arith)
 
-pub asks-length : (t : Parts) (p : Partial) (hs : List Held) (h : Held) → IsPartial t p → p.held.items ≡ hs ++ h ∷ [] → length p.agenda.asks.items ≡ length (asks_of (rules_of t) hs) + length ((rules_of t).wants h.trial.node h.place)
+pub asks-length : (t : TableParts) (p : Partial) (hs : List Held) (h : Held) → IsPartial t p → p.held.items ≡ hs ++ h ∷ [] → length p.agenda.asks.items ≡ length (asks_of (rules_of t) hs) + length ((rules_of t).wants h.trial.node h.place)
 asks-length t p hs h s held =
     let by : length (asks_by (rules_of t) h) ≡ length ((rules_of t).wants h.trial.node h.place) = length-map ((rules_of t).wants h.trial.node h.place) (ask_of (Some (decision_of h))) in
     ap length (s.asks ∙ ap (asks_of (rules_of t)) held ∙ asks-push (rules_of t) hs h) ∙ length-append (asks_of (rules_of t) hs) (asks_by (rules_of t) h) ∙ ap (λ k. length (asks_of (rules_of t) hs) + k) by
 
-pub asks-pop : (t : Parts) (p : Partial) (hs : List Held) (h : Held) (left : ℕ) → IsPartial t p → p.held.items ≡ hs ++ h ∷ [] → left + length ((rules_of t).wants h.trial.node h.place) ≡ length p.agenda.asks.items → take left p.agenda.asks.items ≡ asks_of (rules_of t) hs
+pub asks-pop : (t : TableParts) (p : Partial) (hs : List Held) (h : Held) (left : ℕ) → IsPartial t p → p.held.items ≡ hs ++ h ∷ [] → left + length ((rules_of t).wants h.trial.node h.place) ≡ length p.agenda.asks.items → take left p.agenda.asks.items ≡ asks_of (rules_of t) hs
 asks-pop t p hs h left s held e =
     let k : left ≡ length (asks_of (rules_of t) hs) = let l = asks-length t p hs h s held in omega arith in
     ap (λ n. take n p.agenda.asks.items) k
     ∙ ap (take (length (asks_of (rules_of t) hs))) (s.asks ∙ ap (asks_of (rules_of t)) held ∙ asks-push (rules_of t) hs h)
     ∙ take-length (asks_of (rules_of t) hs) (asks_by (rules_of t) h)
 
-pub partial-pop_first : (t : Parts) (p q : Partial) (h : Held) → IsPartial t p → p.held.items ≡ q.held.items ++ h ∷ [] → name_of t h.trial.node < length t.candidates → h.trial.leads ≡ true → version_in nat_cmp (leaders_held (rules_of t) q.held.items) (name_of t h.trial.node) ≡ None → q.choices.entries ≡ entries_of q.held.items → q.agenda.asks.items ≡ asks_of (rules_of t) q.held.items → q.taken.items ≡ slice_set p.taken.items (name_of t h.trial.node) None → AreRowed t q.agenda → IsWatched t q.agenda q.taken.items (map choice_at q.choices.entries) → IsPartial t q
+pub partial-pop_first : (t : TableParts) (p q : Partial) (h : Held) → IsPartial t p → p.held.items ≡ q.held.items ++ h ∷ [] → name_of t h.trial.node < length t.candidates → h.trial.leads ≡ true → version_in nat_cmp (leaders_held (rules_of t) q.held.items) (name_of t h.trial.node) ≡ None → q.choices.entries ≡ entries_of q.held.items → q.agenda.asks.items ≡ asks_of (rules_of t) q.held.items → q.taken.items ≡ slice_set p.taken.items (name_of t h.trial.node) None → AreRowed t q.agenda → IsWatched t q.agenda q.taken.items (map choice_at q.choices.entries) → IsPartial t q
 partial-pop_first t p q h s held l leads none choices asks taken rowed watched =
     let ps : List (Pin ℕ (NodeChoice ℕ ℕ)) = leaders_held (rules_of t) q.held.items in
     let pin : Pin ℕ (NodeChoice ℕ ℕ) = record { name = name_of t h.trial.node; version = decision_of h } in
@@ -152,7 +152,7 @@ partial-pop_first t p q h s held l leads none choices asks taken rowed watched =
       watched = watched;
     }
 
-pub partial-pop_tied : (t : Parts) (p q : Partial) (h : Held) → IsPartial t p → p.held.items ≡ q.held.items ++ h ∷ [] → h.trial.leads ≡ false → q.choices.entries ≡ entries_of q.held.items → q.agenda.asks.items ≡ asks_of (rules_of t) q.held.items → q.taken.items ≡ p.taken.items → AreRowed t q.agenda → IsWatched t q.agenda q.taken.items (map choice_at q.choices.entries) → IsPartial t q
+pub partial-pop_tied : (t : TableParts) (p q : Partial) (h : Held) → IsPartial t p → p.held.items ≡ q.held.items ++ h ∷ [] → h.trial.leads ≡ false → q.choices.entries ≡ entries_of q.held.items → q.agenda.asks.items ≡ asks_of (rules_of t) q.held.items → q.taken.items ≡ p.taken.items → AreRowed t q.agenda → IsWatched t q.agenda q.taken.items (map choice_at q.choices.entries) → IsPartial t q
 partial-pop_tied t p q h s held leads choices asks taken rowed watched =
     let ps : List (Pin ℕ (NodeChoice ℕ ℕ)) = leaders_held (rules_of t) q.held.items in
     let leaders : leaders_held (rules_of t) p.held.items ≡ ps = ap (leaders_held (rules_of t)) held ∙ leaders-push (rules_of t) q.held.items h ∙ ap (λ b. ps ++ with_leader (rules_of t) b h []) leads ∙ append-nil ps in

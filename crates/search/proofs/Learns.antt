@@ -20,7 +20,7 @@ use Rattle.search.specs.Learned.{decision_of, decisions_of, names_held, leaders_
 use Rattle.search.specs.Learning.{IsLearned, version_of}
 use Rattle.search.specs.Rules.{Rules}
 use Rattle.search.specs.Solutions.{Needed, IsNext, HasNoSolution, version_in}
-use Rattle.search.specs.Table.{Parts, rules_of, name_of, candidates_of, in_range}
+use Rattle.search.specs.Table.{TableParts, rules_of, name_of, candidates_of, in_range}
 use Rattle.search.specs.Trials.{IsRefused}
 
 -- ---- a candidate is refused
@@ -66,7 +66,7 @@ each-push : (rules : Rules ℕ ℕ ℕ ℕ) (earlier cs : List (List (NodeChoice
 each-push rules earlier [] c f g = (subst (λ xs. Follows rules places_eq xs c) (append-nil earlier) g, tt)
 each-push rules earlier (d ∷ cs) c f g = (f.0, each-push rules (earlier ++ d ∷ []) cs c f.1 (subst (λ xs. Follows rules places_eq xs c) (sym (append_assoc earlier (d ∷ []) cs)) g))
 
-pub learned-more : (t : Parts) (p : Partial) (conflicts : List (List (NodeChoice ℕ ℕ))) (c : List (NodeChoice ℕ ℕ)) → IsLearned t p conflicts → Follows (rules_of t) places_eq conflicts c → IsLearned t p (conflicts ++ c ∷ [])
+pub learned-more : (t : TableParts) (p : Partial) (conflicts : List (List (NodeChoice ℕ ℕ))) (c : List (NodeChoice ℕ ℕ)) → IsLearned t p conflicts → Follows (rules_of t) places_eq conflicts c → IsLearned t p (conflicts ++ c ∷ [])
 learned-more t p conflicts c h f = record {
   partial = h.partial;
   follows = each-push (rules_of t) [] conflicts c h.follows f;
@@ -113,11 +113,11 @@ last-recorded (y ∷ ys) x d = last-recorded ys x d
 
 -- ---- choices are given back
 
-needed-known : (t : Parts) → in_range t ≡ true → (decisions : List (NodeChoice ℕ ℕ)) (node : ℕ) (by : Option (NodeChoice ℕ ℕ)) → IsNeededBy (rules_of t) decisions node by → node < length t.nodes
+needed-known : (t : TableParts) → in_range t ≡ true → (decisions : List (NodeChoice ℕ ℕ)) (node : ℕ) (by : Option (NodeChoice ℕ ℕ)) → IsNeededBy (rules_of t) decisions node by → node < length t.nodes
 needed-known t known decisions node None h = nodes-known t known h.0 (lines-known t known h.0 h.1) node h.2
 needed-known t known decisions node (Some c) h = nodes-known t known h.0 (wants-known t known c.node c.version h.0 h.2) node h.3
 
-pub trial-known : (t : Parts) → in_range t ≡ true → (conflicts : List (List (NodeChoice ℕ ℕ))) (before : List Held) (trial : Trial) → IsTrial (rules_of t) conflicts before trial → trial.node < length t.nodes
+pub trial-known : (t : TableParts) → in_range t ≡ true → (conflicts : List (List (NodeChoice ℕ ℕ))) (before : List Held) (trial : Trial) → IsTrial (rules_of t) conflicts before trial → trial.node < length t.nodes
 trial-known t known conflicts before trial h = needed-known t known (decisions_of before) trial.node trial.by h.by
 
 version-none : (o : Option (NodeChoice ℕ ℕ)) → version_of o ≡ None → o ≡ None
@@ -125,12 +125,12 @@ version-none None e = refl
 version-none (Some c) e = absurd (cc)
 
 -- where a trial leads, its name had no choice
-pub leads-first : (t : Parts) (conflicts : List (List (NodeChoice ℕ ℕ))) (before : List Held) (trial : Trial) → IsTrial (rules_of t) conflicts before trial → trial.leads ≡ true → version_in nat_cmp (leaders_held (rules_of t) before) (name_of t trial.node) ≡ None
+pub leads-first : (t : TableParts) (conflicts : List (List (NodeChoice ℕ ℕ))) (before : List Held) (trial : Trial) → IsTrial (rules_of t) conflicts before trial → trial.leads ≡ true → version_in nat_cmp (leaders_held (rules_of t) before) (name_of t trial.node) ≡ None
 leads-first t conflicts before trial h leads =
     let next : IsNext (rules_of t) (names_held (rules_of t) before) (name_of t trial.node) = subst (λ b. IsInTurn (rules_of t) (names_held (rules_of t) before) trial.node b) leads h.in_turn in
     version-none (version_in nat_cmp (leaders_held (rules_of t) before) (name_of t trial.node)) (sym (leader-version (rules_of t) before (name_of t trial.node)) ∙ next.free)
 
-pub last-new : (t : Parts) → in_range t ≡ true → (conflicts : List (List (NodeChoice ℕ ℕ))) (hs : List Held) → IsLearning (rules_of t) conflicts [] hs → LastIsNew t hs
+pub last-new : (t : TableParts) → in_range t ≡ true → (conflicts : List (List (NodeChoice ℕ ℕ))) (hs : List Held) → IsLearning (rules_of t) conflicts [] hs → LastIsNew t hs
 last-new t known conflicts hs l front last e =
     let k : IsLearning (rules_of t) conflicts [] front × IsHeld (rules_of t) conflicts front last = IsLearning-pop (rules_of t) conflicts [] front last (subst (λ xs. IsLearning (rules_of t) conflicts [] xs) e l) in
     (trial-known t known conflicts front last.trial k.1.trial, leads-first t conflicts front last.trial k.1.trial)
@@ -146,7 +146,7 @@ pub within-last : (hs : List Held) (h : Held) (conflict : List (NodeChoice ℕ �
 within-last hs h conflict within c i = Contains-push_cases (decisions_of hs) (decision_of h) c (subst (λ cs. Contains cs c) (decisions-push hs h) (within c i))
 
 -- where nothing is held, no conflict that is held by it lies in a solution
-pub nothing-held : (t : Parts) → in_range t ≡ true → (conflicts : List (List (NodeChoice ℕ ℕ))) (conflict : List (NodeChoice ℕ ℕ)) → EachFollows (rules_of t) places_eq [] conflicts → Contains conflicts conflict → ((c : NodeChoice ℕ ℕ) → Contains conflict c → Contains (decisions_of []) c) → HasNoSolution (rules_of t)
+pub nothing-held : (t : TableParts) → in_range t ≡ true → (conflicts : List (List (NodeChoice ℕ ℕ))) (conflict : List (NodeChoice ℕ ℕ)) → EachFollows (rules_of t) places_eq [] conflicts → Contains conflicts conflict → ((c : NodeChoice ℕ ℕ) → Contains conflict c → Contains (decisions_of []) c) → HasNoSolution (rules_of t)
 nothing-held t known conflicts conflict f there within s sol = follows-excluded (rules_of t) (table-lawful t known) conflicts f conflict there s sol (λ c i. absurd (Contains-nil c (within c i)))
 
 pub member-at : {X : Type 0} (xs : List (List X)) (i : ℕ) → i < length xs → Contains xs (get_or xs i [])
@@ -155,7 +155,7 @@ member-at (x ∷ xs) zero l = Contains-here x xs
 member-at (x ∷ xs) (suc i) l = let k : Contains xs (get_or xs i []) = member-at xs i (omega arith) in (suc k.0, omega arith, k.2)
 
 -- a candidate that fits is held
-pub learned-push : (t : Parts) (p q : Partial) (conflicts : List (List (NodeChoice ℕ ℕ))) (trial : Trial) (place : ℕ) → IsLearned t p conflicts → IsPartial t q → q.held.items ≡ p.held.items ++ (record { trial = trial; place = place }) ∷ [] → IsTrial (rules_of t) conflicts p.held.items trial → trial.turn < length (candidates_of t (name_of t trial.node)) → get_or (candidates_of t (name_of t trial.node)) trial.turn place ≡ place → FitsBefore (rules_of t) p.held.items (decision trial.node place) → IsLearned t q conflicts
+pub learned-push : (t : TableParts) (p q : Partial) (conflicts : List (List (NodeChoice ℕ ℕ))) (trial : Trial) (place : ℕ) → IsLearned t p conflicts → IsPartial t q → q.held.items ≡ p.held.items ++ (record { trial = trial; place = place }) ∷ [] → IsTrial (rules_of t) conflicts p.held.items trial → trial.turn < length (candidates_of t (name_of t trial.node)) → get_or (candidates_of t (name_of t trial.node)) trial.turn place ≡ place → FitsBefore (rules_of t) p.held.items (decision trial.node place) → IsLearned t q conflicts
 learned-push t p q conflicts trial place h s held k turn at fits = record {
   partial = s;
   follows = h.follows;

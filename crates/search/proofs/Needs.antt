@@ -17,7 +17,7 @@ use Rattle.search.specs.Learned.{decisions_of, names_held, chosen_held, ask_of, 
 use Rattle.search.specs.Learning.{version_of}
 use Rattle.search.specs.Rules.{Rules, IsLawful}
 use Rattle.search.specs.Solutions.{Needed, by_line, by_dependency, IsNext, version_in}
-use Rattle.search.specs.Table.{Parts, rules_of}
+use Rattle.search.specs.Table.{TableParts, rules_of}
 
 -- ---- a node on a name that has a version
 
@@ -43,7 +43,7 @@ needed-by rules decisions r node (Some c) h i = (r, h.0, h.1, i)
 abbrev IsAskedFor : Rules ℕ ℕ ℕ ℕ → List Held → ℕ → Type 0
 IsAskedFor rules hs node = (r : ℕ) × (by : Option (NodeChoice ℕ ℕ)) × IsAskedBy rules (decisions_of hs) r by × Contains (rules.nodes r) node
 
-needed-asked : (t : Parts) (law : IsLawful (rules_of t)) (conflicts : List (List (NodeChoice ℕ ℕ))) (hs : List Held) (first : ℕ → Option (NodeChoice ℕ ℕ)) → AreFirst (rules_of t) hs first → IsLearning (rules_of t) conflicts [] hs → NoneTied (rules_of t) first (decisions_of hs) (asks_of (rules_of t) hs) → (node : ℕ) → Needed (rules_of t) (chosen_held (rules_of t) hs) node → IsAskedFor (rules_of t) hs node
+needed-asked : (t : TableParts) (law : IsLawful (rules_of t)) (conflicts : List (List (NodeChoice ℕ ℕ))) (hs : List Held) (first : ℕ → Option (NodeChoice ℕ ℕ)) → AreFirst (rules_of t) hs first → IsLearning (rules_of t) conflicts [] hs → NoneTied (rules_of t) first (decisions_of hs) (asks_of (rules_of t) hs) → (node : ℕ) → Needed (rules_of t) (chosen_held (rules_of t) hs) node → IsAskedFor (rules_of t) hs node
 needed-asked t law conflicts hs first same l tied _ (by_line r node h i) = (r, None, h, i)
 needed-asked t law conflicts hs first same l tied _ (by_dependency link v r node k e w i) =
     let a : IsAskedFor (rules_of t) hs link = needed-asked t law conflicts hs first same l tied link k in
@@ -55,7 +55,7 @@ needed-asked t law conflicts hs first same l tied _ (by_dependency link v r node
     (r, Some (decision link v), (subst (λ x. Contains (decisions_of hs) (decision link x)) one u.1, w), i)
 
 -- so the trial of a tied node comes next
-pub tied-trial : (t : Parts) (law : IsLawful (rules_of t)) (conflicts any : List (List (NodeChoice ℕ ℕ))) (hs : List Held) (first : ℕ → Option (NodeChoice ℕ ℕ)) → AreFirst (rules_of t) hs first → IsLearning (rules_of t) conflicts [] hs → (need : Need) → IsTied (rules_of t) first (decisions_of hs) (asks_of (rules_of t) hs) need → (trial : Trial) → trial.node ≡ need.node → trial.by ≡ need.by → trial.leads ≡ false → trial.turn ≡ 0 → trial.blame.items ≡ [] → IsTrial (rules_of t) any hs trial
+pub tied-trial : (t : TableParts) (law : IsLawful (rules_of t)) (conflicts any : List (List (NodeChoice ℕ ℕ))) (hs : List Held) (first : ℕ → Option (NodeChoice ℕ ℕ)) → AreFirst (rules_of t) hs first → IsLearning (rules_of t) conflicts [] hs → (need : Need) → IsTied (rules_of t) first (decisions_of hs) (asks_of (rules_of t) hs) need → (trial : Trial) → trial.node ≡ need.node → trial.by ≡ need.by → trial.leads ≡ false → trial.turn ≡ 0 → trial.blame.items ≡ [] → IsTrial (rules_of t) any hs trial
 tied-trial t law conflicts any hs first same l need h trial node by leads turn blame =
     let rules : Rules ℕ ℕ ℕ ℕ = rules_of t in
     let asked : IsAskedBy (rules_of t) (decisions_of hs) h.ask.requirement h.ask.by = asks-sound (rules_of t) hs h.ask h.there in
@@ -73,7 +73,7 @@ tied-trial t law conflicts any hs first same l need h trial node by leads turn b
     }
 
 -- and where none is tied, that of a node on the least name
-pub least-trial : (t : Parts) (law : IsLawful (rules_of t)) (conflicts any : List (List (NodeChoice ℕ ℕ))) (hs : List Held) (first : ℕ → Option (NodeChoice ℕ ℕ)) → AreFirst (rules_of t) hs first → IsLearning (rules_of t) conflicts [] hs → NoneTied (rules_of t) first (decisions_of hs) (asks_of (rules_of t) hs) → (need : Need) → IsLeastNeed (rules_of t) first (asks_of (rules_of t) hs) need → (trial : Trial) → trial.node ≡ need.node → trial.by ≡ need.by → trial.leads ≡ true → trial.turn ≡ 0 → trial.blame.items ≡ [] → IsTrial (rules_of t) any hs trial
+pub least-trial : (t : TableParts) (law : IsLawful (rules_of t)) (conflicts any : List (List (NodeChoice ℕ ℕ))) (hs : List Held) (first : ℕ → Option (NodeChoice ℕ ℕ)) → AreFirst (rules_of t) hs first → IsLearning (rules_of t) conflicts [] hs → NoneTied (rules_of t) first (decisions_of hs) (asks_of (rules_of t) hs) → (need : Need) → IsLeastNeed (rules_of t) first (asks_of (rules_of t) hs) need → (trial : Trial) → trial.node ≡ need.node → trial.by ≡ need.by → trial.leads ≡ true → trial.turn ≡ 0 → trial.blame.items ≡ [] → IsTrial (rules_of t) any hs trial
 least-trial t law conflicts any hs first same l tied need h trial node by leads turn blame =
     let asked : IsAskedBy (rules_of t) (decisions_of hs) h.ask.requirement h.ask.by = asks-sound (rules_of t) hs h.ask h.there in
     let needed : Needed (rules_of t) (chosen_held (rules_of t) hs) need.node = asked-needed (rules_of t) law conflicts hs l h.ask.requirement need.node h.ask.by asked h.node in
@@ -99,7 +99,7 @@ least-trial t law conflicts any hs first same l tied need h trial node by leads 
     }
 
 -- where no name is without a version, each needed node is held
-pub none-free : (t : Parts) (law : IsLawful (rules_of t)) (conflicts : List (List (NodeChoice ℕ ℕ))) (hs : List Held) (first : ℕ → Option (NodeChoice ℕ ℕ)) → AreFirst (rules_of t) hs first → IsLearning (rules_of t) conflicts [] hs → NoneTied (rules_of t) first (decisions_of hs) (asks_of (rules_of t) hs) → IsFoundNeed (rules_of t) first (asks_of (rules_of t) hs) None → AllHeld (rules_of t) hs
+pub none-free : (t : TableParts) (law : IsLawful (rules_of t)) (conflicts : List (List (NodeChoice ℕ ℕ))) (hs : List Held) (first : ℕ → Option (NodeChoice ℕ ℕ)) → AreFirst (rules_of t) hs first → IsLearning (rules_of t) conflicts [] hs → NoneTied (rules_of t) first (decisions_of hs) (asks_of (rules_of t) hs) → IsFoundNeed (rules_of t) first (asks_of (rules_of t) hs) None → AllHeld (rules_of t) hs
 none-free t law conflicts hs first same l tied none node n =
     let a : IsAskedFor (rules_of t) hs node = needed-asked t law conflicts hs first same l tied node n in
     let there : Contains (asks_of (rules_of t) hs) (ask_of a.1 a.0) = asks-whole (rules_of t) hs a.0 a.1 a.2 in

@@ -12,19 +12,19 @@ use Rattle.search.specs.declared.parts.Choice.{Choice}
 use Rattle.search.specs.Picture.{Picture, IsPicture, pin_pictured, pictured}
 use Rattle.search.specs.Rules.{Rules, IsOrder}
 use Rattle.search.specs.Solutions.{Needed, IsNeededName, Solution, Pin, version_in, IsNext, IsWalk, Has, ComesFirst, IsBetter, IsBest, HasNoSolution}
-use Rattle.search.specs.Table.{Parts, rules_of, name_of, candidates_of, in_range, pin_of, place_in}
+use Rattle.search.specs.Table.{TableParts, rules_of, name_of, candidates_of, in_range, pin_of, place_in}
 
 -- ---- maps made of pins
 
 -- the names of the pins are numbers of the table
-abbrev AreKnownPins : Parts → List (Pin ℕ ℕ) → Type 0
+abbrev AreKnownPins : TableParts → List (Pin ℕ ℕ) → Type 0
 AreKnownPins t ps = (p : Pin ℕ ℕ) → Contains ps p → p.name < length t.candidates
 
 cond-image : {V : Type 0} (b : Bool) (f : ℕ → V) (g : ℕ → V) (p : ℕ) (x : Option V) (o : Option ℕ) → (b ≡ true → g p ≡ f p) → x ≡ image f o → cond b (Some (g p)) x ≡ image f (cond b (Some p) o)
 cond-image true f g p x o h e = ap (λ v. Some v) (h refl)
 cond-image false f g p x o h e = e
 
-version-up : {N X V R : Type 0} (t : Parts) (picture : Picture N X V R) (rules : Rules N X V R) → IsPicture t picture rules → (ps : List (Pin ℕ ℕ)) → AreKnownPins t ps → (n : ℕ) → n < length t.candidates → version_in rules.compare (map (pin_pictured picture) ps) (picture.name n) ≡ image (picture.version n) (version_in nat_cmp ps n)
+version-up : {N X V R : Type 0} (t : TableParts) (picture : Picture N X V R) (rules : Rules N X V R) → IsPicture t picture rules → (ps : List (Pin ℕ ℕ)) → AreKnownPins t ps → (n : ℕ) → n < length t.candidates → version_in rules.compare (map (pin_pictured picture) ps) (picture.name n) ≡ image (picture.version n) (version_in nat_cmp ps n)
 version-up t picture rules h [] k n l = refl
 version-up {N} {X} {V} t picture rules h (p ∷ ps) k n l =
     let same : rules.compare (picture.name p.name) (picture.name n) ≡ nat_cmp p.name n = h.order p.name n (k p (Contains-here p ps)) l in
@@ -45,18 +45,18 @@ member-some (q ∷ ps) p i = cond-some (is_eq (nat_cmp q.name p.name)) q.version
 ])
 
 -- pins that a map of candidates has are known
-known-pins : (t : Parts) (s : ℕ → Option ℕ) (ps : List (Pin ℕ ℕ)) → ((n p : ℕ) → s n ≡ Some p → Contains (candidates_of t n) p) → Has (rules_of t) s ps → AreKnownPins t ps
+known-pins : (t : TableParts) (s : ℕ → Option ℕ) (ps : List (Pin ℕ ℕ)) → ((n p : ℕ) → s n ≡ Some p → Contains (candidates_of t n) p) → Has (rules_of t) s ps → AreKnownPins t ps
 known-pins t s ps released had p i =
     let w : (w : ℕ) × (version_in nat_cmp ps p.name ≡ Some w) = member-some ps p i in
     candidate-known t p.name w.0 (released p.name w.0 (had p.name w.0 w.1))
 
-alike-pins : {N X V R : Type 0} (t : Parts) (picture : Picture N X V R) (rules : Rules N X V R) → IsPicture t picture rules → (s : ℕ → Option ℕ) (ps : List (Pin ℕ ℕ)) → ((n p : ℕ) → s n ≡ Some p → Contains (candidates_of t n) p) → Has (rules_of t) s ps → IsAlike t picture (version_in nat_cmp ps) (version_in rules.compare (map (pin_pictured picture) ps))
+alike-pins : {N X V R : Type 0} (t : TableParts) (picture : Picture N X V R) (rules : Rules N X V R) → IsPicture t picture rules → (s : ℕ → Option ℕ) (ps : List (Pin ℕ ℕ)) → ((n p : ℕ) → s n ≡ Some p → Contains (candidates_of t n) p) → Has (rules_of t) s ps → IsAlike t picture (version_in nat_cmp ps) (version_in rules.compare (map (pin_pictured picture) ps))
 alike-pins t picture rules h s ps released had = record {
   at = λ n l. version-up t picture rules h ps (known-pins t s ps released had) n l;
   released = λ n p e. released n p (had n p e);
 }
 
-named-pins : {N X V R : Type 0} (t : Parts) (picture : Picture N X V R) (rules : Rules N X V R) → IsOrder rules.compare → (ps : List (Pin ℕ ℕ)) → AreKnownPins t ps → AreNamed t picture (version_in rules.compare (map (pin_pictured picture) ps))
+named-pins : {N X V R : Type 0} (t : TableParts) (picture : Picture N X V R) (rules : Rules N X V R) → IsOrder rules.compare → (ps : List (Pin ℕ ℕ)) → AreKnownPins t ps → AreNamed t picture (version_in rules.compare (map (pin_pictured picture) ps))
 named-pins {N} {X} {V} t picture rules order ps k m v e =
     let q : (q : Pin N V) × Contains (map (pin_pictured picture) ps) q × (q.name ≡ m) = pin-member rules.compare order (map (pin_pictured picture) ps) m v e in
     let p : (p : Pin ℕ ℕ) × Contains ps p × (pin_pictured picture p ≡ q.0) = Contains-map (pin_pictured picture) ps q.0 q.1 in
@@ -64,36 +64,36 @@ named-pins {N} {X} {V} t picture rules order ps k m v e =
 
 -- ---- a solution of the rules, as a map over the table's numbers
 
-place-for : {N X V R : Type 0} (t : Parts) (picture : Picture N X V R) (rules : Rules N X V R) → IsPicture t picture rules → (T : N → Option V) → Solution rules T → (n : ℕ) (v : V) → n < length t.candidates → T (picture.name n) ≡ Some v → (p : ℕ) × Contains (candidates_of t n) p × (picture.version n p ≡ v)
+place-for : {N X V R : Type 0} (t : TableParts) (picture : Picture N X V R) (rules : Rules N X V R) → IsPicture t picture rules → (T : N → Option V) → Solution rules T → (n : ℕ) (v : V) → n < length t.candidates → T (picture.name n) ≡ Some v → (p : ℕ) × Contains (candidates_of t n) p × (picture.version n p ≡ v)
 place-for t picture rules h T sol n v l e = Contains-map (picture.version n) (candidates_of t n) v (subst (λ vs. Contains vs v) (h.candidates n l) (sol.released (picture.name n) v e))
 
-abbrev find : {N X V R : Type 0} (t : Parts) (picture : Picture N X V R) (rules : Rules N X V R) → IsPicture t picture rules → (T : N → Option V) → Solution rules T → (n : ℕ) → (n < length t.candidates) ⊎ (length t.candidates ≤ n) → (o : Option V) → T (picture.name n) ≡ o → Option ℕ
+abbrev find : {N X V R : Type 0} (t : TableParts) (picture : Picture N X V R) (rules : Rules N X V R) → IsPicture t picture rules → (T : N → Option V) → Solution rules T → (n : ℕ) → (n < length t.candidates) ⊎ (length t.candidates ≤ n) → (o : Option V) → T (picture.name n) ≡ o → Option ℕ
 find t picture rules h T sol n (inl l) None e = None
 find t picture rules h T sol n (inl l) (Some v) e = Some (place-for t picture rules h T sol n v l e).0
 find t picture rules h T sol n (inr l) o e = None
 
-abbrev found : {N X V R : Type 0} (t : Parts) (picture : Picture N X V R) (rules : Rules N X V R) → IsPicture t picture rules → (T : N → Option V) → Solution rules T → ℕ → Option ℕ
+abbrev found : {N X V R : Type 0} (t : TableParts) (picture : Picture N X V R) (rules : Rules N X V R) → IsPicture t picture rules → (T : N → Option V) → Solution rules T → ℕ → Option ℕ
 found t picture rules h T sol n = find t picture rules h T sol n (split-nat n (length t.candidates)) (T (picture.name n)) refl
 
-find-at : {N X V R : Type 0} (t : Parts) (picture : Picture N X V R) (rules : Rules N X V R) (h : IsPicture t picture rules) (T : N → Option V) (sol : Solution rules T) (n : ℕ) (d : (n < length t.candidates) ⊎ (length t.candidates ≤ n)) (o : Option V) (e : T (picture.name n) ≡ o) → n < length t.candidates → o ≡ image (picture.version n) (find t picture rules h T sol n d o e)
+find-at : {N X V R : Type 0} (t : TableParts) (picture : Picture N X V R) (rules : Rules N X V R) (h : IsPicture t picture rules) (T : N → Option V) (sol : Solution rules T) (n : ℕ) (d : (n < length t.candidates) ⊎ (length t.candidates ≤ n)) (o : Option V) (e : T (picture.name n) ≡ o) → n < length t.candidates → o ≡ image (picture.version n) (find t picture rules h T sol n d o e)
 find-at t picture rules h T sol n (inl l) None e k = refl
 find-at t picture rules h T sol n (inl l) (Some v) e k = ap (λ w. Some w) (sym (place-for t picture rules h T sol n v l e).2)
 find-at t picture rules h T sol n (inr l) o e k = absurd (omega arith)
 
-find-released : {N X V R : Type 0} (t : Parts) (picture : Picture N X V R) (rules : Rules N X V R) (h : IsPicture t picture rules) (T : N → Option V) (sol : Solution rules T) (n p : ℕ) (d : (n < length t.candidates) ⊎ (length t.candidates ≤ n)) (o : Option V) (e : T (picture.name n) ≡ o) → find t picture rules h T sol n d o e ≡ Some p → Contains (candidates_of t n) p
+find-released : {N X V R : Type 0} (t : TableParts) (picture : Picture N X V R) (rules : Rules N X V R) (h : IsPicture t picture rules) (T : N → Option V) (sol : Solution rules T) (n p : ℕ) (d : (n < length t.candidates) ⊎ (length t.candidates ≤ n)) (o : Option V) (e : T (picture.name n) ≡ o) → find t picture rules h T sol n d o e ≡ Some p → Contains (candidates_of t n) p
 find-released t picture rules h T sol n p (inl l) None e f = absurd (cc)
 find-released t picture rules h T sol n p (inl l) (Some v) e f =
     let k = place-for t picture rules h T sol n v l e in
     subst (λ q. Contains (candidates_of t n) q) (some-inj k.0 p f) k.1
 find-released t picture rules h T sol n p (inr l) o e f = absurd (cc)
 
-alike-found : {N X V R : Type 0} (t : Parts) (picture : Picture N X V R) (rules : Rules N X V R) (h : IsPicture t picture rules) (T : N → Option V) (sol : Solution rules T) → IsAlike t picture (found t picture rules h T sol) T
+alike-found : {N X V R : Type 0} (t : TableParts) (picture : Picture N X V R) (rules : Rules N X V R) (h : IsPicture t picture rules) (T : N → Option V) (sol : Solution rules T) → IsAlike t picture (found t picture rules h T sol) T
 alike-found t picture rules h T sol = record {
   at = λ n l. find-at t picture rules h T sol n (split-nat n (length t.candidates)) (T (picture.name n)) refl l;
   released = λ n p e. find-released t picture rules h T sol n p (split-nat n (length t.candidates)) (T (picture.name n)) refl e;
 }
 
-named-solution : {N X V R : Type 0} (t : Parts) (picture : Picture N X V R) (rules : Rules N X V R) → in_range t ≡ true → IsPicture t picture rules → (s : ℕ → Option ℕ) (T : N → Option V) → IsAlike t picture s T → Solution rules T → AreNamed t picture T
+named-solution : {N X V R : Type 0} (t : TableParts) (picture : Picture N X V R) (rules : Rules N X V R) → in_range t ≡ true → IsPicture t picture rules → (s : ℕ → Option ℕ) (T : N → Option V) → IsAlike t picture s T → Solution rules T → AreNamed t picture T
 named-solution t picture rules known h s T a sol m v e =
     let k : IsNeededName rules T m = sol.each_needed m v e in
     let x : IsStoodFor t picture s k.0 = needed-down t picture rules known h s T a k.0 k.1 in
@@ -101,7 +101,7 @@ named-solution t picture rules known h s T a sol m v e =
 
 -- ---- the walk, and the better of two
 
-next-up : {N X V R : Type 0} (t : Parts) (picture : Picture N X V R) (rules : Rules N X V R) → in_range t ≡ true → IsPicture t picture rules → (taken : List (Pin ℕ ℕ)) (n : ℕ) → IsAlike t picture (version_in nat_cmp taken) (version_in rules.compare (map (pin_pictured picture) taken)) → IsNext (rules_of t) taken n → (n < length t.candidates) × IsNext rules (map (pin_pictured picture) taken) (picture.name n)
+next-up : {N X V R : Type 0} (t : TableParts) (picture : Picture N X V R) (rules : Rules N X V R) → in_range t ≡ true → IsPicture t picture rules → (taken : List (Pin ℕ ℕ)) (n : ℕ) → IsAlike t picture (version_in nat_cmp taken) (version_in rules.compare (map (pin_pictured picture) taken)) → IsNext (rules_of t) taken n → (n < length t.candidates) × IsNext rules (map (pin_pictured picture) taken) (picture.name n)
 next-up t picture rules known h taken n a next =
     let s : ℕ → Option ℕ = version_in nat_cmp taken in
     let S = version_in rules.compare (map (pin_pictured picture) taken) in
@@ -122,7 +122,7 @@ next-up t picture rules known h taken n a next =
       },
     )
 
-walk-up : {N X V R : Type 0} (t : Parts) (picture : Picture N X V R) (rules : Rules N X V R) → in_range t ≡ true → IsPicture t picture rules → (s : ℕ → Option ℕ) → ((n p : ℕ) → s n ≡ Some p → Contains (candidates_of t n) p) → (before ps : List (Pin ℕ ℕ)) → Has (rules_of t) s (before ++ ps) → IsWalk (rules_of t) before ps → IsWalk rules (map (pin_pictured picture) before) (map (pin_pictured picture) ps)
+walk-up : {N X V R : Type 0} (t : TableParts) (picture : Picture N X V R) (rules : Rules N X V R) → in_range t ≡ true → IsPicture t picture rules → (s : ℕ → Option ℕ) → ((n p : ℕ) → s n ≡ Some p → Contains (candidates_of t n) p) → (before ps : List (Pin ℕ ℕ)) → Has (rules_of t) s (before ++ ps) → IsWalk (rules_of t) before ps → IsWalk rules (map (pin_pictured picture) before) (map (pin_pictured picture) ps)
 walk-up t picture rules known h s released before [] had walk = tt
 walk-up t picture rules known h s released before (p ∷ ps) had walk =
     let a = alike-pins t picture rules h s before released (Has-front (rules_of t) s before (p ∷ ps) had) in (
@@ -131,7 +131,7 @@ walk-up t picture rules known h s released before (p ∷ ps) had walk =
           (walk-up t picture rules known h s released (before ++ p ∷ []) ps (subst (λ qs. Has (rules_of t) s qs) (sym (append_assoc before (p ∷ []) ps)) had) walk.1),
     )
 
-has-up : {N X V R : Type 0} (t : Parts) (picture : Picture N X V R) (rules : Rules N X V R) → IsPicture t picture rules → IsOrder rules.compare → (s : ℕ → Option ℕ) (S : N → Option V) → IsAlike t picture s S → (ps : List (Pin ℕ ℕ)) → Has (rules_of t) s ps → Has rules S (map (pin_pictured picture) ps)
+has-up : {N X V R : Type 0} (t : TableParts) (picture : Picture N X V R) (rules : Rules N X V R) → IsPicture t picture rules → IsOrder rules.compare → (s : ℕ → Option ℕ) (S : N → Option V) → IsAlike t picture s S → (ps : List (Pin ℕ ℕ)) → Has (rules_of t) s ps → Has rules S (map (pin_pictured picture) ps)
 has-up t picture rules h order s S a ps had m v e =
     let k : AreKnownPins t ps = known-pins t s ps a.released had in
     let n : (n : ℕ) × (n < length t.candidates) × (picture.name n ≡ m) = named-pins t picture rules order ps k m v e in
@@ -139,7 +139,7 @@ has-up t picture rules h order s S a ps had m v e =
     (sym (version-up t picture rules h ps k n.0 n.1) ∙ ap (version_in rules.compare (map (pin_pictured picture) ps)) n.2 ∙ e) in
     sym (ap S n.2) ∙ a.at n.0 n.1 ∙ ap (image (picture.version n.0)) (had n.0 p.0 p.1) ∙ ap (λ w. Some w) p.2
 
-first-up : {N X V R : Type 0} (t : Parts) (picture : Picture N X V R) (rules : Rules N X V R) → IsPicture t picture rules → (n p q : ℕ) → n < length t.candidates → Contains (candidates_of t n) p → Contains (candidates_of t n) q → ComesFirst (candidates_of t n) p q → ComesFirst (rules.candidates (picture.name n)) (picture.version n p) (picture.version n q)
+first-up : {N X V R : Type 0} (t : TableParts) (picture : Picture N X V R) (rules : Rules N X V R) → IsPicture t picture rules → (n p q : ℕ) → n < length t.candidates → Contains (candidates_of t n) p → Contains (candidates_of t n) q → ComesFirst (candidates_of t n) p q → ComesFirst (rules.candidates (picture.name n)) (picture.version n p) (picture.version n q)
 first-up t picture rules h n p q l i j f = (
   map (picture.version n) f.0,
   map (picture.version n) f.1,
@@ -151,7 +151,7 @@ first-up t picture rules h n p q l i j f = (
   λ e. f.4 (h.apart n p q i j e),
 )
 
-better-up : {N X V R : Type 0} (t : Parts) (picture : Picture N X V R) (rules : Rules N X V R) → in_range t ≡ true → IsPicture t picture rules → IsOrder rules.compare → (s u : ℕ → Option ℕ) (S U : N → Option V) → IsAlike t picture s S → IsAlike t picture u U → IsBetter (rules_of t) s u → IsBetter rules S U
+better-up : {N X V R : Type 0} (t : TableParts) (picture : Picture N X V R) (rules : Rules N X V R) → in_range t ≡ true → IsPicture t picture rules → IsOrder rules.compare → (s u : ℕ → Option ℕ) (S U : N → Option V) → IsAlike t picture s S → IsAlike t picture u U → IsBetter (rules_of t) s u → IsBetter rules S U
 better-up t picture rules known h order s u S U a b better =
     let pins = alike-pins t picture rules h s better.taken a.released better.had in
     let next : (better.name < length t.candidates) × IsNext rules (map (pin_pictured picture) better.taken) (picture.name better.name) = next-up t picture rules known h better.taken better.name pins better.next in
@@ -171,7 +171,7 @@ better-up t picture rules known h order s u S U a b better =
 
 -- ---- the law
 
-same-up : {N X V R : Type 0} (t : Parts) (picture : Picture N X V R) (s u : ℕ → Option ℕ) (S U : N → Option V) → IsAlike t picture s S → IsAlike t picture u U → AreNamed t picture S → AreNamed t picture U → ((n : ℕ) → u n ≡ s n) → (m : N) → U m ≡ S m
+same-up : {N X V R : Type 0} (t : TableParts) (picture : Picture N X V R) (s u : ℕ → Option ℕ) (S U : N → Option V) → IsAlike t picture s S → IsAlike t picture u U → AreNamed t picture S → AreNamed t picture U → ((n : ℕ) → u n ≡ s n) → (m : N) → U m ≡ S m
 same-up {N} {X} {V} t picture s u S U a b c d e m =
     let chain : (n : ℕ) → n < length t.candidates → picture.name n ≡ m → U m ≡ S m = λ n l f. sym (ap U f) ∙ b.at n l ∙ ap (image (picture.version n)) (e n) ∙ sym (a.at n l) ∙ ap S f in
     elim (option_cases (U m)) [
@@ -182,10 +182,10 @@ same-up {N} {X} {V} t picture s u S U a b c d e m =
       | inr some ↦ let n : (n : ℕ) × (n < length t.candidates) × (picture.name n ≡ m) = d m some.0 some.1 in chain n.0 n.1 n.2
     ]
 
-has-own : (t : Parts) (ps : List (Pin ℕ ℕ)) → Has (rules_of t) (version_in nat_cmp ps) ps
+has-own : (t : TableParts) (ps : List (Pin ℕ ℕ)) → Has (rules_of t) (version_in nat_cmp ps) ps
 has-own t ps n v e = e
 
-pub picture-best : {N X V R : Type 0} (t : Parts) (picture : Picture N X V R) (rules : Rules N X V R) → in_range t ≡ true → IsOrder rules.compare → IsPicture t picture rules → (choices : List Choice) → IsBest (rules_of t) (place_in choices) → IsBest rules (version_in rules.compare (pictured picture choices))
+pub picture-best : {N X V R : Type 0} (t : TableParts) (picture : Picture N X V R) (rules : Rules N X V R) → in_range t ≡ true → IsOrder rules.compare → IsPicture t picture rules → (choices : List Choice) → IsBest (rules_of t) (place_in choices) → IsBest rules (version_in rules.compare (pictured picture choices))
 picture-best {N} {X} {V} t picture rules known order h choices best =
     let ps : List (Pin ℕ ℕ) = map pin_of choices in
     let s : ℕ → Option ℕ = version_in nat_cmp ps in
@@ -203,12 +203,12 @@ picture-best {N} {X} {V} t picture rules known order h choices best =
           ];
     }
 
-pub picture-none : {N X V R : Type 0} (t : Parts) (picture : Picture N X V R) (rules : Rules N X V R) → in_range t ≡ true → IsOrder rules.compare → IsPicture t picture rules → HasNoSolution (rules_of t) → HasNoSolution rules
+pub picture-none : {N X V R : Type 0} (t : TableParts) (picture : Picture N X V R) (rules : Rules N X V R) → in_range t ≡ true → IsOrder rules.compare → IsPicture t picture rules → HasNoSolution (rules_of t) → HasNoSolution rules
 picture-none t picture rules known order h none T sol =
     let u : ℕ → Option ℕ = found t picture rules h T sol in
     none u (solution-down t picture rules known h order u T (alike-found t picture rules h T sol) sol)
 
-pub picture-none_back : {N X V R : Type 0} (t : Parts) (picture : Picture N X V R) (rules : Rules N X V R) → in_range t ≡ true → IsOrder rules.compare → IsPicture t picture rules → HasNoSolution rules → HasNoSolution (rules_of t)
+pub picture-none_back : {N X V R : Type 0} (t : TableParts) (picture : Picture N X V R) (rules : Rules N X V R) → in_range t ≡ true → IsOrder rules.compare → IsPicture t picture rules → HasNoSolution rules → HasNoSolution (rules_of t)
 picture-none_back {N} {X} {V} t picture rules known order h none s sol =
     let cs : (cs : List Choice) × IsListed s (length t.candidates) cs = listed s (length t.candidates) in
     let nothing : (n : ℕ) → length t.candidates ≤ n → s n ≡ None = λ n l. elim (option_cases (s n)) [

@@ -5,7 +5,7 @@ use Rattle.std.proofs.lemmas.Bool.{ltb-true, eqb-true}
 use Rattle.lists.proofs.Members.{Contains-here, Contains-there, Contains-cons_cases, Contains-nil}
 use Rattle.search.specs.declared.parts.Requirement.{Requirement}
 use Rattle.search.specs.Ranges.{EachBelow}
-use Rattle.search.specs.Table.{Parts, all_below, is_on, requirement_in_range, in_range, requirement_at, name_of, name_at, nodes_of, wants_at}
+use Rattle.search.specs.Table.{TableParts, all_below, is_on, requirement_in_range, in_range, requirement_at, name_of, name_at, nodes_of, wants_at}
 
 pub and-both : (a b : Bool) → (a && b) ≡ true → (a ≡ true) × (b ≡ true)
 and-both true b h = (refl, h)
@@ -32,25 +32,25 @@ eq-true a b h = eqb-true a b h
 pub each-below : (bound : ℕ) (ns : List ℕ) → all_below bound ns ≡ true → EachBelow bound ns
 each-below bound ns h n i = lt-true n bound (all-at (λ m. nat_lt m bound) ns n h i)
 
-pub record IsInRange (t : Parts) : Type 0 where
+pub record IsInRange (t : TableParts) : Type 0 where
   pub nodes : all_below (length t.candidates) t.nodes ≡ true
   pub requirements : list_all (requirement_in_range t.nodes) t.requirements ≡ true
   pub wants : list_all (list_all (all_below (length t.requirements))) t.wants ≡ true
   pub lines : all_below (length t.requirements) t.lines ≡ true
 
-pub ranges : (t : Parts) → in_range t ≡ true → IsInRange t
+pub ranges : (t : TableParts) → in_range t ≡ true → IsInRange t
 ranges t h =
     let a = and-both (all_below (length t.candidates) t.nodes) _ h in
     let b = and-both (list_all (requirement_in_range t.nodes) t.requirements) _ a.1 in
     let c = and-both (list_all (list_all (all_below (length t.requirements))) t.wants) (all_below (length t.requirements) t.lines) b.1 in
     record { nodes = a.0; requirements = b.0; wants = c.0; lines = c.1 }
 
-pub wants-known : (t : Parts) → in_range t ≡ true → (node place : ℕ) → EachBelow (length t.requirements) (wants_at t node place)
+pub wants-known : (t : TableParts) → in_range t ≡ true → (node place : ℕ) → EachBelow (length t.requirements) (wants_at t node place)
 wants-known t h node place = each-below (length t.requirements) (wants_at t node place)
     (all-or (all_below (length t.requirements)) (get_or t.wants node []) place []
     (all-or (list_all (all_below (length t.requirements))) t.wants node [] (ranges t h).wants refl) refl)
 
-pub lines-known : (t : Parts) → in_range t ≡ true → EachBelow (length t.requirements) t.lines
+pub lines-known : (t : TableParts) → in_range t ≡ true → EachBelow (length t.requirements) t.lines
 lines-known t h = each-below (length t.requirements) t.lines (ranges t h).lines
 
 pub at-member : {X : Type 0} (xs : List X) (k : ℕ) (d : X) → k < length xs → Contains xs (get_or xs k d)
@@ -58,7 +58,7 @@ at-member [] k d l = absurd (omega arith)
 at-member (x ∷ xs) zero d l = Contains-here x xs
 at-member (x ∷ xs) (suc k) d l = Contains-there x xs (get_or xs k d) (at-member xs k d (omega arith))
 
-pub name-known : (t : Parts) → in_range t ≡ true → (node : ℕ) → node < length t.nodes → name_of t node < length t.candidates
+pub name-known : (t : TableParts) → in_range t ≡ true → (node : ℕ) → node < length t.nodes → name_of t node < length t.candidates
 name-known t h node l = each-below (length t.candidates) t.nodes (ranges t h).nodes (name_of t node) (at-member t.nodes node 0 l)
 
 on-both : (nodes : List ℕ) (name node : ℕ) → is_on nodes name node ≡ true → (node < length nodes) × (name_at nodes node ≡ name)
@@ -74,7 +74,7 @@ requirement-known nodes r h x i =
       | inr j ↦ on-both nodes (name_at nodes r.node) x (all-at (is_on nodes (name_at nodes r.node)) r.more x k.1 j)
     ]
 
-pub nodes-known : (t : Parts) → in_range t ≡ true → (r : ℕ) → r < length t.requirements → EachBelow (length t.nodes) (nodes_of (requirement_at t r))
+pub nodes-known : (t : TableParts) → in_range t ≡ true → (r : ℕ) → r < length t.requirements → EachBelow (length t.nodes) (nodes_of (requirement_at t r))
 nodes-known t h r l x i = (requirement-known t.nodes (requirement_at t r) (all-at (requirement_in_range t.nodes) t.requirements (requirement_at t r) (ranges t h).requirements (at-member t.requirements r _ l)) x i).0
 
 default-own : (nodes : List ℕ) (rs : List Requirement) (r : ℕ) (d : Requirement) → d.more ≡ [] → list_all (requirement_in_range nodes) rs ≡ true → (x : ℕ) → Contains (nodes_of (get_or rs r d)) x → name_at nodes x ≡ name_at nodes (get_or rs r d).node
@@ -86,5 +86,5 @@ default-own nodes (q ∷ rs) zero d e h x i = (requirement-known nodes q (and-bo
 default-own nodes (q ∷ rs) (suc r) d e h x i = default-own nodes rs r d e (and-both (requirement_in_range nodes q) (list_all (requirement_in_range nodes) rs) h).1 x i
 
 -- the nodes of a requirement are on its name, whatever its number
-pub nodes-own : (t : Parts) → in_range t ≡ true → (r x : ℕ) → Contains (nodes_of (requirement_at t r)) x → name_of t x ≡ name_of t (requirement_at t r).node
+pub nodes-own : (t : TableParts) → in_range t ≡ true → (r x : ℕ) → Contains (nodes_of (requirement_at t r)) x → name_of t x ≡ name_of t (requirement_at t r).node
 nodes-own t h r x i = default-own t.nodes t.requirements r _ refl (ranges t h).requirements x i

@@ -24,7 +24,7 @@ use Rattle.search.specs.declared.agenda.Ask.{Ask}
 use Rattle.search.specs.declared.conflict.NodeChoice.{NodeChoice}
 use Rattle.search.specs.Agendas.{AreRowed, IsListed, asks_on, row_at}
 use Rattle.search.specs.Rules.{Rules}
-use Rattle.search.specs.Table.{Parts, rules_of, in_range, requirement_at}
+use Rattle.search.specs.Table.{TableParts, rules_of, in_range, requirement_at}
 
 -- ---- rows
 
@@ -92,18 +92,18 @@ filter-to p [] y i t = absurd (Contains-nil y i)
 filter-to p (x ∷ xs) y i t = filter-keep p (p x) x y xs refl t (elim (Contains-cons_cases x xs y i) [ inl e ↦ inl e | inr r ↦ inr (filter-to p xs y r t) ])
 
 -- a row has what is asked for on its name, and no more
-pub row-from : (t : Parts) (agenda : Agenda) (n : ℕ) (a : Ask) → AreRowed t agenda → Contains (row_at agenda.rows.items n) a → Contains agenda.asks.items a × ((rules_of t).name a.requirement ≡ n)
+pub row-from : (t : TableParts) (agenda : Agenda) (n : ℕ) (a : Ask) → AreRowed t agenda → Contains (row_at agenda.rows.items n) a → Contains agenda.asks.items a × ((rules_of t).name a.requirement ≡ n)
 row-from t agenda n a h i =
     let k : Contains agenda.asks.items a × (((rules_of t).name a.requirement == n) ≡ true) = filter-from (λ (b : Ask). (rules_of t).name b.requirement == n) agenda.asks.items a (subst (λ xs. Contains xs a) (h.rows n) i) in
     (k.0, eqb-true ((rules_of t).name a.requirement) n k.1)
 
-pub row-to : (t : Parts) (agenda : Agenda) (a : Ask) → AreRowed t agenda → Contains agenda.asks.items a → Contains (row_at agenda.rows.items ((rules_of t).name a.requirement)) a
+pub row-to : (t : TableParts) (agenda : Agenda) (a : Ask) → AreRowed t agenda → Contains agenda.asks.items a → Contains (row_at agenda.rows.items ((rules_of t).name a.requirement)) a
 row-to t agenda a h i = subst (λ xs. Contains xs a) (sym (h.rows ((rules_of t).name a.requirement)))
     (filter-to (λ (b : Ask). (rules_of t).name b.requirement == (rules_of t).name a.requirement) agenda.asks.items a i (eq-itself ((rules_of t).name a.requirement)))
 
 -- ---- one more is asked for
 
-pub rowed-push : (t : Parts) (old new : Agenda) (ask : Ask) → AreRowed t old → IsListed old.rows.items new.rows.items ((rules_of t).name ask.requirement) ask → ask.requirement < length t.requirements → new.asks.items ≡ old.asks.items ++ ask ∷ [] → AreRowed t new
+pub rowed-push : (t : TableParts) (old new : Agenda) (ask : Ask) → AreRowed t old → IsListed old.rows.items new.rows.items ((rules_of t).name ask.requirement) ask → ask.requirement < length t.requirements → new.asks.items ≡ old.asks.items ++ ask ∷ [] → AreRowed t new
 rowed-push t old new ask h l k e = record {
   room = l.room ∙ h.room;
   known = λ a i. elim (Contains-push_cases old.asks.items ask a (subst (λ xs. Contains xs a) e i)) [
@@ -118,7 +118,7 @@ rowed-push t old new ask h l k e = record {
 }
 
 -- and one less
-pub rowed-pop : (t : Parts) (old new : Agenda) (ask : Ask) → AreRowed t old → old.asks.items ≡ new.asks.items ++ ask ∷ [] → length new.rows.items ≡ length old.rows.items → ((front : List Ask) → row_at old.rows.items ((rules_of t).name ask.requirement) ≡ front ++ ask ∷ [] → row_at new.rows.items ((rules_of t).name ask.requirement) ≡ front) → ((n : ℕ) → (n ≡ (rules_of t).name ask.requirement → ⊥) → row_at new.rows.items n ≡ row_at old.rows.items n) → AreRowed t new
+pub rowed-pop : (t : TableParts) (old new : Agenda) (ask : Ask) → AreRowed t old → old.asks.items ≡ new.asks.items ++ ask ∷ [] → length new.rows.items ≡ length old.rows.items → ((front : List Ask) → row_at old.rows.items ((rules_of t).name ask.requirement) ≡ front ++ ask ∷ [] → row_at new.rows.items ((rules_of t).name ask.requirement) ≡ front) → ((n : ℕ) → (n ≡ (rules_of t).name ask.requirement → ⊥) → row_at new.rows.items n ≡ row_at old.rows.items n) → AreRowed t new
 rowed-pop t old new ask h e room own others = record {
   room = room ∙ h.room;
   known = λ a i. h.known a (subst (λ xs. Contains xs a) (sym e) (Contains-append_left new.asks.items (ask ∷ []) a i));
@@ -132,7 +132,7 @@ rowed-pop t old new ask h e room own others = record {
 filter-nil : {X : Type 0} (p : X → Bool) (xs : List X) → xs ≡ [] → filter p xs ≡ []
 filter-nil p xs e = ap (filter p) e
 
-pub rowed-none : (t : Parts) (agenda : Agenda) → agenda.asks.items ≡ [] → length agenda.rows.items ≡ length t.candidates → ((n : ℕ) → row_at agenda.rows.items n ≡ []) → AreRowed t agenda
+pub rowed-none : (t : TableParts) (agenda : Agenda) → agenda.asks.items ≡ [] → length agenda.rows.items ≡ length t.candidates → ((n : ℕ) → row_at agenda.rows.items n ≡ []) → AreRowed t agenda
 rowed-none t agenda e room rows = record {
   room = room;
   known = λ a i. absurd (Contains-nil a (subst (λ xs. Contains xs a) e i));
@@ -188,7 +188,7 @@ take-fewer xs ys k e =
     let m : length ys - 1 ≡ length xs - (k + 1) = omega arith in
     ap (λ n. take n ys) m ∙ ap (take (length xs - (k + 1))) e ∙ take-take xs (length xs - (k + 1)) (length xs - k) (omega arith)
 
-pub ask-room : (t : Parts) → in_range t ≡ true → (r : ℕ) → r < length t.requirements → (rules_of t).name r < length t.candidates
+pub ask-room : (t : TableParts) → in_range t ≡ true → (r : ℕ) → r < length t.requirements → (rules_of t).name r < length t.candidates
 ask-room t known r l = name-known t known (requirement_at t r).node (nodes-known t known r l (requirement_at t r).node (Contains-here (requirement_at t r).node (requirement_at t r).more))
 
 pub first-member : {X : Type 0} (xs : List X) (x : X) → Some x ≡ slice_get xs 0 → Contains xs x
@@ -224,7 +224,7 @@ pub vec-size : {X : Type 0} (v : Vec X) → v.len ≡ length v.items
 vec-size v = v.ok.0
 
 -- the rest of an agenda doesn't matter to its rows
-pub rowed-same : (t : Parts) (old new : Agenda) → AreRowed t old → new.rows.items ≡ old.rows.items → new.asks.items ≡ old.asks.items → AreRowed t new
+pub rowed-same : (t : TableParts) (old new : Agenda) → AreRowed t old → new.rows.items ≡ old.rows.items → new.asks.items ≡ old.asks.items → AreRowed t new
 rowed-same t old new h rows asks = record {
   room = ap length rows ∙ h.room;
   known = λ a i. h.known a (subst (λ xs. Contains xs a) asks i);

@@ -7,9 +7,9 @@ use Rattle.search.specs.declared.parts.Frame.{Frame}
 use Rattle.search.specs.Search.{pins_of, IsFrame, IsSearch, IsRefuted, Refutes}
 use Rattle.search.specs.Solutions.{Pin, IsNext, HasNoSolution}
 use Rattle.search.specs.Steps.{IsAt, IsTried, IsForward}
-use Rattle.search.specs.Table.{Parts, rules_of, candidates_of, in_range}
+use Rattle.search.specs.Table.{TableParts, rules_of, candidates_of, in_range}
 
-frame-at : (p : Parts) (taken : List (Pin ℕ ℕ)) (n k : ℕ) (f : Frame) → IsAt p n k f → IsNext (rules_of p) taken n → Refutes (rules_of p) taken n k → IsFrame (rules_of p) taken f
+frame-at : (p : TableParts) (taken : List (Pin ℕ ℕ)) (n k : ℕ) (f : Frame) → IsAt p n k f → IsNext (rules_of p) taken n → Refutes (rules_of p) taken n k → IsFrame (rules_of p) taken f
 frame-at p taken n k f h next bad = record {
   next = subst (λ m. IsNext (rules_of p) taken m) (sym h.named) next;
   turn = subst₂ (λ m i. i < length (candidates_of p m)) (sym h.named) (sym h.turned) h.within;
@@ -17,7 +17,7 @@ frame-at p taken n k f h next bad = record {
   refuted = subst₂ (λ m i. Refutes (rules_of p) taken m i) (sym h.named) (sym h.turned) bad;
 }
 
-pub tried-first : (p : Parts) (known : in_range p ≡ true) (fs new : List Frame) (n : ℕ) → IsSearch (rules_of p) [] fs → IsNext (rules_of p) (pins_of fs) n → IsTried p n 0 fs new true → (f : Frame) × (new ≡ fs ++ f ∷ []) × IsSearch (rules_of p) [] new
+pub tried-first : (p : TableParts) (known : in_range p ≡ true) (fs new : List Frame) (n : ℕ) → IsSearch (rules_of p) [] fs → IsNext (rules_of p) (pins_of fs) n → IsTried p n 0 fs new true → (f : Frame) × (new ≡ fs ++ f ∷ []) × IsSearch (rules_of p) [] new
 tried-first p known fs new n h next t = (
   t.0,
   t.2,
@@ -25,20 +25,20 @@ tried-first p known fs new n h next t = (
       (IsSearch-push (rules_of p) (table-lawful p known) [] fs t.0 h (frame-at p (pins_of fs) n 0 t.0 t.1 next (λ s sol has w i e. Contains-take_zero (candidates_of p n) w i))),
 )
 
-pub tried-none : (p : Parts) (known : in_range p ≡ true) (fs new : List Frame) (n : ℕ) → IsNext (rules_of p) (pins_of fs) n → IsTried p n 0 fs new false → IsRefuted (rules_of p) (pins_of fs)
+pub tried-none : (p : TableParts) (known : in_range p ≡ true) (fs new : List Frame) (n : ℕ) → IsNext (rules_of p) (pins_of fs) n → IsTried p n 0 fs new false → IsRefuted (rules_of p) (pins_of fs)
 tried-none p known fs new n next t = IsRefuted-exhausted (rules_of p) (table-lawful p known) (pins_of fs) n 0 next (λ s sol has w i e. Contains-take_zero (candidates_of p n) w i) t.1
 
-popped : (p : Parts) (known : in_range p ≡ true) (fs : List Frame) (last : Frame) → IsSearch (rules_of p) [] (fs ++ last ∷ []) → IsRefuted (rules_of p) (pins_of (fs ++ last ∷ [])) → IsSearch (rules_of p) [] fs × IsFrame (rules_of p) (pins_of fs) last × Refutes (rules_of p) (pins_of fs) last.name (last.turn + 1)
+popped : (p : TableParts) (known : in_range p ≡ true) (fs : List Frame) (last : Frame) → IsSearch (rules_of p) [] (fs ++ last ∷ []) → IsRefuted (rules_of p) (pins_of (fs ++ last ∷ [])) → IsSearch (rules_of p) [] fs × IsFrame (rules_of p) (pins_of fs) last × Refutes (rules_of p) (pins_of fs) last.name (last.turn + 1)
 popped p known fs last h bad =
     let k : IsSearch (rules_of p) [] fs × IsFrame (rules_of p) (pins_of fs) last = IsSearch-pop (rules_of p) (table-lawful p known) [] fs last h in
     (k.0, k.1, rw add-one (Refutes-more (rules_of p) (table-lawful p known) (pins_of fs) last k.1 (subst (λ cs. IsRefuted (rules_of p) cs) (pins_of-push fs last) bad)))
 
-pub retreat-found : (p : Parts) (known : in_range p ≡ true) (fs new : List Frame) (last : Frame) → IsSearch (rules_of p) [] (fs ++ last ∷ []) → IsRefuted (rules_of p) (pins_of (fs ++ last ∷ [])) → IsTried p last.name (last.turn + 1) fs new true → IsSearch (rules_of p) [] new
+pub retreat-found : (p : TableParts) (known : in_range p ≡ true) (fs new : List Frame) (last : Frame) → IsSearch (rules_of p) [] (fs ++ last ∷ []) → IsRefuted (rules_of p) (pins_of (fs ++ last ∷ [])) → IsTried p last.name (last.turn + 1) fs new true → IsSearch (rules_of p) [] new
 retreat-found p known fs new last h bad t =
     let k : IsSearch (rules_of p) [] fs × IsFrame (rules_of p) (pins_of fs) last × Refutes (rules_of p) (pins_of fs) last.name (last.turn + 1) = popped p known fs last h bad in
     subst (λ xs. IsSearch (rules_of p) [] xs) (sym t.2) (IsSearch-push (rules_of p) (table-lawful p known) [] fs t.0 k.0 (frame-at p (pins_of fs) last.name (last.turn + 1) t.0 t.1 k.1.next k.2))
 
-pub retreat-forward : (p : Parts) (old fs new : List Frame) (last : Frame) (rest : List Frame) → old ≡ (fs ++ last ∷ []) ++ rest → IsTried p last.name (last.turn + 1) fs new true → IsForward old new
+pub retreat-forward : (p : TableParts) (old fs new : List Frame) (last : Frame) (rest : List Frame) → old ≡ (fs ++ last ∷ []) ++ rest → IsTried p last.name (last.turn + 1) fs new true → IsForward old new
 retreat-forward p old fs new last rest e t = record {
   front = fs;
   last = last;
@@ -50,12 +50,12 @@ retreat-forward p old fs new last rest e t = record {
   later = t.1.turned;
 }
 
-pub retreat-none : (p : Parts) (known : in_range p ≡ true) (fs new : List Frame) (last : Frame) → IsSearch (rules_of p) [] (fs ++ last ∷ []) → IsRefuted (rules_of p) (pins_of (fs ++ last ∷ [])) → IsTried p last.name (last.turn + 1) fs new false → IsSearch (rules_of p) [] new × IsRefuted (rules_of p) (pins_of new)
+pub retreat-none : (p : TableParts) (known : in_range p ≡ true) (fs new : List Frame) (last : Frame) → IsSearch (rules_of p) [] (fs ++ last ∷ []) → IsRefuted (rules_of p) (pins_of (fs ++ last ∷ [])) → IsTried p last.name (last.turn + 1) fs new false → IsSearch (rules_of p) [] new × IsRefuted (rules_of p) (pins_of new)
 retreat-none p known fs new last h bad t =
     let k : IsSearch (rules_of p) [] fs × IsFrame (rules_of p) (pins_of fs) last × Refutes (rules_of p) (pins_of fs) last.name (last.turn + 1) = popped p known fs last h bad in (
       subst (λ xs. IsSearch (rules_of p) [] xs) (sym t.0) k.0,
       subst (λ xs. IsRefuted (rules_of p) (pins_of xs)) (sym t.0) (IsRefuted-exhausted (rules_of p) (table-lawful p known) (pins_of fs) last.name (last.turn + 1) k.1.next k.2 t.1),
     )
 
-pub refuted-none : (p : Parts) → IsRefuted (rules_of p) [] → HasNoSolution (rules_of p)
+pub refuted-none : (p : TableParts) → IsRefuted (rules_of p) [] → HasNoSolution (rules_of p)
 refuted-none p h s sol = h s sol (λ n v e. absurd (let k : None ≡ Some v = e in cc))

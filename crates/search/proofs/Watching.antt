@@ -13,7 +13,7 @@ use Rattle.search.specs.Agendas.{AreRowed, IsChosen, IsWatched, row_at}
 use Rattle.search.specs.Asking.{IsFoundNeed, IsLeastNeed, IsTied, NoneTied}
 use Rattle.search.specs.Gathering.{decision}
 use Rattle.search.specs.Learned.{first_at}
-use Rattle.search.specs.Table.{Parts, rules_of, in_range, name_of}
+use Rattle.search.specs.Table.{TableParts, rules_of, in_range, name_of}
 use Rattle.search.proofs.Rows.{row-from, row-to}
 
 abbrev Choices : Type 0
@@ -28,7 +28,7 @@ some-not-none (Some c) d e f = cc
 
 -- ---- one more is asked for
 
-pub watched-push : (t : Parts) (old new : Agenda) (ask : Ask) (taken : Firsts) (chosen : Choices) → IsWatched t old taken chosen → new.asks.items ≡ old.asks.items ++ ask ∷ [] → ((m : ℕ) → Contains (keys old.free) m → Contains (keys new.free) m) → ((m : ℕ) → Contains old.loose.items m → Contains new.loose.items m) → (first_at taken ((rules_of t).name ask.requirement) ≡ None → Contains (keys new.free) ((rules_of t).name ask.requirement)) → ((d : NodeChoice ℕ ℕ) (node : ℕ) → first_at taken ((rules_of t).name ask.requirement) ≡ Some d → Contains ((rules_of t).nodes ask.requirement) node → IsChosen chosen node ⊎ Contains new.loose.items ((rules_of t).name ask.requirement)) → IsWatched t new taken chosen
+pub watched-push : (t : TableParts) (old new : Agenda) (ask : Ask) (taken : Firsts) (chosen : Choices) → IsWatched t old taken chosen → new.asks.items ≡ old.asks.items ++ ask ∷ [] → ((m : ℕ) → Contains (keys old.free) m → Contains (keys new.free) m) → ((m : ℕ) → Contains old.loose.items m → Contains new.loose.items m) → (first_at taken ((rules_of t).name ask.requirement) ≡ None → Contains (keys new.free) ((rules_of t).name ask.requirement)) → ((d : NodeChoice ℕ ℕ) (node : ℕ) → first_at taken ((rules_of t).name ask.requirement) ≡ Some d → Contains ((rules_of t).nodes ask.requirement) node → IsChosen chosen node ⊎ Contains new.loose.items ((rules_of t).name ask.requirement)) → IsWatched t new taken chosen
 watched-push t old new ask taken chosen h e free loose own_free own_loose = record {
   free = λ a i none. elim (Contains-push_cases old.asks.items ask a (subst (λ xs. Contains xs a) e i)) [
     | inl x ↦ free ((rules_of t).name a.requirement) (h.free a x none)
@@ -41,7 +41,7 @@ watched-push t old new ask taken chosen h e free loose own_free own_loose = reco
   ];
 }
 
-pub watched-none : (t : Parts) (agenda : Agenda) (taken : Firsts) (chosen : Choices) → agenda.asks.items ≡ [] → IsWatched t agenda taken chosen
+pub watched-none : (t : TableParts) (agenda : Agenda) (taken : Firsts) (chosen : Choices) → agenda.asks.items ≡ [] → IsWatched t agenda taken chosen
 watched-none t agenda taken chosen e = record {
   free = λ a i none. absurd (Contains-nil a (subst (λ xs. Contains xs a) e i));
   loose = λ a d node i some n. absurd (Contains-nil a (subst (λ xs. Contains xs a) e i));
@@ -52,13 +52,13 @@ watched-none t agenda taken chosen e = record {
 chosen-more : (chosen : Choices) (c : NodeChoice ℕ ℕ) (node : ℕ) → IsChosen chosen node → IsChosen (chosen ++ c ∷ []) node
 chosen-more chosen c node h = (h.0, Contains-append_left chosen (c ∷ []) (decision node h.0) h.1)
 
-pub watched-tied : (t : Parts) (agenda : Agenda) (taken : Firsts) (chosen : Choices) (c : NodeChoice ℕ ℕ) → IsWatched t agenda taken chosen → IsWatched t agenda taken (chosen ++ c ∷ [])
+pub watched-tied : (t : TableParts) (agenda : Agenda) (taken : Firsts) (chosen : Choices) (c : NodeChoice ℕ ℕ) → IsWatched t agenda taken chosen → IsWatched t agenda taken (chosen ++ c ∷ [])
 watched-tied t agenda taken chosen c h = record {
   free = h.free;
   loose = λ a d node i some n. elim (h.loose a d node i some n) [ inl x ↦ inl (chosen-more chosen c node x) | inr l ↦ inr l ];
 }
 
-pub watched-first : (t : Parts) (old new : Agenda) (taken : Firsts) (chosen : Choices) (c : NodeChoice ℕ ℕ) (n : ℕ) → IsWatched t old taken chosen → n < length taken → new.asks ≡ old.asks → new.free ≡ old.free → new.loose.items ≡ old.loose.items ++ n ∷ [] → IsWatched t new (slice_set taken n (Some c)) (chosen ++ c ∷ [])
+pub watched-first : (t : TableParts) (old new : Agenda) (taken : Firsts) (chosen : Choices) (c : NodeChoice ℕ ℕ) (n : ℕ) → IsWatched t old taken chosen → n < length taken → new.asks ≡ old.asks → new.free ≡ old.free → new.loose.items ≡ old.loose.items ++ n ∷ [] → IsWatched t new (slice_set taken n (Some c)) (chosen ++ c ∷ [])
 watched-first t old new taken chosen c n h l asks free loose = record {
   free = λ a i none. subst (λ f. Contains (keys f) ((rules_of t).name a.requirement)) (sym free)
       (h.free a (subst (λ xs. Contains xs a) (ap (λ xs. xs.items) asks) i) (elim (nat_cases n ((rules_of t).name a.requirement)) [
@@ -76,13 +76,13 @@ watched-first t old new taken chosen c n h l asks free loose = record {
 
 -- ---- one choice less
 
-chosen-less : (t : Parts) (chosen fewer : Choices) (c : NodeChoice ℕ ℕ) (node : ℕ) → chosen ≡ fewer ++ c ∷ [] → (name_of t c.node ≡ name_of t node → ⊥) → IsChosen chosen node → IsChosen fewer node
+chosen-less : (t : TableParts) (chosen fewer : Choices) (c : NodeChoice ℕ ℕ) (node : ℕ) → chosen ≡ fewer ++ c ∷ [] → (name_of t c.node ≡ name_of t node → ⊥) → IsChosen chosen node → IsChosen fewer node
 chosen-less t chosen fewer c node e d h = elim (Contains-push_cases fewer c (decision node h.0) (subst (λ xs. Contains xs (decision node h.0)) e h.1)) [
   | inl x ↦ (h.0, x)
   | inr y ↦ absurd (d (ap (λ (x : NodeChoice ℕ ℕ). name_of t x.node) y))
 ]
 
-pub watched-back_first : (t : Parts) → in_range t ≡ true → (old new : Agenda) (taken : Firsts) (chosen fewer : Choices) (c : NodeChoice ℕ ℕ) → IsWatched t old taken chosen → name_of t c.node < length taken → ((a : Ask) → Contains new.asks.items a → Contains old.asks.items a) → ((m : ℕ) → Contains (keys old.free) m → Contains (keys new.free) m) → Contains (keys new.free) (name_of t c.node) → new.loose ≡ old.loose → chosen ≡ fewer ++ c ∷ [] → IsWatched t new (slice_set taken (name_of t c.node) None) fewer
+pub watched-back_first : (t : TableParts) → in_range t ≡ true → (old new : Agenda) (taken : Firsts) (chosen fewer : Choices) (c : NodeChoice ℕ ℕ) → IsWatched t old taken chosen → name_of t c.node < length taken → ((a : Ask) → Contains new.asks.items a → Contains old.asks.items a) → ((m : ℕ) → Contains (keys old.free) m → Contains (keys new.free) m) → Contains (keys new.free) (name_of t c.node) → new.loose ≡ old.loose → chosen ≡ fewer ++ c ∷ [] → IsWatched t new (slice_set taken (name_of t c.node) None) fewer
 watched-back_first t known old new taken chosen fewer c h l asks free own loose less = record {
   free = λ a i none. elim (nat_cases (name_of t c.node) ((rules_of t).name a.requirement)) [
     | inl e ↦ subst (λ m. Contains (keys new.free) m) e own
@@ -97,7 +97,7 @@ watched-back_first t known old new taken chosen fewer c h l asks free own loose 
   ];
 }
 
-pub watched-back_tied : (t : Parts) → in_range t ≡ true → (old new : Agenda) (taken : Firsts) (chosen fewer : Choices) (c : NodeChoice ℕ ℕ) → IsWatched t old taken chosen → ((a : Ask) → Contains new.asks.items a → Contains old.asks.items a) → new.free ≡ old.free → new.loose.items ≡ old.loose.items ++ name_of t c.node ∷ [] → chosen ≡ fewer ++ c ∷ [] → IsWatched t new taken fewer
+pub watched-back_tied : (t : TableParts) → in_range t ≡ true → (old new : Agenda) (taken : Firsts) (chosen fewer : Choices) (c : NodeChoice ℕ ℕ) → IsWatched t old taken chosen → ((a : Ask) → Contains new.asks.items a → Contains old.asks.items a) → new.free ≡ old.free → new.loose.items ≡ old.loose.items ++ name_of t c.node ∷ [] → chosen ≡ fewer ++ c ∷ [] → IsWatched t new taken fewer
 watched-back_tied t known old new taken chosen fewer c h asks free loose less = record {
   free = λ a i none. subst (λ f. Contains (keys f) ((rules_of t).name a.requirement)) (sym free) (h.free a (asks a i) none);
   loose = λ a d node i some k. elim (nat_cases (name_of t c.node) ((rules_of t).name a.requirement)) [
@@ -111,7 +111,7 @@ watched-back_tied t known old new taken chosen fewer c h asks free loose less = 
 
 -- ---- a name that is looked at no more
 
-pub tied-row : (t : Parts) (agenda : Agenda) (first : ℕ → Option (NodeChoice ℕ ℕ)) (chosen : Choices) (n : ℕ) (need : Need) → AreRowed t agenda → IsTied (rules_of t) first chosen (row_at agenda.rows.items n) need → IsTied (rules_of t) first chosen agenda.asks.items need
+pub tied-row : (t : TableParts) (agenda : Agenda) (first : ℕ → Option (NodeChoice ℕ ℕ)) (chosen : Choices) (n : ℕ) (need : Need) → AreRowed t agenda → IsTied (rules_of t) first chosen (row_at agenda.rows.items n) need → IsTied (rules_of t) first chosen agenda.asks.items need
 tied-row t agenda first chosen n need h k = record {
   ask = k.ask;
   there = (row-from t agenda n k.ask h k.there).0;
@@ -122,7 +122,7 @@ tied-row t agenda first chosen n need h k = record {
   free = k.free;
 }
 
-pub watched-settled : (t : Parts) (old new : Agenda) (taken : Firsts) (chosen : Choices) (n : ℕ) → AreRowed t old → IsWatched t old taken chosen → NoneTied (rules_of t) (first_at taken) chosen (row_at old.rows.items n) → new.asks ≡ old.asks → new.free ≡ old.free → old.loose.items ≡ new.loose.items ++ n ∷ [] → IsWatched t new taken chosen
+pub watched-settled : (t : TableParts) (old new : Agenda) (taken : Firsts) (chosen : Choices) (n : ℕ) → AreRowed t old → IsWatched t old taken chosen → NoneTied (rules_of t) (first_at taken) chosen (row_at old.rows.items n) → new.asks ≡ old.asks → new.free ≡ old.free → old.loose.items ≡ new.loose.items ++ n ∷ [] → IsWatched t new taken chosen
 watched-settled t old new taken chosen n r h none asks free loose = record {
   free = λ a i e. subst (λ f. Contains (keys f) ((rules_of t).name a.requirement)) (sym free) (h.free a (subst (λ xs. Contains xs a) (ap (λ xs. xs.items) asks) i) e);
   loose = λ a d node i some k.
@@ -136,13 +136,13 @@ watched-settled t old new taken chosen n r h none asks free loose = record {
       ];
 }
 
-pub none-loose : (t : Parts) (agenda : Agenda) (taken : Firsts) (chosen : Choices) → IsWatched t agenda taken chosen → agenda.loose.items ≡ [] → NoneTied (rules_of t) (first_at taken) chosen agenda.asks.items
+pub none-loose : (t : TableParts) (agenda : Agenda) (taken : Firsts) (chosen : Choices) → IsWatched t agenda taken chosen → agenda.loose.items ≡ [] → NoneTied (rules_of t) (first_at taken) chosen agenda.asks.items
 none-loose t agenda taken chosen h e a d node i some k = elim (h.loose a d node i some k) [
   | inl x ↦ x
   | inr l ↦ absurd (Contains-nil ((rules_of t).name a.requirement) (subst (λ xs. Contains xs ((rules_of t).name a.requirement)) e l))
 ]
 
-pub watched-taken : (t : Parts) (old new : Agenda) (taken : Firsts) (chosen : Choices) (n : ℕ) → AreRowed t old → IsWatched t old taken chosen → (first_at taken n ≡ None → row_at old.rows.items n ≡ []) → new.asks ≡ old.asks → new.loose ≡ old.loose → keys old.free ≡ n ∷ keys new.free → IsWatched t new taken chosen
+pub watched-taken : (t : TableParts) (old new : Agenda) (taken : Firsts) (chosen : Choices) (n : ℕ) → AreRowed t old → IsWatched t old taken chosen → (first_at taken n ≡ None → row_at old.rows.items n ≡ []) → new.asks ≡ old.asks → new.loose ≡ old.loose → keys old.free ≡ n ∷ keys new.free → IsWatched t new taken chosen
 watched-taken t old new taken chosen n r h none asks loose free = record {
   free = λ a i e.
       let there : Contains old.asks.items a = subst (λ xs. Contains xs a) (ap (λ xs. xs.items) asks) i in
@@ -153,7 +153,7 @@ watched-taken t old new taken chosen n r h none asks loose free = record {
   loose = λ a d node i some k. subst (λ xs. IsChosen chosen node ⊎ Contains xs ((rules_of t).name a.requirement)) (sym (ap (λ xs. xs.items) loose)) (h.loose a d node (subst (λ xs. Contains xs a) (ap (λ xs. xs.items) asks) i) some k);
 }
 
-pub least-found : (t : Parts) → in_range t ≡ true → (agenda : Agenda) (taken : Firsts) (chosen : Choices) (n : ℕ) (need : Need) (ask : Ask) → AreRowed t agenda → IsWatched t agenda taken chosen → ((m : ℕ) → Contains (keys agenda.free) m → n ≤ m) → first_at taken n ≡ None → Contains (row_at agenda.rows.items n) ask → need.by ≡ ask.by → Contains ((rules_of t).nodes ask.requirement) need.node → IsLeastNeed (rules_of t) (first_at taken) agenda.asks.items need
+pub least-found : (t : TableParts) → in_range t ≡ true → (agenda : Agenda) (taken : Firsts) (chosen : Choices) (n : ℕ) (need : Need) (ask : Ask) → AreRowed t agenda → IsWatched t agenda taken chosen → ((m : ℕ) → Contains (keys agenda.free) m → n ≤ m) → first_at taken n ≡ None → Contains (row_at agenda.rows.items n) ask → need.by ≡ ask.by → Contains ((rules_of t).nodes ask.requirement) need.node → IsLeastNeed (rules_of t) (first_at taken) agenda.asks.items need
 least-found t known agenda taken chosen n need ask r h least free there by node =
     let k : Contains agenda.asks.items ask × ((rules_of t).name ask.requirement ≡ n) = row-from t agenda n ask r there in
     record {
@@ -166,5 +166,5 @@ least-found t known agenda taken chosen n need ask r h least free there by node 
       least = λ a i e. subst (λ m. m ≤ (rules_of t).name a.requirement) (sym k.1) (least ((rules_of t).name a.requirement) (h.free a i e));
     }
 
-pub none-found : (t : Parts) (agenda : Agenda) (taken : Firsts) (chosen : Choices) → IsWatched t agenda taken chosen → keys agenda.free ≡ [] → IsFoundNeed (rules_of t) (first_at taken) agenda.asks.items None
+pub none-found : (t : TableParts) (agenda : Agenda) (taken : Firsts) (chosen : Choices) → IsWatched t agenda taken chosen → keys agenda.free ≡ [] → IsFoundNeed (rules_of t) (first_at taken) agenda.asks.items None
 none-found t agenda taken chosen h e a i none = Contains-nil ((rules_of t).name a.requirement) (subst (λ xs. Contains xs ((rules_of t).name a.requirement)) e (h.free a i none))

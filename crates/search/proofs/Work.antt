@@ -13,7 +13,7 @@ use Rattle.search.specs.Rules.{Rules, IsLawful}
 use Rattle.search.specs.Search.{pin_at, pins_of, IsSearch, IsFrame}
 use Rattle.search.specs.Solutions.{Pin, version_in}
 use Rattle.search.specs.Steps.{IsForward}
-use Rattle.search.specs.Table.{Parts, rules_of, requirement_at, candidates_of, in_range}
+use Rattle.search.specs.Table.{TableParts, rules_of, requirement_at, candidates_of, in_range}
 
 -- ---- how deep a search goes
 
@@ -113,7 +113,7 @@ work_left-more rules base depth fs f g rest b l h = subst₂ (λ ds es. digits_l
 
 -- ---- the work that is left, at a table
 
-pub table-lawful : (t : Parts) → in_range t ≡ true → IsLawful (rules_of t)
+pub table-lawful : (t : TableParts) → in_range t ≡ true → IsLawful (rules_of t)
 table-lawful t known = record {
   order = nat-order;
   some = λ r. ((requirement_at t r).node, Contains-here (requirement_at t r).node (requirement_at t r).more);
@@ -135,32 +135,32 @@ candidates-counted (cs ∷ css) zero = omega arith
 candidates-counted (cs ∷ css) (suc n) = let k = candidates-counted css n in omega arith
 
 -- more than the candidates of any name
-abbrev pub base_of : Parts → ℕ
+abbrev pub base_of : TableParts → ℕ
 base_of t = candidates_count t.candidates + 2
 
-abbrev pub work_of : Parts → List Frame → ℕ
+abbrev pub work_of : TableParts → List Frame → ℕ
 work_of t fs = work_left (rules_of t) (base_of t) (length t.candidates) fs
 
-pub candidates-room : (t : Parts) (n : ℕ) → suc (length (candidates_of t n)) < base_of t
+pub candidates-room : (t : TableParts) (n : ℕ) → suc (length (candidates_of t n)) < base_of t
 candidates-room t n = let k = candidates-counted t.candidates n in omega arith
 
-pub candidates-bound : (t : Parts) (n : ℕ) → length (candidates_of t n) < base_of t
+pub candidates-bound : (t : TableParts) (n : ℕ) → length (candidates_of t n) < base_of t
 candidates-bound t n = let k = candidates-counted t.candidates n in omega arith
 
-pub depth-bound : (t : Parts) → in_range t ≡ true → (fs : List Frame) → IsSearch (rules_of t) [] fs → length fs ≤ length t.candidates
+pub depth-bound : (t : TableParts) → in_range t ≡ true → (fs : List Frame) → IsSearch (rules_of t) [] fs → length fs ≤ length t.candidates
 depth-bound t known fs h = search-depth (rules_of t) (table-lawful t known) (length t.candidates) (candidates-named t.candidates) fs h
 
-pub frames-known : (t : Parts) (fs : List Frame) → IsSearch (rules_of t) [] fs → (f : Frame) → Contains fs f → f.name < length t.candidates
+pub frames-known : (t : TableParts) (fs : List Frame) → IsSearch (rules_of t) [] fs → (f : Frame) → Contains fs f → f.name < length t.candidates
 frames-known t fs h = frames-below (rules_of t) (length t.candidates) (candidates-named t.candidates) fs h
 
-pub work-push : (p : Parts) (known : in_range p ≡ true) (fs new : List Frame) (f : Frame) → new ≡ fs ++ f ∷ [] → IsSearch (rules_of p) [] new → work_of p new < work_of p fs
+pub work-push : (p : TableParts) (known : in_range p ≡ true) (fs new : List Frame) (f : Frame) → new ≡ fs ++ f ∷ [] → IsSearch (rules_of p) [] new → work_of p new < work_of p fs
 work-push p known fs new f e h =
     let d : length (fs ++ f ∷ []) ≤ length p.candidates = depth-bound p known (fs ++ f ∷ []) (subst (λ xs. IsSearch (rules_of p) [] xs) e h) in
     let l = length-append fs (f ∷ []) in
     let c = candidates-bound p f.name in
     subst (λ xs. work_of p xs < work_of p fs) (sym e) (work_left-push (rules_of p) (base_of p) (length p.candidates) fs f (omega arith) (omega arith))
 
-pub work-forward : (p : Parts) (known : in_range p ≡ true) (old new : List Frame) → IsForward old new → IsSearch (rules_of p) [] old → IsSearch (rules_of p) [] new → work_of p new < work_of p old
+pub work-forward : (p : TableParts) (known : in_range p ≡ true) (old new : List Frame) → IsForward old new → IsSearch (rules_of p) [] old → IsSearch (rules_of p) [] new → work_of p new < work_of p old
 work-forward p known old new f h k =
     let d : length (f.front ++ f.last ∷ f.rest) ≤ length p.candidates = depth-bound p known (f.front ++ f.last ∷ f.rest) (subst (λ xs. IsSearch (rules_of p) [] xs) f.was h) in
     let n : IsSearch (rules_of p) [] f.front × IsFrame (rules_of p) (pins_of f.front) f.next = IsSearch-pop (rules_of p) (table-lawful p known) [] f.front f.next (subst (λ xs. IsSearch (rules_of p) [] xs) f.is k) in

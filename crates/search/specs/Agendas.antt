@@ -9,7 +9,7 @@ use Rattle.search.specs.declared.agenda.Ask.{Ask}
 use Rattle.search.specs.declared.conflict.NodeChoice.{NodeChoice}
 use Rattle.search.specs.Gathering.{decision}
 use Rattle.search.specs.Rules.{Rules}
-use Rattle.search.specs.Table.{Parts, rules_of}
+use Rattle.search.specs.Table.{TableParts, rules_of}
 
 abbrev pub AskValue : Type 0
 AskValue = Ask
@@ -34,12 +34,12 @@ abbrev pub IsChosen : List (NodeChoice ℕ ℕ) → ℕ → Type 0
 IsChosen chosen node = (v : ℕ) × Contains chosen (decision node v)
 
 -- the rows have what is asked for on each name
-pub record AreRowed (t : Parts) (agenda : Agenda) : Type 0 where
+pub record AreRowed (t : TableParts) (agenda : Agenda) : Type 0 where
   pub room : length agenda.rows.items ≡ length t.candidates
   pub known : (a : Ask) → Contains agenda.asks.items a → a.requirement < length t.requirements
   pub rows : (n : ℕ) → row_at agenda.rows.items n ≡ asks_on (rules_of t) n agenda.asks.items
 
 -- a name with no version on which something is asked for is free, and one with a version, where a node that is asked for has no choice, is loose
-pub record IsWatched (t : Parts) (agenda : Agenda) (taken : List (Option (NodeChoice ℕ ℕ))) (chosen : List (NodeChoice ℕ ℕ)) : Type 0 where
+pub record IsWatched (t : TableParts) (agenda : Agenda) (taken : List (Option (NodeChoice ℕ ℕ))) (chosen : List (NodeChoice ℕ ℕ)) : Type 0 where
   pub free : (a : Ask) → Contains agenda.asks.items a → slice_index_or taken ((rules_of t).name a.requirement) None ≡ None → Contains (keys agenda.free) ((rules_of t).name a.requirement)
   pub loose : (a : Ask) (d : NodeChoice ℕ ℕ) (node : ℕ) → Contains agenda.asks.items a → slice_index_or taken ((rules_of t).name a.requirement) None ≡ Some d → Contains ((rules_of t).nodes a.requirement) node → IsChosen chosen node ⊎ Contains agenda.loose.items ((rules_of t).name a.requirement)

@@ -10,7 +10,7 @@ use Rattle.search.specs.Nodes.{IsClosing, nodes_linked, wants_linked}
 use Rattle.search.specs.Rules.{Rules}
 use Rattle.search.specs.Search.{taken_at, pins_of, clash_in, IsAsked, AreNeeded, AreAsked}
 use Rattle.search.specs.Solutions.{version_in}
-use Rattle.search.specs.Table.{Parts, rules_of}
+use Rattle.search.specs.Table.{TableParts, rules_of}
 
 -- the requirements of a walk, as far as the first `at` nodes have been followed
 pub record IsAsking (rules : Rules ℕ ℕ ℕ ℕ) (chosen : ℕ → Option ℕ) (nodes asked : List ℕ) (at : ℕ) : Type 0 where
@@ -31,7 +31,7 @@ abbrev pub HaveFit : Rules ℕ ℕ ℕ ℕ → (ℕ → Option ℕ) → List ℕ
 HaveFit rules chosen asked since = (r : ℕ) → Contains (take since.asked asked) r → rules.name r ≢ since.name → clash_in rules chosen r ≡ false
 
 -- a front has all that is needed and asked for under what it takes, and tells whether something clashes
-pub record IsFront (t : Parts) (front : Front) : Type 0 where
+pub record IsFront (t : TableParts) (front : Front) : Type 0 where
   pub room : length front.taken.items ≡ length t.candidates
   pub needed_room : front.needed.room ≡ length t.nodes
   pub asked_room : front.asked.room ≡ length t.requirements
@@ -40,6 +40,6 @@ pub record IsFront (t : Parts) (front : Front) : Type 0 where
   pub clashes : front.clashes ≡ list_any (clash_in (rules_of t) (taken_at front.taken.items)) front.asked.members
 
 -- and it takes what the frames take
-pub record IsFrontOf (t : Parts) (frames : List Frame) (front : Front) : Type 0 where
+pub record IsFrontOf (t : TableParts) (frames : List Frame) (front : Front) : Type 0 where
   pub stands : IsFront t front
   pub same : (n : ℕ) → taken_at front.taken.items n ≡ version_in nat_cmp (pins_of frames) n

@@ -14,7 +14,7 @@ use Rattle.search.specs.Gathering.{IsCompleted, choice_at, decision}
 use Rattle.search.specs.Rules.{Rules}
 use Rattle.search.specs.Search.{pins_of}
 use Rattle.search.specs.Solutions.{Pin, Needed, IsNext, version_in}
-use Rattle.search.specs.Table.{Parts, rules_of, name_of}
+use Rattle.search.specs.Table.{TableParts, rules_of, name_of}
 
 abbrev pub decision_of : Held → NodeChoice ℕ ℕ
 decision_of h = decision h.trial.node h.place
@@ -123,7 +123,7 @@ entries_of (h ∷ hs) = entry_of h ∷ entries_of hs
 abbrev pub first_at : List (Option (NodeChoice ℕ ℕ)) → ℕ → Option (NodeChoice ℕ ℕ)
 first_at taken n = slice_index_or taken n None
 
-pub record IsPartial (t : Parts) (p : Partial) : Type 0 where
+pub record IsPartial (t : TableParts) (p : Partial) : Type 0 where
   pub choices : p.choices.entries ≡ entries_of p.held.items
   pub room : length p.taken.items ≡ length t.candidates
   pub taken : (n : ℕ) → first_at p.taken.items n ≡ version_in nat_cmp (leaders_held (rules_of t) p.held.items) n
@@ -132,5 +132,5 @@ pub record IsPartial (t : Parts) (p : Partial) : Type 0 where
   pub watched : IsWatched t p.agenda p.taken.items (map choice_at p.choices.entries)
 
 -- the last choice is at a node of the table; where it leads, its name had no choice before
-abbrev pub LastIsNew : Parts → List Held → Type 0
+abbrev pub LastIsNew : TableParts → List Held → Type 0
 LastIsNew t hs = (front : List Held) (last : Held) → hs ≡ front ++ last ∷ [] → (last.trial.node < length t.nodes) × (last.trial.leads ≡ true → version_in nat_cmp (leaders_held (rules_of t) front) (name_of t last.trial.node) ≡ None)

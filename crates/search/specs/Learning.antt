@@ -12,11 +12,11 @@ use Rattle.search.specs.Conflicts.{EachFollows}
 use Rattle.search.specs.Gathering.{places_eq}
 use Rattle.search.specs.Learned.{IsLearning, IsPartial, IsTrial, chosen_held}
 use Rattle.search.specs.Solutions.{HasNoSolution, IsBest}
-use Rattle.search.specs.Table.{Parts, rules_of, candidates_of, name_of}
+use Rattle.search.specs.Table.{TableParts, rules_of, candidates_of, name_of}
 use Rattle.search.specs.Trials.{IsRefused}
 
 -- each recorded conflict follows from those before it, and what is held is in keeping with them
-pub record IsLearned (t : Parts) (p : Partial) (conflicts : List (List (NodeChoice ℕ ℕ))) : Type 0 where
+pub record IsLearned (t : TableParts) (p : Partial) (conflicts : List (List (NodeChoice ℕ ℕ))) : Type 0 where
   pub partial : IsPartial t p
   pub follows : EachFollows (rules_of t) places_eq [] conflicts
   pub learning : IsLearning (rules_of t) conflicts [] p.held.items
@@ -43,28 +43,28 @@ pub record IsBack (old new : List Held) (trial : Trial) : Type 0 where
   pub turn : trial.turn ≡ last.trial.turn + 1
 
 -- the next candidate of the same node is tried
-pub record IsRetried (t : Parts) (old new : List Held) (before after : Trial) : Type 0 where
+pub record IsRetried (t : TableParts) (old new : List Held) (before after : Trial) : Type 0 where
   pub held : new ≡ old
   pub node : after.node ≡ before.node
   pub turn : after.turn ≡ before.turn + 1
   pub within : before.turn < length (candidates_of t (name_of t before.node))
 
 -- the node has a choice, and the next one is tried
-pub record IsEntered (t : Parts) (old new : List Held) (before after : Trial) : Type 0 where
+pub record IsEntered (t : TableParts) (old new : List Held) (before after : Trial) : Type 0 where
   pub place : ℕ
   pub held : new ≡ old ++ (record { trial = before; place = place }) ∷ []
   pub turn : after.turn ≡ 0
 
-abbrev pub IsOnward : Parts → List Held → List Held → Trial → Trial → Type 0
+abbrev pub IsOnward : TableParts → List Held → List Held → Trial → Trial → Type 0
 IsOnward t old new before after = IsRetried t old new before after ⊎ (IsEntered t old new before after ⊎ IsBack old new after)
 
 -- what holds of a search as far as it has come
-abbrev pub StandsAt : Parts → Partial → List (List (NodeChoice ℕ ℕ)) → Progress → Type 0
+abbrev pub StandsAt : TableParts → Partial → List (List (NodeChoice ℕ ℕ)) → Progress → Type 0
 StandsAt t p conflicts (Trying trial) = IsLearned t p conflicts × IsTrial (rules_of t) conflicts p.held.items trial
 StandsAt t p conflicts Solved = IsPartial t p × IsBest (rules_of t) (chosen_held (rules_of t) p.held.items)
 StandsAt t p conflicts Refuted = HasNoSolution (rules_of t)
 
-abbrev pub GoesOnward : Parts → List Held → List Held → Trial → Progress → Type 0
+abbrev pub GoesOnward : TableParts → List Held → List Held → Trial → Progress → Type 0
 GoesOnward t old new before (Trying trial) = IsOnward t old new before trial
 GoesOnward t old new before Solved = Unit {0}
 GoesOnward t old new before Refuted = Unit {0}

@@ -5,7 +5,7 @@ use Rattle.std.specs.Ordering.{nat_cmp}
 use Rattle.search.specs.declared.parts.Choice.{Choice}
 use Rattle.search.specs.Rules.{Rules}
 use Rattle.search.specs.Solutions.{Pin}
-use Rattle.search.specs.Table.{Parts, requirement_at, name_of, nodes_of, admits_at, wants_at, candidates_of, pin_of}
+use Rattle.search.specs.Table.{TableParts, requirement_at, name_of, nodes_of, admits_at, wants_at, candidates_of, pin_of}
 
 -- what each number stands for; a version by the number of its name and its place
 pub record Picture (N X V R : Type 0) : Type 0 where
@@ -15,11 +15,11 @@ pub record Picture (N X V R : Type 0) : Type 0 where
   pub requirement : ℕ → R
 
 -- the name that a requirement of a table is on
-abbrev pub name_asked : Parts → ℕ → ℕ
+abbrev pub name_asked : TableParts → ℕ → ℕ
 name_asked t r = name_of t (requirement_at t r).node
 
 -- What the table says of its numbers, the rules say of what they stand for. The table's names are in their order, and a name's candidates are told apart by their places.
-pub record IsPicture {N X V R : Type 0} (t : Parts) (picture : Picture N X V R) (rules : Rules N X V R) : Type 0 where
+pub record IsPicture {N X V R : Type 0} (t : TableParts) (picture : Picture N X V R) (rules : Rules N X V R) : Type 0 where
   pub lines : rules.lines ≡ map picture.requirement t.lines
   pub asked : (r : ℕ) → r < length t.requirements → rules.name (picture.requirement r) ≡ picture.name (name_asked t r)
   pub nodes : (r : ℕ) → r < length t.requirements → rules.nodes (picture.requirement r) ≡ map picture.node (nodes_of (requirement_at t r))

@@ -7,17 +7,17 @@ use Rattle.search.specs.declared.parts.Step.{Step}
 use Rattle.search.specs.declared.parts.Step.TheVariants.{Complete, Entered, Refuted}
 use Rattle.search.specs.Solutions.{version_in}
 use Rattle.search.specs.Search.{pins_of, IsSearch, IsRefuted, IsComplete}
-use Rattle.search.specs.Table.{Parts, rules_of, candidates_of}
+use Rattle.search.specs.Table.{TableParts, rules_of, candidates_of}
 
 -- a frame on this name, with the candidate of this turn
-pub record IsAt (t : Parts) (n : ℕ) (turn : ℕ) (f : Frame) : Type 0 where
+pub record IsAt (t : TableParts) (n : ℕ) (turn : ℕ) (f : Frame) : Type 0 where
   pub named : f.name ≡ n
   pub turned : f.turn ≡ turn
   pub within : turn < length (candidates_of t n)
   pub place : f.place ≡ slice_index_or (candidates_of t n) turn f.place
 
 -- such a frame is pushed, where there is such a candidate, and else nothing changes
-abbrev pub IsTried : Parts → ℕ → ℕ → List Frame → List Frame → Bool → Type 0
+abbrev pub IsTried : TableParts → ℕ → ℕ → List Frame → List Frame → Bool → Type 0
 IsTried t n turn old new true = (f : Frame) × IsAt t n turn f × (new ≡ old ++ f ∷ [])
 IsTried t n turn old new false = (new ≡ old) × (length (candidates_of t n) ≤ turn)
 
@@ -32,7 +32,7 @@ pub record IsForward (old new : List Frame) : Type 0 where
   pub same : next.name ≡ last.name
   pub later : next.turn ≡ last.turn + 1
 
-abbrev pub IsStep : Parts → List Frame → List Frame → Step → Type 0
+abbrev pub IsStep : TableParts → List Frame → List Frame → Step → Type 0
 IsStep t old new Complete = (new ≡ old) × IsComplete (rules_of t) (version_in (rules_of t).compare (pins_of old))
 IsStep t old new Refuted = (new ≡ old) × IsRefuted (rules_of t) (pins_of old)
 IsStep t old new Entered = (f : Frame) × (new ≡ old ++ f ∷ []) × IsSearch (rules_of t) [] new

@@ -8,7 +8,7 @@ use Rattle.search.specs.Rules.{Rules}
 use Rattle.search.specs.Solutions.{Pin, version_in}
 
 -- Names, nodes, requirements and a name's releases are numbers from 0 on: the place of each in its list. A release is told by its place alone.
-pub record Parts : Type 0 where
+pub record TableParts : Type 0 where
   -- the name of each node
   pub nodes : List ℕ
   pub requirements : List Requirement
@@ -19,13 +19,13 @@ pub record Parts : Type 0 where
   -- the requirements of the active lines
   pub lines : List ℕ
 
-abbrev pub requirement_at : Parts → ℕ → Requirement
+abbrev pub requirement_at : TableParts → ℕ → Requirement
 requirement_at t r = slice_index_or t.requirements r (record { node = 0; more = []; admits = [] })
 
 abbrev pub name_at : List ℕ → ℕ → ℕ
 name_at nodes node = slice_index_or nodes node 0
 
-abbrev pub name_of : Parts → ℕ → ℕ
+abbrev pub name_of : TableParts → ℕ → ℕ
 name_of t = name_at t.nodes
 
 -- the nodes that a requirement needs
@@ -33,18 +33,18 @@ abbrev pub nodes_of : Requirement → List ℕ
 nodes_of r = r.node ∷ r.more
 
 -- whether a requirement admits the release at a place; none where nothing is said of it
-abbrev pub admits_at : Parts → ℕ → ℕ → Bool
+abbrev pub admits_at : TableParts → ℕ → ℕ → Bool
 admits_at t r place = slice_index_or (requirement_at t r).admits place false
 
 -- nothing where nothing is said of the release
-abbrev pub wants_at : Parts → ℕ → ℕ → List ℕ
+abbrev pub wants_at : TableParts → ℕ → ℕ → List ℕ
 wants_at t node place = slice_index_or (slice_index_or t.wants node []) place []
 
-abbrev pub candidates_of : Parts → ℕ → List ℕ
+abbrev pub candidates_of : TableParts → ℕ → List ℕ
 candidates_of t n = slice_index_or t.candidates n []
 
 -- names are ordered as numbers
-abbrev pub rules_of : Parts → Rules ℕ ℕ ℕ ℕ
+abbrev pub rules_of : TableParts → Rules ℕ ℕ ℕ ℕ
 rules_of t = record {
   lines = t.lines;
   name = λ r. name_of t (requirement_at t r).node;
@@ -69,7 +69,7 @@ abbrev pub requirement_in_range : List ℕ → Requirement → Bool
 requirement_in_range nodes r = nat_lt r.node (length nodes) && list_all (is_on nodes (name_at nodes r.node)) r.more
 
 -- whether each number has something at its place
-abbrev pub in_range : Parts → Bool
+abbrev pub in_range : TableParts → Bool
 in_range t =
     all_below (length t.candidates) t.nodes
     && (list_all (requirement_in_range t.nodes) t.requirements

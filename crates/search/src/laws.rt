@@ -6,7 +6,7 @@ ghost use Rattle.search.specs.Conflicts.{IsVersionEquality, LiesInNone, Follows,
 ghost use Rattle.search.specs.Picture.{Picture, IsPicture, pictured};
 ghost use Rattle.search.specs.Rules.{Rules, IsOrder, IsLawful};
 ghost use Rattle.search.specs.Solutions.{Solution, IsBest, IsBetter, HasNoSolution, version_in};
-ghost use Rattle.search.specs.Table.{Parts, in_range, place_in, rules_of};
+ghost use Rattle.search.specs.Table.{TableParts, in_range, place_in, rules_of};
 ghost use Rattle.search.specs.declared.conflict.NodeChoice.{NodeChoice};
 ghost use Rattle.search.specs.declared.parts.Choice.{Choice};
 
@@ -21,14 +21,14 @@ pub fn the_best_solution_is_unique<N, X, V, R>()
 /// Where a table pictures other rules, a best solution of the table stands for the best solution
 /// of the rules, and either both have a solution or neither has.
 pub fn a_picture_keeps_the_best_solution<N, X, V, R>()
-    ensures best { (t : Parts) (picture : Picture N X V R) (rules : Rules N X V R)
+    ensures best { (t : TableParts) (picture : Picture N X V R) (rules : Rules N X V R)
         → in_range t ≡ true → IsOrder rules.compare → IsPicture t picture rules
         → (choices : List Choice) → IsBest (rules_of t) (place_in choices)
         → IsBest rules (version_in rules.compare (pictured picture choices)) }
-    ensures none { (t : Parts) (picture : Picture N X V R) (rules : Rules N X V R)
+    ensures none { (t : TableParts) (picture : Picture N X V R) (rules : Rules N X V R)
         → in_range t ≡ true → IsOrder rules.compare → IsPicture t picture rules
         → HasNoSolution (rules_of t) → HasNoSolution rules }
-    ensures none_there { (t : Parts) (picture : Picture N X V R) (rules : Rules N X V R)
+    ensures none_there { (t : TableParts) (picture : Picture N X V R) (rules : Rules N X V R)
         → in_range t ≡ true → IsOrder rules.compare → IsPicture t picture rules
         → HasNoSolution rules → HasNoSolution (rules_of t) }
 {}

@@ -8,7 +8,7 @@ ghost use Rattle.search.specs.Learned.{FitsBefore, IsPartial, IsTrial, chosen_he
 ghost use Rattle.search.specs.Learning as spec;
 ghost use Rattle.search.specs.Learning.{GoesOnward, IsBack, IsFirst, IsLearned, IsRefusedFor, StandsAt};
 ghost use Rattle.search.specs.Solutions.{HasNoSolution, IsBest};
-ghost use Rattle.search.specs.Table.{Parts, rules_of, candidates_of, name_of, in_range, place_in, IsAscending};
+ghost use Rattle.search.specs.Table.{TableParts, rules_of, candidates_of, name_of, in_range, place_in, IsAscending};
 
 use crate::ahead::Cursor;
 use crate::conflict::{Decision, has};
@@ -245,7 +245,7 @@ fn places_of(alloc: Global, taken: &[Option<Decision>]) -> Result<Vec<Option<usi
 
 /// The choices of the names, in their order.
 fn choices_of(alloc: Global, partial: &Partial) -> Result<Seq<Choice>, AllocError>
-    ensures best { IfOk result (λ choices. (t : Parts) → IsPartial t partial.now → (n : ℕ)
+    ensures best { IfOk result (λ choices. (t : TableParts) → IsPartial t partial.now → (n : ℕ)
         → place_in choices n ≡ chosen_held (rules_of t) partial.now.held.items n) }
     ensures ascending { IfOk result (λ choices. IsAscending choices) }
 {

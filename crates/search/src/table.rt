@@ -2,7 +2,7 @@
 
 ghost use Rattle.std.specs.Prelude.{◌≡◌, ◌<◌, Some, None, true, length, if◌then◌else◌, nat_lt};
 ghost use Rattle.std.specs.List.{Contains, list_all};
-ghost use Rattle.search.specs.Table.{Parts, requirement_at, name_of, nodes_of, wants_at, candidates_of, all_below, is_on, requirement_in_range, in_range, admits_at};
+ghost use Rattle.search.specs.Table.{TableParts, requirement_at, name_of, nodes_of, wants_at, candidates_of, all_below, is_on, requirement_in_range, in_range, admits_at};
 ghost use Rattle.search.specs.Ranges.{EachBelow};
 
 use crate::parts::Requirement;
@@ -22,9 +22,9 @@ pub struct Table {
 
 impl Model for Table {
     ghost use Rattle.std.specs.Prelude.{◌≡◌, true};
-    ghost use Rattle.search.specs.Table.{Parts, in_range};
+    ghost use Rattle.search.specs.Table.{TableParts, in_range};
 
-    ghost Value = { Parts };
+    ghost Value = { TableParts };
 
     ghost view = { λ t. record { nodes = t.nodes; requirements = t.requirements; candidates = t.candidates; wants = t.wants; lines = t.lines } };
 
@@ -117,7 +117,7 @@ impl Table {
         wants: Seq<Seq<Seq<usize>>>,
         lines: Seq<usize>,
     ) -> Option<Table>
-        ensures { let parts : Parts = record {
+        ensures { let parts : TableParts = record {
           nodes = nodes;
           requirements = requirements;
           candidates = candidates;

@@ -11,9 +11,9 @@ use Rattle.serde_json.specs.Find.{as_array, as_bool, as_str}
 use Rattle.markers.specs.declared.fault.Cause.{Cause}
 use Rattle.pep440.specs.Order.{version_cmp}
 use Rattle.pep440.specs.Tied.Reading.{version_of}
-use Rattle.pep440.specs.Version.{Parts}
+use Rattle.pep440.specs.Version.{VersionParts}
 use Rattle.pep440.specs.declared.fault.Fault.{Fault as VersionFault}
-use Rattle.pep508.specs.Requirement.{Wanted, requirement_text}
+use Rattle.pep508.specs.Requirement.{RequirementParts, requirement_text}
 use Rattle.snapshot.specs.declared.fault.Fault.{Fault}
 use Rattle.snapshot.specs.declared.listed.Listed.{Listed}
 use Rattle.snapshot.specs.declared.release.reading.ReadReleases.{ReadReleases}
@@ -39,17 +39,17 @@ listed_of d = do
   Ok (record { version = version; requires_python = requires_python; requires_dist = requires_dist; yanked = yanked; files = files })
 
 -- a version that was read
-abbrev pub versioned : Result Parts VersionFault → Result Parts SkipCause
+abbrev pub versioned : Result VersionParts VersionFault → Result VersionParts SkipCause
 versioned (Ok v) = Ok v
 versioned (Err fault) = Err (causes.Version fault)
 
 -- the requirement that was read at this place
-abbrev pub required_at : ℕ → Result Wanted Cause → Result Wanted SkipCause
+abbrev pub required_at : ℕ → Result RequirementParts Cause → Result RequirementParts SkipCause
 required_at place (Ok wanted) = Ok wanted
 required_at place (Err cause) = Err (causes.Requirement place cause)
 
 -- the requirements that texts are, the first of them at this place
-unfoldable pub requirements_from : ℕ → List (List ℕ) → Result (List Wanted) SkipCause
+unfoldable pub requirements_from : ℕ → List (List ℕ) → Result (List RequirementParts) SkipCause
 requirements_from place [] = Ok []
 requirements_from place (text ∷ texts) = do
   first ← required_at place (requirement_text text)

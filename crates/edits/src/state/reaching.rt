@@ -7,7 +7,7 @@ ghost use Rattle.edits.specs.State.{Reached};
 ghost use Rattle.edits.specs.Tied.Deciding.{AreReached, IsGrown, needs_of};
 ghost use Rattle.pep508.specs.Requirement.{requirement_of};
 ghost use Rattle.pylock.specs.Locks.{are_entries};
-ghost use Rattle.resolve.specs.Given.{active_in, requirements};
+ghost use Rattle.resolve.specs.Problem.{active_in, requirements};
 
 use crate::state::deciding::entry_on;
 use crate::upgrading;

@@ -1,7 +1,7 @@
 -- What the operands of an atom are known to read as.
 -- Tied to `version_read` and `clauses_read` by the model of the code's `Relation`; need not be read.
 use Rattle.std.specs.Prelude.{List, Option, None}
-use Rattle.pep440.specs.Version.{Parts}
+use Rattle.pep440.specs.Version.{VersionParts}
 use Rattle.pep440.specs.declared.specifier.Clause.{Clause}
 use Rattle.markers.specs.Comparisons.{clauses_read, version_read}
 use Rattle.markers.specs.declared.marker_atom.Operand.{Operand}
@@ -10,7 +10,7 @@ use Rattle.markers.specs.declared.marker_atom.Operator.{Operator}
 use Rattle.markers.specs.declared.marker_atom.Operator.TheVariants.{Compare, In, NotIn}
 
 -- the version that an operand on the left is known to read as
-abbrev pub known_version : Operand → Option Parts
+abbrev pub known_version : Operand → Option VersionParts
 known_version (Variable variable) = None
 known_version (Quoted text) = version_read text
 

@@ -10,7 +10,7 @@ use Rattle.std.specs.Hash as fed
 use Rattle.std.specs.Hash.{items_Alike}
 use Rattle.pep440.specs.declared.parts.LocalPart.{LocalPart}
 use Rattle.pep440.specs.declared.parts.LocalPart.TheVariants.{Word, Number}
-use Rattle.pep440.specs.Version.{Parts}
+use Rattle.pep440.specs.Version.{VersionParts}
 use Rattle.pep440.specs.Order.{dev_key, part_cmp, part_key, post_key, pre_key, public_cmp, rank_cmp, trimmed, version_cmp}
 use Rattle.pep440.specs.Hash.{part_writes, rank_writes, version_writes}
 
@@ -60,7 +60,7 @@ locals_fed : (xs ys : List LocalPart) → is_eq (slice_cmp part_cmp xs ys) ≡ t
 locals_fed xs ys h = (items_Alike (record { fed = part_fed })).fed xs ys (lists_ties part_cmp (λ x y. refl) xs ys ∙ h)
 
 -- versions that tie feed a hasher alike
-pub version_fed : (v w : Parts) → eq_by_cmp version_cmp v w ≡ true → version_writes v ≡ version_writes w
+pub version_fed : (v w : VersionParts) → eq_by_cmp version_cmp v w ≡ true → version_writes v ≡ version_writes w
 version_fed v w h =
     let epoch = nat_cmp v.epoch w.epoch in
     let release = slice_cmp nat_cmp (trimmed v.release) (trimmed w.release) in

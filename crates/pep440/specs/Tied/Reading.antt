@@ -13,7 +13,7 @@ use Rattle.pep440.specs.declared.parts.LocalPart.TheVariants.{Number, Word}
 use Rattle.pep440.specs.declared.words.PreWord.{PreWord}
 use Rattle.pep440.specs.declared.words.PreWord.TheVariants as words
 use Rattle.pep440.specs.Text.{trim_end, trim_front}
-use Rattle.pep440.specs.Version.{Parts, fits}
+use Rattle.pep440.specs.Version.{VersionParts, fits}
 use Rattle.pep440.specs.Grammar.{is_separator, is_space, value_from}
 
 -- the numbers of a release of which `n` has been read
@@ -200,7 +200,7 @@ locals_of [] = []
 locals_of (b ∷ rest) = locals_from [] (b ∷ rest)
 
 -- what the spans spell, over numbers of any size
-abbrev pub parts_in : Spans → Parts
+abbrev pub parts_in : Spans → VersionParts
 parts_in s = record {
   epoch = value_from 0 s.epoch;
   release = numbers_from 0 s.release;
@@ -211,7 +211,7 @@ parts_in s = record {
 }
 
 -- the parts that a text with nothing around it spells
-abbrev pub bare_parts : List ℕ → Option Parts
+abbrev pub bare_parts : List ℕ → Option VersionParts
 bare_parts text = option_map parts_in (spans_of text)
 
 -- a text freed of the white space around it
@@ -219,14 +219,14 @@ abbrev pub trim_space : List ℕ → List ℕ
 trim_space text = trim_end is_space (trim_front is_space text)
 
 -- the parts that a text spells
-abbrev pub parts_of : List ℕ → Option Parts
+abbrev pub parts_of : List ℕ → Option VersionParts
 parts_of text = bare_parts (trim_space text)
 
 -- parts that were read, where their numbers fit
-abbrev pub fitting : Option Parts → Result Parts Fault
+abbrev pub fitting : Option VersionParts → Result VersionParts Fault
 fitting None = Err BadVersion
 fitting (Some v) = if fits v then Ok v else Err NumberTooLarge
 
 -- the version that a text spells, or why there is none
-abbrev pub version_of : List ℕ → Result Parts Fault
+abbrev pub version_of : List ℕ → Result VersionParts Fault
 version_of text = fitting (parts_of text)

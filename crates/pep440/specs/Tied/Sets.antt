@@ -8,7 +8,7 @@ use Rattle.pep440.specs.declared.fault.Fault.TheVariants.{ArbitraryEquality, Bad
 use Rattle.pep440.specs.declared.specifier.Operator.{Operator}
 use Rattle.pep440.specs.declared.specifier.Operator.TheVariants as operators
 use Rattle.pep440.specs.declared.specifier.Clause.{Clause}
-use Rattle.pep440.specs.Version.{Parts, fits}
+use Rattle.pep440.specs.Version.{VersionParts, fits}
 use Rattle.pep440.specs.SetGrammar.{takes}
 use Rattle.pep440.specs.Tied.Reading.{bare_parts}
 use Rattle.lists.specs.Spaces.{is_space_or_tab}
@@ -51,7 +51,7 @@ is_arbitrary (a ∷ b ∷ []) = false
 is_arbitrary (a ∷ b ∷ c ∷ rest) = (a == 61) && (b == 61) && (c == 61)
 
 -- the clause at place k of an operator and the parts that its text spells
-abbrev pub clause_with : ℕ → Operator → Option Parts → Result Clause Fault
+abbrev pub clause_with : ℕ → Operator → Option VersionParts → Result Clause Fault
 clause_with k o None = Err (BadClause k)
 clause_with k o (Some v) =
     if takes o v then (if fits v then Ok (record { operator = o; version = v }) else Err NumberTooLarge) else Err (BadClause k)
@@ -78,7 +78,7 @@ abbrev pub version_text : Bool → List ℕ → List ℕ
 version_text false text = text
 version_text true text = take (length text - 2) text
 
-abbrev pub clause_for : ℕ → Option Operator → Option Parts → Result Clause Fault
+abbrev pub clause_for : ℕ → Option Operator → Option VersionParts → Result Clause Fault
 clause_for k None parts = Err (BadClause k)
 clause_for k (Some o) parts = clause_with k o parts
 

@@ -2,7 +2,7 @@ use Rattle.std.proofs.Common.{◌≡◌, ◌&&◌, ◌∙◌, Bool, List, IfOk, 
 use Rattle.std.specs.List.{list_any}
 use Rattle.pep440.specs.Version.{is_pre}
 use Rattle.resolve.specs.Admission.{takes_pre, takes_yanked}
-use Rattle.resolve.specs.Given.{Given, releases_on}
+use Rattle.resolve.specs.Problem.{ProblemParts, releases_on}
 use Rattle.resolve.proofs.Admitting.{admitted-all, and-else, and-then}
 use Rattle.resolve.proofs.admission.admissions.Goals as goal
 use Rattle.resolve.proofs.admission.admissions.Goals.{then-has_pre, else-has_pre, then-has_yanked, else-has_yanked}
@@ -18,6 +18,6 @@ returns c =
       | then-has_yanked w ↦ rw w.yanked-is (and-then _ _ _ (sym c.has_yanked.ensures ∙ w.if-has_yanked.true) w.takes_yanked-yanked.ensures)
       | else-has_yanked w ↦ and-else _ _ _ (sym c.has_yanked.ensures ∙ w.if-has_yanked.false) (w.yanked-is ∙ w.if-has_yanked.false)
     ] in
-    let environment = ap (λ (given : Given). given.environment) c.question.view_is in
+    let environment = ap (λ (given : ProblemParts). given.environment) c.question.view_is in
     let same = admitted-all c.args.question.now c.args.wanted.now _ _ _ releases environment (c.releases-releases.ensures.listed ∙ ap (releases_on c.args.question.now) c.name.ensures) pre yanked in
     subst (λ (admitted : List Bool). IfOk c.admitted.result (λ admits. admits ≡ admitted)) same c.admitted.ensures

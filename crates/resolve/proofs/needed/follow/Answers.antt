@@ -1,5 +1,5 @@
 use Rattle.std.proofs.Common.{List, ap, sym, subst}
-use Rattle.resolve.specs.Given.{Given}
+use Rattle.resolve.specs.Problem.{ProblemParts}
 use Rattle.resolve.specs.Growing.{Grows}
 use Rattle.resolve.specs.declared.node.Node.{Node}
 use Rattle.resolve.proofs.Closing.{linked-released, linked-unchosen, linked-unreleased}
@@ -23,7 +23,7 @@ pub returns : goal.returns
 returns c =
     let value = rw c.in-Some.is at c.get.ensures.value in
     let there = rw c.in-Some-release.is at c.release.ensures in
-    let environment = ap (λ (given : Given). given.environment) c.question.view_is in
+    let environment = ap (λ (given : ProblemParts). given.environment) c.question.view_is in
     let grown = rw (environment, c.dependencies.ensures, c.as_ref-extra.ensures.value) at c.in_ok-add_dependencies.ensures in
     let linked = linked-released c.args.question.now c.args.node.now c.args.versions.now.entries c.in-Some.version.now c.in-Some-release.release.now (sym value) (sym there) in
     subst (λ (linked : List Node). Grows c.args.nodes.now c.add_dependencies.new.nodes linked) linked grown

@@ -1,5 +1,5 @@
 use Rattle.std.proofs.Common.{◌<◌, ◌≤◌, length, length-append, arith, ap, ◌∙◌}
-use Rattle.resolve.specs.Given.{Given}
+use Rattle.resolve.specs.Problem.{ProblemParts}
 use Rattle.resolve.specs.Growing.{Grows, nodes_linked}
 use Rattle.resolve.specs.Resolves.{version_in}
 use Rattle.resolve.proofs.Closing.{closing-end, closing-start, closing-step}
@@ -7,7 +7,7 @@ use Rattle.resolve.proofs.needed.needed.Goals as goal
 
 pub loop-at-init : goal.loop-at-init
 loop-at-init c =
-    let active = c.as_slice.ensures ∙ ap (λ (given : Given). given.active) c.question.view_is in
+    let active = c.as_slice.ensures ∙ ap (λ (given : ProblemParts). given.active) c.question.view_is in
     let grown = rw (c.new-nodes.ensures, active) at c.in_ok-add_lines.ensures in
     record {
       closing = closing-start c.args.question.now (version_in c.args.versions.now.entries) c.add_lines.new.nodes grown;

@@ -1,5 +1,5 @@
 use Rattle.std.proofs.Common.{◌≡◌, take}
-use Rattle.resolve.specs.Given.{requirements}
+use Rattle.resolve.specs.Problem.{requirements}
 use Rattle.resolve.proofs.question.requirements.Given as goal
 
 abbrev pub invariant-loop-line : goal.invariant-loop-line

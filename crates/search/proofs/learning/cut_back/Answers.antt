@@ -8,7 +8,7 @@ use Rattle.search.specs.declared.trial.Trial.{Trial}
 use Rattle.search.specs.Gathering.{decision}
 use Rattle.search.specs.Learned.{decision_of, decisions_of, IsHeld, IsLearning, IsPartial}
 use Rattle.search.specs.Learning.{IsLearned}
-use Rattle.search.specs.Table.{Parts, rules_of, candidates_of, name_of}
+use Rattle.search.specs.Table.{TableParts, rules_of, candidates_of, name_of}
 use Rattle.search.specs.Trials.{IsRefused}
 use Rattle.search.proofs.learning.cut_back.Goals as goal
 
@@ -21,11 +21,11 @@ popped old new h o e k = subst (λ (x : Option Held). Popped old new x) e k
 all-popped : (old new : List Held) (o : Option Held) → o ≡ None → Popped old new o → old ≡ []
 all-popped old new o e k = subst (λ (x : Option Held). Popped old new x) e k
 
-now-partial : (t : Parts) (p : Partial) (h : Held) (o : Option Held) → o ≡ Some h → MatchOption o (Unit {0}) (λ _. IsPartial t p) → IsPartial t p
+now-partial : (t : TableParts) (p : Partial) (h : Held) (o : Option Held) → o ≡ Some h → MatchOption o (Unit {0}) (λ _. IsPartial t p) → IsPartial t p
 now-partial t p h o e k = subst (λ (x : Option Held). MatchOption x (Unit {0}) (λ _. IsPartial t p)) e k
 
 -- what is known of a choice that is given back
-parted : (t : Parts) (p : Partial) (conflicts : List (List (NodeChoice ℕ ℕ))) (front : List Held) (h : Held) → IsLearned t p conflicts → p.held.items ≡ front ++ h ∷ [] → IsLearning (rules_of t) conflicts [] front × IsHeld (rules_of t) conflicts front h
+parted : (t : TableParts) (p : Partial) (conflicts : List (List (NodeChoice ℕ ℕ))) (front : List Held) (h : Held) → IsLearned t p conflicts → p.held.items ≡ front ++ h ∷ [] → IsLearning (rules_of t) conflicts [] front × IsHeld (rules_of t) conflicts front h
 parted t p conflicts front h l e = IsLearning-pop (rules_of t) conflicts [] front h (subst (λ (xs : List Held). IsLearning (rules_of t) conflicts [] xs) e l.learning)
 
 pub pop-requires-clause-last : goal.pop-requires-clause-last
@@ -33,14 +33,14 @@ pop-requires-clause-last c = last-new c.args.table.now c.requires.table c.args.c
 
 pub name_of-requires : goal.name_of-requires
 name_of-requires c =
-    let t : Parts = c.args.table.now in
+    let t : TableParts = c.args.table.now in
     let front : List Held = c.pop.new.self.held.items in
     let k : IsLearning (rules_of t) c.args.conflicts.now.list.items [] front × IsHeld (rules_of t) c.args.conflicts.now.list.items front c.in-Some.held = parted t c.loop-held.partial c.args.conflicts.now.list.items front c.in-Some.held c.loop-held.invariant.learned (popped c.loop-held.partial.held.items c.pop.new.self.held.items c.in-Some.held c.in_ok-held.field-0 c.in-Some.is c.in_ok-held.ensures.popped) in
     subst (λ (x : Trial). x.node < length t.nodes) (sym c.into_trial-trial.ensures) (trial-known t c.requires.table c.args.conflicts.now.list.items front c.in-Some.held.trial k.1.trial)
 
 pub refuse-requires : goal.refuse-requires
 refuse-requires c =
-    let t : Parts = c.args.table.now in
+    let t : TableParts = c.args.table.now in
     let front : List Held = c.pop.new.self.held.items in
     let k : IsLearning (rules_of t) c.args.conflicts.now.list.items [] front × IsHeld (rules_of t) c.args.conflicts.now.list.items front c.in-Some.held = parted t c.loop-held.partial c.args.conflicts.now.list.items front c.in-Some.held c.loop-held.invariant.learned (popped c.loop-held.partial.held.items c.pop.new.self.held.items c.in-Some.held c.in_ok-held.field-0 c.in-Some.is c.in_ok-held.ensures.popped) in
     let low : c.into_trial-trial.result.turn < length (candidates_of t (name_of t c.into_trial-trial.result.node)) = subst (λ (x : Trial). x.turn < length (candidates_of t (name_of t x.node))) (sym c.into_trial-trial.ensures) k.1.turn in
@@ -58,7 +58,7 @@ returns-then-has-clause-none c = record {
 
 pub returns-then-has-clause-learned : goal.returns-then-has-clause-learned
 returns-then-has-clause-learned c =
-    let t : Parts = c.args.table.now in
+    let t : TableParts = c.args.table.now in
     let cs : List (List (NodeChoice ℕ ℕ)) = c.args.conflicts.now.list.items in
     let front : List Held = c.pop.new.self.held.items in
     let h : Held = c.in-Some.held in
@@ -75,7 +75,7 @@ returns-then-has-clause-learned c =
 
 pub loop-held-preserved : goal.loop-held-preserved
 loop-held-preserved c =
-    let t : Parts = c.args.table.now in
+    let t : TableParts = c.args.table.now in
     let cs : List (List (NodeChoice ℕ ℕ)) = c.args.conflicts.now.list.items in
     let front : List Held = c.pop.new.self.held.items in
     let h : Held = c.in-Some.held in

@@ -3,12 +3,12 @@ use Rattle.search.proofs.Learns.{exhausted-follows, exhausted-within, last-recor
 use Rattle.search.specs.declared.conflict.NodeChoice.{NodeChoice}
 use Rattle.search.specs.declared.trial.Held.{Held}
 use Rattle.search.specs.Learning.{IsLearned}
-use Rattle.search.specs.Table.{Parts, rules_of}
+use Rattle.search.specs.Table.{TableParts, rules_of}
 use Rattle.search.proofs.learning.learn.Goals as goal
 
 pub cut_back-requires-clause-learned : goal.cut_back-requires-clause-learned
 cut_back-requires-clause-learned c =
-    let t : Parts = c.args.table.now in
+    let t : TableParts = c.args.table.now in
     let cs : List (List (NodeChoice ℕ ℕ)) = c.args.conflicts.now.list.items in
     let hs : List Held = c.args.partial.now.held.items in
     subst (λ (xs : List (List (NodeChoice ℕ ℕ))). IsLearned t c.args.partial.now xs) (sym c.in_ok-record.ensures)
@@ -16,7 +16,7 @@ cut_back-requires-clause-learned c =
 
 pub cut_back-requires-clause-within : goal.cut_back-requires-clause-within
 cut_back-requires-clause-within c d i =
-    let t : Parts = c.args.table.now in
+    let t : TableParts = c.args.table.now in
     let cs : List (List (NodeChoice ℕ ℕ)) = c.args.conflicts.now.list.items in
     let size : c.len-at.result ≡ length cs = (let e = c.len-at.ensures in omega arith) in
     let at : get_or c.record.new.self.list.items c.len-at.result [] ≡ c.in_ok-conflict.conflict.items =

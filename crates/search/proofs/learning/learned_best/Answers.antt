@@ -7,7 +7,7 @@ use Rattle.search.specs.declared.learning.Progress.TheVariants.{Trying, Solved}
 use Rattle.search.specs.Learned.{chosen_held}
 use Rattle.search.specs.Learning.{StandsAt}
 use Rattle.search.specs.Solutions.{IsBest}
-use Rattle.search.specs.Table.{Parts, rules_of, place_in}
+use Rattle.search.specs.Table.{TableParts, rules_of, place_in}
 use Rattle.search.proofs.learning.learned_best.Goals as goal
 
 pub onward-progress-requires-clause-table : goal.onward-progress-requires-clause-table
@@ -18,7 +18,7 @@ step-requires-clause-table c = c.in_ok-partial.ensures.known
 
 pub returns-in-Solved-clause-best : goal.returns-in-Solved-clause-best
 returns-in-Solved-clause-best c =
-    let t : Parts = c.args.table.now in
+    let t : TableParts = c.args.table.now in
     let p : Partial = c.search.partial in
     let k : StandsAt t p c.search.conflicts.list.items Solved = subst (λ (x : Progress). StandsAt t p c.search.conflicts.list.items x) c.in-Solved.is c.search.invariant in
     let same : (n : ℕ) → place_in c.in_ok-choices-in-Solved.choices n ≡ chosen_held (rules_of t) p.held.items n = c.in_ok-choices-in-Solved.ensures.best t k.0 in
@@ -27,7 +27,7 @@ returns-in-Solved-clause-best c =
 
 pub search-smaller : goal.search-smaller
 search-smaller c =
-    let t : Parts = c.args.table.now in
+    let t : TableParts = c.args.table.now in
     let p : Partial = c.search.partial in
     let cs : List (List (NodeChoice ℕ ℕ)) = c.search.conflicts.list.items in
     let k : StandsAt t p cs (Trying c.in-Trying.trial) = subst (λ (x : Progress). StandsAt t p cs x) c.in-Trying.is c.search.invariant in

@@ -9,7 +9,7 @@ use Rattle.search.specs.declared.trial.Trial.{Trial}
 use Rattle.search.specs.Gathering.{IsWithin, choice_at, decision}
 use Rattle.search.specs.Learned.{IsTrial}
 use Rattle.search.specs.Learning.{IsLearned, IsRefusedFor}
-use Rattle.search.specs.Table.{Parts, rules_of}
+use Rattle.search.specs.Table.{TableParts, rules_of}
 use Rattle.search.specs.Trials.{IsRefused}
 use Rattle.search.proofs.learning.refuse.Goals as goal
 
@@ -18,7 +18,7 @@ clash-requires-clause-node c = trial-known c.args.table.now c.requires.table c.a
 
 pub returns-in-Some-clause-trial : goal.returns-in-Some-clause-trial
 returns-in-Some-clause-trial c =
-    let t : Parts = c.args.table.now in
+    let t : TableParts = c.args.table.now in
     let cs : List (List (NodeChoice ℕ ℕ)) = c.args.conflicts.now.list.items in
     let hs : List Held = c.args.partial.now.held.items in
     let old : Trial = c.args.trial.now in
@@ -32,7 +32,7 @@ returns-in-Some-clause-trial c =
 pub returns-in_ok-refuse_for-in-Some-clash-clause-learned :
     goal.returns-in_ok-refuse_for-in-Some-clash-clause-learned
 returns-in_ok-refuse_for-in-Some-clash-clause-learned c =
-    let t : Parts = c.args.table.now in
+    let t : TableParts = c.args.table.now in
     let cs : List (List (NodeChoice ℕ ℕ)) = c.args.conflicts.now.list.items in
     let h : IsRefusedFor c.args.trial.now c.refuse_for.new.trial cs c.refuse_for.new.conflicts.list.items (decision c.args.trial.now.node c.args.place) c.in-Some-clash.other = c.in_ok-refuse_for-in-Some-clash.ensures in
     subst (λ (xs : List (List (NodeChoice ℕ ℕ))). IsLearned t c.args.partial.now xs) (sym h.recorded) (learned-more t c.args.partial.now cs h.conflict c.requires.learned (c.in-Some-clash.ensures.follows cs h.conflict h.one h.two))
@@ -40,7 +40,7 @@ returns-in_ok-refuse_for-in-Some-clash-clause-learned c =
 pub returns-in_ok-refuse_for-in-Some-clash-clause-trial :
     goal.returns-in_ok-refuse_for-in-Some-clash-clause-trial
 returns-in_ok-refuse_for-in-Some-clash-clause-trial c =
-    let t : Parts = c.args.table.now in
+    let t : TableParts = c.args.table.now in
     let cs : List (List (NodeChoice ℕ ℕ)) = c.args.conflicts.now.list.items in
     let hs : List Held = c.args.partial.now.held.items in
     let old : Trial = c.args.trial.now in

@@ -4,7 +4,7 @@ use Rattle.search.proofs.Learns.{trial-known, leads-first, learned-push}
 use Rattle.search.specs.declared.trial.Trial.{Trial}
 use Rattle.search.specs.Gathering.{decision}
 use Rattle.search.specs.Learned.{FitsBefore}
-use Rattle.search.specs.Table.{Parts, rules_of, candidates_of, name_of}
+use Rattle.search.specs.Table.{TableParts, rules_of, candidates_of, name_of}
 use Rattle.search.proofs.learning.step.Goals as goal
 
 pub push-requires-clause-known : goal.push-requires-clause-known
@@ -15,7 +15,7 @@ push-requires-clause-first c = leads-first c.args.table.now c.refuse.new.conflic
 
 pub onward-requires-clause-learned : goal.onward-requires-clause-learned
 onward-requires-clause-learned c =
-    let t : Parts = c.args.table.now in
+    let t : TableParts = c.args.table.now in
     let old : Trial = c.args.trial in
     let place : ℕ = get_or c.candidates-candidates.result.now old.turn 0 in
     let both : (c.refuse.new.trial ≡ old) × FitsBefore (rules_of t) c.args.partial.now.held.items (decision old.node place) = c.in_ok-refuse.ensures.fits c.if-branch.false in

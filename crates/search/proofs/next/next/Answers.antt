@@ -10,21 +10,21 @@ use Rattle.search.specs.declared.next.Need.{Need}
 use Rattle.search.specs.Asking.{IsFoundNeed, IsTied, NoneTied}
 use Rattle.search.specs.Gathering.{choice_at}
 use Rattle.search.specs.Learned.{IsPartial, asks_of, decisions_of, first_at}
-use Rattle.search.specs.Table.{Parts, rules_of}
+use Rattle.search.specs.Table.{TableParts, rules_of}
 use Rattle.search.proofs.next.next.Goals as goal
 
-firsts : (t : Parts) (p : Partial) (taken : List (Option (NodeChoice ℕ ℕ))) → IsPartial t p → taken ≡ p.taken.items → AreFirst (rules_of t) p.held.items (first_at taken)
+firsts : (t : TableParts) (p : Partial) (taken : List (Option (NodeChoice ℕ ℕ))) → IsPartial t p → taken ≡ p.taken.items → AreFirst (rules_of t) p.held.items (first_at taken)
 firsts t p taken s e n = ap (λ xs. first_at xs n) e ∙ s.taken n
 
-chosen : (t : Parts) (p : Partial) → IsPartial t p → map choice_at p.choices.entries ≡ decisions_of p.held.items
+chosen : (t : TableParts) (p : Partial) → IsPartial t p → map choice_at p.choices.entries ≡ decisions_of p.held.items
 chosen t p s = ap (map choice_at) s.choices ∙ entries-decisions p.held.items
 
-none-tied : (t : Parts) (p : Partial) (first : ℕ → Option (NodeChoice ℕ ℕ)) (asks : List Ask) → IsPartial t p → asks ≡ p.agenda.asks.items → NoneTied (rules_of t) first (map choice_at p.choices.entries) asks → NoneTied (rules_of t) first (decisions_of p.held.items) (asks_of (rules_of t) p.held.items)
+none-tied : (t : TableParts) (p : Partial) (first : ℕ → Option (NodeChoice ℕ ℕ)) (asks : List Ask) → IsPartial t p → asks ≡ p.agenda.asks.items → NoneTied (rules_of t) first (map choice_at p.choices.entries) asks → NoneTied (rules_of t) first (decisions_of p.held.items) (asks_of (rules_of t) p.held.items)
 none-tied t p first asks s e h = subst (λ cs. NoneTied (rules_of t) first cs (asks_of (rules_of t) p.held.items)) (chosen t p s) (subst (λ xs. NoneTied (rules_of t) first (map choice_at p.choices.entries) xs) (e ∙ s.asks) h)
 
 pub returns-in-Some-clause-next : goal.returns-in-Some-clause-next
 returns-in-Some-clause-next c =
-    let t : Parts = c.args.table.now in let p : Partial = c.args.partial.now in
+    let t : TableParts = c.args.table.now in let p : Partial = c.args.partial.now in
     let first : ℕ → Option (NodeChoice ℕ ℕ) = first_at c.as_slice-taken.result.now in
     let asks : c.next_tied.new.agenda.asks.items ≡ asks_of (rules_of t) p.held.items = ap (λ xs. xs.items) c.in-Some.ensures.asks ∙ c.requires.partial.asks in
     let tied : IsTied (rules_of t) first (decisions_of p.held.items) (asks_of (rules_of t) p.held.items) c.in-Some.need =
@@ -36,7 +36,7 @@ returns-in-Some-clause-next c =
 
 pub returns-in-Some-next_free-clause-next : goal.returns-in-Some-next_free-clause-next
 returns-in-Some-next_free-clause-next c =
-    let t : Parts = c.args.table.now in let p : Partial = c.args.partial.now in
+    let t : TableParts = c.args.table.now in let p : Partial = c.args.partial.now in
     let first : ℕ → Option (NodeChoice ℕ ℕ) = first_at c.as_slice-taken.result.now in
     let before : c.next_tied.new.agenda.asks.items ≡ p.agenda.asks.items = ap (λ xs. xs.items) c.in_default.ensures.asks in
     let asks : c.next_free.new.agenda.asks.items ≡ asks_of (rules_of t) p.held.items = ap (λ xs. xs.items) c.next_free.ensures.asks ∙ before ∙ c.requires.partial.asks in
@@ -50,7 +50,7 @@ returns-in-Some-next_free-clause-next c =
 
 pub returns-clause-next : goal.returns-clause-next
 returns-clause-next c =
-    let t : Parts = c.args.table.now in let p : Partial = c.args.partial.now in
+    let t : TableParts = c.args.table.now in let p : Partial = c.args.partial.now in
     let first : ℕ → Option (NodeChoice ℕ ℕ) = first_at c.as_slice-taken.result.now in
     let before : c.next_tied.new.agenda.asks.items ≡ p.agenda.asks.items = ap (λ xs. xs.items) c.in_default.ensures.asks in
     let asks : c.next_free.new.agenda.asks.items ≡ asks_of (rules_of t) p.held.items = ap (λ xs. xs.items) c.next_free.ensures.asks ∙ before ∙ c.requires.partial.asks in

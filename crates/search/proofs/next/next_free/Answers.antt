@@ -5,7 +5,7 @@ use Rattle.search.proofs.Watching.{least-found, watched-taken}
 use Rattle.search.specs.declared.agenda.Agenda.{Agenda}
 use Rattle.search.specs.Agendas.{row_at}
 use Rattle.search.specs.Gathering.{choice_at}
-use Rattle.search.specs.Table.{Parts}
+use Rattle.search.specs.Table.{TableParts}
 use Rattle.search.proofs.next.next_free.Goals as goal
 
 pub need_on-requires : goal.need_on-requires
@@ -27,7 +27,7 @@ dropped old new (Some k) n rest e v r = let same : k ≡ n = (let f : k ∷ new 
 
 pub loop-name-preserved : goal.loop-name-preserved
 loop-name-preserved c =
-    let t : Parts = c.args.table.now in
+    let t : TableParts = c.args.table.now in
     let old : Agenda = c.loop-name.agenda in
     let new : Agenda = record { asks = c.loop-name.agenda.asks; rows = c.loop-name.agenda.rows; free = c.pop_first.new.self; loose = c.loop-name.agenda.loose } in
     let row : c.row_of-row.result.now ≡ row_at c.loop-name.agenda.rows.items c.in-Some.name = c.row_of-row.ensures ∙ ap (λ rs. row_at rs c.in-Some.name) c.as_slice.ensures.value in

@@ -9,14 +9,14 @@ use Rattle.search.specs.Agendas.{AreRowed, row_at}
 use Rattle.search.specs.Asking.{AreKnownAsks, IsTied, NoneTied}
 use Rattle.search.specs.Gathering.{choice_at}
 use Rattle.search.specs.Learned.{first_at}
-use Rattle.search.specs.Table.{Parts, rules_of}
+use Rattle.search.specs.Table.{TableParts, rules_of}
 use Rattle.search.proofs.next.next_tied.Goals as goal
 
 -- what is known of a row, and what is tied in it
-known-row : (t : Parts) (agenda : Agenda) (n : ℕ) (row : List Ask) → AreRowed t agenda → row ≡ row_at agenda.rows.items n → AreKnownAsks (length t.requirements) row
+known-row : (t : TableParts) (agenda : Agenda) (n : ℕ) (row : List Ask) → AreRowed t agenda → row ≡ row_at agenda.rows.items n → AreKnownAsks (length t.requirements) row
 known-row t agenda n row h e a i = h.known a (row-from t agenda n a h (subst (λ xs. Contains xs a) e i)).0
 
-row-tied : (t : Parts) (agenda : Agenda) (first : ℕ → Option (NodeChoice ℕ ℕ)) (chosen : List (NodeChoice ℕ ℕ)) (n : ℕ) (row : List Ask) (need : Need) → AreRowed t agenda → row ≡ row_at agenda.rows.items n → IsTied (rules_of t) first chosen row need → IsTied (rules_of t) first chosen agenda.asks.items need
+row-tied : (t : TableParts) (agenda : Agenda) (first : ℕ → Option (NodeChoice ℕ ℕ)) (chosen : List (NodeChoice ℕ ℕ)) (n : ℕ) (row : List Ask) (need : Need) → AreRowed t agenda → row ≡ row_at agenda.rows.items n → IsTied (rules_of t) first chosen row need → IsTied (rules_of t) first chosen agenda.asks.items need
 row-tied t agenda first chosen n row need h e k = tied-row t agenda first chosen n need h (subst (λ xs. IsTied (rules_of t) first chosen xs need) e k)
 
 pub need_ahead-requires : goal.need_ahead-requires
@@ -33,7 +33,7 @@ returns-in-Some-tied_need-clause-found c = row-tied c.args.table.now c.loop-name
 
 pub loop-name-preserved : goal.loop-name-preserved
 loop-name-preserved c =
-    let t : Parts = c.args.table.now in
+    let t : TableParts = c.args.table.now in
     let old : Agenda = c.loop-name.agenda in
     let new : Agenda = record { asks = c.loop-name.agenda.asks; rows = c.loop-name.agenda.rows; free = c.loop-name.agenda.free; loose = c.pop.new.self } in
     let chosen : List (NodeChoice ℕ ℕ) = map choice_at c.args.choices.now.entries in

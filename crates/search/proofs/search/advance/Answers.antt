@@ -10,25 +10,25 @@ use Rattle.search.specs.declared.parts.Step.TheVariants.{Complete, Entered, Refu
 use Rattle.search.specs.Front.{IsFrontOf}
 use Rattle.search.specs.Search.{pins_of, AreNeeded, AreAsked, NoneFree, IsLeastFree, clash_in, taken_at}
 use Rattle.search.specs.Solutions.{version_in}
-use Rattle.search.specs.Table.{Parts, rules_of}
+use Rattle.search.specs.Table.{TableParts, rules_of}
 use Rattle.search.proofs.search.advance.Goals as goal
 
 -- the facts of a front, at the map of the frames
-map-same : (t : Parts) (fs : List Frame) (front : Front) → IsFrontOf t fs front → taken_at front.taken.items ≡ version_in nat_cmp (pins_of fs)
+map-same : (t : TableParts) (fs : List Frame) (front : Front) → IsFrontOf t fs front → taken_at front.taken.items ≡ version_in nat_cmp (pins_of fs)
 map-same t fs front h = λ i n. h.same n i
 
-needed : (t : Parts) (fs : List Frame) (front : Front) → IsFrontOf t fs front → AreNeeded (rules_of t) (version_in nat_cmp (pins_of fs)) front.needed.members
+needed : (t : TableParts) (fs : List Frame) (front : Front) → IsFrontOf t fs front → AreNeeded (rules_of t) (version_in nat_cmp (pins_of fs)) front.needed.members
 needed t fs front h = subst (λ (s : ℕ → Option ℕ). AreNeeded (rules_of t) s front.needed.members) (map-same t fs front h) h.stands.needed
 
-asked : (t : Parts) (fs : List Frame) (front : Front) → IsFrontOf t fs front → AreAsked (rules_of t) (version_in nat_cmp (pins_of fs)) front.asked.members
+asked : (t : TableParts) (fs : List Frame) (front : Front) → IsFrontOf t fs front → AreAsked (rules_of t) (version_in nat_cmp (pins_of fs)) front.asked.members
 asked t fs front h = subst (λ (s : ℕ → Option ℕ). AreAsked (rules_of t) s front.asked.members) (map-same t fs front h) h.stands.asked
 
-clash : (t : Parts) (fs : List Frame) (front : Front) (h : IsFrontOf t fs front) (b : Bool) → front.clashes ≡ b → list_any (clash_in (rules_of t) (version_in nat_cmp (pins_of fs))) front.asked.members ≡ b
+clash : (t : TableParts) (fs : List Frame) (front : Front) (h : IsFrontOf t fs front) (b : Bool) → front.clashes ≡ b → list_any (clash_in (rules_of t) (version_in nat_cmp (pins_of fs))) front.asked.members ≡ b
 clash t fs front h b e = subst (λ (s : ℕ → Option ℕ). list_any (clash_in (rules_of t) s) front.asked.members ≡ b) (map-same t fs front h) (sym h.stands.clashes ∙ e)
 
 pub returns-then-clashes-clause-step : goal.returns-then-clashes-clause-step
 returns-then-clashes-clause-step c =
-    let t : Parts = c.args.table.now in let fs : List Frame = c.args.frames.now.items in let front : Front = c.args.front.now in
+    let t : TableParts = c.args.table.now in let fs : List Frame = c.args.frames.now.items in let front : Front = c.args.front.now in
     (refl, asked-refuted (rules_of t) (pins_of fs) front.asked.members (asked t fs front c.requires.stands) (clash t fs front c.requires.stands true (sym c.clashes.ensures ∙ c.if-clashes.true)))
 
 pub returns-then-clashes-clause-stands : goal.returns-then-clashes-clause-stands
@@ -42,13 +42,13 @@ enter-requires-clause-fits c = sym c.clashes.ensures ∙ c.if-clashes.false
 
 pub enter-requires-clause-next : goal.enter-requires-clause-next
 enter-requires-clause-next c =
-    let t : Parts = c.args.table.now in let fs : List Frame = c.args.frames.now.items in let front : Front = c.args.front.now in
+    let t : TableParts = c.args.table.now in let fs : List Frame = c.args.frames.now.items in let front : Front = c.args.front.now in
     least-next (rules_of t) refl (pins_of fs) front.needed.members c.in-Some.name (needed t fs front c.requires.stands)
     (subst (λ (s : ℕ → Option ℕ). IsLeastFree (rules_of t) s front.needed.members c.in-Some.name) (map-same t fs front c.requires.stands) c.in-Some.ensures)
 
 pub returns-in-None-clause-step : goal.returns-in-None-clause-step
 returns-in-None-clause-step c =
-    let t : Parts = c.args.table.now in let fs : List Frame = c.args.frames.now.items in let front : Front = c.args.front.now in
+    let t : TableParts = c.args.table.now in let fs : List Frame = c.args.frames.now.items in let front : Front = c.args.front.now in
     let map : ℕ → Option ℕ = version_in nat_cmp (pins_of fs) in (
       refl,
       fits-complete (rules_of t) (table-lawful t c.requires.known) map front.needed.members (needed t fs front c.requires.stands)

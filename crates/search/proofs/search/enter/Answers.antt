@@ -8,7 +8,7 @@ use Rattle.search.specs.declared.parts.Step.TheVariants.{Entered, Refuted}
 use Rattle.search.specs.Search.{pins_of}
 use Rattle.search.specs.Solutions.{version_in}
 use Rattle.search.specs.Steps.{IsTried}
-use Rattle.search.specs.Table.{Parts}
+use Rattle.search.specs.Table.{TableParts}
 use Rattle.search.proofs.search.enter.Goals as goal
 
 pub returns-then-not-branch-clause-step : goal.returns-then-not-branch-clause-step
@@ -27,7 +27,7 @@ last_of-requires c =
 
 pub enter-requires-clause-known : goal.enter-requires-clause-known
 enter-requires-clause-known c =
-    let t : Parts = c.args.table.now in
+    let t : TableParts = c.args.table.now in
     let tried : IsTried t c.args.name 0 c.args.frames.now.items c.try_turn.new.frames.items true = subst (λ b. IsTried t c.args.name 0 c.args.frames.now.items c.try_turn.new.frames.items b) c.if-not-branch.false c.in_ok-try_turn.ensures in
     let p : c.last_of.result ≡ tried.0 = entered-is t c.args.frames.now.items c.try_turn.new.frames.items c.as_slice.result.now c.args.name c.last_of.result tried c.as_slice.ensures.value c.last_of.ensures in
     subst (λ n. n < length t.candidates) (sym (ap (λ (f : Frame). f.name) p ∙ tried.1.named)) (candidates-named t.candidates c.args.name tried.1.within)
@@ -45,7 +45,7 @@ returns-clause-step c =
 
 pub returns-clause-stands : goal.returns-clause-stands
 returns-clause-stands c = λ _.
-    let t : Parts = c.args.table.now in let fs : List Frame = c.args.frames.now.items in let new : List Frame = c.try_turn.new.frames.items in
+    let t : TableParts = c.args.table.now in let fs : List Frame = c.args.frames.now.items in let new : List Frame = c.try_turn.new.frames.items in
     let tried : IsTried t c.args.name 0 fs new true = subst (λ b. IsTried t c.args.name 0 fs new b) c.if-not-branch.false c.in_ok-try_turn.ensures in
     let p : c.last_of.result ≡ tried.0 = entered-is t fs new c.as_slice.result.now c.args.name c.last_of.result tried c.as_slice.ensures.value c.last_of.ensures in
     record {

@@ -1,8 +1,8 @@
 use Rattle.std.proofs.Common.{◌∙◌, refl, sym}
 use Rattle.std.specs.List.{AllByRecursion}
 use Rattle.std.specs.Prelude.{◌↔◌, IsTrue}
-use Rattle.resolve.specs.Given.{requirements}
-use Rattle.pylock.specs.Packages.{Package}
+use Rattle.resolve.specs.Problem.{requirements}
+use Rattle.pylock.specs.Packages.{EntryParts}
 use Rattle.edits.specs.State.{IsLockFor, Reached}
 use Rattle.edits.proofs.DecideFacts.{IsLockFor-from, closed-of, met-of, reached-of}
 use Rattle.edits.proofs.EditFacts.{not-so}
@@ -27,7 +27,7 @@ returns c =
     let closed = rw c.entries-entries.ensures at c.if-not-are_closed.ensures in
     let met = rw (c.lines.ensures, c.entries-entries.ensures) at c.in_ok-are_lines_met.ensures in
     let reached = rw (c.lines-2.ensures, c.entries-entries.ensures) at c.are_reached.ensures in
-    IfOk-onto (λ b. IsTrue b ↔ AllByRecursion (λ (e : Package). Reached (requirements environment lines) lock.entries e.name) lock.entries) (λ b. IsTrue b ↔ IsLockFor lines environment lock) c.are_reached.result
+    IfOk-onto (λ b. IsTrue b ↔ AllByRecursion (λ (e : EntryParts). Reached (requirements environment lines) lock.entries e.name) lock.entries) (λ b. IsTrue b ↔ IsLockFor lines environment lock) c.are_reached.result
     (λ b k. (
       (λ h. IsLockFor-from lines environment lock c.is_lawful.ensures (c.in_ok-is_named.ensures.0 c.if-not-branch.false) (closed.0 refl) (met.0 c.if-not-branch-2.false) (k.0 h)),
       (λ is. k.1 (reached-of lines environment lock is)),

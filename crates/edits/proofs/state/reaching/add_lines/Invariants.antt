@@ -1,5 +1,5 @@
 use Rattle.std.proofs.Common.{map, take}
-use Rattle.resolve.specs.Given.{requirements}
+use Rattle.resolve.specs.Problem.{requirements}
 use Rattle.edits.specs.Tied.Deciding.{IsGrown}
 use Rattle.edits.proofs.state.reaching.add_lines.Given as goal
 

@@ -1,4 +1,4 @@
-use Rattle.resolve.specs.Given.{requirements}
+use Rattle.resolve.specs.Problem.{requirements}
 use Rattle.edits.proofs.ReachFacts.{reached-alike}
 use Rattle.edits.proofs.state.reaching.are_reached.Goals as goal
 

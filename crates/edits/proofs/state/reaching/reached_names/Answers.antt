@@ -1,5 +1,5 @@
 use Rattle.std.proofs.Common.{arith}
-use Rattle.resolve.specs.Given.{requirements}
+use Rattle.resolve.specs.Problem.{requirements}
 use Rattle.edits.proofs.ReachFacts.{AreReached-from, IsFollowed-next, IsFollowed-start}
 use Rattle.edits.proofs.state.reaching.reached_names.Goals as goal
 

@@ -1,5 +1,5 @@
 use Rattle.std.proofs.Common.{◌-◌, ◌^◌}
-use Rattle.resolve.specs.Given.{requirements}
+use Rattle.resolve.specs.Problem.{requirements}
 use Rattle.edits.proofs.ReachFacts.{IsFollowed}
 use Rattle.edits.proofs.state.reaching.reached_names.Given as goal
 

@@ -8,7 +8,7 @@ use Rattle.search.specs.declared.conflict.NodeChoice.{NodeChoice}
 use Rattle.search.specs.Agendas.{IsChosen}
 use Rattle.search.specs.Gathering.{choice_at}
 use Rattle.search.specs.Learned.{IsFree, first_at}
-use Rattle.search.specs.Table.{Parts, rules_of, nodes_of, requirement_at}
+use Rattle.search.specs.Table.{TableParts, rules_of, nodes_of, requirement_at}
 use Rattle.search.proofs.agenda.Agenda.put.Goals as goal
 
 not-true : (a b : Bool) → a ≡ not b → b ≡ true → a ≡ false
@@ -23,7 +23,7 @@ some-none (Some c) d e f = cc
 
 pub returns-then-is_none-clause-watched : goal.returns-then-is_none-clause-watched
 returns-then-is_none-clause-watched c =
-    let t : Parts = c.args.table.now in
+    let t : TableParts = c.args.table.now in
     let name : ℕ = (rules_of t).name c.args.ask.requirement in
     let free : first_at c.args.taken.now name ≡ None = ap (first_at c.args.taken.now) (sym c.name_asked-name.ensures) ∙ sym c.first_on.ensures ∙ is-none c.first_on.result (not-true (is_some c.first_on.result) c.is_none.result c.is_none.ensures c.if-is_none.true) in
     let ks : keys c.insert.new.self ≡ insert_key nat_cmp (keys c.list.new.self.free) c.name_asked-name.result = c.in_ok-insert.ensures.keys in
@@ -35,7 +35,7 @@ returns-then-is_none-clause-watched c =
 
 pub returns-in_ok-push-clause-watched : goal.returns-in_ok-push-clause-watched
 returns-in_ok-push-clause-watched c =
-    let t : Parts = c.args.table.now in
+    let t : TableParts = c.args.table.now in
     let name : ℕ = (rules_of t).name c.args.ask.requirement in
     watched-push t c.args.self.now (record { asks = c.list.new.self.asks; rows = c.list.new.self.rows; free = c.list.new.self.free; loose = c.push.new.self }) c.args.ask c.args.taken.now (map choice_at c.args.choices.now.entries) c.requires.watched c.in_ok-list.ensures.asks
     (λ m i. subst (λ f. Contains (keys f) m) (sym c.in_ok-list.ensures.free) i)
@@ -45,7 +45,7 @@ returns-in_ok-push-clause-watched c =
 
 pub returns-else-is_some-clause-watched : goal.returns-else-is_some-clause-watched
 returns-else-is_some-clause-watched c =
-    let t : Parts = c.args.table.now in
+    let t : TableParts = c.args.table.now in
     let chosen : List (NodeChoice ℕ ℕ) = map choice_at c.args.choices.now.entries in
     let none_free : c.first_free_of.result ≡ None = none-of c.first_free_of.result (sym c.is_some.ensures ∙ c.if-is_some.false) in
     let all : (node : ℕ) → Contains (nodes_of (requirement_at t c.args.ask.requirement)) node → IsChosen chosen node = subst (λ (o : Option ℕ). MatchOption o ((node : ℕ) → Contains (nodes_of (requirement_at t c.args.ask.requirement)) node → IsChosen chosen node) (λ node. Contains (nodes_of (requirement_at t c.args.ask.requirement)) node × IsFree chosen node)) none_free c.first_free_of.ensures in

@@ -13,15 +13,15 @@ use Rattle.search.specs.declared.trial.Held.{Held}
 use Rattle.search.specs.Agendas.{IsWatched}
 use Rattle.search.specs.Gathering.{choice_at}
 use Rattle.search.specs.Learned.{IsPartial, asks_by, asks_of, decision_of, entries_of, entry_of}
-use Rattle.search.specs.Table.{Parts, rules_of, name_of, wants_at}
+use Rattle.search.specs.Table.{TableParts, rules_of, name_of, wants_at}
 use Rattle.search.proofs.held.Partial.pop.Goals as goal
 use Rattle.search.proofs.held.Partial.pop.Goals.{then-held+in_ok-insert, else-held+in_ok-push}
 
 -- what was asked for before
-fewer : (t : Parts) (p : Partial) (hs : List Held) (h : Held) (xs : List Ask) → IsPartial t p → p.held.items ≡ hs ++ h ∷ [] → xs ≡ asks_of (rules_of t) hs → (a : Ask) → Contains xs a → Contains p.agenda.asks.items a
+fewer : (t : TableParts) (p : Partial) (hs : List Held) (h : Held) (xs : List Ask) → IsPartial t p → p.held.items ≡ hs ++ h ∷ [] → xs ≡ asks_of (rules_of t) hs → (a : Ask) → Contains xs a → Contains p.agenda.asks.items a
 fewer t p hs h xs s held e a i = subst (λ ys. Contains ys a) (sym (s.asks ∙ ap (asks_of (rules_of t)) held ∙ asks-push (rules_of t) hs h)) (Contains-append_left (asks_of (rules_of t) hs) (asks_by (rules_of t) h) a (subst (λ ys. Contains ys a) e i))
 
-chosen : (t : Parts) (p : Partial) (hs : List Held) (h : Held) (es : List (ℕ × ℕ)) → IsPartial t p → p.held.items ≡ hs ++ h ∷ [] → es ≡ entries_of hs → map choice_at p.choices.entries ≡ map choice_at es ++ decision_of h ∷ []
+chosen : (t : TableParts) (p : Partial) (hs : List Held) (h : Held) (es : List (ℕ × ℕ)) → IsPartial t p → p.held.items ≡ hs ++ h ∷ [] → es ≡ entries_of hs → map choice_at p.choices.entries ≡ map choice_at es ++ decision_of h ∷ []
 chosen t p hs h es s held e =
     ap (map choice_at) (s.choices ∙ ap entries_of held ∙ entries-push hs h)
     ∙ map-append choice_at (entries_of hs) (entry_of h ∷ [])
@@ -29,7 +29,7 @@ chosen t p hs h es s held e =
 
 pub returns-clause-partial : goal.returns-clause-partial
 returns-clause-partial c =
-    let t : Parts = c.args.table.now in
+    let t : TableParts = c.args.table.now in
     let h : Held = c.in-Some.held in
     let p : Partial = c.args.self.now in
     let s : IsPartial t p = c.requires.partial in

@@ -12,7 +12,7 @@ use Rattle.search.specs.declared.trial.Held.{Held}
 use Rattle.search.specs.Agendas.{IsWatched}
 use Rattle.search.specs.Gathering.{choice_at}
 use Rattle.search.specs.Learned.{IsFree, IsPartial, ask_of, asks_by, decision_of, entry_of}
-use Rattle.search.specs.Table.{Parts, rules_of, name_of}
+use Rattle.search.specs.Table.{TableParts, rules_of, name_of}
 use Rattle.search.proofs.held.Partial.push.Goals as goal
 
 bool_cases : (b : Bool) → (b ≡ true) ⊎ (b ≡ false)
@@ -20,7 +20,7 @@ bool_cases true = inl refl
 bool_cases false = inr refl
 
 -- a choice is the first on its name, or not
-record Leads (t : Parts) (p : Partial) (h : Held) (taken : List (Option (NodeChoice ℕ ℕ))) (loose : Vec ℕ) : Type 0 where
+record Leads (t : TableParts) (p : Partial) (h : Held) (taken : List (Option (NodeChoice ℕ ℕ))) (loose : Vec ℕ) : Type 0 where
   pub first : h.trial.leads ≡ true → (taken ≡ slice_set p.taken.items (name_of t h.trial.node) (Some (decision_of h))) × (loose.items ≡ p.agenda.loose.items ++ name_of t h.trial.node ∷ [])
   pub tied : h.trial.leads ≡ false → (taken ≡ p.taken.items) × (loose ≡ p.agenda.loose)
   pub known : h.trial.leads ≡ true → name_of t h.trial.node < length t.candidates
@@ -31,7 +31,7 @@ entries p h es e = ap (map choice_at) e ∙ map-append choice_at p.choices.entri
 abbrev led : Partial → Vec ℕ → Agenda
 led p loose = record { asks = p.agenda.asks; rows = p.agenda.rows; free = p.agenda.free; loose = loose }
 
-watched : (t : Parts) (p : Partial) (h : Held) (es : List (ℕ × ℕ)) (taken seen : List (Option (NodeChoice ℕ ℕ))) (loose : Vec ℕ) → IsPartial t p → es ≡ p.choices.entries ++ entry_of h ∷ [] → Leads t p h taken loose → seen ≡ taken → IsWatched t (led p loose) seen (map choice_at es)
+watched : (t : TableParts) (p : Partial) (h : Held) (es : List (ℕ × ℕ)) (taken seen : List (Option (NodeChoice ℕ ℕ))) (loose : Vec ℕ) → IsPartial t p → es ≡ p.choices.entries ++ entry_of h ∷ [] → Leads t p h taken loose → seen ≡ taken → IsWatched t (led p loose) seen (map choice_at es)
 watched t p h es taken seen loose s e k same =
     subst (λ cs. IsWatched t (led p loose) seen cs) (sym (entries p h es e)) (subst (λ xs. IsWatched t (led p loose) xs (map choice_at p.choices.entries ++ decision_of h ∷ [])) (sym same) (elim (bool_cases h.trial.leads) [
       | inl yes_it ↦ subst (λ xs. IsWatched t (led p loose) xs (map choice_at p.choices.entries ++ decision_of h ∷ [])) (sym (k.first yes_it).0)
@@ -46,7 +46,7 @@ put_all-requires-clause-rowed c = rowed-same c.args.table.now c.args.self.now.ag
 
 pub put_all-requires-clause-watched : goal.put_all-requires-clause-watched
 put_all-requires-clause-watched c =
-    let t : Parts = c.args.table.now in
+    let t : TableParts = c.args.table.now in
     let h : Held = record { trial = c.args.trial; place = c.args.place } in
     let p : Partial = c.args.self.now in
     let free : IsFree (map choice_at p.choices.entries) c.args.trial.node = subst (λ (cs : List (NodeChoice ℕ ℕ)). IsFree cs c.args.trial.node) (sym (ap (map choice_at) c.requires.partial.choices ∙ entries-decisions p.held.items)) c.requires.free in
@@ -55,7 +55,7 @@ put_all-requires-clause-watched c =
 
 pub returns-clause-partial : goal.returns-clause-partial
 returns-clause-partial c =
-    let t : Parts = c.args.table.now in
+    let t : TableParts = c.args.table.now in
     let h : Held = record { trial = c.args.trial; place = c.args.place } in
     let p : Partial = c.args.self.now in
     let q : Partial = record { choices = c.insert.new.self; held = c.push.new.self; taken = c.lead.new.taken; agenda = c.put_all.new.self } in
