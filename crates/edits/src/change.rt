@@ -56,7 +56,7 @@ impl Change {
     /// begin or end with an equal line, or are both empty; splices that don't rise with a kept line
     /// between two; names that don't rise by their bytes; an entry on another name; an old entry that
     /// equals its new one to the text; equal digests; a place that the inverse moves above 2 ^ 64 - 1.
-    /// It takes no memory.
+    /// It has no other refusal.
     pub fn new(
         splices: Seq<Splice>,
         entries: Seq<EntryChange>,

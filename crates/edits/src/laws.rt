@@ -10,7 +10,7 @@ use resolve::laws::the_best_solution_is_unique;
 
 /// A problem has one lock at most: two locks of it are the same in every part.
 pub fn the_lock_of_a_problem_is_one()
-    ensures law { TheLockOfAProblemIsOne }
+    ensures { TheLockOfAProblemIsOne }
 {
     the_best_solution_is_unique::<Name, Node, Version, Requirement>();
 }

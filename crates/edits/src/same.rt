@@ -11,7 +11,7 @@ use pylock::{Entry, FileEntry, Lock};
 /// What can be compared by all that it holds. The versions `1` and `1.0` are equal in their order, and
 /// don't hold the same.
 pub(crate) trait Same {
-    /// Whether the other one holds the same. It takes no memory.
+    /// Whether the other one holds the same. It has no refusal.
     fn is_same(&self, other: &Self) -> bool
         ensures { IsTrue result ↔ (self.now ≡ other.now) };
 }

@@ -10,15 +10,15 @@ use std::alloc::AllocError;
 pub trait History {
     ghost past: { Self → Past };
 
-    /// The present state. It takes no memory.
+    /// The present state. It has no refusal.
     fn state(&self) -> &State
         ensures present { present (past self.now) ≡ Some result.now };
 
-    /// The place of the present state, from 0. It takes no memory.
+    /// The place of the present state, from 0. It has no refusal.
     fn cursor(&self) -> usize
         ensures cursor { result ≡ (past self.now).cursor };
 
-    /// How many steps there are from the first state to the last. It takes no memory.
+    /// How many steps there are from the first state to the last. It has no refusal.
     fn steps(&self) -> usize
         ensures steps { result + 1 ≡ length (past self.now).states };
 

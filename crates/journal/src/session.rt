@@ -55,14 +55,14 @@ impl Session {
         }
     }
 
-    /// The present state. It takes no memory.
+    /// The present state. It has no refusal.
     pub fn state(&self) -> &State
         ensures present { present self.now ≡ Some result.now }
     {
         self.history.state()
     }
 
-    /// The place of the present state, from 0. It takes no memory.
+    /// The place of the present state, from 0. It has no refusal.
     pub fn cursor(&self) -> usize
         ensures cursor { result ≡ self.now.cursor }
     {

@@ -39,7 +39,7 @@ impl PendingLine {
         })
     }
 
-    /// Puts bytes behind the line, as far as it is held. It takes no memory.
+    /// Puts bytes behind the line, as far as it is held. It has no refusal.
     pub fn keep(&mut self, bytes: &[u8])
         requires { IsUnbroken bytes.now }
         ensures line { self.new ≡ take 65537 (self.old ++ bytes.now) }

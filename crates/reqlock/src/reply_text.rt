@@ -61,7 +61,7 @@ impl ReplyText {
         })
     }
 
-    /// Makes it the text of this reply. It takes no memory.
+    /// Makes it the text of this reply. It has no refusal.
     pub fn set(&mut self, reply: &Reply)
         ensures text { self.new ≡ text_of_reply reply.now }
     {
@@ -98,7 +98,7 @@ fn write_reply(out: &mut Vec<u8>, reply: &Reply)
     }
 }
 
-/// Puts bytes at the end of a vector that has room for them. It takes no memory.
+/// Puts bytes at the end of a vector that has room for them. It has no refusal.
 pub(crate) fn append_within(out: &mut Vec<u8>, bytes: &[u8])
     requires { vec_len out.old + length bytes.now ≤ vec_capacity out.old }
     ensures items { out.new.items ≡ out.old.items ++ bytes.now }
