@@ -63,7 +63,7 @@ def compare_locks(what, place):
     files = f"{place}/index.json", f"{place}/requirements.txt"
     locker = f"{here}/resolve_peer.py"
     sides = {
-        "reqlock": [resolve_program, files[0], environment, files[1]],
+        "reqlock": [resolve_program, "plain", files[0], environment, files[1]],
         "resolvelib": [sys.executable, locker, "resolve", *files],
     }
     steps, counts = {name: [] for name in sides}, set()

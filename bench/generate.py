@@ -269,4 +269,5 @@ def main():
     problem(rng, f"{folder}/newest{PROBLEMS[-1]}", PROBLEMS[-1], 0)
 
 
-main()
+if __name__ == "__main__":
+    main()
