@@ -1,5 +1,6 @@
-"""Tests of requirement_rules.py, and of tools/versions.py below it, by the tables of what packaging 23.0 answers. The crate rows
-has them; tools/versions_table.py and tools/requirements_table.py printed them, and say where the rules differ by design."""
+"""Tests of requirement_rules.py, and of tools/versions.py below it, by the tables of what packaging 23.0 answers. The crate
+conformance has them; tools/versions_table.py and tools/requirements_table.py printed them, and say where the rules differ by
+design."""
 
 import ast
 import json
@@ -10,7 +11,7 @@ from pathlib import Path
 from requirement_rules import Fault, holds, matches, order_key, read_marker, read_requirement, read_set, read_version
 from versions import canonical
 
-ROWS = Path(__file__).resolve().parent.parent.parent / "crates" / "rows" / "src"
+ROWS = Path(__file__).resolve().parent.parent.parent / "crates" / "conformance" / "src"
 
 
 def table(name, constant):
