@@ -9,6 +9,7 @@ import json
 import platform
 import re
 import sys
+from pathlib import Path
 
 import packaging
 from packaging._parser import Variable, parse_requirement
@@ -20,19 +21,7 @@ from packaging.version import InvalidVersion, Version
 
 LARGEST = 2**64 - 1
 ASKED = "foo-bar"
-ENVIRONMENT = {
-    "implementation_name": "cpython",
-    "implementation_version": "3.12.3",
-    "os_name": "posix",
-    "platform_machine": "x86_64",
-    "platform_python_implementation": "CPython",
-    "platform_release": "6.1.0-13-amd64",
-    "platform_system": "Linux",
-    "platform_version": "#1 SMP Debian 6.1.55-1",
-    "python_full_version": "3.12.3",
-    "python_version": "3.12",
-    "sys_platform": "linux",
-}
+ENVIRONMENT = json.loads((Path(__file__).resolve().parent.parent / "examples" / "web" / "environment.json").read_text())
 VERSIONS = "0.9 1.0.dev1 1.0a1 1.0rc1 1.0 1.0.post1 1.0.1 1.1 1.9 2.0rc1 2.0 2.1 10".split()
 
 MARKERS = [

@@ -5,7 +5,7 @@ import unittest
 from journal_rules import Change, State, after, inverse, is_minimal, is_state, opens, read_step
 from made_journals import ZEROS, altered, compact, entry, header, journal, lock_text, step
 from requirement_rules import Fault
-from test_requirement_rules import E1
+from test_requirement_rules import LINUX
 
 ONES = "1" * 64
 BROKEN, DISAGREE = "journal-broken", "files-disagree"
@@ -24,15 +24,15 @@ class Example(unittest.TestCase):
 
     def setUp(self):
         self.requirements = AFTER
-        self.lock = lock_text(E1, {**ENTRIES, "c": entry("c", "1")})
+        self.lock = lock_text(LINUX, {**ENTRIES, "c": entry("c", "1")})
         self.steps = [ADDED]
         self.cursor = 1
 
     def header(self):
-        return header(self.requirements, self.lock, E1, self.cursor, len(self.steps))
+        return header(self.requirements, self.lock, LINUX, self.cursor, len(self.steps))
 
     def journal(self):
-        return journal(self.requirements, self.lock, E1, self.cursor, *self.steps)
+        return journal(self.requirements, self.lock, LINUX, self.cursor, *self.steps)
 
     def check(self, wanted, *, journal=None, lock=None, requirements=None):
         given = (requirements, self.requirements), (lock, self.lock), (journal, self.journal())
@@ -42,7 +42,7 @@ class Example(unittest.TestCase):
 class Opening(Example):
     def test_opens_at_each_cursor(self):
         self.check(("ok", 1, 1))
-        self.requirements, self.lock, self.cursor = BEFORE, lock_text(E1, ENTRIES), 0
+        self.requirements, self.lock, self.cursor = BEFORE, lock_text(LINUX, ENTRIES), 0
         self.check(("ok", 0, 1))
 
     def test_has_the_form_that_is_written_down(self):
@@ -54,7 +54,7 @@ class Opening(Example):
         self.assertEqual(self.journal().splitlines(keepends=True)[1], text.replace("Z", ZEROS).encode())
 
     def test_of_an_empty_file(self):
-        self.requirements, self.lock, self.steps, self.cursor = b"", lock_text(E1, {}), [], 0
+        self.requirements, self.lock, self.steps, self.cursor = b"", lock_text(LINUX, {}), [], 0
         digest = "e3b0c44298fc1c149afbf4c8996fb92427ae41e4649b934ca495991b7852b855"
         self.assertEqual(self.header()["requirements"], digest)
         self.assertEqual(opens(b"", self.lock, self.journal()), ("ok", 0, 0))
@@ -75,8 +75,8 @@ class Opening(Example):
         line = compact(ADDED)
         for change in (
             {"cursor": 2}, {"x": 1}, {"journal": 2}, {"journal": True}, {"steps": "1"}, {"cursor": -1}, {"cursor": 1.0},
-            {"lock": "0"}, {"requirements": ZEROS.replace("0", "A")}, {"environment": {**E1, "platform_machine": "arm64"}},
-            {"environment": {**E1, "x": ""}}, {"environment": {**E1, "python_version": ""}}, {"steps": 2**64},
+            {"lock": "0"}, {"requirements": ZEROS.replace("0", "A")}, {"environment": {**LINUX, "platform_machine": "arm64"}},
+            {"environment": {**LINUX, "x": ""}}, {"environment": {**LINUX, "python_version": ""}}, {"steps": 2**64},
         ):
             with self.subTest(change=change):
                 self.check((BROKEN, 1), journal=compact({**self.header(), **change}) + line)
@@ -113,7 +113,7 @@ class Opening(Example):
             (b'version = "1"', b'version = "1"\ndependencies = []'), (b'version = "1"', b'version = "1"\nrequires-python = " "'),
             (b'version = "1"', b'version = "1"\ndependencies = [{name = "a"}]'), (b'name = "a"', b'name = "z"'),
         ):
-            lock = lock_text(E1, {**ENTRIES, "c": entry("c", "1")})
+            lock = lock_text(LINUX, {**ENTRIES, "c": entry("c", "1")})
             self.lock = lock.replace(old, new, 1)
             with self.subTest(new=new):
                 self.assertNotEqual(self.lock, lock)
@@ -128,10 +128,10 @@ class Opening(Example):
             ({"sdist": sdist}, True), ({"sdist": sdist, "wheels": []}, True), ({"sdist": one}, False), ({"wheels": [sdist]}, False),
         ):
             self.steps, self.cursor = [], 0
-            self.lock = lock_text(E1, {**ENTRIES, "c": {**entry("c", "1"), **part}})
+            self.lock = lock_text(LINUX, {**ENTRIES, "c": {**entry("c", "1"), **part}})
             self.check(("ok", 0, 0) if is_lawful else (DISAGREE, LOCK))
         names = {b'name = "a"': b'name = "c"', b'name = "c"': b'name = "a"'}
-        lines = lock_text(E1, {**ENTRIES, "c": entry("c", "1")}).splitlines()
+        lines = lock_text(LINUX, {**ENTRIES, "c": entry("c", "1")}).splitlines()
         self.lock = b"\n".join(names.get(line, line) for line in lines)
         self.check((DISAGREE, LOCK))
 
@@ -142,9 +142,9 @@ class Opening(Example):
             ("a", entry("a", "1", python="<3")),
         ):
             changed = {**entries, name: other}
-            self.lock = lock_text(E1, {key: value for key, value in changed.items() if value is not None})
+            self.lock = lock_text(LINUX, {key: value for key, value in changed.items() if value is not None})
             self.check((DISAGREE, LOCK))
-        self.lock = lock_text({**E1, "os_name": "nt"}, entries)
+        self.lock = lock_text({**LINUX, "os_name": "nt"}, entries)
         self.check((BROKEN, 1))
 
     def test_the_first_fault_is_answered(self):
@@ -193,7 +193,7 @@ class Steps(Example):
         self.assertTrue(is_minimal(read_step(compact(step([[0, [], ["a"]], [2**64 - 2, [], ["b"]]])))))
 
     def test_through_a_state_that_is_none(self):
-        self.requirements, self.lock = b"a\n", lock_text(E1, {"a": entry("a", "1")})
+        self.requirements, self.lock = b"a\n", lock_text(LINUX, {"a": entry("a", "1")})
         for lines in ["-r b\n"], ["a"], ["z\n"], ["a\n", ""], ["a\na\n"]:
             self.steps, self.cursor = [step([[0, [], lines]])], 0
             self.check((BROKEN, 2))
@@ -203,7 +203,7 @@ class Steps(Example):
         self.check((BROKEN, 2))
 
     def test_go_back_first_and_then_on(self):
-        self.requirements, self.lock = b"a\n", lock_text(E1, {"a": entry("a", "1")})
+        self.requirements, self.lock = b"a\n", lock_text(LINUX, {"a": entry("a", "1")})
         bad = step([[5, ["x"], []]])
         for steps, line in ([bad, step(), bad], 2), ([step(), bad, bad], 3), ([step(), step(), bad], 4), ([bad, bad, step()], 3):
             self.steps, self.cursor = steps, 2
@@ -214,20 +214,20 @@ class Steps(Example):
         removed = step([[1, ["b==1\n"], []]], [["b", entry("b", "1"), None]])
         both = {"a": entry("a", "1"), "b": entry("b", "1")}
         for requirements, entries, cursor in (first, both, 0), (second, {"a": both["a"]}, 1):
-            self.requirements, self.lock = requirements, lock_text(E1, entries)
+            self.requirements, self.lock = requirements, lock_text(LINUX, entries)
             self.steps, self.cursor = [removed], cursor
             self.check(("ok", cursor, 1))
         relocked = step([], [["a", entry("a", "1"), entry("a", "1.0")]], [ZEROS, ONES])
         self.requirements, self.steps, self.cursor = b"a\n", [relocked], 1
-        self.lock = lock_text(E1, {"a": entry("a", "1.0")}, ONES)
+        self.lock = lock_text(LINUX, {"a": entry("a", "1.0")}, ONES)
         self.check(("ok", 1, 1))
-        self.lock = lock_text(E1, {"a": entry("a", "1")}, ONES)
+        self.lock = lock_text(LINUX, {"a": entry("a", "1")}, ONES)
         self.check((BROKEN, 2))
 
     def test_of_packages_that_need_each_other(self):
         both = {"p": entry("p", "1", "q"), "q": entry("q", "1", "p")}
         gone = step([[0, ["p\n"], []]], [["p", both["p"], None], ["q", both["q"], None]])
-        self.requirements, self.lock, self.steps, self.cursor = b"p\n", lock_text(E1, both), [gone], 0
+        self.requirements, self.lock, self.steps, self.cursor = b"p\n", lock_text(LINUX, both), [gone], 0
         self.check(("ok", 0, 1))
         self.requirements = b"# p\n"
         self.check((DISAGREE, LOCK))
@@ -235,7 +235,7 @@ class Steps(Example):
 
 class Laws(Example):
     def test_an_inverse_leads_back(self):
-        state = State(["a\n", "b\n", "c\n", "d\n", "e"], E1, ZEROS, {})
+        state = State(["a\n", "b\n", "c\n", "d\n", "e"], LINUX, ZEROS, {})
         change = Change([(0, ["a\n"], ["x\n", "y\n"]), (2, ["c\n"], []), (5, [], ["z"])], [], (ZEROS, ONES))
         found = after(state, change)
         self.assertEqual(found.lines, ["x\n", "y\n", "b\n", "d\n", "e", "z"])
@@ -246,10 +246,10 @@ class Laws(Example):
 
     def test_a_state_has_no_entry_that_nothing_needs(self):
         lines, entries = ["a\n"], {"a": entry("a", "1", "b"), "b": entry("b", "1")}
-        self.assertTrue(is_state(State(lines, E1, ZEROS, entries)))
-        self.assertFalse(is_state(State(["# a\n"], E1, ZEROS, entries)))
-        self.assertFalse(is_state(State(['a;os_name=="nt"\n'], E1, ZEROS, entries)))
-        self.assertFalse(is_state(State(["b\n"], E1, ZEROS, entries)))
+        self.assertTrue(is_state(State(lines, LINUX, ZEROS, entries)))
+        self.assertFalse(is_state(State(["# a\n"], LINUX, ZEROS, entries)))
+        self.assertFalse(is_state(State(['a;os_name=="nt"\n'], LINUX, ZEROS, entries)))
+        self.assertFalse(is_state(State(["b\n"], LINUX, ZEROS, entries)))
 
     def test_alterations_are_others_than_the_journal_and_answered(self):
         self.steps.append(step([[4, [], ["d\r\n"]]], [["d", None, entry("d", "1")]]))

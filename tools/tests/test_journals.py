@@ -11,7 +11,7 @@ from pathlib import Path
 from journal_rules import opens
 from made_journals import altered, entry, journal, lock_text, step
 from test_readme import PROGRAM
-from test_requirement_rules import E1
+from test_requirement_rules import LINUX
 
 PACE = 1 if os.environ.get("LONG_TESTS") == "1" else 100
 NAMES = "requirements.txt", "pylock.toml", "reqlock.journal"
@@ -38,8 +38,8 @@ STEPS = [
 def files(cursor):
     """The three files at a place in the history."""
     requirements = LINES[min(cursor, 2)].encode()
-    lock = lock_text(E1, ENTRIES[cursor], DIGESTS[cursor])
-    return requirements, lock, journal(requirements, lock, E1, cursor, *STEPS)
+    lock = lock_text(LINUX, ENTRIES[cursor], DIGESTS[cursor])
+    return requirements, lock, journal(requirements, lock, LINUX, cursor, *STEPS)
 
 
 def answer(fault_or_ok, *others):
@@ -98,12 +98,12 @@ class Program(unittest.TestCase):
     def test_altered_requirements_with_their_digest(self):
         requirements, lock, _ = files(1)
         for text, data in islice(altered(requirements), 0, None, PACE // 10 + 1):
-            self.check((data, lock, journal(data, lock, E1, 1, *STEPS)), text)
+            self.check((data, lock, journal(data, lock, LINUX, 1, *STEPS)), text)
 
     def test_altered_locks_with_their_digest(self):
         requirements, lock, _ = files(1)
         for text, data in islice(altered(lock), 0, None, PACE):
-            self.check((requirements, data, journal(requirements, data, E1, 1, *STEPS)), text)
+            self.check((requirements, data, journal(requirements, data, LINUX, 1, *STEPS)), text)
 
 
 if __name__ == "__main__":

@@ -10,7 +10,7 @@ import unittest
 from pathlib import Path
 
 from test_journals import PROGRAM, knows
-from test_requirement_rules import E1
+from test_requirement_rules import LINUX
 
 sys.path.insert(0, str(Path(__file__).resolve().parent.parent))
 import growths  # noqa: E402
@@ -128,7 +128,7 @@ class Program(unittest.TestCase):
         self.library = growths.compiled(folder.name)
         (self.folder / "requirements.txt").write_bytes(REQUIREMENTS)
         (self.folder / "index.json").write_text(index_text(), encoding="utf-8")
-        (self.folder / "environment.json").write_text(compact(E1), encoding="utf-8")
+        (self.folder / "environment.json").write_text(compact(LINUX), encoding="utf-8")
 
     def words(self, *words):
         return [PROGRAM, "--index", "index.json", "--env", "environment.json", *words]

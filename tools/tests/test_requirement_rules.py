@@ -1,25 +1,15 @@
 """Tests of requirement_rules.py, by worked examples of the rules."""
 
+import json
 import unittest
+from pathlib import Path
 
 from requirement_rules import (
     Fault, active_requirements, cut_lines, holds, marker_text, matches, order_key, read_environment, read_line, read_lines,
     read_marker, read_set, read_version,
 )
 
-E1 = {
-    "implementation_name": "cpython",
-    "implementation_version": "3.12.3",
-    "os_name": "posix",
-    "platform_machine": "x86_64",
-    "platform_python_implementation": "CPython",
-    "platform_release": "6.1.0-13-amd64",
-    "platform_system": "Linux",
-    "platform_version": "#1 SMP Debian 6.1.55-1",
-    "python_full_version": "3.12.3",
-    "python_version": "3.12",
-    "sys_platform": "linux",
-}
+LINUX = json.loads((Path(__file__).resolve().parents[2] / "examples" / "web" / "environment.json").read_text(encoding="utf-8"))
 
 
 class Versions(unittest.TestCase):
@@ -64,7 +54,7 @@ class Versions(unittest.TestCase):
 
 class Markers(unittest.TestCase):
     def check(self, text, extra=None):
-        return holds(read_marker(text), E1, extra)
+        return holds(read_marker(text), LINUX, extra)
 
     def test_hold(self):
         self.assertTrue(self.check('"3.10" <= python_version'))
@@ -94,13 +84,13 @@ class Markers(unittest.TestCase):
             self.assertRaises(Fault, read_marker, text)
 
     def test_environment(self):
-        self.assertEqual(read_environment({**E1, "python_full_version": "3.13.0+", "x": 1})["python_full_version"], "3.13.0")
-        text = marker_text(E1)
+        self.assertEqual(read_environment({**LINUX, "python_full_version": "3.13.0+", "x": 1})["python_full_version"], "3.13.0")
+        text = marker_text(LINUX)
         self.assertTrue(text.startswith('implementation_name == "cpython" and implementation_version == "3.12.3" and os_name'))
         self.assertTrue(text.endswith('python_version == "3.12" and sys_platform == "linux"'))
         self.assertTrue(self.check(text))
         for name, value in ("os_name", 'a"'), ("os_name", None), ("python_version", "x"), ("python_full_version", "3++"):
-            self.assertRaises(Fault, read_environment, {**E1, name: value})
+            self.assertRaises(Fault, read_environment, {**LINUX, name: value})
 
 
 class Lines(unittest.TestCase):
@@ -129,7 +119,7 @@ class Lines(unittest.TestCase):
 
     def test_active(self):
         lines = ["a\n", 'b ; os_name=="nt"\n', "# c\n", 'd ; extra=="x"\n', 'e ; extra!="x"\n']
-        self.assertEqual([it.name for it in active_requirements(lines, E1)], ["a", "e"])
+        self.assertEqual([it.name for it in active_requirements(lines, LINUX)], ["a", "e"])
 
 
 if __name__ == "__main__":
