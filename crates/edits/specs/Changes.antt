@@ -65,7 +65,7 @@ pub record ChangesLock (change : ChangeParts) (old new : LockParts) : Type 0 whe
 
 -- ---- states
 
--- a change leads from one state to another; it leads to one at most, and to none where an old part doesn't stand in its place
+-- a change leads from one state to another; to none where an old part doesn't stand in its place
 pub record After (old : StateParts) (change : ChangeParts) (new : StateParts) : Type 0 where
   pub lines : Splices 0 change.splices old.lines new.lines
   pub lock : ChangesLock change old.lock new.lock
