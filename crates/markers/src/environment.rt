@@ -168,8 +168,7 @@ fn environment_of(alloc: Global, bytes: &[u8]) -> Result<Environment, Cause>
     ensures { Answers OutOfMemory (environment_of bytes.now) result }
 {
     let object = object_of(alloc, bytes)?;
-    let values = values_in(alloc, &object)?;
-    Ok(Environment { values })
+    Environment::from_value(alloc, &object)
 }
 
 /// Puts `NAME == "VALUE"` behind a text.
@@ -188,6 +187,15 @@ fn push_condition(
 }
 
 impl Environment {
+    /// The environment of a JSON value that has a text for each variable, as `read` takes them; other
+    /// keys are ignored.
+    pub fn from_value(alloc: Global, value: &Json) -> Result<Environment, Cause>
+        ensures { Answers OutOfMemory (texts_in (view value.now) all_variables) result }
+    {
+        let values = values_in(alloc, value)?;
+        Ok(Environment { values })
+    }
+
     /// Reads a JSON object with a text for each variable; other keys are ignored. Of
     /// `python_full_version` one trailing `+` is dropped.
     ///
