@@ -77,11 +77,18 @@ class Demo(unittest.TestCase):
         self.assertNotIn("conformance: check", calls)
         for call in calls[:-1]:
             self.assertIn(f"  {call.removesuffix(': check'):9}    2 functions proved, 0 min 0", output)
-        self.assertIn("built: --dir examples/web", output)
-        self.assertTrue(output.endswith(self.commands()))
+        self.check_session(output)
         status, again, errors, calls = self.demo()
         self.assertEqual((status, errors, calls), (0, "", []))
-        self.assertIn("built: --dir examples/web", again)
+        self.check_session(again)
+
+    def check_session(self, output):
+        files = "--index examples/web/index.json --env examples/web/environment.json"
+        self.assertIn(f"built: --dir crates/reqlock/out/demo {files} init\n", output)
+        self.assertIn("$ reqlock --dir crates/reqlock/out/demo --index examples/web/index.json add 'werkzeug<2'\n", output)
+        self.assertIn("built: --dir crates/reqlock/out/demo log\n", output)
+        copied = (self.copy / "crates" / "reqlock" / "out" / "demo" / "requirements.txt").read_text(encoding="utf-8")
+        self.assertEqual(copied, (TOP / "examples" / "web" / "requirements.txt").read_text(encoding="utf-8"))
 
     def test_each_crate_comes_behind_those_that_it_stands_on(self):
         self.give_rt()

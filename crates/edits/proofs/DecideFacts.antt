@@ -13,7 +13,7 @@ use Rattle.edits.specs.Tied.Deciding.{IsClosed, IsLineMet}
 use Rattle.edits.proofs.EntryFacts.{entry-from, entry-there}
 use Rattle.lists.proofs.Members.{Contains-cons_cases, Contains-flat_map, Contains-flat_map_of, Contains-here, Contains-nil, Contains-there}
 
-All-member : {X : Type 0} (P : X → Type 0) (xs : List X) (x : X) → AllByRecursion P xs → Contains xs x → P x
+pub All-member : {X : Type 0} (P : X → Type 0) (xs : List X) (x : X) → AllByRecursion P xs → Contains xs x → P x
 All-member P [] x all there = absurd (Contains-nil x there)
 All-member P (y ∷ ys) x all there = elim (Contains-cons_cases y ys x there) [
   | inl same ↦ subst P same all.0

@@ -29,13 +29,13 @@ is-less Equal is = cc is
 is-less Greater is = cc is
 
 -- nothing is below itself
-not-below : (n : List ℕ) → slice_cmp nat_cmp n n ≡ Less → ⊥
+pub not-below : (n : List ℕ) → slice_cmp nat_cmp n n ≡ Less → ⊥
 not-below n less =
     let back : slice_cmp nat_cmp n n ≡ ordering_reverse (slice_cmp nat_cmp n n) = nat_list_cmp_total.antisymm n n in
     let other : Less ≡ Greater = sym less ∙ back ∙ ap ordering_reverse less in
     cc other
 
-less-of : (a b : List ℕ) → is_lt (slice_cmp nat_cmp a b) ≡ true → slice_cmp nat_cmp a b ≡ Less
+pub less-of : (a b : List ℕ) → is_lt (slice_cmp nat_cmp a b) ≡ true → slice_cmp nat_cmp a b ≡ Less
 less-of a b is = is-less (slice_cmp nat_cmp a b) is
 
 -- names that rise are above the first

@@ -1,13 +1,17 @@
 pub mod Additions
 pub mod Among
 pub mod BackFacts
+pub mod BetweenEntries
+pub mod BetweenLines
 pub mod ChangeFacts
 pub mod ChangedLines
+pub mod CutFacts
 pub mod DecideFacts
 pub mod EditFacts
 pub mod EndsFacts
 pub mod EntriesByName
 pub mod EntryFacts
+pub mod ExchangeFacts
 pub mod Gathering
 pub mod LawfulFiles
 pub mod LawfulNames
@@ -19,7 +23,9 @@ pub mod PartFacts
 pub mod ReachFacts
 pub mod Refusals
 pub mod OneLock
+pub mod OneOutcome
 pub mod Released
+pub mod SplicedFacts
 pub mod StateFacts
 pub mod VersionsFacts
 pub mod WorkedRows

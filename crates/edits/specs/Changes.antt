@@ -6,6 +6,7 @@ use Rattle.pylock.specs.Locks.{LockParts, are_entries}
 use Rattle.pylock.specs.Order.{rises}
 use Rattle.pylock.specs.Packages.{EntryParts}
 use Rattle.edits.specs.StateParts.{StateParts}
+use Rattle.edits.specs.State.{IsState}
 use Rattle.edits.specs.declared.change.parts.Splice.{Splice}
 use Rattle.edits.specs.declared.change.parts.EntryChange.{EntryChange}
 use Rattle.edits.specs.declared.change.parts.DigestChange.{DigestChange}
@@ -70,6 +71,14 @@ pub record After (old : StateParts) (change : ChangeParts) (new : StateParts) : 
   pub lines : Splices 0 change.splices old.lines new.lines
   pub lock : ChangesLock change old.lock new.lock
   pub environment : new.environment ≡ old.environment
+
+-- a change leads from a state to another, for which all holds that holds of every state
+abbrev pub Leads : StateParts → ChangeParts → StateParts → Type 0
+Leads old change new = After old change new × IsState new
+
+-- a change applies to no state here
+abbrev pub LeadsNowhere : StateParts → ChangeParts → Type 0
+LeadsNowhere old change = (new : StateParts) → Leads old change new → ⊥
 
 -- ---- minimal changes
 

@@ -1,9 +1,15 @@
--- Laws of locks.
+-- Laws of locks, and of what changes lead to.
 use Rattle.std.specs.Prelude.{◌≡◌}
 use Rattle.pylock.specs.Locks.{LockParts}
 use Rattle.resolve.specs.Problem.{ProblemParts}
+use Rattle.edits.specs.Changes.{After, ChangeParts}
 use Rattle.edits.specs.Locking.{IsLockOf}
+use Rattle.edits.specs.StateParts.{StateParts}
 
 -- two locks of one problem are the same in every part
 abbrev pub TheLockOfAProblemIsOne : Type 0
 TheLockOfAProblemIsOne = (given : ProblemParts) (one another : LockParts) → IsLockOf given one → IsLockOf given another → one ≡ another
+
+-- a change leads from a state to one state at most, whether it is minimal or not
+abbrev pub AChangeLeadsToOneState : Type 0
+AChangeLeadsToOneState = (change : ChangeParts) (old one another : StateParts) → After old change one → After old change another → one ≡ another

@@ -1,3 +1,7 @@
 -- What serves proofs alone.
+pub mod Between
 pub mod Deciding
 pub mod Ends
+pub mod Exchanging
+pub mod Only
+pub mod Splicing

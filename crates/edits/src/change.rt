@@ -1,15 +1,23 @@
 // Changes: what differs between two states.
 
 ghost use Rattle.std.specs.Prelude.{◌≡◌, IfOk, MatchOption};
-ghost use Rattle.edits.specs.Changes.{ChangeParts, IsMinimal, inverse};
+ghost use Rattle.edits.specs.Changes.{ChangeParts, IsMinimal, Leads, LeadsNowhere, inverse};
 
+mod applying;
+pub(crate) mod between;
+mod between_entries;
+mod between_lines;
 mod ends;
+mod exchanging;
 mod inverse;
 mod minimal;
 mod parts;
+mod splicing;
 
+use crate::change::applying::applied;
 use crate::change::inverse::{digests_back, entries_back, splices_back};
 pub use crate::change::parts::{DigestChange, EntryChange, Splice};
+use crate::state::State;
 use lists::{Faithful, Seq};
 use std::alloc::{AllocError, Global};
 use std::marker::Model;
@@ -62,8 +70,7 @@ impl Change {
         entries: Seq<EntryChange>,
         digests: Option<DigestChange>,
     ) -> Option<Change>
-        ensures { let parts : ChangeParts =
-            record { splices = splices; entries = entries; digests = digests } in
+        ensures { let parts : ChangeParts = record { splices = splices; entries = entries; digests = digests } in
             MatchOption result (IsMinimal parts → ⊥) (λ change. change ≡ parts) }
     {
         if minimal::are_splices(splices.as_slice())
@@ -105,6 +112,16 @@ impl Change {
         ensures { IsMinimal self.now }
     {
         let _splices = &self.splices;
+    }
+
+    /// The state that the change of `state` leads to; `None` where one of the change's old parts doesn't
+    /// stand in its place, or where what it leads to is no state: lines that don't read, or a lock that
+    /// doesn't belong to them.
+    pub fn apply(&self, alloc: Global, state: &State) -> Result<Option<State>, AllocError>
+        ensures { IfOk result (λ applied. MatchOption applied (LeadsNowhere state.now self.now)
+            (Leads state.now self.now)) }
+    {
+        applied(alloc, self, state)
     }
 
     /// The change back: it leads from the new state to the old one.

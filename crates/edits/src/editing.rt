@@ -1,13 +1,15 @@
 // Edits, and what they lead to.
 
 ghost use Rattle.lists.specs.Answers.{Answers};
-ghost use Rattle.std.specs.Prelude.{◌≡◌, ◌⊎◌, IfOk, IfErr, None, Some, Ok, Err};
+ghost use Rattle.std.specs.Prelude.{◌≡◌, ◌⊎◌, ◌≤◌, length, IfOk, IfErr, None, Some, Ok, Err};
+ghost use Rattle.edits.specs.Changes.{After, IsMinimal};
 ghost use Rattle.edits.specs.Edits.{EditResult, InitResult, Locks, kept_pins, lines_after};
 ghost use Rattle.edits.specs.Locking.{versions_of};
 ghost use Rattle.edits.specs.Refused.{or_refused, refused_by_lines, refused_by_lock};
 ghost use Rattle.edits.specs.declared.refusal.Refusal.TheVariants.{OutOfMemory};
 
 use crate::adding::added;
+use crate::change::between::change_between;
 use crate::constraining::constrained;
 use crate::locking::lock_of;
 use crate::refusal::Refusal;
@@ -94,7 +96,8 @@ fn kept_pins(alloc: Global, state: &State, edit: &Edit) -> Result<BTreeMap<Name,
     }
 }
 
-/// What the edit of the state leads to, over the snapshot. The state stays.
+/// What the edit of the state leads to, over the snapshot: the new state, and the minimal change that
+/// leads to it. The state stays.
 pub fn edit<R: Resolver>(
     alloc: Global,
     state: &State,
@@ -104,6 +107,9 @@ pub fn edit<R: Resolver>(
 ) -> Result<Edited, Refusal>
     ensures ok { IfOk result
         (λ edited. EditResult state.now edit.now snapshot.now (Ok edited.state)) }
+    ensures minimal { IfOk result (λ edited. IsMinimal edited.change) }
+    ensures change { IfOk result (λ edited. After state.now edited.change edited.state) }
+    ensures one_splice { IfOk result (λ edited. length edited.change.splices ≤ 1) }
     ensures err { IfErr result (λ refusal. (refusal ≡ OutOfMemory)
         ⊎ EditResult state.now edit.now snapshot.now (Err refusal)) }
 {
@@ -114,5 +120,10 @@ pub fn edit<R: Resolver>(
     if has_same(&edited, state) {
         return Err(Refusal::NothingChanges);
     }
-    Ok(Edited { state: edited })
+    let change = change_between(alloc, state, &edited)?;
+    change.is_lawful();
+    Ok(Edited {
+        state: edited,
+        change,
+    })
 }

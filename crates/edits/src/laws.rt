@@ -1,7 +1,7 @@
 //! Laws of locks and of changes, each the contract of a function that does nothing.
 
 ghost use Rattle.edits.specs.Changes.{AChangeCanBeTakenBack, BackAndBackIsTheChange};
-ghost use Rattle.edits.specs.Laws.{TheLockOfAProblemIsOne};
+ghost use Rattle.edits.specs.Laws.{AChangeLeadsToOneState, TheLockOfAProblemIsOne};
 
 use pep440::Version;
 use pep508::{Name, Requirement};
@@ -24,4 +24,9 @@ pub fn a_change_can_be_taken_back()
 /// The inverse of the inverse of a minimal change is the change.
 pub fn back_and_back_is_the_change()
     ensures { BackAndBackIsTheChange }
+{}
+
+/// A change leads from a state to one state at most: two that it leads to are the same in every part.
+pub fn a_change_leads_to_one_state()
+    ensures { AChangeLeadsToOneState }
 {}

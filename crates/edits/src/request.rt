@@ -1,5 +1,6 @@
 // What is asked of a state, and what it leads to.
 
+use crate::change::Change;
 use crate::state::State;
 use lists::{Seq, Text};
 
@@ -26,5 +27,8 @@ pub enum Edit {
 /// What an accepted edit leads to.
 #[derive(Drop)]
 pub struct Edited {
+    /// The new state.
     pub state: State,
+    /// The change that leads from the old state to the new one.
+    pub change: Change,
 }

@@ -72,7 +72,7 @@ impl<T: Same> Same for Option<T> {
 }
 
 /// Whether the items are the same, one by one.
-fn are_same<T: Same>(items: &[T], others: &[T]) -> bool
+pub(crate) fn are_same<T: Same>(items: &[T], others: &[T]) -> bool
     ensures { IsTrue result ↔ (items.now ≡ others.now) }
 {
     if items.len() != others.len() {

@@ -1,6 +1,11 @@
 pub use Rattle.edits.specs.Edits
 pub mod Values
 pub mod Past
+pub mod Changes
 pub mod Commands
 pub mod Steps
 pub mod Laws
+pub mod Format
+pub mod Saving
+pub mod Opening
+pub mod Tied

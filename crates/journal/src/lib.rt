@@ -5,9 +5,12 @@
 #![tactic(auto)]
 
 mod commands;
+mod format;
 mod history;
 mod laws;
+mod opening;
 mod running;
+mod saving;
 mod session;
 mod whole;
 
@@ -17,6 +20,7 @@ pub use crate::laws::{
     an_edit_can_be_undone, redo_gives_the_edit_again, undo_gives_the_state_back,
 };
 pub use crate::running::{apply, run};
+pub use crate::saving::Saved;
 pub use crate::session::Session;
 pub use crate::whole::WholeHistory;
-pub use edits::{Learning, Plain, Resolver};
+pub use edits::{Change, Learning, Plain, Resolver};

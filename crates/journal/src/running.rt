@@ -21,8 +21,8 @@ pub fn apply<H: History, R: Resolver>(
 {
     match command {
         Command::Edit(edit, snapshot) => apply_edit(alloc, history, edit, snapshot, resolver),
-        Command::Undo => apply_undo(history),
-        Command::Redo => apply_redo(history),
+        Command::Undo => apply_undo(alloc, history),
+        Command::Redo => apply_redo(alloc, history),
     }
 }
 
@@ -37,7 +37,7 @@ fn apply_edit<H: History, R: Resolver>(
         history.new) }
 {
     match edits::edit(alloc, history.state(), edit, snapshot, resolver) {
-        Ok(edited) => match history.push(edited) {
+        Ok(edited) => match history.push(alloc, edited) {
             Ok(()) => Reply::Done(history.cursor()),
             Err(AllocError) => Reply::Refused(Refusal::OutOfMemory),
         },
@@ -46,19 +46,19 @@ fn apply_edit<H: History, R: Resolver>(
     }
 }
 
-fn apply_undo<H: History>(history: &mut H) -> Reply
+fn apply_undo<H: History>(alloc: Global, history: &mut H) -> Reply
     ensures step { Step (H.past history.old) Undoing result (H.past history.new) }
 {
-    match history.undo() {
+    match history.undo(alloc) {
         Ok(()) => Reply::Done(history.cursor()),
         Err(refusal) => Reply::Refused(refusal),
     }
 }
 
-fn apply_redo<H: History>(history: &mut H) -> Reply
+fn apply_redo<H: History>(alloc: Global, history: &mut H) -> Reply
     ensures step { Step (H.past history.old) Redoing result (H.past history.new) }
 {
-    match history.redo() {
+    match history.redo(alloc) {
         Ok(()) => Reply::Done(history.cursor()),
         Err(refusal) => Reply::Refused(refusal),
     }

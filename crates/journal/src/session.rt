@@ -1,16 +1,20 @@
 // A history that begins with a requirements file.
 
-ghost use Rattle.std.specs.Prelude.{◌≡◌, ◌⊎◌, map, Some, IfOk, IfErr, OnErr};
+ghost use Rattle.std.specs.Prelude.{◌≡◌, ◌⊎◌, ◌+◌, ◌<◌, length, map, Some, IfOk, IfErr, OnErr};
 ghost use Rattle.edits.specs.Edits.{InitResult};
 ghost use Rattle.journal.specs.Past.{present};
+ghost use Rattle.journal.specs.Changes.{IsStepOf};
+ghost use Rattle.journal.specs.Opening.{Opens, Tells};
+ghost use Rattle.journal.specs.Saving.{IsSaved};
 ghost use Rattle.journal.specs.Commands.{asked_of};
 ghost use Rattle.journal.specs.Steps.{Step, Run, IsStart};
 
 use crate::commands::{Command, Reply};
 use crate::history::History;
-use crate::running;
+use crate::saving::{self, Saved};
 use crate::whole::WholeHistory;
-use edits::{Environment, Refusal, ReqFile, Resolver, Snapshot, State};
+use crate::{opening, running};
+use edits::{Change, Environment, Refusal, ReqFile, Resolver, Snapshot, State};
 use lists::Seq;
 use std::alloc::{AllocError, Global};
 use std::marker::Model;
@@ -31,7 +35,7 @@ impl Model for Session {
 
     ghost Value = { Past };
 
-    ghost view = { λ s. s.history };
+    ghost view = { λ s. s.history.past };
 }
 
 impl Session {
@@ -55,6 +59,37 @@ impl Session {
         }
     }
 
+    /// Opens the history that was saved as these three byte strings: a requirements file, a lock and a
+    /// journal. It is tested in this order, and the first fault is answered:
+    ///
+    /// - `JournalBroken(1)` where the journal doesn't begin with a header;
+    /// - `FilesDisagree` where a file has another digest than the header says, then where one doesn't
+    ///   read, the requirements first each time;
+    /// - `JournalBroken(1)` where the lock names another environment than the header;
+    /// - `FilesDisagree(Lock)` where the lock doesn't belong to the requirements;
+    /// - `JournalBroken(n)` where line `n` isn't a minimal change, or something stands behind the last
+    ///   step;
+    /// - `JournalBroken(k + 1)` where step `k` leads nowhere: from the cursor back to the start, then
+    ///   from the cursor on to the end.
+    pub fn open(
+        alloc: Global,
+        requirements: &[u8],
+        lock: &[u8],
+        journal: &[u8],
+    ) -> Result<Session, Refusal>
+        ensures opens { Tells (Opens requirements.now lock.now journal.now) result }
+    {
+        let history = opening::opened(alloc, requirements, lock, journal)?;
+        Ok(Session { history })
+    }
+
+    /// The history as three byte strings, which `open` reads.
+    pub fn save(&self, alloc: Global) -> Result<Saved, AllocError>
+        ensures saved { IfOk result (λ saved. IsSaved self.now saved) }
+    {
+        saving::files_of(alloc, &self.history)
+    }
+
     /// The present state. It has no refusal.
     pub fn state(&self) -> &State
         ensures present { present self.now ≡ Some result.now }
@@ -67,6 +102,23 @@ impl Session {
         ensures cursor { result ≡ self.now.cursor }
     {
         self.history.cursor()
+    }
+
+    /// How many steps there are from the first state to the last. It has no refusal.
+    pub fn steps(&self) -> usize
+        ensures steps { result + 1 ≡ length self.now.states }
+    {
+        self.history.steps()
+    }
+
+    /// The change of a step, from 1 to `steps`: it leads from the state before the step to the one
+    /// behind it. It has no refusal.
+    pub fn change(&self, step: usize) -> &Change
+        requires first { 0 < step }
+        requires last { step < length self.now.states }
+        ensures step { IsStepOf self.now step result.now }
+    {
+        self.history.change(step)
     }
 
     /// Applies one command. The lock of an edited state is the best solution, whatever the

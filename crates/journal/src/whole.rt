@@ -1,16 +1,19 @@
 // The history that keeps each state whole.
 
-ghost use Rattle.std.specs.Prelude.{◌≡◌, ◌⊎◌, ◌↔◌, ◌+◌, length, Some, if◌then◌else◌, is_ok, OnOk, OnErr, IfOk, IfErr, IsErrOf};
+ghost use Rattle.std.specs.Prelude.{◌≡◌, ◌⊎◌, ◌↔◌, ◌+◌, ◌-◌, ◌<◌, [], length, Some, slice_get, if◌then◌else◌, is_ok, OnOk, OnErr, IfOk, IfErr, IsErrOf, IsSomeAnd};
+ghost use Rattle.journal.specs.Changes.{AreSteps};
 ghost use Rattle.journal.specs.Past.{starts};
 
 use crate::history::History;
-use edits::{Edited, Refusal, State};
+use edits::{Change, Edited, Refusal, State};
 use std::alloc::{AllocError, Global};
 use std::marker::Model;
 
-/// A history that keeps each state whole.
+/// A history that keeps each state whole, and beside it the change of each step. In a clause it is its
+/// past and its changes.
 pub struct WholeHistory {
     states: Vec<State>,
+    changes: Vec<Change>,
     cursor: usize,
 }
 
@@ -18,35 +21,67 @@ impl Drop for WholeHistory {
     fn drop(self) {
         let WholeHistory {
             states: _,
+            changes: _,
             cursor: _,
         } = self;
     }
 }
 
 impl Model for WholeHistory {
-    ghost use Rattle.std.specs.Prelude.{◌<◌, vec_len};
-    ghost use Rattle.journal.specs.Past.{Past};
+    ghost use Rattle.std.specs.Prelude.{◌≡◌, ◌+◌, ◌<◌, vec_len};
+    ghost use Rattle.journal.specs.Changes.{AreSteps, Kept};
 
-    ghost Value = { Past };
+    ghost Value = { Kept };
 
-    ghost view = { λ h. record { states = h.states.items; cursor = h.cursor } };
+    ghost view = { λ h. record {
+      past = record { states = h.states.items; cursor = h.cursor };
+      changes = h.changes.items;
+    } };
 
-    ghost invariant = { λ h. h.cursor < vec_len h.states };
+    ghost invariant = { λ h. record {
+      cursor : h.cursor < vec_len h.states;
+      count : vec_len h.states ≡ vec_len h.changes + 1;
+      steps : AreSteps h.states.items h.changes.items;
+    } };
 }
 
 impl WholeHistory {
     /// The history whose only state is this one.
     pub fn new(alloc: Global, state: State) -> Result<WholeHistory, AllocError>
-        ensures start { IfOk result (λ history. history ≡ starts state) }
+        ensures start { IfOk result
+            (λ history. history ≡ record { past = starts state; changes = [] }) }
     {
         let mut states = Vec::with_capacity(alloc, 1)?;
         states.push_reserved(state);
-        Ok(WholeHistory { states, cursor: 0 })
+        Ok(WholeHistory {
+            states,
+            changes: Vec::new(alloc),
+            cursor: 0,
+        })
+    }
+
+    /// The history of these states, with the changes that lead from each to the next.
+    pub(crate) fn of_steps(states: Vec<State>, changes: Vec<Change>, cursor: usize) -> WholeHistory
+        requires cursor { cursor < length states.items }
+        requires count { length states.items ≡ length changes.items + 1 }
+        requires steps { AreSteps states.items changes.items }
+        ensures { result ≡ record {
+          past = record { states = states.items; cursor = cursor };
+          changes = changes.items;
+        } }
+    {
+        WholeHistory {
+            states,
+            changes,
+            cursor,
+        }
     }
 }
 
 impl History for WholeHistory {
-    ghost past = { λ h. h };
+    ghost past = { λ h. h.past };
+
+    ghost changes = { λ h. h.changes };
 
     fn state(&self) -> &State {
         &self.states[self.cursor]
@@ -60,19 +95,27 @@ impl History for WholeHistory {
         self.states.len() - 1
     }
 
-    fn push(&mut self, edited: Edited) -> Result<(), AllocError> {
+    fn change(&self, step: usize) -> &Change {
+        &self.changes[step - 1]
+    }
+
+    fn push(&mut self, _alloc: Global, edited: Edited) -> Result<(), AllocError> {
         let next = self.cursor + 1;
         // What is cut off leaves room enough.
         if next == self.states.len() {
             self.states.reserve(1)?;
+            self.changes.reserve(1)?;
         }
+        let Edited { state, change } = edited;
         self.states.truncate(next);
-        self.states.push_reserved(edited.state);
+        self.changes.truncate(self.cursor);
+        self.states.push_reserved(state);
+        self.changes.push_reserved(change);
         self.cursor = next;
         Ok(())
     }
 
-    fn undo(&mut self) -> Result<(), Refusal> {
+    fn undo(&mut self, _alloc: Global) -> Result<(), Refusal> {
         if self.cursor == 0 {
             return Err(Refusal::NothingToUndo);
         }
@@ -80,7 +123,7 @@ impl History for WholeHistory {
         Ok(())
     }
 
-    fn redo(&mut self) -> Result<(), Refusal> {
+    fn redo(&mut self, _alloc: Global) -> Result<(), Refusal> {
         if self.cursor + 1 == self.states.len() {
             return Err(Refusal::NothingToRedo);
         }

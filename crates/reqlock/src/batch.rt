@@ -68,20 +68,63 @@ pub fn batch<S: Source, K: Sink>(
     ensures memory { result ≡ Err BatchFault.OutOfMemory
         → (session.new ≡ session.old) × (sink.new ≡ sink.old) × (source.new ≡ source.old) }
 {
+    let mut text = ReplyText::new(alloc)?;
+    answer_all(alloc, source, sink, session, snapshot, &mut text)
+}
+
+/// As `batch`. It answers whether some command was accepted; where none was, the session is as it
+/// was.
+pub(crate) fn accepted_in<S: Source, K: Sink>(
+    alloc: Global,
+    source: &mut S,
+    sink: &mut K,
+    session: &mut Session,
+    snapshot: &Snapshot,
+) -> Result<bool, BatchFault>
+    requires source { S.has_failed source.old ≡ false }
+    requires sink { K.has_failed sink.old ≡ false }
+    ensures answered { OnOk result (IfSome (S.remaining source.old) (λ input.
+        Answered snapshot.now (commands_of input) session.old session.new
+        (K.contents sink.old) (K.contents sink.new))) }
+{
+    let mut text = ReplyText::new(alloc)?;
+    answer_all(alloc, source, sink, session, snapshot, &mut text)?;
+    Ok(text.has_accepted())
+}
+
+// Answers each line of the input. The replies are put into `text` in turn.
+fn answer_all<S: Source, K: Sink>(
+    alloc: Global,
+    source: &mut S,
+    sink: &mut K,
+    session: &mut Session,
+    snapshot: &Snapshot,
+    text: &mut ReplyText,
+) -> Result<(), BatchFault>
+    requires source { S.has_failed source.old ≡ false }
+    requires sink { K.has_failed sink.old ≡ false }
+    ensures answered { OnOk result (IfSome (S.remaining source.old) (λ input.
+        Answered snapshot.now (commands_of input) session.old session.new
+        (K.contents sink.old) (K.contents sink.new))) }
+    ensures end { OnOk result (IsAtEnd (S.remaining source.new)) }
+    ensures fault { IfErr result (λ e. (e ≡ BatchFault.OutOfMemory)
+        ⊎ IsFailure e (S.has_failed source.new) (K.has_failed sink.new)) }
+    ensures memory { result ≡ Err BatchFault.OutOfMemory
+        → (session.new ≡ session.old) × (sink.new ≡ sink.old) × (source.new ≡ source.old) }
+{
     let mut piece = vec![in alloc; 0u8; PIECE]?;
     let mut pending = PendingLine::new(alloc)?;
-    let mut text = ReplyText::new(alloc)?;
     answer_lines(
         alloc,
         source,
         piece.as_mut_slice(),
         &mut pending,
-        &mut text,
+        text,
         sink,
         session,
         snapshot,
     )?;
-    answer_last(alloc, &pending, &mut text, sink, session, snapshot)
+    answer_last(alloc, &pending, text, sink, session, snapshot)
 }
 
 // Answers a last line, of which no LF has come.

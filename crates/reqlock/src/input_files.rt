@@ -1,4 +1,4 @@
-// The files that the program reads.
+// What the program reads, and why an input is refused.
 
 ghost use Rattle.std.specs.Prelude.{◌≡◌};
 ghost use Rattle.lists.specs.Answers.{Answers};
@@ -13,10 +13,12 @@ use std::alloc::{AllocError, Global};
 use std::rt::Files;
 use std::{fmt, fs, io};
 
-/// A file that the program reads.
+/// A file that the program reads. The first three stand in its folder, and are written too.
 #[derive(Clone, Copy, Debug, PartialEq, Eq)]
 pub enum InputFile {
     Requirements,
+    Lock,
+    Journal,
     Index,
     Environment,
 }
@@ -25,6 +27,8 @@ impl fmt::Display for InputFile {
     fn fmt<W: fmt::Write>(&self, f: &mut fmt::Formatter<W>) -> fmt::Result {
         match self {
             InputFile::Requirements => write!(f, "requirements.txt"),
+            InputFile::Lock => write!(f, "pylock.toml"),
+            InputFile::Journal => write!(f, "reqlock.journal"),
             InputFile::Index => write!(f, "index"),
             InputFile::Environment => write!(f, "environment"),
         }
@@ -42,6 +46,10 @@ pub enum InputFault {
     Index(IndexFault),
     /// The environment is refused.
     Environment(Cause),
+    /// The file isn't the one that was saved with the journal.
+    Disagrees,
+    /// The journal doesn't read at this line, from 1.
+    JournalBroken(usize),
     OutOfMemory,
 }
 
@@ -60,6 +68,8 @@ impl fmt::Display for InputFault {
             InputFault::Requirements(fault) => write_line_fault(f, *fault),
             InputFault::Index(fault) => write_index_fault(f, fault),
             InputFault::Environment(cause) => write_cause(f, *cause),
+            InputFault::Disagrees => write!(f, "files-disagree"),
+            InputFault::JournalBroken(line) => write!(f, "line {line}: journal-broken"),
             InputFault::OutOfMemory => write!(f, "out-of-memory"),
         }
     }

@@ -3,18 +3,31 @@
 
 mod batch;
 mod command_line;
+mod command_words;
 mod counted;
+mod editing;
+mod history_text;
 mod input_files;
+mod lock_text;
+mod looking;
 mod pending_line;
 mod program;
 #[cfg(test)]
 mod program_tests;
+mod replacing;
+#[cfg(test)]
+mod replacing_tests;
 mod reply_text;
 mod request;
 #[cfg(test)]
 mod resolving_tests;
+mod saved_files;
+#[cfg(test)]
+mod saved_tests;
 mod sink;
+mod skipped_text;
 mod source;
+mod stop;
 #[cfg(test)]
 mod tests;
 mod words;

@@ -1,7 +1,9 @@
 // The program from end to end, over files in the folder for temporary files.
 
-use crate::program::{Status, program};
+use crate::program::program;
+use crate::stop::Status;
 use crate::tests::ENVIRONMENT;
+use std::rt::Files;
 use std::test::Fail;
 use std::{env, fs, process};
 
@@ -30,7 +32,11 @@ pub struct Outcome {
     pub errors: Vec<u8>,
 }
 
-fn run_program(rt: &HostRuntime, words: &[&str], input: &[u8]) -> Result<Outcome, Fail> {
+pub fn run_program<R: Files + AllocGlobal>(
+    rt: &R,
+    words: &[&str],
+    input: &[u8],
+) -> Result<Outcome, Fail> {
     let alloc = rt.alloc();
     let mut owned = Vec::new(alloc);
     for word in words {
@@ -47,7 +53,12 @@ fn run_program(rt: &HostRuntime, words: &[&str], input: &[u8]) -> Result<Outcome
 }
 
 // A new folder with this requirements file and this index.
-fn folder(rt: &HostRuntime, name: &str, requirements: &[u8], index: &[u8]) -> Result<String, Fail> {
+pub fn folder(
+    rt: &HostRuntime,
+    name: &str,
+    requirements: &[u8],
+    index: &[u8],
+) -> Result<String, Fail> {
     let alloc = rt.alloc();
     let process = process::id(rt.process());
     let temporary = env::temp_dir(rt)?;

@@ -35,10 +35,12 @@ pub fn refusal_word(refusal: &Refusal) -> &'static str
     }
 }
 
-/// The text of one reply, in room that is taken once.
+/// The text of one reply after another, in room that is taken once.
 #[derive(Drop)]
 pub struct ReplyText {
     bytes: Vec<u8>,
+    // whether one of them was `ok`
+    has_accepted: bool,
 }
 
 impl Model for ReplyText {
@@ -58,6 +60,7 @@ impl ReplyText {
     {
         Ok(ReplyText {
             bytes: Vec::with_capacity(alloc, LONGEST_REPLY)?,
+            has_accepted: false,
         })
     }
 
@@ -65,8 +68,14 @@ impl ReplyText {
     pub fn set(&mut self, reply: &Reply)
         ensures text { self.new ≡ text_of_reply reply.now }
     {
+        self.has_accepted |= matches!(reply, Reply::Done(_));
         self.bytes.clear();
         write_reply(&mut self.bytes, reply);
+    }
+
+    /// Whether one of the replies so far was `ok`.
+    pub fn has_accepted(&self) -> bool {
+        self.has_accepted
     }
 
     pub fn as_bytes(&self) -> &[u8]

@@ -1,21 +1,54 @@
 // What the words of the command line ask for.
 
-ghost use Rattle.std.specs.Prelude.{◌≡◌, ◌≢◌, [], map, Some, codes, IfOk, IfErr, IfSome, IfNone};
-ghost use Rattle.clap.specs.Words.{app_of, fault_of, found_of, kind_of, matches_of, rows_of, subcommand_name_of, subcommand_of, subcommand_rows_of};
+ghost use Rattle.std.specs.Prelude.{◌≡◌, [], map, option_map, unwrap_or, Some, None, IfOk, IfErr};
+ghost use Rattle.clap.specs.Words.{fault_of, found_of, kind_of, matches_of, rows_of, subcommand_of, subcommand_rows_of};
 ghost use Rattle.reqlock.specs.CommandWords.{reqlock_app};
-ghost use Rattle.reqlock.specs.Requests.{FaultOf, FaultWith, IsFault, IsRequest, name_of};
+ghost use Rattle.reqlock.specs.Requests.{FaultOf, FaultWith, HasInputs, IsAsked, IsFault, IsLacking, IsRequest, LacksInput, edit_of, text_of, texts_of, upgrade_with};
+ghost use Rattle.edits.specs.declared.request.Edit.TheVariants.{Add, Constrain, Remove};
 ghost use Rattle.reqlock.specs.declared.request.RequestFault.TheVariants.{OutOfMemory};
 
+use crate::command_words::command;
 use clap::error::ErrorKind;
-use clap::{Arg, ArgMatches, Command, Error};
+use clap::{ArgMatches, Error};
+use edits::Edit;
+use lists::{Seq, Text};
 use std::alloc::{AllocError, Global};
 use std::convert::AsStr;
 
-/// What the program is to do.
-#[derive(Clone, Copy, Debug, PartialEq, Eq)]
-pub enum Subcommand {
-    /// Tries commands on the state of the requirements file, and saves nothing.
-    Try,
+/// What the words of the command line ask for. The texts are those of the words.
+#[derive(Debug, Drop)]
+pub struct Invocation<'a> {
+    /// The folder of the three files.
+    pub dir: &'a str,
+    pub subcommand: Subcommand<'a>,
+}
+
+/// What the program is to do, with the files that it needs for it.
+#[derive(Debug, Drop)]
+pub enum Subcommand<'a> {
+    /// Locks the requirements file, and begins a history.
+    Init(Inputs<'a>),
+    /// Makes an edit over this index, and saves.
+    Edit(Edit, &'a str),
+    Undo,
+    Redo,
+    /// Does the commands of standard input over this index, and saves.
+    Batch(&'a str),
+    /// Does them on the state that `Init` would begin with, and saves nothing.
+    Try(Inputs<'a>),
+    /// Prints the lock.
+    Show,
+    /// Prints the history.
+    Log,
+    /// Prints what was left out of this index.
+    Skipped(&'a str),
+}
+
+/// The files that a new history begins with, beside the requirements file.
+#[derive(Clone, Copy, Debug)]
+pub struct Inputs<'a> {
+    pub index: &'a str,
+    pub environment: &'a str,
 }
 
 /// An option that a subcommand needs.
@@ -23,18 +56,6 @@ pub enum Subcommand {
 pub enum NeededOption {
     Index,
     Environment,
-}
-
-/// What the words of the command line ask for. The texts are those of the words.
-#[derive(Clone, Copy, Debug)]
-pub struct Invocation<'a> {
-    pub subcommand: Subcommand,
-    /// The folder of the requirements file.
-    pub dir: &'a str,
-    /// The file of the index.
-    pub index: &'a str,
-    /// The file of the environment.
-    pub environment: &'a str,
 }
 
 /// Why the words ask for nothing.
@@ -55,26 +76,29 @@ impl From<AllocError> for RequestFault {
     }
 }
 
+// The files that the words name.
+#[derive(Clone, Copy)]
+struct Options<'a> {
+    index: Option<&'a str>,
+    environment: Option<&'a str>,
+}
+
 /// What the words of a command line ask for, the first of them the program's name.
 pub fn request<'a, S: AsStr>(alloc: Global, words: &'a [S]) -> Result<Invocation<'a>, RequestFault>
     ensures request { IfOk result (IsRequest (map S.text words.entry.now)) }
     ensures fault { IfErr result (IsFault (map S.text words.entry.now)) }
 {
     let matches = read_words(alloc, words)?;
-    let Some(subcommand) = read_subcommand(&matches) else {
+    let Some((name, given)) = matches.subcommand() else {
         return Err(no_subcommand(alloc));
     };
-    let Some(index) = matches.get_str("index") else {
-        return Err(RequestFault::Needed(NeededOption::Index));
-    };
-    let Some(environment) = matches.get_str("env") else {
-        return Err(RequestFault::Needed(NeededOption::Environment));
+    let options = Options {
+        index: matches.get_str("index"),
+        environment: matches.get_str("env"),
     };
     Ok(Invocation {
-        subcommand,
         dir: matches.get_str("dir").unwrap_or("."),
-        index,
-        environment,
+        subcommand: read_subcommand(alloc, name, given, options)?,
     })
 }
 
@@ -92,15 +116,139 @@ fn read_words<'a, S: AsStr>(alloc: Global, words: &'a [S]) -> Result<ArgMatches<
     }
 }
 
-fn read_subcommand(matches: &ArgMatches<'_>) -> Option<Subcommand>
-    ensures some { IfSome result (λ s. subcommand_name_of matches.now ≡ Some (name_of s)) }
-    ensures none { IfNone result (subcommand_name_of matches.now ≢ Some (codes "try")) }
+// The subcommand of this name, with the texts that it was given.
+fn read_subcommand<'a>(
+    alloc: Global,
+    name: &str,
+    given: &ArgMatches<'a>,
+    options: Options<'a>,
+) -> Result<Subcommand<'a>, RequestFault>
+    ensures asked { IfOk result (IsAsked (text_of options.entry.index) (text_of options.entry.environment)
+        name.now (rows_of (found_of given.now))) }
+    ensures fault { IfErr result (IsLacking (text_of options.entry.index) (text_of options.entry.environment)
+        name.now (rows_of (found_of given.now))) }
 {
-    let name = matches.subcommand_name()?;
+    if let Some(edit) = read_edit(alloc, name, given)? {
+        return Ok(Subcommand::Edit(edit, needed_index(options)?));
+    }
+    if name == "init" {
+        return Ok(Subcommand::Init(needed_inputs(options)?));
+    }
     if name == "try" {
-        Some(Subcommand::Try)
-    } else {
-        None
+        return Ok(Subcommand::Try(needed_inputs(options)?));
+    }
+    if name == "batch" {
+        return Ok(Subcommand::Batch(needed_index(options)?));
+    }
+    if name == "skipped" {
+        return Ok(Subcommand::Skipped(needed_index(options)?));
+    }
+    match name {
+        "undo" => Ok(Subcommand::Undo),
+        "redo" => Ok(Subcommand::Redo),
+        "show" => Ok(Subcommand::Show),
+        "log" => Ok(Subcommand::Log),
+        _ => Err(no_subcommand(alloc)),
+    }
+}
+
+// The edit that a subcommand of this name makes, or none where it makes none.
+fn read_edit(alloc: Global, name: &str, given: &ArgMatches<'_>) -> Result<Option<Edit>, AllocError>
+    ensures edit { IfOk result
+        (λ edit. edit ≡ edit_of name.now (rows_of (found_of given.now))) }
+{
+    match name {
+        "add" => read_addition(alloc, given.get_str("text")),
+        "remove" => read_removal(alloc, given.get_str("name")),
+        "constrain" => {
+            read_constraint(alloc, given.get_str("name"), given.get_str("specifiers"))
+        }
+        "upgrade" => Ok(Some(read_upgrade(alloc, given.get_strs("names"))?)),
+        "relock" => Ok(Some(Edit::Relock)),
+        _ => Ok(None),
+    }
+}
+
+fn read_addition(alloc: Global, text: Option<&str>) -> Result<Option<Edit>, AllocError>
+    ensures edit { IfOk result (λ edit. edit ≡ option_map Add (text_of text.entry)) }
+{
+    match text {
+        Some(text) => Ok(Some(Edit::Add(Text::copy_of(alloc, text)?))),
+        None => Ok(None),
+    }
+}
+
+fn read_removal(alloc: Global, name: Option<&str>) -> Result<Option<Edit>, AllocError>
+    ensures edit { IfOk result (λ edit. edit ≡ option_map Remove (text_of name.entry)) }
+{
+    match name {
+        Some(name) => Ok(Some(Edit::Remove(Text::copy_of(alloc, name)?))),
+        None => Ok(None),
+    }
+}
+
+// Without specifiers, those of the line are taken away.
+fn read_constraint(
+    alloc: Global,
+    name: Option<&str>,
+    specifiers: Option<&str>,
+) -> Result<Option<Edit>, AllocError>
+    ensures edit { IfOk result (λ edit.
+        edit ≡ option_map (λ n. Constrain n (unwrap_or (text_of specifiers.entry) [])) (text_of name.entry)) }
+{
+    let Some(name) = name else {
+        return Ok(None);
+    };
+    let name = Text::copy_of(alloc, name)?;
+    let specifiers = Text::copy_of(alloc, specifiers.unwrap_or(""))?;
+    Ok(Some(Edit::Constrain(name, specifiers)))
+}
+
+// Without names, all are upgraded.
+fn read_upgrade(alloc: Global, names: Option<&[&str]>) -> Result<Edit, AllocError>
+    ensures edit { IfOk result (λ edit. edit ≡ upgrade_with (unwrap_or (texts_of names.entry) [])) }
+{
+    let Some(names) = names else {
+        return Ok(Edit::UpgradeAll);
+    };
+    if names.is_empty() {
+        return Ok(Edit::UpgradeAll);
+    }
+    Ok(Edit::Upgrade(copies(alloc, names)?))
+}
+
+fn copies(alloc: Global, names: &[&str]) -> Result<Seq<Text>, AllocError>
+    ensures { IfOk result (λ copies. copies ≡ map (λ n. n.now) names.now) }
+{
+    let mut copies = Vec::new(alloc);
+    for name in names {
+        copies.push(Text::copy_of(alloc, name)?)?;
+    }
+    Ok(Seq::from_vec(copies))
+}
+
+fn needed_index<'a>(options: Options<'a>) -> Result<&'a str, RequestFault>
+    ensures index { IfOk result (λ index. text_of options.entry.index ≡ Some index.now) }
+    ensures missing { IfErr result (λ e. (e ≡ RequestFault.Needed NeededOption.Index)
+        × (text_of options.entry.index ≡ None)) }
+{
+    match options.index {
+        Some(index) => Ok(index),
+        None => Err(RequestFault::Needed(NeededOption::Index)),
+    }
+}
+
+// The index is asked for first.
+fn needed_inputs<'a>(options: Options<'a>) -> Result<Inputs<'a>, RequestFault>
+    ensures inputs { IfOk result
+        (HasInputs (text_of options.entry.index) (text_of options.entry.environment)) }
+    ensures missing { IfErr result
+        (LacksInput (text_of options.entry.index) (text_of options.entry.environment)) }
+{
+    let index = needed_index(options)?;
+    match options.environment {
+        Some(environment) => Ok(Inputs { index, environment }),
+        None => Err(RequestFault::Needed(NeededOption::Environment)),
     }
 }
 
@@ -113,21 +261,6 @@ fn fault_of_clap(error: Error) -> RequestFault
     } else {
         RequestFault::Usage(error)
     }
-}
-
-// What clap is to read.
-fn command<'a>(alloc: Global) -> Result<Command<'a>, AllocError>
-    ensures app { IfOk result (λ c. app_of c ≡ reqlock_app) }
-{
-    let dir = Arg::new(alloc, "dir").long("dir").value_name("DIR");
-    let index = Arg::new(alloc, "index").long("index").value_name("FILE");
-    let environment = Arg::new(alloc, "env").long("env").value_name("FILE");
-    let attempt = Command::new(alloc, "try");
-    Command::new(alloc, "reqlock")
-        .arg(dir)?
-        .arg(index)?
-        .arg(environment)?
-        .subcommand(attempt)
 }
 
 // The usage fault of words with no subcommand.

@@ -1,12 +1,12 @@
 // The program over indexes whose releases depend on others, are pre-releases or are yanked.
 
-use crate::program::Status;
 use crate::program_tests::tried;
+use crate::stop::Status;
 use std::alloc::Global;
 use std::test::Fail;
 
 // A release with one wheel: its package, its version, and what else stands in its JSON.
-type Told = (&'static str, &'static str, &'static str);
+pub type Told = (&'static str, &'static str, &'static str);
 
 // Releases of `b` of which `a` 2 and `c` can't both have one.
 const SHARED: &[Told] = &[
@@ -68,7 +68,7 @@ fn joint(alloc: Global, open: &str, name: &str) -> Result<String, Fail> {
 }
 
 // The index of releases, where those of a package stand side by side.
-fn index_of(alloc: Global, releases: &[Told]) -> Result<String, Fail> {
+pub fn index_of(alloc: Global, releases: &[Told]) -> Result<String, Fail> {
     let mut text = String::from_str(alloc, r#"{"snapshot":1,"packages":["#)?;
     let mut open = "";
     for told in releases {

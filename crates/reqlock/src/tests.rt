@@ -5,7 +5,7 @@ use crate::batch::{BatchFault, batch};
 use crate::command_line::{Item, read_item};
 use crate::counted::Counted;
 use crate::reply_text::{ReplyText, refusal_word};
-use crate::request::{NeededOption, RequestFault, Subcommand, request};
+use crate::request::{Inputs, Invocation, NeededOption, RequestFault, Subcommand, request};
 use crate::sink::Sink;
 use crate::source::Source;
 use edits::{Edit, Environment, Refusal, ReqFile, SavedFile, Snapshot};
@@ -162,37 +162,105 @@ fn refuses_a_line_that_is_too_long(rt: HostRuntime) -> Result<(), Fail> {
     Ok(())
 }
 
+// What words ask for, as a short text.
+fn request_text(alloc: Global, words: &[&str]) -> Result<String, AllocError> {
+    let Invocation { dir, subcommand } = match request(alloc, words) {
+        Ok(found) => found,
+        Err(RequestFault::Needed(NeededOption::Index)) => {
+            return String::from_str(alloc, "needs index");
+        }
+        Err(RequestFault::Needed(NeededOption::Environment)) => {
+            return String::from_str(alloc, "needs env");
+        }
+        Err(RequestFault::Usage(error)) => {
+            let text = if error.use_stderr() { "usage" } else { "help" };
+            return String::from_str(alloc, text);
+        }
+        Err(RequestFault::OutOfMemory) => return Err(AllocError),
+    };
+    match subcommand {
+        Subcommand::Init(Inputs { index, environment }) => {
+            format!(in alloc; "{dir} init {index} {environment}")
+        }
+        Subcommand::Edit(edit, index) => {
+            let text = asked(alloc, &Some(Item::Edit(edit)))?;
+            format!(in alloc; "{dir} {text} {index}")
+        }
+        Subcommand::Undo => format!(in alloc; "{dir} undo"),
+        Subcommand::Redo => format!(in alloc; "{dir} redo"),
+        Subcommand::Batch(index) => format!(in alloc; "{dir} batch {index}"),
+        Subcommand::Try(Inputs { index, environment }) => {
+            format!(in alloc; "{dir} try {index} {environment}")
+        }
+        Subcommand::Show => format!(in alloc; "{dir} show"),
+        Subcommand::Log => format!(in alloc; "{dir} log"),
+        Subcommand::Skipped(index) => format!(in alloc; "{dir} skipped {index}"),
+    }
+}
+
 #[test]
 fn reads_requests(rt: HostRuntime) -> Result<(), Fail> {
-    let words = ["reqlock", "--index", "i.json", "--env", "e.json", "try"];
-    match request(rt.alloc(), words.as_slice()) {
-        Ok(found) => {
-            assert_eq!(rt; found.subcommand, Subcommand::Try);
-            assert_eq!(rt; found.dir, ".");
-            assert_eq!(rt; found.index, "i.json");
-            assert_eq!(rt; found.environment, "e.json");
-        }
-        Err(_) => assert!(rt; false, "a request"),
-    }
-    let words = ["reqlock", "--dir", "d", "try"];
-    match request(rt.alloc(), words.as_slice()) {
-        Err(RequestFault::Needed(NeededOption::Index)) => {}
-        _ => assert!(rt; false, "a needed option"),
-    }
-    let words = ["reqlock", "--index", "i.json", "try"];
-    match request(rt.alloc(), words.as_slice()) {
-        Err(RequestFault::Needed(NeededOption::Environment)) => {}
-        _ => assert!(rt; false, "a needed option"),
-    }
-    let words = ["reqlock"];
-    match request(rt.alloc(), words.as_slice()) {
-        Err(RequestFault::Usage(error)) => assert!(rt; error.use_stderr()),
-        _ => assert!(rt; false, "a usage fault"),
-    }
-    let words = ["reqlock", "--help"];
-    match request(rt.alloc(), words.as_slice()) {
-        Err(RequestFault::Usage(error)) => assert!(rt; !error.use_stderr()),
-        _ => assert!(rt; false, "help"),
+    let rows = [
+        (["--dir", "d", "undo"].as_slice(), "d undo"),
+        (["redo"].as_slice(), ". redo"),
+        (["show"].as_slice(), ". show"),
+        (["log"].as_slice(), ". log"),
+        (
+            ["--index", "i", "--env", "e", "init"].as_slice(),
+            ". init i e",
+        ),
+        (["--index=i", "--env=e", "try"].as_slice(), ". try i e"),
+        (["--index", "i", "batch"].as_slice(), ". batch i"),
+        (["--index", "i", "skipped"].as_slice(), ". skipped i"),
+        (["--index", "i", "relock"].as_slice(), ". (relock) i"),
+        (
+            ["--index", "i", "add", "a >=1 # x "].as_slice(),
+            ". a >=1 # x  i",
+        ),
+        (["--index", "i", "add", ""].as_slice(), ".  i"),
+        (
+            ["--index", "i", "remove", "a "].as_slice(),
+            ". (remove)|a  i",
+        ),
+        (
+            ["--index", "i", "constrain", "a"].as_slice(),
+            ". (constrain)|a| i",
+        ),
+        (
+            ["--index", "i", "constrain", "a", "~=1.0"].as_slice(),
+            ". (constrain)|a|~=1.0 i",
+        ),
+        (["--index", "i", "upgrade"].as_slice(), ". (upgrade) i"),
+        (
+            ["--index", "i", "upgrade", "a", "b"].as_slice(),
+            ". (upgrade)|a|b i",
+        ),
+        // a word that begins with `-` is an option, but for `-` itself and behind `--`
+        (["--index", "i", "add", "-r", "x"].as_slice(), "usage"),
+        (["--index", "i", "add", "--", "-r x"].as_slice(), ". -r x i"),
+        (["--index", "i", "remove", "-"].as_slice(), ". (remove)|- i"),
+        (["--index", "i", "constrain", "a", "-1"].as_slice(), "usage"),
+        (
+            ["--index", "i", "constrain", "a", "--", "-1"].as_slice(),
+            ". (constrain)|a|-1 i",
+        ),
+        (["--dir", "d", "add", "a"].as_slice(), "needs index"),
+        (["--env", "e", "init"].as_slice(), "needs index"),
+        (["--index", "i", "init"].as_slice(), "needs env"),
+        (["--index", "i", "try"].as_slice(), "needs env"),
+        (["add"].as_slice(), "usage"),
+        (["undo", "a"].as_slice(), "usage"),
+        (["bogus"].as_slice(), "usage"),
+        ([].as_slice(), "usage"),
+        (["--help"].as_slice(), "help"),
+        (["add", "--help"].as_slice(), "help"),
+        (["--version"].as_slice(), "help"),
+    ];
+    for (words, wanted) in rows.iter() {
+        let mut all = Vec::new(rt.alloc());
+        all.push("reqlock")?;
+        all.extend_from_slice(words)?;
+        assert_eq!(rt; request_text(rt.alloc(), all.as_slice())?.as_str(), *wanted);
     }
     Ok(())
 }

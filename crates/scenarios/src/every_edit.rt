@@ -17,7 +17,7 @@ fn texts_of(alloc: Global, words: &str) -> Result<Seq<Text>, AllocError> {
 }
 
 /// The edit that a word and what stands behind it tell.
-fn edit_of(alloc: Global, told: &str) -> Result<Edit, AllocError> {
+pub(crate) fn edit_of(alloc: Global, told: &str) -> Result<Edit, AllocError> {
     let (word, rest) = told.split_once(' ').unwrap_or((told, ""));
     match word {
         "add" => Ok(Edit::Add(Text::copy_of(alloc, rest)?)),

@@ -3,6 +3,10 @@
 #![tactic(auto)]
 
 #[cfg(test)]
+mod applied_changes;
+#[cfg(test)]
+mod changes;
+#[cfg(test)]
 mod edited_files;
 #[cfg(test)]
 mod every_edit;

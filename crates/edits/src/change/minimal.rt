@@ -10,7 +10,6 @@ ghost use Rattle.pylock.specs.Order.{rises};
 use crate::change::ends::{ends_of, place_behind};
 use crate::change::parts::{DigestChange, EntryChange, Splice};
 use crate::same::Same;
-use lists::Text;
 use pep508::Name;
 use pylock::{Entry, Named, rises};
 
@@ -35,12 +34,12 @@ fn are_parts<T: Part>(parts: &[T]) -> bool
     true
 }
 
-/// Whether both are the same line, or neither is there.
-fn is_same_line(line: Option<&Text>, other: Option<&Text>) -> bool
-    ensures { IsTrue result ↔ (option_copied line.entry ≡ option_copied other.entry) }
+/// Whether both are the same item, or neither is there.
+pub(crate) fn is_same_item<T: Same>(item: Option<&T>, other: Option<&T>) -> bool
+    ensures { IsTrue result ↔ (option_copied item.entry ≡ option_copied other.entry) }
 {
-    match (line, other) {
-        (Some(line), Some(other)) => line.is_same(other),
+    match (item, other) {
+        (Some(item), Some(other)) => item.is_same(other),
         (None, None) => true,
         _ => false,
     }
@@ -52,7 +51,7 @@ impl Part for Splice {
     fn is_part(&self) -> bool {
         let old = self.old.as_slice();
         let new = self.new.as_slice();
-        !is_same_line(old.first(), new.first()) && !is_same_line(old.last(), new.last())
+        !is_same_item(old.first(), new.first()) && !is_same_item(old.last(), new.last())
     }
 }
 

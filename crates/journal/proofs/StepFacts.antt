@@ -1,0 +1,70 @@
+-- Reading the steps of a journal line by line.
+use Rattle.std.proofs.Common.{◌≡◌, ◌⊎◌, ℕ, suc, zero, ◌+◌, ◌-◌, ◌<◌, ◌≤◌, List, [], ◌∷◌, ◌++◌, Result, Ok, Err, refl, sym, ap, subst, ◌∙◌, append_assoc, inl, inr, arith}
+use Rattle.std.proofs.lemmas.List.{append-nil}
+use Rattle.edits.specs.Changes.{ChangeParts}
+use Rattle.edits.specs.declared.refusal.Refusal.TheVariants.{JournalBroken}
+use Rattle.journal.specs.Values.{Refusal, OutOfMemory}
+use Rattle.journal.specs.Opening.{StepAt, StepLines}
+
+-- what was read before, and what the rest answers
+abbrev pub before : {X : Type 0} → List X → Result (List X) Refusal → Result (List X) Refusal
+before done (Ok xs) = Ok (done ++ xs)
+before done (Err refusal) = Err refusal
+
+pub before-more : {X : Type 0} (done : List X) (x : X) (rest : Result (List X) Refusal) → before done (before (x ∷ []) rest) ≡ before (done ++ x ∷ []) rest
+before-more done x (Ok xs) = ap Ok (sym (append_assoc done (x ∷ []) xs))
+before-more done x (Err refusal) = refl
+
+a_step : (steps number : ℕ) (bytes : List ℕ) (step : ChangeParts × List ℕ) (rest : Result (List ChangeParts) Refusal) → StepAt bytes step
+    → StepLines steps (number + 1) step.1 rest → StepLines (suc steps) number bytes (before (step.0 ∷ []) rest)
+a_step steps number bytes step (Ok xs) at h = inl (step, at, (Ok xs, h, refl))
+a_step steps number bytes step (Err refusal) at h = inl (step, at, (Err refusal, h, refl))
+
+-- the lines before a place are these changes: what the others answer goes behind them
+abbrev pub ReadSoFar : ℕ → List ℕ → ℕ → List ℕ → List ChangeParts → Type 0
+ReadSoFar steps bytes place rest done = (answer : Result (List ChangeParts) Refusal) → StepLines (steps - place) (place + 2) rest answer → StepLines steps 2 bytes (before done answer)
+
+pub nothing_read : (steps : ℕ) (bytes : List ℕ) → ReadSoFar steps bytes 0 bytes []
+nothing_read steps bytes (Ok xs) h =
+    let whole : StepLines steps 2 bytes (Ok xs) = subst (λ n. StepLines n 2 bytes (Ok xs)) (let e : steps - 0 ≡ steps = omega arith in e) h in
+    whole
+nothing_read steps bytes (Err refusal) h =
+    let whole : StepLines steps 2 bytes (Err refusal) = subst (λ n. StepLines n 2 bytes (Err refusal)) (let e : steps - 0 ≡ steps = omega arith in e) h in
+    whole
+
+module _ (steps : ℕ) (bytes : List ℕ) (place : ℕ) (rest : List ℕ) (done : List ChangeParts) (so_far : ReadSoFar steps bytes place rest done) where
+  -- a line more is a step
+  pub one_more : (step : ChangeParts × List ℕ) → place < steps → StepAt rest step → ReadSoFar steps bytes (place + 1) step.1 (done ++ step.0 ∷ [])
+  one_more step below at answer h =
+      let count : suc (steps - (place + 1)) ≡ steps - place = omega arith in
+      let number : (place + 1) + 2 ≡ (place + 2) + 1 = omega arith in
+      let tail : StepLines (steps - (place + 1)) ((place + 2) + 1) step.1 answer = subst (λ n. StepLines (steps - (place + 1)) n step.1 answer) number h in
+      let whole : StepLines (steps - place) (place + 2) rest (before (step.0 ∷ []) answer) = subst (λ n. StepLines n (place + 2) rest (before (step.0 ∷ []) answer)) count (a_step (steps - (place + 1)) (place + 2) rest step answer at tail) in
+      subst (λ a. StepLines steps 2 bytes a) (before-more done step.0 answer) (so_far (before (step.0 ∷ []) answer) whole)
+
+  -- the next line is none
+  pub no_step : place < steps → ((step : ChangeParts × List ℕ) → StepAt rest step → ⊥) → StepLines steps 2 bytes (Err (JournalBroken (place + 2)))
+  no_step below none =
+      let count : suc (steps - (place + 1)) ≡ steps - place = omega arith in
+      so_far (Err (JournalBroken (place + 2))) (subst (λ n. StepLines n (place + 2) rest (Err (JournalBroken (place + 2)))) count (inr (none, refl)))
+
+  -- all steps are read, and nothing stands behind them
+  pub all_read : steps ≤ place → place ≤ steps → rest ≡ [] → StepLines steps 2 bytes (Ok done)
+  all_read past within empty =
+      let count : 0 ≡ steps - place = omega arith in
+      let whole : StepLines steps 2 bytes (before done (Ok [])) = so_far (Ok []) (subst (λ n. StepLines n (place + 2) rest (Ok [])) count (inl (empty, refl))) in
+      subst (λ xs. StepLines steps 2 bytes (Ok xs)) (append-nil done) whole
+
+  -- all steps are read, and something stands behind them
+  pub more_behind : steps ≤ place → place ≤ steps → (rest ≡ [] → ⊥) → StepLines steps 2 bytes (Err (JournalBroken (steps + 2)))
+  more_behind past within filled =
+      let count : 0 ≡ steps - place = omega arith in
+      let same : place + 2 ≡ steps + 2 = omega arith in
+      subst (λ n. StepLines steps 2 bytes (Err (JournalBroken n))) same
+      (so_far (Err (JournalBroken (place + 2))) (subst (λ n. StepLines n (place + 2) rest (Err (JournalBroken (place + 2)))) count (inr (filled, refl))))
+
+  -- the next line can't be read as a step, or memory is refused
+  pub refused : (e : Refusal) → place < steps → (e ≡ OutOfMemory) ⊎ ((e ≡ JournalBroken (place + 2)) × ((step : ChangeParts × List ℕ) → StepAt rest step → ⊥))
+      → (e ≡ OutOfMemory) ⊎ StepLines steps 2 bytes (Err e)
+  refused e below (inl memory) = inl memory
+  refused e below (inr broken) = inr (subst (λ r. StepLines steps 2 bytes (Err r)) (sym broken.0) (no_step below broken.1))

@@ -1,0 +1,124 @@
+-- What three byte strings stand for: a history, or the first of their faults. All of it is reqlock's own rule.
+use Rattle.std.specs.Prelude.{◌≡◌, ◌⊎◌, ℕ, zero, suc, ◌+◌, List, [], ◌∷◌, ◌++◌, drop, length, reverse, take, Some, ⊤, Result, Ok, Err}
+use Rattle.markers.specs.Environment.{marker_text}
+use Rattle.pep508.specs.Requirement.{file_of}
+use Rattle.pylock.specs.Locks.{LockParts}
+use Rattle.pylock.specs.Reading.{lock_in_text}
+use Rattle.sha2.specs.Sha256.{sha256}
+use Rattle.edits.specs.Changes.{ChangeParts, Leads, inverse}
+use Rattle.edits.specs.State.{IsState}
+use Rattle.edits.specs.declared.refusal.Refusal.TheVariants.{FilesDisagree, JournalBroken}
+use Rattle.edits.specs.declared.refusal.SavedFile.TheVariants.{Lock, Requirements}
+use Rattle.journal.specs.Values.{State, Refusal, OutOfMemory}
+use Rattle.journal.specs.Past.{Past}
+use Rattle.journal.specs.Format.Lines.{IsStepLine, cut_line, header_of_line}
+use Rattle.journal.specs.declared.format.header.Header.{Header}
+
+-- ---- tests one after the other
+
+-- what is looked for is there, and the answer goes on with it; or it isn't, and this refusal is the answer
+abbrev pub Finds : {X A : Type 0} → (X → Type 0) → Refusal → (X → Result A Refusal → Type 0) → Result A Refusal → Type 0
+Finds {X} Is refusal go_on answer = ((x : X) × Is x × go_on x answer) ⊎ (((x : X) → Is x → ⊥) × (answer ≡ Err refusal))
+
+-- this holds, and the answer goes on; or it doesn't, and this refusal is the answer
+abbrev pub Asks : {A : Type 0} → Type 0 → Refusal → (Result A Refusal → Type 0) → Result A Refusal → Type 0
+Asks fact refusal go_on answer = (fact × go_on answer) ⊎ ((fact → ⊥) × (answer ≡ Err refusal))
+
+-- the answer goes on with what a part answers; or the part is refused, and its refusal is the answer
+abbrev pub GoesOn : {X A : Type 0} → (X → Result A Refusal → Type 0) → Result X Refusal → Result A Refusal → Type 0
+GoesOn go_on (Ok x) answer = go_on x answer
+GoesOn go_on (Err refusal) answer = answer ≡ Err refusal
+
+abbrev pub Then : {X A : Type 0} → (Result X Refusal → Type 0) → (X → Result A Refusal → Type 0) → Result A Refusal → Type 0
+Then {X} Part go_on answer = (part : Result X Refusal) × Part part × GoesOn go_on part answer
+
+-- this is the answer
+abbrev pub Gives : {A : Type 0} → A → Result A Refusal → Type 0
+Gives x answer = answer ≡ Ok x
+
+-- what a part of the reading answers: what was looked for; or that there was no memory; or this refusal, where nothing is as it
+-- was looked for
+abbrev pub Found : {X : Type 0} → (X → Type 0) → Refusal → Result X Refusal → Type 0
+Found Is refusal (Ok x) = Is x
+Found {X} Is refusal (Err e) = (e ≡ OutOfMemory) ⊎ ((e ≡ refusal) × ((x : X) → Is x → ⊥))
+
+-- the same of a fact that is asked for
+abbrev pub Holds : Type 0 → Refusal → Result ⊤ Refusal → Type 0
+Holds fact refusal (Ok u) = fact
+Holds fact refusal (Err e) = (e ≡ OutOfMemory) ⊎ ((e ≡ refusal) × (fact → ⊥))
+
+-- ---- the header, and the present state
+
+-- the journal begins with the line of this header, and these bytes stand behind it
+pub record BeginsWith (journal : List ℕ) (begin : Header × List ℕ) : Type 0 where
+  pub line : List ℕ
+  pub cut : cut_line journal ≡ Some (line, begin.1)
+  pub header : header_of_line line ≡ Ok begin.0
+
+-- the parts of the present state: the digests of both files agree, both files read, and the lock names the header's environment
+abbrev pub PresentParts : Header → List ℕ → List ℕ → Result State Refusal → Type 0
+PresentParts header requirements lock =
+    Asks (header.requirements ≡ sha256 requirements) (FilesDisagree Requirements) (
+    Asks (header.lock ≡ sha256 lock) (FilesDisagree Lock) (
+    Finds (λ lines. file_of requirements ≡ Ok lines) (FilesDisagree Requirements) (λ lines.
+    Finds (λ locked. lock_in_text lock ≡ Ok locked) (FilesDisagree Lock) (λ locked.
+    Asks (locked.environment ≡ marker_text header.environment) (JournalBroken 1) (
+    Gives (record { lines = lines; environment = header.environment; lock = locked }))))))
+
+-- the present state, for which all holds that holds of every state
+abbrev pub Present : Header → List ℕ → List ℕ → Result State Refusal → Type 0
+Present header requirements lock = Then (PresentParts header requirements lock) (λ state. Asks (IsState state) (FilesDisagree Lock) (Gives state))
+
+-- ---- the steps
+
+-- bytes begin with a line that is a step, and others stand behind it
+pub record StepAt (bytes : List ℕ) (step : ChangeParts × List ℕ) : Type 0 where
+  pub line : List ℕ
+  pub cut : cut_line bytes ≡ Some (line, step.1)
+  pub is_step : IsStepLine line step.0
+
+-- so many steps, the first of them in the line of this number, and nothing behind them
+abbrev pub StepLines : ℕ → ℕ → List ℕ → Result (List ChangeParts) Refusal → Type 0
+StepLines zero number bytes = Asks (bytes ≡ []) (JournalBroken number) (Gives [])
+StepLines (suc steps) number bytes =
+    Finds (StepAt bytes) (JournalBroken number) (λ step.
+    Then (StepLines steps (number + 1) step.1) (λ changes.
+    Gives (step.0 ∷ changes)))
+
+-- ---- the states
+
+-- the states that changes lead back to, from the nearest change on; the first change of a journal is in line 2
+abbrev pub StatesBefore : List ChangeParts → State → Result (List State) Refusal → Type 0
+StatesBefore [] state = Gives []
+StatesBefore (change ∷ changes) state =
+    Finds (Leads state (inverse change)) (JournalBroken (length changes + 2)) (λ before.
+    Then (StatesBefore changes before) (λ states.
+    Gives (states ++ before ∷ [])))
+
+-- the states that changes lead on to; the first change is in the line of this number
+abbrev pub StatesBehind : ℕ → List ChangeParts → State → Result (List State) Refusal → Type 0
+StatesBehind number [] state = Gives []
+StatesBehind number (change ∷ changes) state =
+    Finds (Leads state change) (JournalBroken number) (λ next.
+    Then (StatesBehind (number + 1) changes next) (λ states.
+    Gives (next ∷ states)))
+
+-- the history that changes lead to from the present state, in both directions
+abbrev pub PastOf : ℕ → List ChangeParts → State → Result Past Refusal → Type 0
+PastOf cursor changes state =
+    Then (StatesBefore (reverse (take cursor changes)) state) (λ before.
+    Then (StatesBehind (cursor + 2) (drop cursor changes) state) (λ behind.
+    Gives (record { states = before ++ state ∷ behind; cursor = cursor })))
+
+-- what three byte strings stand for, or the first of their faults
+abbrev pub Opens : List ℕ → List ℕ → List ℕ → Result Past Refusal → Type 0
+Opens requirements lock journal =
+    Finds (BeginsWith journal) (JournalBroken 1) (λ begin.
+    Then (Present begin.0 requirements lock) (λ state.
+    Then (StepLines begin.0.steps 2 begin.1) (λ changes.
+    PastOf begin.0.cursor changes state)))
+
+-- what a call that takes memory answers: what the relation asks for, or that there was no memory
+abbrev pub Tells : {A : Type 0} → (Result A Refusal → Type 0) → Result A Refusal → Type 0
+Tells Is (Ok x) = Is (Ok x)
+Tells Is (Err refusal) = (refusal ≡ OutOfMemory) ⊎ Is (Err refusal)

@@ -1,0 +1,34 @@
+-- What three byte strings are the saved form of a history. All of it is reqlock's own rule.
+use Rattle.std.specs.Prelude.{◌≡◌, ℕ, List, Some, length}
+use Rattle.std.specs.List.{concat}
+use Rattle.sha2.specs.Sha256.{sha256}
+use Rattle.toml.specs.Parse.{parse_document}
+use Rattle.pylock.specs.Tables.{table_of}
+use Rattle.edits.specs.Changes.{ChangeParts}
+use Rattle.journal.specs.Values.{State}
+use Rattle.journal.specs.Past.{Past, present}
+use Rattle.journal.specs.Changes.{AreSteps}
+use Rattle.journal.specs.Format.Written.{journal_of}
+use Rattle.journal.specs.declared.format.header.Header.{Header}
+use Rattle.journal.specs.declared.saving.Saved.{Saved}
+
+-- the header of a history with this present state, so many steps and these files
+abbrev pub header_for : State → ℕ → ℕ → List ℕ → List ℕ → Header
+header_for state cursor steps requirements lock = record {
+  cursor = cursor;
+  environment = state.environment;
+  lock = sha256 lock;
+  requirements = sha256 requirements;
+  steps = steps;
+}
+
+-- the present lines joined; a text that is read as the table of the present lock; a header, and a line of compact JSON for each
+-- step, a minimal change from each state to the next
+pub record IsSaved (past : Past) (saved : Saved) : Type 0 where
+  pub state : State
+  pub changes : List ChangeParts
+  pub state_is : present past ≡ Some state
+  pub steps : AreSteps past.states changes
+  pub requirements : saved.requirements ≡ concat state.lines
+  pub lock : parse_document saved.lock ≡ Some (table_of state.lock)
+  pub journal : saved.journal ≡ journal_of (header_for state past.cursor (length changes) saved.requirements saved.lock) changes

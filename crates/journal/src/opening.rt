@@ -1,0 +1,33 @@
+// A history read from three byte strings.
+
+ghost use Rattle.std.specs.Result.{result_map_both};
+ghost use Rattle.journal.specs.Opening.{Opens, Tells};
+
+mod present;
+mod states;
+mod steps;
+
+use crate::opening::present::{Begin, begin_of, present_of};
+use crate::opening::states::history_of;
+use crate::opening::steps::steps_of;
+use crate::whole::WholeHistory;
+use edits::Refusal;
+use std::alloc::Global;
+
+/// The history that the bytes of a requirements file, a lock and a journal stand for.
+pub(crate) fn opened(
+    alloc: Global,
+    requirements: &[u8],
+    lock: &[u8],
+    journal: &[u8],
+) -> Result<WholeHistory, Refusal>
+    ensures { Tells (Opens requirements.now lock.now journal.now) (result_map_both (λ h. h.past)
+        (λ e. e) result) }
+{
+    let Begin { header, steps } = begin_of(alloc, journal)?;
+    let cursor = header.cursor;
+    let count = header.steps;
+    let state = present_of(alloc, header, requirements, lock)?;
+    let changes = steps_of(alloc, count, steps)?;
+    history_of(alloc, changes, state, cursor)
+}

@@ -1,0 +1,171 @@
+// The subcommands that begin a history or make steps in it.
+
+use crate::batch::{RESOLVER, accepted_in, batch};
+use crate::counted::Counted;
+use crate::input_files::{InputFile, read_bytes, read_environment, read_index, read_requirements};
+use crate::reply_text::ReplyText;
+use crate::request::Inputs;
+use crate::saved_files::SavedFiles;
+use crate::stop::{Stop, in_file, print};
+use edits::Edit;
+use journal::{Command, Reply, Session};
+use snapshot::Snapshot;
+use std::io::{Read, Write};
+use std::rt::Files;
+
+/// Locks the requirements file, and saves the history that begins with it.
+pub fn init<R: Files + AllocGlobal, O: Write>(
+    rt: &R,
+    dir: &str,
+    inputs: Inputs<'_>,
+    output: &mut O,
+) -> Result<(), Stop> {
+    let Opened {
+        files,
+        session,
+        snapshot: _,
+    } = begin(rt, dir, inputs)?;
+    let mut text = ReplyText::new(rt.alloc())?;
+    text.set(&Reply::Done(session.cursor()));
+    files.replace(rt, dir, &session)?;
+    Ok(print(output, text.as_bytes())?)
+}
+
+/// Makes one edit over an index.
+pub fn edit_once<R: Files + AllocGlobal, O: Write>(
+    rt: &R,
+    dir: &str,
+    edit: Edit,
+    index: &str,
+    output: &mut O,
+) -> Result<(), Stop> {
+    let Opened {
+        files,
+        session,
+        snapshot,
+    } = open(rt, dir, index)?;
+    apply(
+        rt,
+        dir,
+        &files,
+        session,
+        &Command::Edit(edit, &snapshot),
+        output,
+    )
+}
+
+/// Does one command that needs no index.
+pub fn step_once<R: Files + AllocGlobal, O: Write>(
+    rt: &R,
+    dir: &str,
+    command: &Command<'_>,
+    output: &mut O,
+) -> Result<(), Stop> {
+    let files = SavedFiles::read(rt, dir)?;
+    let session = files.open(rt.alloc())?;
+    apply(rt, dir, &files, session, command, output)
+}
+
+// Does one command, saves where it was accepted, and prints the reply.
+fn apply<R: Files + AllocGlobal, O: Write>(
+    rt: &R,
+    dir: &str,
+    files: &SavedFiles,
+    mut session: Session,
+    command: &Command<'_>,
+    output: &mut O,
+) -> Result<(), Stop> {
+    let mut text = ReplyText::new(rt.alloc())?;
+    let reply = session.apply(rt.alloc(), command, &RESOLVER);
+    text.set(&reply);
+    match reply {
+        Reply::Refused(refusal) => return Err(Stop::from(refusal)),
+        Reply::Done(_) => files.replace(rt, dir, &session)?,
+        Reply::Same => {}
+    }
+    Ok(print(output, text.as_bytes())?)
+}
+
+/// Does the commands of the input over an index, prints the replies, and saves at the end where one
+/// was accepted.
+pub fn run_batch<R: Files + AllocGlobal, I: Read + Drop, O: Write>(
+    rt: &R,
+    dir: &str,
+    index: &str,
+    input: I,
+    output: &mut O,
+) -> Result<(), Stop> {
+    let Opened {
+        files,
+        mut session,
+        snapshot,
+    } = open(rt, dir, index)?;
+    let mut source = Counted::new(input);
+    let mut sink = Counted::new(output);
+    if accepted_in(rt.alloc(), &mut source, &mut sink, &mut session, &snapshot)? {
+        files.replace(rt, dir, &session)?;
+    }
+    Ok(())
+}
+
+/// Does the commands of the input on the state that `init` begins with, and writes the requirements
+/// that they lead to. Nothing is saved.
+pub fn try_commands<R: Files + AllocGlobal, I: Read + Drop, O: Write>(
+    rt: &R,
+    dir: &str,
+    inputs: Inputs<'_>,
+    input: I,
+    output: &mut O,
+) -> Result<(), Stop> {
+    let Opened {
+        files: _,
+        mut session,
+        snapshot,
+    } = begin(rt, dir, inputs)?;
+    let mut source = Counted::new(input);
+    let mut sink = Counted::new(&mut *output);
+    batch(rt.alloc(), &mut source, &mut sink, &mut session, &snapshot)?;
+    let text = session.state().lines().bytes(rt.alloc())?;
+    Ok(print(output, text.as_str().as_bytes())?)
+}
+
+// A history with the files that it was read from, and an index.
+#[derive(Drop)]
+struct Opened {
+    files: SavedFiles,
+    session: Session,
+    snapshot: Snapshot,
+}
+
+// All files are read before a fault in one of them is told.
+fn open<R: Files + AllocGlobal>(rt: &R, dir: &str, index: &str) -> Result<Opened, Stop> {
+    let alloc = rt.alloc();
+    let files = SavedFiles::read(rt, dir)?;
+    let index = in_file(InputFile::Index, read_bytes(rt, index))?;
+    let session = files.open(alloc)?;
+    let snapshot = in_file(InputFile::Index, read_index(alloc, index.as_slice()))?;
+    Ok(Opened {
+        files,
+        session,
+        snapshot,
+    })
+}
+
+// The same of a history that begins.
+fn begin<R: Files + AllocGlobal>(rt: &R, dir: &str, inputs: Inputs<'_>) -> Result<Opened, Stop> {
+    let alloc = rt.alloc();
+    let files = SavedFiles::requirements_alone(rt, dir)?;
+    let index = in_file(InputFile::Index, read_bytes(rt, inputs.index))?;
+    let environment = in_file(InputFile::Environment, read_bytes(rt, inputs.environment))?;
+    let lines = read_requirements(alloc, files.requirements());
+    let lines = in_file(InputFile::Requirements, lines)?;
+    let snapshot = in_file(InputFile::Index, read_index(alloc, index.as_slice()))?;
+    let environment = read_environment(alloc, environment.as_slice());
+    let environment = in_file(InputFile::Environment, environment)?;
+    let session = Session::init(alloc, lines, environment, &snapshot, &RESOLVER)?;
+    Ok(Opened {
+        files,
+        session,
+        snapshot,
+    })
+}

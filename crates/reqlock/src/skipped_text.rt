@@ -1,0 +1,39 @@
+// What was left out of an index, for people.
+
+use crate::input_files::cause_word;
+use pep508::Cause;
+use snapshot::{SkipCause, Skipped};
+use std::alloc::{AllocError, Global};
+
+/// A line for each release that was left out: the package, the place of the release in the package's
+/// list, from 0, and why it was left out.
+pub fn skipped_text(alloc: Global, skipped: &[Skipped]) -> Result<String, AllocError> {
+    let mut text = String::new(alloc);
+    for release in skipped {
+        let package = release.package().normal();
+        let place = release.place();
+        write!(text, "{package}: release {place}: ")?;
+        add_cause(&mut text, release.cause())?;
+        text.push_str("\n")?;
+    }
+    Ok(text)
+}
+
+fn add_cause(text: &mut String, cause: SkipCause) -> Result<(), AllocError> {
+    match cause {
+        SkipCause::Version(fault) => {
+            let word = cause_word(Cause::Specifier(fault));
+            write!(text, "version {word}")
+        }
+        SkipCause::RequiresPython(fault) => {
+            let word = cause_word(Cause::Specifier(fault));
+            write!(text, "requires-python {word}")
+        }
+        SkipCause::Requirement(place, cause) => {
+            let word = cause_word(cause);
+            write!(text, "requirement {place} {word}")
+        }
+        SkipCause::NoFile => text.push_str("no-file"),
+        SkipCause::Duplicate => text.push_str("duplicate"),
+    }
+}

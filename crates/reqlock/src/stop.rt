@@ -1,0 +1,166 @@
+// Why the program ends before it did what was asked, and how it tells it.
+
+ghost use Rattle.std.specs.Prelude.{◌≡◌};
+ghost use Rattle.reqlock.specs.declared.batch.BatchFault.TheVariants as batches;
+ghost use Rattle.reqlock.specs.declared.stop.Stop.TheVariants.{Fault};
+
+use crate::batch::BatchFault;
+use crate::input_files::{InputFault, InputFile};
+use crate::reply_text::refusal_word;
+use crate::request::{NeededOption, RequestFault};
+use edits::{Refusal, SavedFile};
+use std::alloc::{AllocError, AllocFailed};
+use std::io::Write;
+
+/// The status that the program ends with.
+#[derive(Clone, Copy, Debug, PartialEq, Eq)]
+pub enum Status {
+    Done = 0,
+    Refused = 1,
+    Usage = 2,
+    NoSolution = 3,
+    /// An input file is refused.
+    InputRefused = 4,
+    /// Memory, a read or a write failed.
+    Fault = 5,
+}
+
+/// Why the program ends before it did what was asked.
+#[derive(Drop)]
+pub enum Stop {
+    Usage(clap::Error),
+    Needed(NeededOption),
+    Refused(Refusal),
+    Input(InputFile, InputFault),
+    /// This file can't be written.
+    Unwritten(InputFile),
+    Fault(BatchFault),
+}
+
+impl From<AllocError> for Stop {
+    ghost from_gives = { λ _ stop. stop ≡ Fault batches.OutOfMemory };
+
+    fn from(_error: AllocError) -> Stop {
+        Stop::Fault(BatchFault::OutOfMemory)
+    }
+}
+
+impl<T: Drop> From<AllocFailed<T>> for Stop {
+    ghost from_gives = { λ _ stop. stop ≡ Fault batches.OutOfMemory };
+
+    fn from(_error: AllocFailed<T>) -> Stop {
+        Stop::Fault(BatchFault::OutOfMemory)
+    }
+}
+
+impl From<BatchFault> for Stop {
+    ghost from_gives = { λ fault stop. stop ≡ Fault fault };
+
+    fn from(fault: BatchFault) -> Stop {
+        Stop::Fault(fault)
+    }
+}
+
+impl From<RequestFault> for Stop {
+    fn from(fault: RequestFault) -> Stop {
+        match fault {
+            RequestFault::Usage(error) => Stop::Usage(error),
+            RequestFault::Needed(option) => Stop::Needed(option),
+            RequestFault::OutOfMemory => Stop::Fault(BatchFault::OutOfMemory),
+        }
+    }
+}
+
+impl From<Refusal> for Stop {
+    fn from(refusal: Refusal) -> Stop {
+        match refusal {
+            Refusal::OutOfMemory => Stop::Fault(BatchFault::OutOfMemory),
+            Refusal::FilesDisagree(SavedFile::Requirements) => {
+                Stop::Input(InputFile::Requirements, InputFault::Disagrees)
+            }
+            Refusal::FilesDisagree(SavedFile::Lock) => {
+                Stop::Input(InputFile::Lock, InputFault::Disagrees)
+            }
+            Refusal::JournalBroken(line) => {
+                Stop::Input(InputFile::Journal, InputFault::JournalBroken(line))
+            }
+            refusal => Stop::Refused(refusal),
+        }
+    }
+}
+
+/// What was read, or the fault with the file that has it.
+pub fn in_file<T>(file: InputFile, read: Result<T, InputFault>) -> Result<T, Stop> {
+    match read {
+        Ok(value) => Ok(value),
+        Err(InputFault::OutOfMemory) => Err(Stop::Fault(BatchFault::OutOfMemory)),
+        Err(fault) => Err(Stop::Input(file, fault)),
+    }
+}
+
+/// Writes all of a text to the output.
+pub fn print<O: Write>(output: &mut O, text: &[u8]) -> Result<(), BatchFault> {
+    match output.write_all(text) {
+        Ok(()) => Ok(()),
+        Err(_) => Err(BatchFault::Write),
+    }
+}
+
+/// Tells why the program stops, and gives its status. A text that can't be written to `errors`
+/// changes no status.
+pub fn report<O: Write, E: Write>(stop: &Stop, output: &mut O, errors: &mut E) -> Status {
+    match stop {
+        Stop::Usage(error) => report_usage(error, output, errors),
+        Stop::Needed(NeededOption::Index) => {
+            let _ = writeln!(errors, "reqlock: --index is needed");
+            Status::Usage
+        }
+        Stop::Needed(NeededOption::Environment) => {
+            let _ = writeln!(errors, "reqlock: --env is needed");
+            Status::Usage
+        }
+        Stop::Refused(refusal) => report_refusal(refusal, output, errors),
+        Stop::Input(file, fault) => {
+            let _ = writeln!(errors, "reqlock: {file}: {fault}");
+            Status::InputRefused
+        }
+        Stop::Unwritten(file) => {
+            let _ = writeln!(errors, "reqlock: {file}: write failed");
+            Status::Fault
+        }
+        Stop::Fault(fault) => report_fault(*fault, errors),
+    }
+}
+
+fn report_fault<E: Write>(fault: BatchFault, errors: &mut E) -> Status {
+    let text = match fault {
+        BatchFault::Read => "input: read failed",
+        BatchFault::Write => "output: write failed",
+        BatchFault::OutOfMemory => "out of memory",
+    };
+    let _ = writeln!(errors, "reqlock: {text}");
+    Status::Fault
+}
+
+// Help goes to the output, and is no mistake.
+fn report_usage<O: Write, E: Write>(error: &clap::Error, output: &mut O, errors: &mut E) -> Status {
+    if error.use_stderr() {
+        let _ = write!(errors, "{error}");
+        return Status::Usage;
+    }
+    match write!(output, "{error}") {
+        Ok(()) => Status::Done,
+        Err(_) => report_fault(BatchFault::Write, errors),
+    }
+}
+
+fn report_refusal<O: Write, E: Write>(refusal: &Refusal, output: &mut O, errors: &mut E) -> Status {
+    let word = refusal_word(refusal);
+    if writeln!(output, "refused {word}").is_err() {
+        return report_fault(BatchFault::Write, errors);
+    }
+    match refusal {
+        Refusal::NoSolution => Status::NoSolution,
+        _ => Status::Refused,
+    }
+}

@@ -1,0 +1,277 @@
+"""Tests of the built program: each command is a process of its own over the files that the last one saved, and the lock is
+read by Python's TOML reader. They need the program, which ./check builds first."""
+
+import hashlib
+import json
+import os
+import resource
+import signal
+import subprocess
+import sys
+import tempfile
+import unittest
+from pathlib import Path
+
+TOP = Path(__file__).resolve().parent.parent.parent
+PROGRAM = TOP / "crates" / "reqlock" / "out" / "reqlock"
+FILES = "requirements.txt", "pylock.toml", "reqlock.journal"
+ENVIRONMENT = {
+    "implementation_name": "cpython", "implementation_version": "3.12.3", "os_name": "posix", "platform_machine": "x86_64",
+    "platform_python_implementation": "CPython", "platform_release": "6.1.0-13-amd64", "platform_system": "Linux",
+    "platform_version": "#1 SMP Debian 6.1.55-1", "python_full_version": "3.12.3", "python_version": "3.12",
+    "sys_platform": "linux",
+}
+MARKER = " and ".join(f'{name} == "{value}"' for name, value in sorted(ENVIRONMENT.items()))
+
+
+def file_of(name, version, ending="-py3-none-any.whl"):
+    file = f"{name.replace('-', '_')}-{version}{ending}"
+    return {"name": file, "url": f"https://files.example/{file}", "size": 1000, "sha256": "0" * 64}
+
+
+def index_of(*releases):
+    """The index of releases, each a name, a version, its requirements, and what else its object has."""
+    packages = {}
+    for name, version, needs, *more in releases:
+        release = {"version": version, "requires_dist": needs, "files": [file_of(name, version)]}
+        packages.setdefault(name, []).append(release | dict(*more))
+    return {"snapshot": 1, "packages": [{"name": name, "releases": found} for name, found in packages.items()]}
+
+
+@unittest.skipUnless(PROGRAM.exists(), "the program isn't built")
+class Program(unittest.TestCase):
+    def setUp(self):
+        folder = tempfile.TemporaryDirectory()
+        self.addCleanup(folder.cleanup)
+        self.outside = Path(folder.name)
+        self.folder = self.outside / "folder"
+        self.folder.mkdir()
+        (self.outside / "environment.json").write_text(json.dumps(ENVIRONMENT), encoding="utf-8")
+
+    def begin(self, requirements, *releases):
+        (self.folder / "requirements.txt").write_bytes(requirements)
+        (self.outside / "index.json").write_text(json.dumps(index_of(*releases)), encoding="utf-8")
+
+    def call(self, *words, text="", before=None):
+        """The status of a call of the program, and all that it writes."""
+        options = "--dir", self.folder, "--index", self.outside / "index.json", "--env", self.outside / "environment.json"
+        done = subprocess.run(
+            [PROGRAM, *options, *words], input=text, stdout=subprocess.PIPE, stderr=subprocess.STDOUT, encoding="utf-8",
+            check=False, preexec_fn=before,
+        )
+        return done.returncode, done.stdout
+
+    def files(self):
+        """What stands in the folder."""
+        return {path.name: path.read_bytes() for path in sorted(self.folder.iterdir())}
+
+
+class Day(Program):
+    """A day of work: thirty commands, then back to the start and on to the end."""
+
+    RELEASES = (
+        ("flask", "2.0", ["werkzeug<2.1", "click"]), ("flask", "3.0", ["werkzeug>=3", "click>=8"]),
+        ("werkzeug", "2.0", []), ("werkzeug", "3.0", []), ("werkzeug", "3.1", []),
+        ("click", "7.1", []), ("click", "8.0", []), ("click", "8.1", ["colorama ; sys_platform == 'win32'"]),
+        ("colorama", "0.4", []), ("requests", "2.30", ["urllib3<2"]), ("requests", "2.32", ["urllib3<3"]),
+        ("urllib3", "1.26", []), ("urllib3", "2.2", []), ("pytest", "7.4", ["pluggy"]), ("pytest", "8.0", ["pluggy>=1.3"]),
+        ("pluggy", "1.0", []), ("pluggy", "1.4", []),
+    )
+    START = b"# web\r\nFlask >=2 ; os_name == 'posix'\r\n\r\n  requests<2.32  # the client\r\ncolorama ; sys_platform == 'win32'"
+    # each command, and its reply
+    COMMANDS = (
+        (["add", "pytest>=7  # tests"], "ok 1"),
+        (["add", "PyTest"], "refused already-present"),
+        (["constrain", "pytest", ">=7,<8"], "ok 2"),
+        (["undo"], "ok 1"),
+        (["redo"], "ok 2"),
+        (["add", "django"], "refused no-solution"),
+        (["constrain", "flask", "<3"], "ok 3"),
+        (["constrain", "flask"], "ok 4"),
+        (["upgrade", "flask"], "ok 5"),
+        (["upgrade", "flask"], "same"),
+        (["upgrade", "django"], "refused not-locked"),
+        (["remove", "requests"], "ok 6"),
+        (["remove", "requests"], "refused not-present"),
+        (["add", "werkzeug<3.1"], "ok 7"),
+        (["undo"], "ok 6"),
+        (["undo"], "ok 5"),
+        (["add", "urllib3<2"], "ok 6"),
+        (["redo"], "refused nothing-to-redo"),
+        (["constrain", "requests", "(>=2)"], "refused bad-text"),
+        (["constrain", "requests", ">=2.30"], "ok 7"),
+        (["upgrade"], "ok 8"),
+        (["remove", "urllib3"], "ok 9"),
+        (["upgrade", "requests", "urllib3"], "ok 10"),
+        (["add", "click<8 ; python_version < '3'"], "ok 11"),
+        (["relock"], "same"),
+        (["constrain", "click", "<8.1"], "ok 12"),
+        (["remove", "colorama"], "ok 13"),
+        (["add", "colorama"], "ok 14"),
+        (["constrain", "colorama", "==0.4"], "ok 15"),
+        (["remove", "pytest"], "ok 16"),
+    )
+
+    def test_goes_back_to_the_start_and_on_to_the_end(self):
+        self.begin(self.START, *self.RELEASES)
+        self.assertEqual(self.call("init"), (0, "ok 0\n"))
+        self.assertEqual(len(self.COMMANDS), 30)
+        states = [self.state()]
+        for words, reply in self.COMMANDS:
+            with self.subTest(words=words):
+                before = self.files()
+                status, output = self.call(*words)
+                self.assertEqual(output, f"{reply}\n")
+                self.assertEqual(status, {"ok": 0, "same": 0, "refused": 3 if "solution" in reply else 1}[reply.split()[0]])
+                if reply.startswith("ok"):
+                    cursor = int(reply.split()[1])
+                    if words[0] not in ("undo", "redo"):
+                        del states[cursor:]
+                        states.append(self.state())
+                    self.assertEqual(self.state(), states[cursor])
+                else:
+                    self.assertEqual(self.files(), before)
+        last = self.files()
+        self.assertEqual(sorted(last), sorted(FILES))
+        for cursor in reversed(range(len(states) - 1)):
+            self.assertEqual(self.call("undo"), (0, f"ok {cursor}\n"))
+            self.assertEqual(self.state(), states[cursor])
+        self.assertEqual(self.files()["requirements.txt"], self.START)
+        self.assertEqual(self.call("undo"), (1, "refused nothing-to-undo\n"))
+        for cursor in range(1, len(states)):
+            self.assertEqual(self.call("redo"), (0, f"ok {cursor}\n"))
+            self.assertEqual(self.state(), states[cursor])
+        self.assertEqual(self.call("redo"), (1, "refused nothing-to-redo\n"))
+        self.assertEqual(self.files(), last)
+
+    def state(self):
+        """The requirements file and the lock, and the journal's header says that they are its own."""
+        files = self.files()
+        header = json.loads(files["reqlock.journal"].split(b"\n")[0])
+        for key, name in ("requirements", "requirements.txt"), ("lock", "pylock.toml"):
+            self.assertEqual(header[key], hashlib.sha256(files[name]).hexdigest())
+        return files["requirements.txt"], files["pylock.toml"]
+
+
+@unittest.skipIf(sys.version_info < (3, 11), "tomllib came with 3.11")
+class Lock(Program):
+    def test_another_reader_finds_the_table(self):
+        import tomllib
+
+        sdist = {"files": [file_of("a", "2.0", ".tar.gz")]}
+        self.begin(
+            b"a[x]>=1\nb-b  # kept\nzz ; os_name == 'nt'\n",
+            ("a", "2.0", ["c ; extra == 'x'", "B_b", "z ; os_name == 'nt'"], sdist | {"requires_python": ">=3.8"}),
+            ("b-b", "1.0", []), ("c", "1", ["a"]), ("zz", "1", []),
+        )
+        self.assertEqual(self.call("init"), (0, "ok 0\n"))
+        index = (self.outside / "index.json").read_bytes()
+
+        def file_table(file):
+            return {"name": file["name"], "url": file["url"], "size": 1000, "hashes": {"sha256": "0" * 64}}
+
+        self.assertEqual(
+            tomllib.loads((self.folder / "pylock.toml").read_text(encoding="utf-8")),
+            {
+                "lock-version": "1.0", "environments": [MARKER], "created-by": "reqlock",
+                "packages": [
+                    {
+                        "name": "a", "version": "2.0", "requires-python": ">=3.8",
+                        "dependencies": [{"name": "b-b"}, {"name": "c"}], "sdist": file_table(file_of("a", "2.0", ".tar.gz")),
+                    },
+                    {"name": "b-b", "version": "1.0", "wheels": [file_table(file_of("b-b", "1.0"))]},
+                    {"name": "c", "version": "1", "dependencies": [{"name": "a"}], "wheels": [file_table(file_of("c", "1"))]},
+                ],
+                "tool": {"reqlock": {"snapshot": hashlib.sha256(index).hexdigest()}},
+            },
+        )
+
+    def test_an_empty_lock_has_an_empty_array(self):
+        import tomllib
+
+        self.begin(b"")
+        self.assertEqual(self.call("init"), (0, "ok 0\n"))
+        self.assertEqual(tomllib.loads((self.folder / "pylock.toml").read_text(encoding="utf-8"))["packages"], [])
+
+
+class Writing(Program):
+    """All three files are replaced, or none."""
+
+    RELEASES = ("a", "1", []), ("c", "1", [])
+
+    def begin_at_one(self):
+        self.begin(b"a\n", *self.RELEASES)
+        self.assertEqual(self.call("init"), (0, "ok 0\n"))
+
+    def test_a_full_disk_replaces_nothing(self):
+        # a limit on the size of files stands for a full disk; after some steps the journal is the longest of the three
+        self.begin_at_one()
+        for _ in range(4):
+            self.call("add", "c")
+            self.call("remove", "c")
+        self.assertEqual(self.call("add", "c"), (0, "ok 9\n"))
+        after = self.files()
+        self.assertEqual(self.call("undo"), (0, "ok 8\n"))
+        before = self.files()
+        sizes = [len(after[name]) for name in FILES]
+        self.assertEqual(sizes, sorted(sizes))
+        for name, size in zip(FILES, sizes):
+            with self.subTest(name=name):
+                told = 5, f"reqlock: {name}: write failed\n"
+                self.assertEqual(self.call("redo", before=limited(size - 1)), told)
+                self.assertEqual(self.files(), before)
+        self.assertEqual(self.call("redo"), (0, "ok 9\n"))
+        self.assertEqual(self.files(), after)
+
+    def test_a_file_that_does_not_change_is_not_touched(self):
+        self.begin_at_one()
+        index = index_of(("a", "1", []), ("a", "2", []))
+        (self.outside / "index.json").write_text(json.dumps(index), encoding="utf-8")
+        path = self.folder / "requirements.txt"
+        first = path.stat()
+        self.assertEqual(self.call("upgrade"), (0, "ok 1\n"))
+        self.assertEqual((path.stat().st_ino, path.stat().st_mtime_ns), (first.st_ino, first.st_mtime_ns))
+        self.assertEqual(self.call("init"), (0, "ok 0\n"))
+        self.assertEqual((path.stat().st_ino, path.stat().st_mtime_ns), (first.st_ino, first.st_mtime_ns))
+
+    def test_a_left_over_file_is_no_hindrance(self):
+        self.begin_at_one()
+        (self.folder / "pylock.toml.new0").write_text("left over", encoding="utf-8")
+        self.assertEqual(self.call("add", "c"), (0, "ok 1\n"))
+        self.assertEqual((self.folder / "pylock.toml.new0").read_text(encoding="utf-8"), "left over")
+        self.assertEqual(len(self.files()), 4)
+
+    @unittest.skipIf(os.geteuid() == 0, "root may write everywhere")
+    def test_a_lost_write_right_replaces_nothing(self):
+        self.begin_at_one()
+        before = self.files()
+        for path, name in (self.folder / "pylock.toml", "pylock.toml"), (self.folder, "requirements.txt"):
+            mode = path.stat().st_mode
+            path.chmod(mode & ~0o222)
+            self.assertEqual(self.call("add", "c"), (5, f"reqlock: {name}: write failed\n"))
+            path.chmod(mode)
+            self.assertEqual(self.files(), before)
+
+    def test_files_that_are_not_needed_are_not_read(self):
+        self.begin_at_one()
+        self.assertEqual(self.call("add", "c"), (0, "ok 1\n"))
+        for name in "index.json", "environment.json":
+            (self.outside / name).unlink()
+        self.assertEqual(self.call("undo"), (0, "ok 0\n"))
+        self.assertEqual(self.call("redo"), (0, "ok 1\n"))
+        self.assertEqual(self.call("log"), (0, "  0 init\n* 1 + c 1, 1 line\n"))
+        self.assertEqual(self.call("add", "a"), (4, "reqlock: index: unreadable\n"))
+
+
+def limited(size):
+    """What makes a process whose files can't grow beyond this size."""
+
+    def limit():
+        signal.signal(signal.SIGXFSZ, signal.SIG_IGN)
+        resource.setrlimit(resource.RLIMIT_FSIZE, (size, size))
+
+    return limit
+
+
+if __name__ == "__main__":
+    unittest.main()
