@@ -1,20 +1,20 @@
 -- Entries cut at a name.
-use Rattle.std.proofs.Common.{◌≡◌, ◌≢◌, ◌++◌, ◌≤◌, ℕ, zero, suc, Bool, true, false, List, [], ◌∷◌, Contains, Option, Some, None, Less, Equal, Greater, Ordering, length, take, drop, map, refl, sym, ap, ◌∙◌, subst, inl, inr, arith}
-use Rattle.std.proofs.lemmas.Bool.{and_from, and_parts, cases_Bool}
+use Rattle.std.proofs.Common.{◌≡◌, ◌≢◌, ◌≤◌, ℕ, true, false, List, [], ◌∷◌, Some, None, Less, Equal, Greater, Ordering, length, take, drop, map, refl, sym, ap, ◌∙◌, subst, inl, inr, arith}
+use Rattle.std.proofs.lemmas.Bool.{cases_Bool}
 use Rattle.std.proofs.lemmas.Map.Lookups.{exact_bytes}
 use Rattle.std.proofs.lemmas.Slice.Eq.{bytes_eq-Decides}
 use Rattle.std.specs.Cmp.Lexicographic.{nat_list_cmp_total, slice_cmp}
-use Rattle.std.specs.List.{AllByRecursion}
 use Rattle.std.specs.Option.{option_to_list}
 use Rattle.std.specs.Ordering.{is_lt, nat_cmp, ordering_reverse}
 use Rattle.std.specs.Str.{bytes_eq}
 use Rattle.pylock.specs.Locks.{are_entries}
-use Rattle.pylock.specs.Order.{rises}
 use Rattle.pylock.specs.Packages.{EntryParts}
-use Rattle.edits.specs.Changes.{IsOn, entry_on}
-use Rattle.edits.specs.Tied.Exchanging.{AreAbove, AreBelow, IsCutAt, count_below, count_on}
-use Rattle.edits.proofs.EntryFacts.{not-below, rises-above, rises-rest}
-use Rattle.lists.proofs.Members.{Contains-here, Contains-there}
+use Rattle.edits.specs.Changes.{entry_on}
+use Rattle.edits.specs.Tied.Exchanging.{AreAbove, IsCutAt, count_below, count_on}
+use Rattle.edits.proofs.DecideFacts.{All-of}
+use Rattle.edits.proofs.EntryFacts.{less-of, not-below, rises-above, rises-rest}
+use Rattle.edits.proofs.LawfulNames.{apart}
+use Rattle.lists.proofs.Members.{Contains-map_of}
 
 -- ---- names
 
@@ -25,10 +25,10 @@ below-other a b less same = not-below b (subst (λ (n : List ℕ). slice_cmp nat
 pub other-bytes : (a b : List ℕ) → a ≢ b → bytes_eq a b ≡ false
 other-bytes a b other = elim (cases_Bool (bytes_eq a b)) [
   | inl same ↦ absurd (other ((bytes_eq-Decides a b).0 same))
-  | inr apart ↦ apart
+  | inr differs ↦ differs
 ]
 
-pub same-bytes : (a b : List ℕ) → a ≡ b → bytes_eq a b ≡ true
+same-bytes : (a b : List ℕ) → a ≡ b → bytes_eq a b ≡ true
 same-bytes a b same = (bytes_eq-Decides a b).1 same
 
 from-order : (a b : List ℕ) (o : Ordering) → slice_cmp nat_cmp a b ≡ o → is_lt o ≡ false → a ≢ b → slice_cmp nat_cmp b a ≡ Less
@@ -40,11 +40,6 @@ from-order a b Greater is not_less other = nat_list_cmp_total.antisymm b a ∙ a
 is-above : (a b : List ℕ) → is_lt (slice_cmp nat_cmp a b) ≡ false → a ≢ b → slice_cmp nat_cmp b a ≡ Less
 is-above a b not_less other = from-order a b (slice_cmp nat_cmp a b) refl not_less other
 
-less-from : (o : Ordering) → is_lt o ≡ true → o ≡ Less
-less-from Less is = refl
-less-from Equal is = cc is
-less-from Greater is = cc is
-
 -- ---- entries
 
 -- an entry on another name is passed
@@ -54,14 +49,10 @@ past-first e rest name other = rw (other-bytes name e.name (λ same. other (sym 
 pub on-first : (e : EntryParts) (rest : List EntryParts) (name : List ℕ) → e.name ≡ name → entry_on (e ∷ rest) name ≡ Some e
 on-first e rest name same = rw (same-bytes name e.name (sym same)) refl
 
-above-in : (name : List ℕ) (entries : List EntryParts) → ((n : List ℕ) → Contains (map (λ e. e.name) entries) n → slice_cmp nat_cmp name n ≡ Less) → AreAbove name entries
-above-in name [] each = tt
-above-in name (e ∷ rest) each =
-    (each e.name (Contains-here e.name (map (λ e. e.name) rest)), above-in name rest (λ n there. each n (Contains-there e.name (map (λ e. e.name) rest) n there)))
-
 -- entries that rise are above the first one
 pub above-first : (e : EntryParts) (rest : List EntryParts) → are_entries (e ∷ rest) ≡ true → AreAbove e.name rest
-above-first e rest rise = above-in e.name rest (λ n there. rises-above e.name (map (λ p. p.name) rest) n rise there)
+above-first e rest rise = All-of (λ (x : EntryParts). slice_cmp nat_cmp e.name x.name ≡ Less) rest
+    (λ x there. rises-above e.name (map (λ p. p.name) rest) x.name rise (Contains-map_of (λ (p : EntryParts). p.name) rest x there))
 
 above-all : (a b : List ℕ) (entries : List EntryParts) → slice_cmp nat_cmp a b ≡ Less → AreAbove b entries → AreAbove a entries
 above-all a b [] less above = tt
@@ -85,7 +76,7 @@ cut-first name e rest rise not_less = elim (cases_Bool (bytes_eq name e.name)) [
         above = subst (λ (n : List ℕ). AreAbove n rest) (sym named) (above-first e rest rise);
       })
   | inr other ↦
-      let first = is-above e.name name not_less (λ same. absurd (cc (sym other ∙ same-bytes name e.name (sym same)))) in
+      let first = is-above e.name name not_less (apart name e.name other) in
       let above : AreAbove name (e ∷ rest) = (first, above-all name e.name rest first (above-first e rest rise)) in
       rw other (record {
         whole = refl;
@@ -111,7 +102,7 @@ cut name [] rise = record { whole = refl; below = tt; there = refl; above = tt }
 cut name (e ∷ rest) rise = elim (cases_Bool (is_lt (slice_cmp nat_cmp e.name name))) [
   | inl less ↦
       let more = cut name rest (rises-rest e.name (map (λ p. p.name) rest) rise) in
-      let below = less-from (slice_cmp nat_cmp e.name name) less in
+      let below = less-of e.name name less in
       rw less (record {
         whole = ap (λ (l : List EntryParts). e ∷ l) more.whole;
         below = (below, more.below);

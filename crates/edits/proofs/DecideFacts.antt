@@ -20,7 +20,7 @@ All-member P (y ∷ ys) x all there = elim (Contains-cons_cases y ys x there) [
   | inr more ↦ All-member P ys x all.1 more
 ]
 
-All-of : {X : Type 0} (P : X → Type 0) (xs : List X) → ((x : X) → Contains xs x → P x) → AllByRecursion P xs
+pub All-of : {X : Type 0} (P : X → Type 0) (xs : List X) → ((x : X) → Contains xs x → P x) → AllByRecursion P xs
 All-of P [] each = tt
 All-of P (y ∷ ys) each = (each y (Contains-here y ys), All-of P ys (λ x there. each x (Contains-there y ys x there)))
 

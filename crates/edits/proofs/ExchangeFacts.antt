@@ -1,5 +1,5 @@
 -- Entries, some of them exchanged for others.
-use Rattle.std.proofs.Common.{◌≡◌, ◌≢◌, ◌⊎◌, ◌++◌, ◌+◌, ◌≤◌, ◌<◌, ℕ, Bool, true, false, List, [], ◌∷◌, Contains, Option, Some, None, Less, MatchOption, length, take, drop, get_or, map, refl, sym, ap, ◌∙◌, subst, inl, inr, append_assoc}
+use Rattle.std.proofs.Common.{◌≡◌, ◌≢◌, ◌⊎◌, ◌++◌, ◌+◌, ◌≤◌, ◌<◌, ℕ, true, List, [], ◌∷◌, Contains, Option, Some, None, Less, MatchOption, length, take, drop, get_or, map, refl, sym, ap, ◌∙◌, subst, inl, inr, append_assoc}
 use Rattle.std.proofs.lemmas.Bool.{and_from, and_parts, cases_Bool}
 use Rattle.std.proofs.lemmas.List.{drop_more, take-append-drop, take_more}
 use Rattle.std.proofs.lemmas.List.Elements.{Contains-append_cases, Contains-append_left, Contains-append_right}
@@ -16,8 +16,10 @@ use Rattle.edits.specs.Changes.{AreEntryChanges, ChangesEntries, IsEntryChange, 
 use Rattle.edits.specs.Tied.Exchanging.{AreAbove, AreBelow, IsCutAt}
 use Rattle.edits.specs.Tied.Only.{IsTheOnly}
 use Rattle.edits.specs.declared.change.parts.EntryChange.{EntryChange}
-use Rattle.edits.proofs.CutFacts.{above-first, below-other, none-above, on-first, past-first, same-bytes}
+use Rattle.edits.proofs.CutFacts.{above-first, below-other, none-above, on-first, past-first}
+use Rattle.edits.proofs.DecideFacts.{All-member, All-of}
 use Rattle.edits.proofs.EntryFacts.{entry-from, entry-there, not-below, rises-above, rises-rest}
+use Rattle.edits.proofs.LawfulNames.{apart}
 use Rattle.lists.proofs.Members.{Contains-cons_cases, Contains-here, Contains-map_of, Contains-nil, Contains-there, take-whole}
 
 -- ---- one entry in place of another
@@ -39,19 +41,19 @@ own (e ∷ front) x rest name on below above = past-first e (front ++ option_to_
 
 -- the entries on other names stay
 put-other : (x : Option EntryParts) (rest : List EntryParts) (name other : List ℕ) → IsOn name x → name ≢ other → entry_on (option_to_list x ++ rest) other ≡ entry_on rest other
-put-other None rest name other on apart = refl
-put-other (Some e) rest name other on apart = past-first e rest other (λ same. apart (sym on ∙ same))
+put-other None rest name other on distinct = refl
+put-other (Some e) rest name other on distinct = past-first e rest other (λ same. distinct (sym on ∙ same))
 
 others-stay : (front : List EntryParts) (x y : Option EntryParts) (rest : List EntryParts) (name other : List ℕ) → IsOn name x → IsOn name y → name ≢ other
     → entry_on (front ++ option_to_list y ++ rest) other ≡ entry_on (front ++ option_to_list x ++ rest) other
-others-stay [] x y rest name other on_x on_y apart = put-other y rest name other on_y apart ∙ sym (put-other x rest name other on_x apart)
-others-stay (e ∷ front) x y rest name other on_x on_y apart = elim (cases_Bool (bytes_eq other e.name)) [
+others-stay [] x y rest name other on_x on_y distinct = put-other y rest name other on_y distinct ∙ sym (put-other x rest name other on_x distinct)
+others-stay (e ∷ front) x y rest name other on_x on_y distinct = elim (cases_Bool (bytes_eq other e.name)) [
   | inl same ↦
       let named : e.name ≡ other = sym ((bytes_eq-Decides other e.name).0 same) in
       on-first e (front ++ option_to_list y ++ rest) other named ∙ sym (on-first e (front ++ option_to_list x ++ rest) other named)
   | inr differs ↦
-      let passed : e.name ≢ other = λ same. absurd (cc (sym differs ∙ same-bytes other e.name (sym same))) in
-      past-first e (front ++ option_to_list y ++ rest) other passed ∙ others-stay front x y rest name other on_x on_y apart
+      let passed = apart other e.name differs in
+      past-first e (front ++ option_to_list y ++ rest) other passed ∙ others-stay front x y rest name other on_x on_y distinct
       ∙ sym (past-first e (front ++ option_to_list x ++ rest) other passed)
 ]
 
@@ -92,14 +94,14 @@ still-rise (f ∷ g ∷ front) x y rest name on below above rise =
 -- one entry in place of another, on a name that isn't changed yet
 one-more : (done : List EntryChange) (c : EntryChange) (old front rest : List EntryParts) → ((d : EntryChange) → Contains done d → d.name ≢ c.name) → IsOn c.name c.old → IsOn c.name c.new
     → AreBelow front c.name → AreAbove c.name rest → ChangesEntries done old (front ++ option_to_list c.old ++ rest) → ChangesEntries (done ++ c ∷ []) old (front ++ option_to_list c.new ++ rest)
-one-more done c old front rest apart on_old on_new below above is = record {
+one-more done c old front rest distinct on_old on_new below above is = record {
   changed = λ d there. elim (Contains-append_cases done (c ∷ []) d there) [
     | inl before ↦
         let k = is.changed d before in
-        (k.0, others-stay front c.old c.new rest c.name d.name on_old on_new (λ same. apart d before (sym same)) ∙ k.1)
+        (k.0, others-stay front c.old c.new rest c.name d.name on_old on_new (λ same. distinct d before (sym same)) ∙ k.1)
     | inr last ↦ elim (Contains-cons_cases c [] d last) [
       | inl same ↦
-          let first : entry_on old c.name ≡ c.old = sym (is.others c.name apart) ∙ own front c.old rest c.name on_old below above in
+          let first : entry_on old c.name ≡ c.old = sym (is.others c.name distinct) ∙ own front c.old rest c.name on_old below above in
           subst (λ (d : EntryChange). (entry_on old d.name ≡ d.old) × (entry_on (front ++ option_to_list c.new ++ rest) d.name ≡ d.new)) same (first, own front c.new rest c.name on_new below above)
       | inr none ↦ absurd (Contains-nil d none)
     ]
@@ -139,16 +141,8 @@ IsExchangedTo-start left old rise = record {
   below = λ e c there _. absurd (Contains-nil e there);
 }
 
-all-below : (entries : List EntryParts) (name : List ℕ) → ((e : EntryParts) → Contains entries e → slice_cmp nat_cmp e.name name ≡ Less) → AreBelow entries name
-all-below [] name each = tt
-all-below (e ∷ rest) name each = (each e (Contains-here e rest), all-below rest name (λ f there. each f (Contains-there e rest f there)))
-
-below-in : (entries : List EntryParts) (name : List ℕ) (e : EntryParts) → AreBelow entries name → Contains entries e → slice_cmp nat_cmp e.name name ≡ Less
-below-in [] name e below there = absurd (Contains-nil e there)
-below-in (x ∷ rest) name e below there = elim (Contains-cons_cases x rest e there) [
-  | inl same ↦ subst (λ (z : EntryParts). slice_cmp nat_cmp z.name name ≡ Less) same below.0
-  | inr more ↦ below-in rest name e below.1 more
-]
+below-at : (entries : List EntryParts) (name : List ℕ) → ((e : EntryParts) → Contains entries e → slice_cmp nat_cmp e.name name ≡ Less) → AreBelow entries name
+below-at entries name each = All-of (λ (e : EntryParts). slice_cmp nat_cmp e.name name ≡ Less) entries each
 
 both-below : (xs ys : List EntryParts) (name : List ℕ) → AreBelow xs name → AreBelow ys name → AreBelow (xs ++ ys) name
 both-below [] ys name below more = more
@@ -194,14 +188,14 @@ IsExchangedTo-next done c left old rest after before at behind are parts same is
     let change = each-change done c left are.each in
     let whole : after ++ rest ≡ after ++ before ++ option_to_list c.old ++ behind =
     ap (λ (l : List EntryParts). after ++ l) (parts.whole ∙ ap (λ (l : List EntryParts). before ++ l ++ behind) same) ∙ joined after before (option_to_list c.old) behind in
-    let below : AreBelow after c.name = all-below after c.name (λ e there. is.below e c there (Contains-here c left)) in
+    let below : AreBelow after c.name = below-at after c.name (λ e there. is.below e c there (Contains-here c left)) in
     record {
       so_far = one-more done c old (after ++ before) behind (λ d there. below-other d.name c.name (before-below done c left are.names d there)) change.old_name change.new_name
           (both-below after before c.name below parts.below) parts.above (subst (ChangesEntries done old) whole is.so_far);
       below = λ e d there later.
           let above = behind-above done c left are.names d later in
           elim (Contains-append_cases (after ++ before) (option_to_list c.new) e there) [
-            | inl front ↦ nat_list_cmp_total.trans e.name c.name d.name (below-in (after ++ before) c.name e (both-below after before c.name below parts.below) front) above
+            | inl front ↦ nat_list_cmp_total.trans e.name c.name d.name (All-member (λ (x : EntryParts). slice_cmp nat_cmp x.name c.name ≡ Less) (after ++ before) e (both-below after before c.name below parts.below) front) above
             | inr new ↦ new-below c.new c.name d.name e change.new_name above new
           ];
     }
@@ -211,7 +205,7 @@ IsExchangedTo-stops : (done : List EntryChange) (c : EntryChange) (left : List E
     → IsCutAt c.name rest before at behind → (at ≡ option_to_list c.old → ⊥) → IsExchangedTo done (c ∷ left) old rest after
     → IsTheOnly (ChangesEntries (done ++ c ∷ left) old) None
 IsExchangedTo-stops done c left old rest after before at behind are parts differs is = λ new leads.
-    let below : AreBelow after c.name = all-below after c.name (λ e there. is.below e c there (Contains-here c left)) in
+    let below : AreBelow after c.name = below-at after c.name (λ e there. is.below e c there (Contains-here c left)) in
     let here : entry_on rest c.name ≡ entry_on old c.name =
     sym (past-below after rest c.name below) ∙ is.so_far.others c.name (λ d there. below-other d.name c.name (before-below done c left are.names d there)) in
     let stood : entry_on old c.name ≡ c.old = (leads.changed c (Contains-append_right done (c ∷ left) c (Contains-here c left))).0 in
@@ -227,7 +221,7 @@ change-on (x ∷ rest) name = elim (cases_Bool (bytes_eq x.name name)) [
   | inr other ↦ elim (change-on rest name) [
     | inl found ↦ inl (found.0, Contains-there x rest found.0 found.1, found.2)
     | inr none ↦ inr (λ c there. elim (Contains-cons_cases x rest c there) [
-      | inl this ↦ λ same. absurd (cc (sym other ∙ same-bytes x.name name (ap (λ (z : EntryChange). z.name) this ∙ same)))
+      | inl this ↦ λ same. apart x.name name other (sym (ap (λ (z : EntryChange). z.name) this ∙ same))
       | inr more ↦ none c more
     ])
   ]
@@ -266,7 +260,7 @@ rest-same x xs ys rise rise_too same name = elim (cases_Bool (bytes_eq name x.na
       let named : name ≡ x.name = (bytes_eq-Decides name x.name).0 on in
       subst (λ (n : List ℕ). entry_on xs n ≡ entry_on ys n) (sym named) (none-above x.name xs (above-first x xs rise) ∙ sym (none-above x.name ys (above-first x ys rise_too)))
   | inr other ↦
-      let passed : x.name ≢ name = λ same. absurd (cc (sym other ∙ same-bytes name x.name (sym same))) in
+      let passed = apart name x.name other in
       sym (past-first x xs name passed) ∙ same name ∙ past-first x ys name passed
 ]
 

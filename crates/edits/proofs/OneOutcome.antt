@@ -1,5 +1,5 @@
 -- A change leads to one state.
-use Rattle.std.proofs.Common.{◌≡◌, ◌++◌, ◌+◌, ◌-◌, ℕ, List, [], ◌∷◌, length, Option, Some, None, refl, sym, ap, ◌∙◌, subst, arith}
+use Rattle.std.proofs.Common.{◌≡◌, ◌++◌, ◌+◌, ◌-◌, ℕ, List, [], ◌∷◌, length, Option, Some, None, sym, ◌∙◌, subst, arith}
 use Rattle.pylock.specs.Locks.{LockParts}
 use Rattle.edits.specs.Changes.{After, ChangeParts, ChangesDigest, ChangesLock, Splices}
 use Rattle.edits.specs.StateParts.{StateParts}

@@ -1,58 +1,49 @@
--- Reading a header.
-use Rattle.std.proofs.Common.{◌≡◌, ℕ, suc, ◌≤◌, true, List, [], Option, Some, None, Result, Ok, Err, option_and_then, refl, sym, ap, ◌∙◌, arith}
-use Rattle.std.specs.Prelude.{max}
-use Rattle.std.specs.Cmp.Lexicographic.{slice_cmp}
-use Rattle.std.specs.Ordering.{match_ordering, nat_cmp}
-use Rattle.std.specs.Str.{is_utf8}
-use Rattle.std.specs.declared.cmp.Ordering.{Ordering}
-use Rattle.std.specs.declared.cmp.Ordering.TheVariants.{Less, Equal, Greater}
-use Rattle.markers.specs.Environment.{Texts, all_variables, environment_of, object_of, text_in, texts_in}
-use Rattle.markers.specs.Faults.{no_line}
-use Rattle.markers.specs.declared.fault.Cause.{Cause}
-use Rattle.serde_json.specs.Data.{Data, null, boolean, number, string, array, object, Members, no_members, member, depth, members_depth}
-use Rattle.serde_json.specs.Find.{get, get_member}
-use Rattle.serde_json.specs.Read.{read}
+-- What holds of a header that was read: its cursor is at most the number of its steps.
+use Rattle.std.proofs.Common.{◌≡◌, ℕ, ◌≤◌, ◌==◌, ◌&&◌, true, false, Bool, List, codes, Result, Ok, Err, refl, subst, arith}
+use Rattle.std.specs.Prelude.{nat_le, ⊤}
+use Rattle.std.proofs.lemmas.Bool.{and_parts}
+use Rattle.std.proofs.lemmas.Bool.Decides.{nat_tests}
+use Rattle.markers.specs.Environment.{Texts}
+use Rattle.serde_json.specs.Data.{Data}
 use Rattle.journal.specs.declared.format.flaw.Flaw.{Flaw}
-use Rattle.journal.specs.Format.Forms.{found}
-use Rattle.journal.specs.Format.Lines.{texts_read}
+use Rattle.journal.specs.declared.format.header.Header.{Header}
+use Rattle.journal.specs.Format.Entries.{digest_in}
+use Rattle.journal.specs.Format.Forms.{◌>>=◌, asked, at, json_of, number_of, only_keys}
+use Rattle.journal.specs.Format.Lines.{environment_in, header_in, header_keys, header_of_line}
 
--- ---- a part is no deeper than the whole
+asked-holds : (b : Bool) (u : ⊤) → asked b ≡ Ok u → b ≡ true
+asked-holds true u is = refl
+asked-holds false u is = absurd cc
 
-member_by : (o : Ordering) (later : Option Data) (e d : Data) (n : ℕ) → match_ordering o later (Some e) later ≡ Some d → (later ≡ Some d → depth d ≤ n) → depth d ≤ max (depth e) n
-member_by Less later e d n is below = let h = below is in omega arith
-member_by Equal later e d n is below =
-    let same : e ≡ d = cc in
-    let h : depth e ≡ depth d = ap depth same in
-    omega (arith, h)
-member_by Greater later e d n is below = let h = below is in omega arith
+least : (m n : ℕ) → nat_le m n ≡ true → m ≤ n
+least m n h = grind (arith, nat_tests)
 
-member-depth : (k : List ℕ) (ms : Members) (d : Data) → get_member k ms ≡ Some d → depth d ≤ members_depth ms
-member-depth k no_members d is = absurd cc
-member-depth k (member l e ms) d is = member_by (slice_cmp nat_cmp k l) (get_member k ms) e d (members_depth ms) is (member-depth k ms d)
+-- the header of these parts, where it is one
+abbrev made : ℕ → Texts → ℕ → List ℕ → List ℕ → ℕ → Result Header Flaw
+made cursor environment version lock requirements steps =
+    asked ((version == 1) && nat_le cursor steps) >>= λ _. Ok (record { cursor = cursor; environment = environment; lock = lock; requirements = requirements; steps = steps })
 
-get-depth : (k : List ℕ) (whole d : Data) → get k whole ≡ Some d → depth d ≤ depth whole
-get-depth k null d is = absurd cc
-get-depth k (boolean b) d is = absurd cc
-get-depth k (number n) d is = absurd cc
-get-depth k (string s) d is = absurd cc
-get-depth k (array ds) d is = absurd cc
-get-depth k (object ms) d is = let h = member-depth k ms d is in omega arith
+made_by : (holds : Bool) (g h : Header) → (holds ≡ true → g.cursor ≤ g.steps) → (asked holds >>= λ _. Ok g) ≡ Ok h → h.cursor ≤ h.steps
+made_by true g h within is = let same : g ≡ h = cc in subst (λ (k : Header). k.cursor ≤ k.steps) same (within refl)
+made_by false g h within is = absurd cc
 
-found_by : (o : Option Data) (d : Data) → found o ≡ Ok d → o ≡ Some d
-found_by None d is = absurd cc
-found_by (Some e) d is = let same : e ≡ d = cc in ap Some same
+parts_by : (keys : Result ⊤ Flaw) (cursor : Result ℕ Flaw) (environment : Result Texts Flaw) (version : Result ℕ Flaw) (lock requirements : Result (List ℕ) Flaw) (steps : Result ℕ Flaw) (h : Header)
+    → (keys >>= λ _. cursor >>= λ c. environment >>= λ e. version >>= λ v. lock >>= λ l. requirements >>= λ r. steps >>= λ s. made c e v l r s) ≡ Ok h → h.cursor ≤ h.steps
+parts_by (Ok keys) (Ok cursor) (Ok environment) (Ok version) (Ok lock) (Ok requirements) (Ok steps) h is =
+    made_by ((version == 1) && nat_le cursor steps) (record { cursor = cursor; environment = environment; lock = lock; requirements = requirements; steps = steps }) h
+    (λ holds. least cursor steps (and_parts (version == 1) (nat_le cursor steps) holds).1) is
+parts_by keys cursor environment version lock requirements steps h is = absurd cc
 
--- what is found at a key is no deeper
-pub found-depth : (k : List ℕ) (whole d : Data) (n : ℕ) → depth whole ≤ n → found (get k whole) ≡ Ok d → depth d ≤ n
-found-depth k whole d n within is = let h = get-depth k whole d (found_by (get k whole) d is) in omega arith
+value-within : (d : Data) (h : Header) → header_in d ≡ Ok h → h.cursor ≤ h.steps
+unfolding header_in
+value-within d h is =
+    parts_by (only_keys header_keys d) (at (codes "cursor") number_of d) (at (codes "environment") environment_in d) (at (codes "journal") number_of d) (at (codes "lock") digest_in d) (at (codes "requirements") digest_in d) (at (codes "steps") number_of d) h is
 
--- ---- an environment goes through its text
+line_by : (value : Result Data Flaw) (h : Header) → (value >>= header_in) ≡ Ok h → h.cursor ≤ h.steps
+line_by (Ok d) h is = value-within d h is
+line_by (Err e) h is = absurd cc
 
-pub through_text : (d : Data) (bytes : List ℕ) → is_utf8 bytes ≡ true → read bytes ≡ Some d → texts_read (environment_of bytes) ≡ texts_read (texts_in d all_variables)
-unfolding environment_of object_of texts_in text_in
-through_text null bytes utf8 is = rw (utf8, is) refl
-through_text (boolean b) bytes utf8 is = rw (utf8, is) refl
-through_text (number n) bytes utf8 is = rw (utf8, is) refl
-through_text (string s) bytes utf8 is = rw (utf8, is) refl
-through_text (array ds) bytes utf8 is = rw (utf8, is) refl
-through_text (object ms) bytes utf8 is = rw (utf8, is) refl
+-- the cursor of a header is at most the number of its steps
+pub cursor-within : (line : List ℕ) (h : Header) → header_of_line line ≡ Ok h → h.cursor ≤ h.steps
+unfolding header_of_line
+cursor-within line h is = line_by (json_of line) h is

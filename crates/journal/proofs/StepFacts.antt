@@ -1,10 +1,11 @@
 -- Reading the steps of a journal line by line.
-use Rattle.std.proofs.Common.{◌≡◌, ◌⊎◌, ℕ, suc, zero, ◌+◌, ◌-◌, ◌<◌, ◌≤◌, List, [], ◌∷◌, ◌++◌, Result, Ok, Err, refl, sym, ap, subst, ◌∙◌, append_assoc, inl, inr, arith}
+use Rattle.std.proofs.Common.{◌≡◌, ◌⊎◌, ◌==◌, true, false, length, ℕ, suc, zero, ◌+◌, ◌-◌, ◌<◌, ◌≤◌, List, [], ◌∷◌, ◌++◌, Result, Ok, Err, refl, sym, ap, subst, ◌∙◌, append_assoc, inl, inr, arith, true≢false}
+use Rattle.std.proofs.lemmas.Bool.Decides.{nat_tests}
 use Rattle.std.proofs.lemmas.List.{append-nil}
 use Rattle.edits.specs.Changes.{ChangeParts}
 use Rattle.edits.specs.declared.refusal.Refusal.TheVariants.{JournalBroken}
 use Rattle.journal.specs.Values.{Refusal, OutOfMemory}
-use Rattle.journal.specs.Opening.{StepAt, StepLines}
+use Rattle.journal.specs.Opening.{Gives, GoesOn, StepAt, StepLines}
 
 -- what was read before, and what the rest answers
 abbrev pub before : {X : Type 0} → List X → Result (List X) Refusal → Result (List X) Refusal
@@ -14,6 +15,17 @@ before done (Err refusal) = Err refusal
 pub before-more : {X : Type 0} (done : List X) (x : X) (rest : Result (List X) Refusal) → before done (before (x ∷ []) rest) ≡ before (done ++ x ∷ []) rest
 before-more done x (Ok xs) = ap Ok (sym (append_assoc done (x ∷ []) xs))
 before-more done x (Err refusal) = refl
+
+-- the test whether nothing is left
+zero_by : (n : ℕ) → (n == 0) ≡ true → n ≡ 0
+zero_by n h = grind (arith, nat_tests)
+
+pub empty_by : (rest : List ℕ) → (length rest == 0) ≡ true → rest ≡ []
+empty_by [] h = refl
+empty_by (b ∷ rest) h = let none : length (b ∷ rest) ≡ 0 = zero_by (length (b ∷ rest)) h in absurd (omega (arith, none))
+
+pub filled_by : (rest : List ℕ) → (length rest == 0) ≡ false → rest ≡ [] → ⊥
+filled_by rest h is = true≢false (subst (λ (bs : List ℕ). (length bs == 0) ≡ false) is h)
 
 a_step : (steps number : ℕ) (bytes : List ℕ) (step : ChangeParts × List ℕ) (rest : Result (List ChangeParts) Refusal) → StepAt bytes step
     → StepLines steps (number + 1) step.1 rest → StepLines (suc steps) number bytes (before (step.0 ∷ []) rest)
@@ -68,3 +80,18 @@ module _ (steps : ℕ) (bytes : List ℕ) (place : ℕ) (rest : List ℕ) (done 
       → (e ≡ OutOfMemory) ⊎ StepLines steps 2 bytes (Err e)
   refused e below (inl memory) = inl memory
   refused e below (inr broken) = inr (subst (λ r. StepLines steps 2 bytes (Err r)) (sym broken.0) (no_step below broken.1))
+
+count_by : (steps : ℕ) (change : ChangeParts) (changes : List ChangeParts) (part : Result (List ChangeParts) Refusal) → ((xs : List ChangeParts) → part ≡ Ok xs → length xs ≡ steps)
+    → GoesOn (λ xs. Gives (change ∷ xs)) part (Ok changes) → length changes ≡ suc steps
+count_by steps change changes (Ok xs) counted go_on =
+    let same : changes ≡ change ∷ xs = cc in
+    rw same (ap suc (counted xs refl))
+count_by steps change changes (Err e) counted go_on = absurd cc
+
+-- as many steps are read as are asked for
+pub steps-count : (steps number : ℕ) (bytes : List ℕ) (changes : List ChangeParts) → StepLines steps number bytes (Ok changes) → length changes ≡ steps
+steps-count zero number bytes changes (inl h) = let none : changes ≡ [] = let is : Ok changes ≡ Ok [] = h.1 in cc in rw none refl
+steps-count zero number bytes changes (inr h) = absurd (let is : Ok changes ≡ Err (JournalBroken number) = h.1 in cc)
+steps-count (suc steps) number bytes changes (inl h) =
+    count_by steps h.0.0 changes h.2.0 (λ xs is. steps-count steps (number + 1) h.0.1 xs (subst (StepLines steps (number + 1) h.0.1) is h.2.1)) h.2.2
+steps-count (suc steps) number bytes changes (inr h) = absurd (let is : Ok changes ≡ Err (JournalBroken number) = h.1 in cc)

@@ -92,16 +92,21 @@ const ROWS: &[Row] = &[
     ("a 1", "a\n", "a 1 2", "relock", "; digest"),
 ];
 
+/// What the edit of a row changes.
+fn changed(alloc: Global, row: &Row) -> Result<String, Fail> {
+    let (index, file, later, told, _) = *row;
+    let asked = edit_of(alloc, told)?;
+    let index = index_of(alloc, index)?;
+    let later = index_of(alloc, later)?;
+    let state = begin(alloc, file, &index)??;
+    let edited = edit(alloc, &state, &asked, &later, &Plain)?;
+    change_text(alloc, &edited.change)
+}
+
 #[test]
 fn edits_tell_what_they_change(rt: HostRuntime) -> Result<(), Fail> {
-    let alloc = rt.alloc();
-    for (first, lines, second, told, expected) in ROWS {
-        let index = index_of(alloc, first)?;
-        let state = begin(alloc, lines, &index)??;
-        let index = index_of(alloc, second)?;
-        let asked = edit_of(alloc, told)?;
-        let edited = edit(alloc, &state, &asked, &index, &Plain)?;
-        assert_eq!(rt; change_text(alloc, &edited.change)?.as_str(), *expected);
+    for row in ROWS {
+        assert_eq!(rt; changed(rt.alloc(), row)?.as_str(), row.4);
     }
     Ok(())
 }

@@ -1,6 +1,6 @@
 -- Lines that splices lead to, as they are put together.
 -- Tied to `After` by the contract of `Change::apply`; need not be read.
-use Rattle.std.specs.Prelude.{◌≡◌, ℕ, ◌+◌, ◌≤◌, List, drop, length, take, Option}
+use Rattle.std.specs.Prelude.{◌≡◌, ℕ, ◌≤◌, List, drop, length, take, Option}
 use Rattle.edits.specs.Changes.{Splices}
 use Rattle.edits.specs.Tied.Only.{IsTheOnly}
 use Rattle.edits.specs.declared.change.parts.Splice.{Splice}

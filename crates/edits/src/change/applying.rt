@@ -78,7 +78,8 @@ fn lock_after(alloc: Global, change: &Change, lock: &Lock) -> Result<Option<Lock
     Ok(Lock::new(environment, digest, entries))
 }
 
-/// The state of these parts, with what holds of every state.
+/// The state of these lines and this lock in the environment of another one; `None` where they make
+/// none.
 fn state_of(
     alloc: Global,
     lines: ReqFile,

@@ -1,8 +1,9 @@
 // The states that the steps of a journal lead to from the present one, in both directions.
 
-ghost use Rattle.std.specs.Prelude.{◌≡◌, ◌≤◌, length, reverse};
+ghost use Rattle.std.specs.Prelude.{◌≡◌, ◌+◌, ◌^◌, ◌<◌, ◌≤◌, length, reverse};
+ghost use Rattle.std.specs.List.{AllByRecursion};
 ghost use Rattle.std.specs.Result.{result_map_both};
-ghost use Rattle.edits.specs.Changes.{Leads, inverse};
+ghost use Rattle.edits.specs.Changes.{IsMinimal, Leads, inverse};
 ghost use Rattle.edits.specs.declared.refusal.Refusal.TheVariants as refusals;
 ghost use Rattle.journal.specs.Tied.{last_or};
 ghost use Rattle.journal.specs.Opening.{Found, PastOf, StatesBefore, StatesBehind, Tells};
@@ -74,6 +75,7 @@ fn states_behind(
     present: &State,
     number: usize,
 ) -> Result<Vec<State>, Refusal>
+    requires { number + length changes.now < 2 ^ 64 }
     ensures { Tells (StatesBehind number changes.now present.now) (result_map_both
         (λ v. v.items) (λ e. e) result) }
 {
@@ -84,6 +86,16 @@ fn states_behind(
         states.push_reserved(next);
     }
     Ok(states)
+}
+
+/// What holds of the changes: each of them is minimal.
+fn are_lawful(changes: &[Change])
+    ensures { AllByRecursion IsMinimal changes.now }
+{
+    for place in 0..changes.len() {
+        let change = &changes[place];
+        change.is_lawful();
+    }
 }
 
 /// The history of the present state, with the states that the changes lead to.
@@ -99,6 +111,7 @@ pub(crate) fn history_of(
 {
     let cursor = cursor as usize;
     let changes = changes.into_vec();
+    are_lawful(changes.as_slice());
     let mut states = states_before(alloc, &changes[..cursor], &present)?;
     let mut behind = states_behind(alloc, &changes[cursor..], &present, cursor + 2)?;
     states.push(present)?;
