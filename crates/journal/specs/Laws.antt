@@ -1,10 +1,11 @@
--- Laws of the steps.
-use Rattle.std.specs.Prelude.{ℕ, ◌≡◌}
+-- Laws of the steps, and of what is saved.
+use Rattle.std.specs.Prelude.{ℕ, ◌≡◌, List, Result}
 use Rattle.journal.specs.Values.{Edit, Snapshot, Refusal, OutOfMemory}
 use Rattle.journal.specs.declared.commands.Reply.TheVariants.{Done, Refused}
 use Rattle.journal.specs.Past.{Past, present}
 use Rattle.journal.specs.Commands.{Editing, Undoing, Redoing}
 use Rattle.journal.specs.Steps.{Step}
+use Rattle.journal.specs.Opening.{Opens}
 
 -- an undo after an accepted edit gives back the present state before the edit, and its cursor
 abbrev pub UndoGivesTheStateBack : Type 0
@@ -17,3 +18,7 @@ RedoGivesTheEditAgain = (before edited undone redone : Past) (edit : Edit) (snap
 -- after an accepted edit an undo is refused for want of memory alone
 abbrev pub AnEditCanBeUndone : Type 0
 AnEditCanBeUndone = (before edited after : Past) (edit : Edit) (snapshot : Snapshot) (k : ℕ) (refusal : Refusal) → Step before (Editing edit snapshot) (Done k) edited → Step edited Undoing (Refused refusal) after → refusal ≡ OutOfMemory
+
+-- three byte strings stand for one history at most, or have one first fault
+abbrev pub FilesStandForOneHistory : Type 0
+FilesStandForOneHistory = (requirements lock journal : List ℕ) (one another : Result Past Refusal) → Opens requirements lock journal one → Opens requirements lock journal another → one ≡ another

@@ -1,14 +1,15 @@
 -- What three byte strings are the saved form of a history. All of it is reqlock's own rule.
-use Rattle.std.specs.Prelude.{◌≡◌, ℕ, List, Some, length}
+use Rattle.std.specs.Prelude.{◌≡◌, ℕ, List, Some, length, Result, Ok}
 use Rattle.std.specs.List.{concat}
 use Rattle.sha2.specs.Sha256.{sha256}
 use Rattle.toml.specs.Parse.{parse_document}
 use Rattle.pylock.specs.Tables.{table_of}
 use Rattle.edits.specs.Changes.{ChangeParts}
-use Rattle.journal.specs.Values.{State}
+use Rattle.journal.specs.Values.{State, Refusal}
 use Rattle.journal.specs.Past.{Past, present}
 use Rattle.journal.specs.Changes.{AreSteps}
 use Rattle.journal.specs.Format.Written.{journal_of}
+use Rattle.journal.specs.Opening.{Opens}
 use Rattle.journal.specs.declared.format.header.Header.{Header}
 use Rattle.journal.specs.declared.saving.Saved.{Saved}
 
@@ -32,3 +33,8 @@ pub record IsSaved (past : Past) (saved : Saved) : Type 0 where
   pub requirements : saved.requirements ≡ concat state.lines
   pub lock : parse_document saved.lock ≡ Some (table_of state.lock)
   pub journal : saved.journal ≡ journal_of (header_for state past.cursor (length changes) saved.requirements saved.lock) changes
+
+-- the three byte strings stand for this history, and for nothing else
+pub record OpensAs (past : Past) (saved : Saved) : Type 0 where
+  pub opens : Opens saved.requirements saved.lock saved.journal (Ok past)
+  pub alone : (answer : Result Past Refusal) → Opens saved.requirements saved.lock saved.journal answer → answer ≡ Ok past

@@ -1,8 +1,26 @@
--- What serves the proofs of the loops alone. Tied to `Opens` by the contract of `Session::open`; need not be read.
-use Rattle.std.specs.Prelude.{List, [], ◌∷◌, Result, Ok, Err}
+-- What serves the proofs alone. Tied to `Opens` by the contracts of `Session::open` and `Session::save`; need not be read.
+use Rattle.std.specs.Prelude.{◌≡◌, true, List, [], ◌∷◌, Some, Result, Ok, Err}
+use Rattle.std.specs.List.{AllByRecursion}
+use Rattle.std.specs.Str.{is_utf8}
+use Rattle.serde_json.specs.Data.{Data}
+use Rattle.serde_json.specs.Read.{read}
+use Rattle.serde_json.specs.Written.{compact_text}
+use Rattle.edits.specs.Changes.{ChangeParts}
+use Rattle.journal.specs.Format.Written.{header_data, step_data}
+use Rattle.journal.specs.declared.format.header.Header.{Header}
 use Rattle.journal.specs.Values.{State, Refusal}
 
 -- the last of the states, or else this one
 abbrev pub last_or : State → List State → State
 last_or state [] = state
 last_or state (next ∷ states) = last_or next states
+
+-- the compact text of a JSON value is text, and is read as the value
+pub record IsWritten (d : Data) : Type 0 where
+  pub utf8 : is_utf8 (compact_text d) ≡ true
+  pub reads : read (compact_text d) ≡ Some d
+
+-- the lines of a header and of changes are
+pub record AreWritten (header : Header) (changes : List ChangeParts) : Type 0 where
+  pub header_line : IsWritten (header_data header)
+  pub step_lines : AllByRecursion (λ c. IsWritten (step_data c)) changes

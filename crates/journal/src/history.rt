@@ -1,7 +1,9 @@
 // What every history does, however it keeps its states.
 
 ghost use Rattle.std.specs.Prelude.{◌≡◌, ◌⊎◌, ◌↔◌, ◌+◌, ◌-◌, ◌<◌, List, length, Some, slice_get, if◌then◌else◌, is_ok, OnOk, OnErr, IfErr, IsErrOf, IsSomeAnd};
+ghost use Rattle.std.specs.List.{AllByRecursion};
 ghost use Rattle.edits.specs.Changes.{ChangeParts};
+ghost use Rattle.edits.specs.State.{IsState};
 ghost use Rattle.journal.specs.Changes.{AreSteps, IsChange, IsStepOf, with_change};
 ghost use Rattle.journal.specs.Past.{Past, present, pushed, IsUndone, IsRedone, IsAtStart, IsAtEnd};
 
@@ -26,7 +28,8 @@ pub trait History {
     /// the state before it to the next. It has no refusal.
     fn steps(&self) -> usize
         ensures steps { result + 1 ≡ length (past self.now).states }
-        ensures lead { AreSteps (past self.now).states (changes self.now) };
+        ensures lead { AreSteps (past self.now).states (changes self.now) }
+        ensures lawful { AllByRecursion IsState (past self.now).states };
 
     /// The change of a step, from 1 to `steps`: it leads from the state before the step to the one
     /// behind it. It has no refusal.

@@ -1,6 +1,8 @@
-//! Laws of the steps, each the contract of a function that does nothing.
+//! Laws of the steps and of what is saved, each the contract of a function that does nothing.
 
-ghost use Rattle.journal.specs.Laws.{UndoGivesTheStateBack, RedoGivesTheEditAgain, AnEditCanBeUndone};
+ghost use Rattle.journal.specs.Laws.{UndoGivesTheStateBack, RedoGivesTheEditAgain, AnEditCanBeUndone, FilesStandForOneHistory};
+
+use edits::laws::a_change_leads_to_one_state;
 
 /// An undo after an accepted edit gives back the state before the edit, and its cursor.
 pub fn undo_gives_the_state_back()
@@ -16,3 +18,10 @@ pub fn redo_gives_the_edit_again()
 pub fn an_edit_can_be_undone()
     ensures law { AnEditCanBeUndone }
 {}
+
+/// Three byte strings stand for one history at most, or have one first fault.
+pub fn files_stand_for_one_history()
+    ensures law { FilesStandForOneHistory }
+{
+    a_change_leads_to_one_state();
+}

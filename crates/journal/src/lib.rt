@@ -7,7 +7,7 @@
 mod commands;
 mod format;
 mod history;
-mod laws;
+pub mod laws;
 mod opening;
 mod running;
 mod saving;
@@ -16,9 +16,6 @@ mod whole;
 
 pub use crate::commands::{Command, Reply};
 pub use crate::history::History;
-pub use crate::laws::{
-    an_edit_can_be_undone, redo_gives_the_edit_again, undo_gives_the_state_back,
-};
 pub use crate::running::{apply, run};
 pub use crate::saving::Saved;
 pub use crate::session::Session;

@@ -1,16 +1,22 @@
 // A history as three byte strings: a requirements file, its lock, and a journal.
 
-ghost use Rattle.std.specs.Prelude.{◌≡◌, ◌++◌, IfOk, OnOk, false, string_bytes};
+ghost use Rattle.std.specs.Prelude.{◌≡◌, ◌≤◌, ◌++◌, IfOk, OnOk, false, string_bytes};
+ghost use Rattle.serde_json.specs.Data.{depth};
+ghost use Rattle.serde_json.specs.Read.{max_depth};
 ghost use Rattle.serde_json.specs.View.{view};
 ghost use Rattle.serde_json.specs.Written.{has_float};
 ghost use Rattle.journal.specs.Format.Written.{header_data, journal_of, line_of, step_data};
-ghost use Rattle.journal.specs.Saving.{IsSaved, header_for};
+ghost use Rattle.journal.specs.Saving.{IsSaved, OpensAs, header_for};
+ghost use Rattle.journal.specs.Tied.{AreWritten, IsWritten};
 
 use crate::format::header::Header;
 use crate::format::writing::{header_value, step_value};
 use crate::history::History;
+use edits::laws::a_change_leads_to_one_state;
 use edits::{Change, State};
 use lists::Text;
+use pep440::laws::a_canonical_text_is_read;
+use pylock::laws::a_table_is_that_of_its_lock;
 use serde_json::Value;
 use sha2::{Digest, Sha256};
 use std::alloc::{AllocError, Global};
@@ -28,9 +34,11 @@ pub struct Saved {
 
 /// Puts a line behind others: compact JSON and LF.
 fn push_line(alloc: Global, lines: &mut String, value: &Value) -> Result<(), AllocError>
-    requires { has_float (view value.now) ≡ false }
-    ensures { OnOk result (string_bytes lines.new
+    requires plain { has_float (view value.now) ≡ false }
+    requires depth { depth (view value.now) ≤ max_depth }
+    ensures line { OnOk result (string_bytes lines.new
         ≡ string_bytes lines.old ++ line_of (view value.now)) }
+    ensures written { OnOk result (IsWritten (view value.now)) }
 {
     let text = value.to_string(alloc)?;
     lines.push_str(text.as_str())?;
@@ -60,8 +68,9 @@ fn header_of(
 
 /// Puts the line of a header behind others.
 fn push_header(alloc: Global, lines: &mut String, header: &Header) -> Result<(), AllocError>
-    ensures { OnOk result (string_bytes lines.new
+    ensures line { OnOk result (string_bytes lines.new
         ≡ string_bytes lines.old ++ line_of (header_data header.now)) }
+    ensures written { OnOk result (IsWritten (header_data header.now)) }
 {
     let value = header_value(alloc, header)?;
     push_line(alloc, lines, &value)
@@ -69,8 +78,9 @@ fn push_header(alloc: Global, lines: &mut String, header: &Header) -> Result<(),
 
 /// Puts the line of a step behind others.
 fn push_step(alloc: Global, lines: &mut String, change: &Change) -> Result<(), AllocError>
-    ensures { OnOk result (string_bytes lines.new
+    ensures line { OnOk result (string_bytes lines.new
         ≡ string_bytes lines.old ++ line_of (step_data change.now)) }
+    ensures written { OnOk result (IsWritten (step_data change.now)) }
 {
     let value = step_value(alloc, change)?;
     push_line(alloc, lines, &value)
@@ -78,8 +88,9 @@ fn push_step(alloc: Global, lines: &mut String, change: &Change) -> Result<(), A
 
 /// The journal of the history: its header, and a line for each step.
 fn journal_of<H: History>(alloc: Global, history: &H, header: &Header) -> Result<String, AllocError>
-    ensures { IfOk result (λ text. string_bytes text
+    ensures lines { IfOk result (λ text. string_bytes text
         ≡ journal_of header.now (H.changes history.now)) }
+    ensures written { OnOk result (AreWritten header.now (H.changes history.now)) }
 {
     let mut lines = String::new(alloc);
     push_header(alloc, &mut lines, header)?;
@@ -91,9 +102,14 @@ fn journal_of<H: History>(alloc: Global, history: &H, header: &Header) -> Result
 
 /// The three byte strings of the history.
 pub(crate) fn files_of<H: History>(alloc: Global, history: &H) -> Result<Saved, AllocError>
-    ensures { IfOk result (λ saved. IsSaved (H.past history.now) saved) }
+    ensures saved { IfOk result (λ saved. IsSaved (H.past history.now) saved) }
+    ensures opens { IfOk result (λ saved. OpensAs (H.past history.now) saved) }
 {
+    a_change_leads_to_one_state();
+    a_canonical_text_is_read();
+    a_table_is_that_of_its_lock();
     let state = history.state();
+    state.environment().is_lawful();
     let requirements = state.lines().bytes(alloc)?;
     let lock = Text::from_string(state.lock().print(alloc)?);
     let header = header_of(

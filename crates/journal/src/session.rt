@@ -5,7 +5,7 @@ ghost use Rattle.edits.specs.Edits.{InitResult};
 ghost use Rattle.journal.specs.Past.{present};
 ghost use Rattle.journal.specs.Changes.{IsStepOf};
 ghost use Rattle.journal.specs.Opening.{Opens, Tells};
-ghost use Rattle.journal.specs.Saving.{IsSaved};
+ghost use Rattle.journal.specs.Saving.{IsSaved, OpensAs};
 ghost use Rattle.journal.specs.Commands.{asked_of};
 ghost use Rattle.journal.specs.Steps.{Step, Run, IsStart};
 
@@ -83,9 +83,11 @@ impl Session {
         Ok(Session { history })
     }
 
-    /// The history as three byte strings, which `open` reads.
+    /// The history as three byte strings. `open` reads them as the same history: the same states, and the
+    /// same cursor.
     pub fn save(&self, alloc: Global) -> Result<Saved, AllocError>
         ensures saved { IfOk result (λ saved. IsSaved self.now saved) }
+        ensures opens { IfOk result (λ saved. OpensAs self.now saved) }
     {
         saving::files_of(alloc, &self.history)
     }

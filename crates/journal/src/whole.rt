@@ -1,6 +1,8 @@
 // The history that keeps each state whole.
 
 ghost use Rattle.std.specs.Prelude.{◌≡◌, ◌⊎◌, ◌↔◌, ◌+◌, ◌-◌, ◌<◌, [], length, Some, slice_get, if◌then◌else◌, is_ok, OnOk, OnErr, IfOk, IfErr, IsErrOf, IsSomeAnd};
+ghost use Rattle.std.specs.List.{AllByRecursion};
+ghost use Rattle.edits.specs.State.{IsState};
 ghost use Rattle.journal.specs.Changes.{AreSteps};
 ghost use Rattle.journal.specs.Past.{starts};
 
@@ -29,6 +31,8 @@ impl Drop for WholeHistory {
 
 impl Model for WholeHistory {
     ghost use Rattle.std.specs.Prelude.{◌≡◌, ◌+◌, ◌<◌, vec_len};
+    ghost use Rattle.std.specs.List.{AllByRecursion};
+    ghost use Rattle.edits.specs.State.{IsState};
     ghost use Rattle.journal.specs.Changes.{AreSteps, Kept};
 
     ghost Value = { Kept };
@@ -42,6 +46,7 @@ impl Model for WholeHistory {
       cursor : h.cursor < vec_len h.states;
       count : vec_len h.states ≡ vec_len h.changes + 1;
       steps : AreSteps h.states.items h.changes.items;
+      lawful : AllByRecursion IsState h.states.items;
     } };
 }
 
@@ -51,6 +56,7 @@ impl WholeHistory {
         ensures start { IfOk result
             (λ history. history ≡ record { past = starts state; changes = [] }) }
     {
+        state.is_lawful();
         let mut states = Vec::with_capacity(alloc, 1)?;
         states.push_reserved(state);
         Ok(WholeHistory {
@@ -65,6 +71,7 @@ impl WholeHistory {
         requires cursor { cursor < length states.items }
         requires count { length states.items ≡ length changes.items + 1 }
         requires steps { AreSteps states.items changes.items }
+        requires lawful { AllByRecursion IsState states.items }
         ensures { result ≡ record {
           past = record { states = states.items; cursor = cursor };
           changes = changes.items;
@@ -107,6 +114,7 @@ impl History for WholeHistory {
             self.changes.reserve(1)?;
         }
         let Edited { state, change } = edited;
+        state.is_lawful();
         self.states.truncate(next);
         self.changes.truncate(self.cursor);
         self.states.push_reserved(state);

@@ -112,6 +112,7 @@ pub(crate) fn history_of(
     let cursor = cursor as usize;
     let changes = changes.into_vec();
     are_lawful(changes.as_slice());
+    present.is_lawful();
     let mut states = states_before(alloc, &changes[..cursor], &present)?;
     let mut behind = states_behind(alloc, &changes[cursor..], &present, cursor + 2)?;
     states.push(present)?;

@@ -1,5 +1,9 @@
+use Rattle.journal.proofs.Depths.{header-depth}
 use Rattle.journal.proofs.WrittenFacts.{header-plain}
 use Rattle.journal.proofs.saving.push_header.Goals as goal
 
-pub push_line-requires : goal.push_line-requires
-push_line-requires c = rw c.in_ok-value.ensures (header-plain c.args.header.now)
+pub push_line-requires-clause-plain : goal.push_line-requires-clause-plain
+push_line-requires-clause-plain c = rw c.in_ok-value.ensures (header-plain c.args.header.now)
+
+pub push_line-requires-clause-depth : goal.push_line-requires-clause-depth
+push_line-requires-clause-depth c = rw c.in_ok-value.ensures (header-depth c.args.header.now)

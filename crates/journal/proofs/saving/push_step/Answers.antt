@@ -1,5 +1,9 @@
+use Rattle.journal.proofs.Depths.{step-depth}
 use Rattle.journal.proofs.WrittenFacts.{step-plain}
 use Rattle.journal.proofs.saving.push_step.Goals as goal
 
-pub push_line-requires : goal.push_line-requires
-push_line-requires c = rw c.in_ok-value.ensures (step-plain c.args.change.now)
+pub push_line-requires-clause-plain : goal.push_line-requires-clause-plain
+push_line-requires-clause-plain c = rw c.in_ok-value.ensures (step-plain c.args.change.now)
+
+pub push_line-requires-clause-depth : goal.push_line-requires-clause-depth
+push_line-requires-clause-depth c = rw c.in_ok-value.ensures (step-depth c.args.change.now)

@@ -5,6 +5,7 @@ use Rattle.edits.specs.Changes.{IsMinimal}
 use Rattle.journal.specs.Changes.{AreSteps}
 use Rattle.journal.specs.Opening.{StatesBefore, StatesBehind}
 use Rattle.journal.proofs.Histories.{AreSteps-count}
+use Rattle.journal.proofs.StatesLawful.{lawful-joined}
 use Rattle.journal.proofs.StepsJoined.{steps-joined}
 use Rattle.journal.proofs.opening.states.history_of.Goals as goal
 
@@ -26,4 +27,5 @@ of_steps-requires c =
       cursor = omega (arith, count, within);
       count = count;
       steps = steps;
+      lawful = rw states (lawful-joined (n + 2) (reverse (take n c.deref.result.now)) rest c.args.present c.in_ok-states.states.items c.in_ok-behind.behind.items c.is_lawful.ensures before behind);
     }

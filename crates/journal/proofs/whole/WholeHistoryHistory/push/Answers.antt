@@ -1,6 +1,8 @@
 use Rattle.std.proofs.Common.{◌≡◌, ◌+◌, [], ◌∷◌, ◌++◌, take, arith, rules, sym}
 use Rattle.std.proofs.lemmas.Grind.{common_steps}
+use Rattle.edits.specs.State.{IsState}
 use Rattle.journal.proofs.Histories.{AreSteps-pushed}
+use Rattle.journal.proofs.StepsJoined.{all-append, all-take}
 use Rattle.journal.proofs.whole.WholeHistoryHistory.push.Goals as goal
 use Rattle.journal.proofs.whole.WholeHistoryHistory.push.Goals.{then-next-len+in_ok-reserve+in_ok-reserve-2, else-next-len}
 
@@ -14,4 +16,5 @@ invariant_of-self-2 c =
       cursor = elim c.if-next-len.branch [ then-next-len+in_ok-reserve+in_ok-reserve-2 w ↦ grind (arith, common_steps) | else-next-len w ↦ grind (arith, common_steps) ];
       count = elim c.if-next-len.branch [ then-next-len+in_ok-reserve+in_ok-reserve-2 w ↦ grind (arith, common_steps) | else-next-len w ↦ grind (arith, common_steps) ];
       steps = rw (states, changes) (AreSteps-pushed c.self.inside.states.items c.self.inside.changes.items c.self.inside.cursor c.args.edited.state c.args.edited.change c.self.invariant.steps (rw (sym c.self.view_is) at c.requires));
+      lawful = rw states (all-append IsState (take (c.self.inside.cursor + 1) c.self.inside.states.items) (c.args.edited.state ∷ []) (all-take IsState (c.self.inside.cursor + 1) c.self.inside.states.items c.self.invariant.lawful) (c.is_lawful.ensures, tt));
     }

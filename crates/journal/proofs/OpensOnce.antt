@@ -1,0 +1,100 @@
+-- Three byte strings stand for one history, or have one first fault.
+use Rattle.std.proofs.Common.{◌≡◌, ℕ, zero, suc, ◌+◌, List, [], ◌∷◌, ◌++◌, drop, length, reverse, take, Option, Some, Result, Ok, Err, refl, sym, ap, subst, ◌∙◌, inl, inr}
+use Rattle.pep508.specs.Requirement.{file_of}
+use Rattle.pylock.specs.Reading.{lock_in_text}
+use Rattle.edits.specs.Changes.{ChangeParts, Leads, inverse}
+use Rattle.edits.specs.Laws.{AChangeLeadsToOneState}
+use Rattle.journal.specs.Values.{State, Refusal}
+use Rattle.journal.specs.Past.{Past}
+use Rattle.journal.specs.Format.Lines.{cut_line, header_of_line, step_of_line}
+use Rattle.journal.specs.Opening.{Asks, BeginsWith, Finds, Gives, GoesOn, Opens, PastOf, Present, PresentParts, StatesBefore, StatesBehind, StepAt, StepLines, Then}
+use Rattle.journal.specs.declared.format.header.Header.{Header}
+
+-- there is one answer at most
+abbrev pub IsOnce : {A : Type 0} → (Result A Refusal → Type 0) → Type 0
+IsOnce {A} Is = (a b : Result A Refusal) → Is a → Is b → a ≡ b
+
+gives-once : {A : Type 0} (x : A) → IsOnce (Gives x)
+gives-once x a b p q = p ∙ sym q
+
+asks-once : {A : Type 0} (fact : Type 0) (refusal : Refusal) (go_on : Result A Refusal → Type 0) → IsOnce go_on → IsOnce (Asks fact refusal go_on)
+asks-once fact refusal go_on on a b (inl p) (inl q) = on a b p.1 q.1
+asks-once fact refusal go_on on a b (inl p) (inr q) = absurd (q.0 p.0)
+asks-once fact refusal go_on on a b (inr p) (inl q) = absurd (p.0 q.0)
+asks-once fact refusal go_on on a b (inr p) (inr q) = p.1 ∙ sym q.1
+
+-- nothing but one value is so
+abbrev pub IsAlone : {X : Type 0} → (X → Type 0) → Type 0
+IsAlone {X} Is = (x y : X) → Is x → Is y → x ≡ y
+
+finds-once : {X A : Type 0} (Is : X → Type 0) (refusal : Refusal) (go_on : X → Result A Refusal → Type 0) → IsAlone Is → ((x : X) → IsOnce (go_on x)) → IsOnce (Finds Is refusal go_on)
+finds-once Is refusal go_on alone on a b (inl p) (inl q) = on q.0 a b (subst (λ x. go_on x a) (alone p.0 q.0 p.1 q.1) p.2) q.2
+finds-once Is refusal go_on alone on a b (inl p) (inr q) = absurd (q.0 p.0 p.1)
+finds-once Is refusal go_on alone on a b (inr p) (inl q) = absurd (p.0 q.0 q.1)
+finds-once Is refusal go_on alone on a b (inr p) (inr q) = p.1 ∙ sym q.1
+
+goes-once : {X A : Type 0} (go_on : X → Result A Refusal → Type 0) → ((x : X) → IsOnce (go_on x)) → (part : Result X Refusal) → IsOnce (GoesOn go_on part)
+goes-once go_on on (Ok x) a b p q = on x a b p q
+goes-once go_on on (Err refusal) a b p q = p ∙ sym q
+
+then-once : {X A : Type 0} (Part : Result X Refusal → Type 0) (go_on : X → Result A Refusal → Type 0) → IsOnce Part → ((x : X) → IsOnce (go_on x)) → IsOnce (Then Part go_on)
+then-once Part go_on one on a b p q = goes-once go_on on q.0 a b (subst (λ part. GoesOn go_on part a) (one p.0 q.0 p.1 q.1) p.2) q.2
+
+-- ---- the header, and the present state
+
+read-alone : {X E : Type 0} (r : Result X E) → IsAlone (λ x. r ≡ Ok x)
+read-alone r x y p q = let same : Ok x ≡ Ok y = sym p ∙ q in cc
+
+-- what is cut off, and what is left
+cut-alone : (found : Option (List ℕ × List ℕ)) (x y : List ℕ × List ℕ) → found ≡ Some x → found ≡ Some y → x ≡ y
+cut-alone found x y p q = let same : Some x ≡ Some y = sym p ∙ q in cc
+
+module _ {X E : Type 0} (bytes : List ℕ) (reading : List ℕ → Result X E) where
+  -- bytes begin with a line that is read, and with what is behind it
+  one-line : (x y : X × List ℕ) (line other : List ℕ) → cut_line bytes ≡ Some (line, x.1) → cut_line bytes ≡ Some (other, y.1) → reading line ≡ Ok x.0 → reading other ≡ Ok y.0 → x ≡ y
+  one-line x y line other cut again read same =
+      let cuts : (line, x.1) ≡ (other, y.1) = cut-alone (cut_line bytes) (line, x.1) (other, y.1) cut again in
+      let lines : line ≡ other = ap (λ p. p.0) cuts in
+      let behind : x.1 ≡ y.1 = ap (λ p. p.1) cuts in
+      let first : x.0 ≡ y.0 = read-alone (reading other) x.0 y.0 (sym (ap reading lines) ∙ read) same in
+      λ i. (first i, behind i)
+
+begins-alone : (journal : List ℕ) → IsAlone (BeginsWith journal)
+begins-alone journal x y p q = one-line journal header_of_line x y p.line q.line p.cut q.cut p.header q.header
+
+step-alone : (bytes : List ℕ) → IsAlone (StepAt bytes)
+step-alone bytes x y p q = one-line bytes step_of_line x y p.line q.line p.cut q.cut p.is_step.reads q.is_step.reads
+
+parts-once : (header : Header) (requirements lock : List ℕ) → IsOnce (PresentParts header requirements lock)
+parts-once header requirements lock =
+    asks-once _ _ _ (asks-once _ _ _ (finds-once _ _ _ (read-alone (file_of requirements)) (λ lines. finds-once _ _ _ (read-alone (lock_in_text lock)) (λ locked. asks-once _ _ _ (gives-once _)))))
+
+present-once : (header : Header) (requirements lock : List ℕ) → IsOnce (Present header requirements lock)
+present-once header requirements lock = then-once _ _ (parts-once header requirements lock) (λ state. asks-once _ _ _ (gives-once state))
+
+-- ---- steps and states
+
+steps-once : (steps number : ℕ) (bytes : List ℕ) → IsOnce (StepLines steps number bytes)
+steps-once zero number bytes = asks-once _ _ _ (gives-once [])
+steps-once (suc steps) number bytes = finds-once _ _ _ (step-alone bytes) (λ step. then-once _ _ (steps-once steps (number + 1) step.1) (λ changes. gives-once (step.0 ∷ changes)))
+
+module _ (one : AChangeLeadsToOneState) where
+  lead-alone : (old : State) (change : ChangeParts) → IsAlone (Leads old change)
+  lead-alone old change x y p q = one change old x y p.0 q.0
+
+  before-once : (changes : List ChangeParts) (state : State) → IsOnce (StatesBefore changes state)
+  before-once [] state = gives-once []
+  before-once (change ∷ changes) state = finds-once _ _ _ (lead-alone state (inverse change)) (λ before. then-once _ _ (before-once changes before) (λ states. gives-once (states ++ before ∷ [])))
+
+  behind-once : (number : ℕ) (changes : List ChangeParts) (state : State) → IsOnce (StatesBehind number changes state)
+  behind-once number [] state = gives-once []
+  behind-once number (change ∷ changes) state = finds-once _ _ _ (lead-alone state change) (λ next. then-once _ _ (behind-once (number + 1) changes next) (λ states. gives-once (next ∷ states)))
+
+  past-once : (cursor : ℕ) (changes : List ChangeParts) (state : State) → IsOnce (PastOf cursor changes state)
+  past-once cursor changes state =
+      then-once _ _ (before-once (reverse (take cursor changes)) state) (λ before. then-once _ _ (behind-once (cursor + 2) (drop cursor changes) state) (λ behind. gives-once _))
+
+  -- three byte strings stand for one history, or have one first fault
+  pub opens-once : (requirements lock journal : List ℕ) → IsOnce (Opens requirements lock journal)
+  opens-once requirements lock journal =
+      finds-once _ _ _ (begins-alone journal) (λ begin. then-once _ _ (present-once begin.0 requirements lock) (λ state. then-once _ _ (steps-once begin.0.steps 2 begin.1) (λ changes. past-once begin.0.cursor changes state)))
