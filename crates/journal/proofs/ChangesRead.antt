@@ -1,5 +1,5 @@
 -- What a change of a history has is read back: its entries are those of lawful locks.
-use Rattle.std.proofs.Common.{◌≡◌, ◌≢◌, ℕ, true, Ok, List, [], ◌∷◌, Option, Some, None, refl, sym, subst}
+use Rattle.std.proofs.Common.{◌≡◌, ◌≢◌, ℕ, true, Ok, List, [], ◌∷◌, Option, Some, None, refl, subst}
 use Rattle.std.specs.List.{AllByRecursion, Contains}
 use Rattle.std.proofs.lemmas.List.Elements.{All-contains, All-from_recursion}
 use Rattle.lists.proofs.Members.{Contains-here, Contains-there}
@@ -7,7 +7,7 @@ use Rattle.markers.specs.Names.{is_normal}
 use Rattle.pylock.specs.Locks.{IsLock, LockParts}
 use Rattle.pylock.specs.Packages.{EntryParts, IsPackage}
 use Rattle.pylock.proofs.PackageFacts.{parts}
-use Rattle.edits.specs.Changes.{After, AreEntryChanges, ChangeParts, ChangesDigest, Exchanges, IsEntryChange, IsMinimal, entry_on}
+use Rattle.edits.specs.Changes.{ChangeParts, ChangesDigest, Exchanges, IsEntryChange, IsMinimal, entry_on}
 use Rattle.edits.specs.declared.change.parts.DigestChange.{DigestChange}
 use Rattle.edits.specs.declared.change.parts.EntryChange.{EntryChange}
 use Rattle.edits.specs.State.{IsState}

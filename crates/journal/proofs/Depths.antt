@@ -1,6 +1,5 @@
 -- The JSON values of a journal's lines nest a few levels deep.
-use Rattle.std.proofs.Common.{◌≡◌, ℕ, suc, ◌≤◌, List, [], ◌∷◌, map, Option, Some, None, arith}
-use Rattle.std.specs.Prelude.{max}
+use Rattle.std.proofs.Common.{ℕ, ◌≤◌, List, [], ◌∷◌, map, Option, Some, None, arith}
 use Rattle.pylock.specs.declared.file.FileEntry.{FileEntry}
 use Rattle.pylock.specs.Packages.{EntryParts}
 use Rattle.edits.specs.Changes.{ChangeParts}

@@ -1,16 +1,15 @@
 -- The JSON value of a header is read as the header that it was written for.
-use Rattle.std.proofs.Common.{◌≡◌, ℕ, suc, ◌≤◌, ◌==◌, ◌&&◌, true, List, [], ◌∷◌, length, map, codes, Option, Some, None, Result, Ok, Err, refl, sym, ap, ◌∙◌, arith}
+use Rattle.std.proofs.Common.{◌≡◌, ◌≤◌, true, List, [], ◌∷◌, length, map, Some, Ok, refl, ap, ◌∙◌, arith}
 use Rattle.std.specs.Prelude.{nat_le}
 use Rattle.std.proofs.lemmas.Bool.Decides.{nat_tests}
-use Rattle.markers.specs.Environment.{IsEnvironment, Texts, all_variables, kept_text, is_lawful, text_in, text_of, texts_in}
+use Rattle.markers.specs.Environment.{IsEnvironment, Texts, all_variables, text_in, text_of, texts_in}
 use Rattle.markers.specs.Variables.{variable_name}
-use Rattle.markers.specs.declared.fault.Cause.{Cause}
 use Rattle.markers.specs.declared.variable.Variable.{Variable}
 use Rattle.markers.specs.declared.variable.Variable.TheVariants as variables
-use Rattle.serde_json.specs.Data.{Data, string}
+use Rattle.serde_json.specs.Data.{string}
 use Rattle.serde_json.specs.Find.{get}
 use Rattle.journal.specs.declared.format.header.Header.{Header}
-use Rattle.journal.specs.Format.Lines.{environment_in, header_in, texts_read}
+use Rattle.journal.specs.Format.Lines.{environment_in, header_in}
 use Rattle.journal.specs.Format.Written.{environment_data, header_data}
 use Rattle.journal.proofs.KeptTexts.{kept-lawful}
 use Rattle.journal.proofs.StepsBack.{IsDigest, digest-back}

@@ -1,6 +1,6 @@
 -- A text that reads as a version doesn't end in `+`, so an environment's texts are kept as they are.
 use Rattle.std.proofs.Common.{◌≡◌, ◌⊎◌, ℕ, ◌-◌, ◌<◌, ◌==◌, true, false, Bool, List, [], ◌∷◌, ◌++◌, length, length-append, map, codes, Option, Some, None, Result, Ok, Err, refl, sym, ap, subst, ◌∙◌, inl, inr, arith, true≢false}
-use Rattle.std.specs.Prelude.{suc, is_some, if◌then◌else◌, ◌&&◌, nat_lt, not, slice_index}
+use Rattle.std.specs.Prelude.{suc, is_some, if◌then◌else◌, ◌&&◌, nat_lt, slice_index}
 use Rattle.std.specs.List.{list_all}
 use Rattle.std.specs.Char.{is_ascii_alphanumeric, is_ascii_digit, to_ascii_lowercase}
 use Rattle.std.proofs.lemmas.Bool.{and_parts}
@@ -17,7 +17,7 @@ use Rattle.pep440.proofs.Trims.{parts-spell}
 use Rattle.std.specs.Result.{result_ok}
 use Rattle.std.proofs.lemmas.Bool.Decides.{nat_tests}
 use Rattle.markers.specs.Comparisons.{version_read}
-use Rattle.markers.specs.Environment.{ends_in_plus, is_lawful, is_unescaped, is_versioned, kept_text, without_plus}
+use Rattle.markers.specs.Environment.{ends_in_plus, is_lawful, is_unescaped, kept_text}
 use Rattle.markers.specs.declared.variable.Variable.{Variable}
 use Rattle.markers.specs.declared.variable.Variable.TheVariants as variables
 

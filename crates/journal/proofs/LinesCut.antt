@@ -1,9 +1,9 @@
 -- The lines of a journal are cut where they were joined: no value is written with an LF.
-use Rattle.std.proofs.Common.{◌≡◌, ◌≢◌, ℕ, zero, suc, ◌+◌, ◌-◌, ◌*◌, ◌/◌, ◌%◌, ◌<◌, ◌≤◌, ◌==◌, ◌||◌, Bool, true, false, cond, not, List, [], ◌∷◌, ◌++◌, length, length-append, take, drop, Option, Some, append_assoc, refl, sym, subst, arith, nat_lt, pos, negsuc, true≢false}
-use Rattle.std.specs.Prelude.{codes, if◌then◌else◌, position, decimal}
-use Rattle.std.specs.List.{flat_map, list_all, prefix_len}
+use Rattle.std.proofs.Common.{◌≡◌, ◌≢◌, ℕ, zero, suc, ◌+◌, ◌/◌, ◌%◌, ◌==◌, ◌||◌, Bool, true, false, cond, not, List, [], ◌∷◌, ◌++◌, length, length-append, Some, append_assoc, refl, sym, subst, arith, nat_lt, pos, negsuc, true≢false}
+use Rattle.std.specs.Prelude.{if◌then◌else◌, position, decimal}
+use Rattle.std.specs.List.{list_all, prefix_len}
 use Rattle.std.specs.Char.{digit_char}
-use Rattle.std.specs.Fmt.{digit_glyph, digits, digits_onto, signed_decimal}
+use Rattle.std.specs.Fmt.{digit_glyph, digits, digits_onto}
 use Rattle.std.proofs.Math.Seq.{drop-append-add, take-append_seam}
 use Rattle.std.proofs.lemmas.Bool.{and_parts}
 use Rattle.std.proofs.lemmas.Bool.Decides.{nat_tests}

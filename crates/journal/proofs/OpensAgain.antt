@@ -1,5 +1,5 @@
 -- A history that was saved opens again.
-use Rattle.std.proofs.Common.{◌≡◌, ℕ, zero, suc, ◌+◌, ◌<◌, ◌≤◌, true, List, [], ◌∷◌, ◌++◌, length, Option, Some, Result, Ok, refl, sym, ap, subst, ◌∙◌, append_assoc, inl, arith}
+use Rattle.std.proofs.Common.{◌≡◌, ℕ, zero, suc, ◌+◌, ◌<◌, true, List, [], ◌∷◌, ◌++◌, length, Some, Ok, refl, sym, subst, inl, arith}
 use Rattle.std.specs.Int.{byte_at, bytes_high_first, to_be_bytes, w32}
 use Rattle.std.specs.Prelude.{slice_index}
 use Rattle.std.proofs.lemmas.Option.{slice_get_within}
@@ -22,8 +22,8 @@ use Rattle.edits.specs.State.{IsState}
 use Rattle.journal.specs.Values.{State}
 use Rattle.journal.specs.Past.{Past}
 use Rattle.journal.specs.Format.Forms.{json_of}
-use Rattle.journal.specs.Format.Lines.{IsStepLine, header_of_line, step_in, step_of_line}
-use Rattle.journal.specs.Format.Written.{header_data, journal_of, line_of, step_data}
+use Rattle.journal.specs.Format.Lines.{IsStepLine, header_of_line, step_of_line}
+use Rattle.journal.specs.Format.Written.{header_data, line_of, step_data}
 use Rattle.journal.specs.Opening.{BeginsWith, Opens, Present, StepLines}
 use Rattle.journal.specs.Saving.{IsSaved, OpensAs, header_for}
 use Rattle.journal.specs.Tied.{AreWritten, IsWritten}

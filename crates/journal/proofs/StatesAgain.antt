@@ -1,15 +1,15 @@
 -- The changes of a history lead to its states again, in both directions.
-use Rattle.std.proofs.Common.{◌≡◌, ℕ, zero, suc, ◌+◌, ◌-◌, ◌<◌, ◌≤◌, List, [], ◌∷◌, ◌++◌, drop, get_or, length, reverse, take, Option, Some, None, Result, Ok, refl, sym, ap, subst, ◌∙◌, inl, arith, add-one}
+use Rattle.std.proofs.Common.{◌≡◌, ℕ, zero, suc, ◌+◌, ◌<◌, List, [], ◌∷◌, ◌++◌, drop, get_or, length, reverse, take, Some, Ok, refl, sym, ap, subst, ◌∙◌, inl, arith, add-one}
 use Rattle.std.specs.Prelude.{slice_get}
 use Rattle.std.specs.List.{AllByRecursion}
-use Rattle.std.proofs.lemmas.List.{drop_more, length-reverse, length-take-le, reverse-append, take-append-drop, take_more}
+use Rattle.std.proofs.lemmas.List.{drop_more, reverse-append, take-append-drop, take_more}
 use Rattle.std.proofs.lemmas.Option.{get_or_from_slice_get, slice_get_within}
 use Rattle.edits.specs.Changes.{After, ChangeParts, Leads, inverse}
 use Rattle.edits.specs.State.{IsState}
 use Rattle.edits.proofs.ChangeFacts.{After-inverse}
-use Rattle.journal.specs.Values.{State, Refusal}
+use Rattle.journal.specs.Values.{State}
 use Rattle.journal.specs.Past.{Past, present}
-use Rattle.journal.specs.Changes.{AreSteps, IsChange}
+use Rattle.journal.specs.Changes.{AreSteps}
 use Rattle.journal.specs.Opening.{PastOf, StatesBefore, StatesBehind}
 use Rattle.journal.proofs.Histories.{AreSteps-at, AreSteps-count}
 

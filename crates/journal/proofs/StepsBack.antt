@@ -1,7 +1,7 @@
 -- The JSON values of steps are read as what they were written for.
-use Rattle.std.proofs.Common.{◌≡◌, ◌≢◌, ℕ, true, false, not, List, [], ◌∷◌, length, map, codes, Option, Some, None, is_some, Result, Ok, refl, sym, ap, subst}
+use Rattle.std.proofs.Common.{◌≡◌, ℕ, true, false, List, [], ◌∷◌, length, map, Option, Some, None, is_some, Result, Ok, refl, subst}
 use Rattle.std.specs.Prelude.{IfSome}
-use Rattle.std.specs.List.{AllByRecursion, Contains, list_all}
+use Rattle.std.specs.List.{AllByRecursion, list_all}
 use Rattle.std.specs.Str.{bytes_eq}
 use Rattle.std.proofs.lemmas.Bool.{and_parts}
 use Rattle.std.proofs.lemmas.Slice.Eq.{bytes_eq-Decides}
@@ -17,15 +17,15 @@ use Rattle.pylock.proofs.PackageFacts.{parts}
 use Rattle.serde_json.specs.Data.{Data, string}
 use Rattle.serde_json.specs.Find.{as_null}
 use Rattle.serde_json.specs.View.{items_of}
-use Rattle.edits.specs.Changes.{ChangeParts, IsOn}
+use Rattle.edits.specs.Changes.{ChangeParts}
 use Rattle.edits.specs.declared.change.parts.DigestChange.{DigestChange}
 use Rattle.edits.specs.declared.change.parts.EntryChange.{EntryChange}
 use Rattle.edits.specs.declared.change.parts.Splice.{Splice}
 use Rattle.journal.specs.declared.format.flaw.Flaw.{Flaw}
 use Rattle.journal.specs.Format.Entries.{digest_in, entry_in, file_in, name_in, version_in}
-use Rattle.journal.specs.Format.Forms.{each, list_of, or_null, text_of}
+use Rattle.journal.specs.Format.Forms.{each, or_null, text_of}
 use Rattle.journal.specs.Format.Lines.{digests_in, entry_change_in, splice_in, step_in}
-use Rattle.journal.specs.Format.Written.{array_of, digest_data, digests_data, entry_change_data, entry_data, file_data, nullable, splice_data, step_data}
+use Rattle.journal.specs.Format.Written.{digest_data, digests_data, entry_change_data, entry_data, file_data, nullable, splice_data, step_data}
 
 same_bytes : (t : List ℕ) → bytes_eq t t ≡ true
 same_bytes t = (bytes_eq-Decides t t).1 refl

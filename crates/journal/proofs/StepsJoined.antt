@@ -1,11 +1,11 @@
 -- The states that minimal changes lead to, joined, are a history with these changes.
-use Rattle.std.proofs.Common.{◌≡◌, ℕ, zero, suc, ◌+◌, ◌-◌, ◌≤◌, List, [], ◌∷◌, ◌++◌, length, drop, take, Result, Ok, Err, refl, sym, ap, subst, ◌∙◌, append_assoc, arith, inl, inr}
+use Rattle.std.proofs.Common.{◌≡◌, ℕ, zero, suc, ◌+◌, List, [], ◌∷◌, ◌++◌, length, drop, take, Result, Ok, Err, sym, ap, subst, ◌∙◌, append_assoc, inl, inr}
 use Rattle.std.specs.Prelude.{reverse}
 use Rattle.std.specs.List.{AllByRecursion}
 use Rattle.std.proofs.lemmas.List.{reverse-append, reverse-reverse, take-append-drop}
 use Rattle.edits.specs.Changes.{After, ChangeParts, IsMinimal, inverse}
 use Rattle.edits.specs.declared.refusal.Refusal.TheVariants.{JournalBroken}
-use Rattle.edits.proofs.ChangeFacts.{After-inverse, IsMinimal-inverse, inverse-inverse}
+use Rattle.edits.proofs.ChangeFacts.{After-inverse, inverse-inverse}
 use Rattle.journal.specs.Values.{State, Refusal}
 use Rattle.journal.specs.Changes.{AreSteps, IsChange}
 use Rattle.journal.specs.Opening.{Gives, GoesOn, StatesBefore, StatesBehind}

@@ -18,7 +18,7 @@ use Rattle.serde_json.specs.Written.{compact_text, has_float, items_have_float}
 use Rattle.journal.specs.Tied.{AreWritten, IsWritten}
 use Rattle.journal.proofs.StepsJoined.{all-append}
 use Rattle.journal.specs.declared.format.header.Header.{Header}
-use Rattle.journal.specs.Format.Written.{array_of, digests_data, entry_change_data, entry_data, environment_data, file_data, header_data, line_of, nullable, splice_data, step_data}
+use Rattle.journal.specs.Format.Written.{digests_data, entry_change_data, entry_data, environment_data, file_data, header_data, line_of, nullable, splice_data, step_data}
 
 module _ {X : Type 0} (form : X → Data) (plain : (x : X) → has_float (form x) ≡ false) where
   array-plain : (xs : List X) → items_have_float (items_of (map form xs)) ≡ false

@@ -2,7 +2,6 @@
 use Rattle.std.specs.Prelude.{◌≡◌, ◌⊎◌, ℕ, zero, suc, ◌+◌, List, [], ◌∷◌, ◌++◌, drop, length, reverse, take, Some, ⊤, Result, Ok, Err}
 use Rattle.markers.specs.Environment.{marker_text}
 use Rattle.pep508.specs.Requirement.{file_of}
-use Rattle.pylock.specs.Locks.{LockParts}
 use Rattle.pylock.specs.Reading.{lock_in_text}
 use Rattle.sha2.specs.Sha256.{sha256}
 use Rattle.edits.specs.Changes.{ChangeParts, Leads, inverse}

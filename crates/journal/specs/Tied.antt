@@ -1,5 +1,5 @@
 -- What serves the proofs alone. Tied to `Opens` by the contracts of `Session::open` and `Session::save`; need not be read.
-use Rattle.std.specs.Prelude.{◌≡◌, true, List, [], ◌∷◌, Some, Result, Ok, Err}
+use Rattle.std.specs.Prelude.{◌≡◌, true, List, [], ◌∷◌, Some}
 use Rattle.std.specs.List.{AllByRecursion}
 use Rattle.std.specs.Str.{is_utf8}
 use Rattle.serde_json.specs.Data.{Data}
@@ -8,7 +8,7 @@ use Rattle.serde_json.specs.Written.{compact_text}
 use Rattle.edits.specs.Changes.{ChangeParts}
 use Rattle.journal.specs.Format.Written.{header_data, step_data}
 use Rattle.journal.specs.declared.format.header.Header.{Header}
-use Rattle.journal.specs.Values.{State, Refusal}
+use Rattle.journal.specs.Values.{State}
 
 -- the last of the states, or else this one
 abbrev pub last_or : State → List State → State

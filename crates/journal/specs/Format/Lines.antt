@@ -1,5 +1,5 @@
 -- The lines of a journal (reqlock's own format).
-use Rattle.std.specs.Prelude.{◌≡◌, ℕ, ◌+◌, ◌==◌, ◌&&◌, nat_le, List, [], ◌∷◌, codes, drop, map, take, position, Option, Some, None, option_map, Result, Ok, Err, if◌then◌else◌}
+use Rattle.std.specs.Prelude.{◌≡◌, ℕ, ◌+◌, ◌==◌, ◌&&◌, nat_le, List, [], ◌∷◌, codes, drop, map, take, position, Option, option_map, Result, Ok, Err}
 use Rattle.edits.specs.Changes.{ChangeParts, IsMinimal}
 use Rattle.edits.specs.declared.change.parts.DigestChange.{DigestChange}
 use Rattle.edits.specs.declared.change.parts.EntryChange.{EntryChange}

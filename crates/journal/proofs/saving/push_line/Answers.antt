@@ -1,7 +1,4 @@
-use Rattle.std.proofs.Common.{◌≡◌, string_bytes, ◌∙◌, ap, sym}
 use Rattle.std.proofs.lemmas.Str.{is_utf8-from_IsUtf8}
-use Rattle.serde_json.specs.View.{view}
-use Rattle.serde_json.specs.Written.{compact_text}
 use Rattle.journal.proofs.WrittenFacts.{is-written, on-ok}
 use Rattle.journal.proofs.saving.push_line.Goals as goal
 

@@ -1,7 +1,5 @@
-use Rattle.std.proofs.Common.{◌≡◌, ◌+◌, ◌-◌, ◌≤◌, List, ◌∷◌, ◌++◌, [], Ok, append_assoc, arith, drop, length, length-drop, reverse, sym, take, ◌∙◌, ap}
-use Rattle.std.specs.List.{AllByRecursion}
+use Rattle.std.proofs.Common.{◌≡◌, ◌+◌, ◌-◌, ◌≤◌, ◌∷◌, ◌++◌, [], Ok, append_assoc, arith, drop, length, length-drop, reverse, sym, take, ◌∙◌, ap}
 use Rattle.std.proofs.lemmas.List.{take_all}
-use Rattle.edits.specs.Changes.{IsMinimal}
 use Rattle.journal.specs.Changes.{AreSteps}
 use Rattle.journal.specs.Opening.{StatesBefore, StatesBehind}
 use Rattle.journal.proofs.Histories.{AreSteps-count}

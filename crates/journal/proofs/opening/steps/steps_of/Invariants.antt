@@ -1,4 +1,4 @@
-use Rattle.std.proofs.Common.{◌+◌, ◌≤◌, length, vec_len}
+use Rattle.std.proofs.Common.{◌+◌, ◌≤◌, length}
 use Rattle.journal.proofs.StepFacts.{ReadSoFar}
 use Rattle.journal.proofs.opening.steps.steps_of.Given as goal
 
