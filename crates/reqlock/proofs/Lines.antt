@@ -9,7 +9,7 @@ use Rattle.std.specs.List.{filter_map, cons_option}
 use Rattle.std.specs.Option.{option_to_list}
 use Rattle.reqlock.specs.declared.command_line.Item.{Item}
 use Rattle.reqlock.specs.declared.command_line.Item.TheVariants.{BadCommand}
-use Rattle.reqlock.specs.CommandLine.{Line, with_first, lines_of, longest_line, item_of, IsUnbroken, commands_of}
+use Rattle.reqlock.specs.CommandLine.{Line, with_first, lines_of, longest_line, item_of, ended_item_of, IsUnbroken, commands_of, ended_commands_of}
 
 -- what fits behind a line of at most n bytes
 pub take_room : (n : ℕ) (xs ys : List ℕ) → length xs ≤ n → take n (xs ++ ys) ≡ xs ++ take (n - length xs) ys
@@ -60,51 +60,87 @@ append_nil : (xs : List ℕ) → xs ++ [] ≡ xs
 append_nil [] = refl
 append_nil (x ∷ xs) = ap (λ ys. x ∷ ys) (append_nil xs)
 
--- a line with its LF, and the rest
-pub commands_ended : (line rest : List ℕ) → IsUnbroken line → commands_of ((line ++ 10 ∷ []) ++ rest) ≡ option_to_list (item_of (record { bytes = line; is_ended = true })) ++ commands_of rest
-commands_ended line rest unbroken =
+-- a line with its LF, and the rest, by whatever a line asks for
+items_ended : (h : Line → Option Item) (line rest : List ℕ) → IsUnbroken line → filter_map h (lines_of ((line ++ 10 ∷ []) ++ rest)) ≡ option_to_list (h (record { bytes = line; is_ended = true })) ++ filter_map h (lines_of rest)
+items_ended h line rest unbroken =
     let whole : lines_of ((line ++ 10 ∷ []) ++ rest) ≡ record { bytes = line; is_ended = true } ∷ lines_of rest =
     ap lines_of (append_assoc line (10 ∷ []) rest) ∙ lines_behind line (10 ∷ rest) unbroken ∙ with_front_cons line (record { bytes = []; is_ended = true }) (lines_of rest)
     ∙ ap (λ bytes. record { bytes = bytes; is_ended = true } ∷ lines_of rest) (append_nil line) in
-    ap (filter_map item_of) whole ∙ cons_is_append (item_of (record { bytes = line; is_ended = true })) (commands_of rest)
+    ap (filter_map h) whole ∙ cons_is_append (h (record { bytes = line; is_ended = true })) (filter_map h (lines_of rest))
+
+-- a text without LF is one line
+one_line : (b : ℕ) (bs : List ℕ) → IsUnbroken (b ∷ bs) → lines_of (b ∷ bs) ≡ record { bytes = b ∷ bs; is_ended = false } ∷ []
+one_line b bs unbroken = ap lines_of (sym (append_nil (b ∷ bs))) ∙ lines_behind (b ∷ bs) [] unbroken ∙ with_front_nil b bs
 
 -- a last line without LF
 pub commands_last : (line : List ℕ) → IsUnbroken line → 0 < length line → commands_of line ≡ option_to_list (item_of (record { bytes = line; is_ended = false }))
 commands_last [] unbroken long = absurd (omega arith)
 commands_last (b ∷ bs) unbroken long =
-    let whole : lines_of (b ∷ bs) ≡ record { bytes = b ∷ bs; is_ended = false } ∷ [] =
-    ap lines_of (sym (append_nil (b ∷ bs))) ∙ lines_behind (b ∷ bs) [] unbroken ∙ with_front_nil b bs in
-    ap (filter_map item_of) whole ∙ cons_is_append (item_of (record { bytes = b ∷ bs; is_ended = false })) [] ∙ one_item (item_of (record { bytes = b ∷ bs; is_ended = false }))
+    ap (filter_map item_of) (one_line b bs unbroken) ∙ cons_is_append (item_of (record { bytes = b ∷ bs; is_ended = false })) [] ∙ one_item (item_of (record { bytes = b ∷ bs; is_ended = false }))
 
 -- a line that is too long, however it goes on
 too_long : (line : Line) → longest_line < length line.bytes → item_of line ≡ Some BadCommand
 too_long line long = rw (lt-ltb longest_line (length line.bytes) long) refl
 
--- what follows the first line
-behind : List Line → List Item
-behind [] = []
-behind (line ∷ lines) = filter_map item_of lines
+-- lines that are too long ask for the same, whatever they hold
+pub record AsksAlike (h : Line → Option Item) : Type 0 where
+  pub alike : (xs ys : List ℕ) (is_ended : Bool) → longest_line < length xs → longest_line < length ys → h (record { bytes = xs; is_ended = is_ended }) ≡ h (record { bytes = ys; is_ended = is_ended })
 
-long_commands : (front : List ℕ) (lines : List Line) → longest_line < length front → filter_map item_of (with_front front lines) ≡ BadCommand ∷ behind lines
-unfolding behind
-long_commands [] lines long = absurd (omega arith)
-long_commands (b ∷ bs) [] long = rw (with_front_nil b bs, too_long (record { bytes = b ∷ bs; is_ended = false }) long) refl
-long_commands (b ∷ bs) (line ∷ lines) long =
+pub items_alike : AsksAlike item_of
+items_alike = record {
+  alike = λ xs ys is_ended first second.
+      too_long (record { bytes = xs; is_ended = is_ended }) first ∙ sym (too_long (record { bytes = ys; is_ended = is_ended }) second);
+}
+
+ended_alike : (xs ys : List ℕ) (is_ended : Bool) → longest_line < length xs → longest_line < length ys → ended_item_of (record { bytes = xs; is_ended = is_ended }) ≡ ended_item_of (record { bytes = ys; is_ended = is_ended })
+ended_alike xs ys true first second = items_alike.alike xs ys true first second
+ended_alike xs ys false first second = refl
+
+pub ended_items_alike : AsksAlike ended_item_of
+ended_items_alike = record { alike = ended_alike }
+
+long_items : (h : Line → Option Item) (front other : List ℕ) (lines : List Line) → AsksAlike h → longest_line < length front → longest_line < length other → filter_map h (with_front front lines) ≡ filter_map h (with_front other lines)
+long_items h [] other lines same first second = absurd (omega arith)
+long_items h (b ∷ bs) [] lines same first second = absurd (omega arith)
+long_items h (b ∷ bs) (c ∷ cs) [] same first second =
+    ap (filter_map h) (with_front_nil b bs) ∙ ap (λ item. cons_option item []) (same.alike (b ∷ bs) (c ∷ cs) false first second) ∙ sym (ap (filter_map h) (with_front_nil c cs))
+long_items h (b ∷ bs) (c ∷ cs) (line ∷ lines) same first second =
     let longer : longest_line < length ((b ∷ bs) ++ line.bytes) = rw length-append (omega arith) in
-    ap (filter_map item_of) (with_front_cons (b ∷ bs) line lines)
-    ∙ ap (λ item. cons_option item (filter_map item_of lines)) (too_long (record { bytes = (b ∷ bs) ++ line.bytes; is_ended = line.is_ended }) longer)
+    let other : longest_line < length ((c ∷ cs) ++ line.bytes) = rw length-append (omega arith) in
+    ap (filter_map h) (with_front_cons (b ∷ bs) line lines)
+    ∙ ap (λ item. cons_option item (filter_map h lines)) (same.alike ((b ∷ bs) ++ line.bytes) ((c ∷ cs) ++ line.bytes) line.is_ended longer other)
+    ∙ sym (ap (filter_map h) (with_front_cons (c ∷ cs) line lines))
 
 -- of a line that is too long the bytes past the limit don't matter
-pub commands_kept : (line rest : List ℕ) → IsUnbroken line → commands_of (take 65537 line ++ rest) ≡ commands_of (line ++ rest)
-commands_kept line rest unbroken =
+pub items_kept : (h : Line → Option Item) (line rest : List ℕ) → AsksAlike h → IsUnbroken line → filter_map h (lines_of (take 65537 line ++ rest)) ≡ filter_map h (lines_of (line ++ rest))
+items_kept h line rest same unbroken =
     elim (cases_Bool (nat_lt 65537 (length line))) [
       | inl is ↦
           let above : 65537 < length line = ltb-true _ _ is in
           let held : longest_line < length (take 65537 line) = rw length-take (omega arith) in
-          ap (filter_map item_of) (lines_behind (take 65537 line) rest (unbroken_take 65537 line unbroken)) ∙ long_commands (take 65537 line) (lines_of rest) held
-          ∙ sym (ap (filter_map item_of) (lines_behind line rest unbroken) ∙ long_commands line (lines_of rest) (omega arith))
-      | inr is ↦ ap (λ front. commands_of (front ++ rest)) (take_all 65537 line (ltb-false _ _ is))
+          ap (filter_map h) (lines_behind (take 65537 line) rest (unbroken_take 65537 line unbroken))
+          ∙ long_items h (take 65537 line) line (lines_of rest) same held (omega arith)
+          ∙ sym (ap (filter_map h) (lines_behind line rest unbroken))
+      | inr is ↦ ap (λ front. filter_map h (lines_of (front ++ rest))) (take_all 65537 line (ltb-false _ _ is))
     ]
+
+-- a pending line that its LF ends is one line more, of which no more than the limit is held
+pub items_of_line : (h : Line → Option Item) (pending line behind rest : List ℕ) → AsksAlike h → IsUnbroken pending → IsUnbroken line
+    → filter_map h (lines_of ((pending ++ (line ++ (10 ∷ behind))) ++ rest)) ≡ option_to_list (h (record { bytes = take 65537 (pending ++ line); is_ended = true })) ++ filter_map h (lines_of (behind ++ rest))
+items_of_line h pending line behind rest same first second =
+    let whole = unbroken_append pending line first second in
+    let held = take 65537 (pending ++ line) in
+    let regrouped : (pending ++ (line ++ (10 ∷ behind))) ++ rest ≡ (pending ++ line) ++ (10 ∷ (behind ++ rest)) = simp append_assoc in
+    let ended : held ++ (10 ∷ (behind ++ rest)) ≡ (held ++ 10 ∷ []) ++ (behind ++ rest) = simp append_assoc in
+    ap (λ bytes. filter_map h (lines_of bytes)) regrouped
+    ∙ sym (items_kept h (pending ++ line) (10 ∷ (behind ++ rest)) same whole)
+    ∙ ap (λ bytes. filter_map h (lines_of bytes)) ended
+    ∙ items_ended h held (behind ++ rest) (unbroken_take 65537 (pending ++ line) whole)
+
+-- a line that no LF has ended asks for nothing yet
+pub none_ended : (line : List ℕ) → IsUnbroken line → ended_commands_of line ≡ []
+none_ended [] unbroken = refl
+none_ended (b ∷ bs) unbroken = ap (filter_map ended_item_of) (one_line b bs unbroken)
 
 not_true : (b : Bool) → (b ≡ true → ⊥) → b ≡ false
 not_true true not = absurd (not refl)

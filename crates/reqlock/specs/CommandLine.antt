@@ -130,3 +130,11 @@ IsUnbroken (b ∷ bs) = ((b == 10) ≡ false) × IsUnbroken bs
 -- the commands of an input, one for each line that isn't blank
 abbrev pub commands_of : List ℕ → List Item
 commands_of input = filter_map item_of (lines_of input)
+
+-- what a line asks for that an LF ended: any other has not been read to its end
+abbrev pub ended_item_of : Line → Option Item
+ended_item_of line = if line.is_ended then item_of line else None
+
+-- the commands of an input whose lines an LF ended
+abbrev pub ended_commands_of : List ℕ → List Item
+ended_commands_of input = filter_map ended_item_of (lines_of input)

@@ -55,6 +55,7 @@ other_shapes =
     ∷ new_shape (codes "try")
     ∷ new_shape (codes "show")
     ∷ new_shape (codes "log")
+    ∷ new_shape (codes "check")
     ∷ new_shape (codes "skipped")
     ∷ []
 

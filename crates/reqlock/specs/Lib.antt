@@ -6,4 +6,5 @@ pub mod InputWords
 pub mod Replies
 pub mod Requests
 pub mod Runs
+pub mod Standings
 pub mod Streams

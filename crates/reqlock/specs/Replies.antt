@@ -1,5 +1,5 @@
 -- How replies are written. All of it is reqlock's own rule.
-use Rattle.std.specs.Prelude.{ℕ, List, ◌++◌, codes, decimal}
+use Rattle.std.specs.Prelude.{ℕ, Bool, true, false, List, ◌++◌, codes, decimal}
 use Rattle.std.specs.List.{flat_map}
 use Rattle.edits.specs.declared.refusal.Refusal.{Refusal}
 use Rattle.edits.specs.declared.refusal.Refusal.TheVariants as refusals
@@ -31,3 +31,14 @@ text_of_reply (Refused refusal) = codes "refused " ++ word_of refusal ++ codes "
 -- the replies one after another
 abbrev pub reply_text : List Reply → List ℕ
 reply_text = flat_map text_of_reply
+
+-- whether a reply tells of an accepted command
+abbrev pub is_accepted : Reply → Bool
+is_accepted (Done cursor) = true
+is_accepted Same = false
+is_accepted (Refused refusal) = false
+
+-- the text of the last reply, and whether one of the replies so far was `ok`
+pub record Telling : Type 0 where
+  pub text : List ℕ
+  pub has_accepted : Bool

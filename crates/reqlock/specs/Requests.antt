@@ -14,7 +14,7 @@ use Rattle.reqlock.specs.declared.request.Invocation.{Invocation}
 use Rattle.reqlock.specs.declared.request.RequestFault.{RequestFault}
 use Rattle.reqlock.specs.declared.request.RequestFault.TheVariants.{Usage, Needed, OutOfMemory}
 use Rattle.reqlock.specs.declared.request.Subcommand.{Subcommand}
-use Rattle.reqlock.specs.declared.request.Subcommand.TheVariants.{Init, Edit, Undo, Redo, Batch, Try, Show, Log, Skipped}
+use Rattle.reqlock.specs.declared.request.Subcommand.TheVariants.{Init, Edit, Undo, Redo, Batch, Try, Show, Log, Check, Skipped}
 use Rattle.reqlock.specs.declared.request.NeededOption.TheVariants.{Index, Environment}
 use Rattle.reqlock.specs.CommandWords.{reqlock_app}
 
@@ -58,6 +58,7 @@ IsAsked index environment name rows (Batch over) = (name ≡ codes "batch") × (
 IsAsked index environment name rows (Try inputs) = (name ≡ codes "try") × HasInputs index environment inputs
 IsAsked index environment name rows Show = name ≡ codes "show"
 IsAsked index environment name rows Log = name ≡ codes "log"
+IsAsked index environment name rows Check = name ≡ codes "check"
 IsAsked index environment name rows (Skipped over) = (name ≡ codes "skipped") × (index ≡ Some over.now)
 
 -- clap reads the words, and the request has what it finds in them
@@ -77,7 +78,7 @@ NeedsIndex name rows = NeedsEnvironment name ⊎ (name ≡ codes "batch") ⊎ (n
 abbrev pub AsksNothing : Text → List Row → Type 0
 AsksNothing name rows =
     (edit_of name rows ≡ None)
-    × All (λ known. name ≢ known) (codes "init" ∷ codes "try" ∷ codes "batch" ∷ codes "skipped" ∷ codes "undo" ∷ codes "redo" ∷ codes "show" ∷ codes "log" ∷ [])
+    × All (λ known. name ≢ known) (codes "init" ∷ codes "try" ∷ codes "batch" ∷ codes "skipped" ∷ codes "undo" ∷ codes "redo" ∷ codes "show" ∷ codes "log" ∷ codes "check" ∷ [])
 
 -- the option that is missing; the index is asked for first
 abbrev pub LacksInput : Option Text → Option Text → RequestFault → Type 0

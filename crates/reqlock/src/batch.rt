@@ -1,12 +1,13 @@
 // Commands read from a source, and their replies written to a sink.
 
-ghost use Rattle.std.specs.Prelude.{◌≡◌, ◌⊎◌, ◌≤◌, ◌<◌, ◌+◌, ◌++◌, [], ◌∷◌, true, false, length, take, drop, OnOk, IfOk, IfErr, IfSome, IfNone};
-ghost use Rattle.std.specs.Io.KnownBytes.{Appends, Consumes, IsAtEnd};
+ghost use Rattle.std.specs.Prelude.{◌≡◌, ◌⊎◌, ◌≤◌, ◌<◌, ◌+◌, ◌||◌, ◌++◌, [], ◌∷◌, true, false, length, take, drop, OnOk, OnErr, IfOk, IfErr, IfSome, IfNone};
+ghost use Rattle.std.specs.Io.KnownBytes.{Appends, Consumes, IsAtEnd, Keeps};
 ghost use Rattle.std.specs.Option.{option_to_list};
 ghost use Rattle.reqlock.specs.CommandLine.{commands_of, item_of, IsUnbroken};
 ghost use Rattle.reqlock.specs.Faults.{IsFailure};
-ghost use Rattle.reqlock.specs.Replies.{text_of_reply};
-ghost use Rattle.reqlock.specs.Runs.{Answered, Answers, Reads, StepOf};
+ghost use Rattle.reqlock.specs.Replies.{is_accepted, text_of_reply};
+ghost use Rattle.reqlock.specs.Runs.{Answered, AnsweredWith, BreaksOff, EndsAt, IsCutOff, Replied};
+ghost use Rattle.reqlock.specs.Standings.{Advances, Answers, Breaks, Reads, standing};
 ghost use Rattle.reqlock.specs.declared.batch.BatchFault.TheVariants.{OutOfMemory};
 
 use crate::command_line::{Item, read_item};
@@ -46,7 +47,6 @@ impl From<AllocError> for BatchFault {
 
 /// Does the commands that `source` gives, one a line, and writes the reply to each to `sink` as
 /// its line is read. A refusal, of memory too, ends nothing; the first failed call ends the batch.
-/// Of a fault no more is promised than the clauses say: not yet how many commands were done.
 pub fn batch<S: Source, K: Sink>(
     alloc: Global,
     source: &mut S,
@@ -65,11 +65,17 @@ pub fn batch<S: Source, K: Sink>(
     // A fault is of the stream that failed, and want of memory comes before all else.
     ensures fault { IfErr result (λ e. (e ≡ BatchFault.OutOfMemory)
         ⊎ IsFailure e (S.has_failed source.new) (K.has_failed sink.new)) }
+    // What is done where a fault ends it, and what of the replies stands.
+    ensures left { IfErr result (λ e. IfSome (S.remaining source.old) (λ input.
+        EndsAt e snapshot.now input (S.remaining source.new) session.old session.new
+        (K.contents sink.old) (K.contents sink.new))) }
     ensures memory { result ≡ Err BatchFault.OutOfMemory
         → (session.new ≡ session.old) × (sink.new ≡ sink.old) × (source.new ≡ source.old) }
 {
-    let mut text = ReplyText::new(alloc)?;
-    answer_all(alloc, source, sink, session, snapshot, &mut text)
+    match accepted_in(alloc, source, sink, session, snapshot) {
+        Ok(_) => Ok(()),
+        Err(fault) => Err(fault),
+    }
 }
 
 /// As `batch`. It answers whether some command was accepted; where none was, the session is as it
@@ -83,12 +89,31 @@ pub(crate) fn accepted_in<S: Source, K: Sink>(
 ) -> Result<bool, BatchFault>
     requires source { S.has_failed source.old ≡ false }
     requires sink { K.has_failed sink.old ≡ false }
-    ensures answered { OnOk result (IfSome (S.remaining source.old) (λ input.
-        Answered snapshot.now (commands_of input) session.old session.new
+    ensures answered { IfOk result (λ accepted. IfSome (S.remaining source.old) (λ input.
+        AnsweredWith accepted snapshot.now (commands_of input) session.old session.new
         (K.contents sink.old) (K.contents sink.new))) }
+    ensures end { OnOk result (IsAtEnd (S.remaining source.new)) }
+    ensures fault { IfErr result (λ e. (e ≡ BatchFault.OutOfMemory)
+        ⊎ IsFailure e (S.has_failed source.new) (K.has_failed sink.new)) }
+    ensures left { IfErr result (λ e. IfSome (S.remaining source.old) (λ input.
+        EndsAt e snapshot.now input (S.remaining source.new) session.old session.new
+        (K.contents sink.old) (K.contents sink.new))) }
+    ensures memory { result ≡ Err BatchFault.OutOfMemory
+        → (session.new ≡ session.old) × (sink.new ≡ sink.old) × (source.new ≡ source.old) }
 {
     let mut text = ReplyText::new(alloc)?;
-    answer_all(alloc, source, sink, session, snapshot, &mut text)?;
+    let mut piece = vec![in alloc; 0u8; PIECE]?;
+    let mut pending = PendingLine::new(alloc)?;
+    answer_all(
+        alloc,
+        source,
+        piece.as_mut_slice(),
+        &mut pending,
+        &mut text,
+        sink,
+        session,
+        snapshot,
+    )?;
     Ok(text.has_accepted())
 }
 
@@ -96,35 +121,28 @@ pub(crate) fn accepted_in<S: Source, K: Sink>(
 fn answer_all<S: Source, K: Sink>(
     alloc: Global,
     source: &mut S,
+    piece: &mut [u8],
+    pending: &mut PendingLine,
+    text: &mut ReplyText,
     sink: &mut K,
     session: &mut Session,
     snapshot: &Snapshot,
-    text: &mut ReplyText,
 ) -> Result<(), BatchFault>
-    requires source { S.has_failed source.old ≡ false }
-    requires sink { K.has_failed sink.old ≡ false }
-    ensures answered { OnOk result (IfSome (S.remaining source.old) (λ input.
-        Answered snapshot.now (commands_of input) session.old session.new
-        (K.contents sink.old) (K.contents sink.new))) }
+    requires piece { 0 < length piece.old }
+    requires pending { pending.old ≡ [] }
+    ensures advances { OnOk result (IfSome (S.remaining source.old) (λ input.
+        Advances snapshot.now (commands_of input)
+        (standing session.old (K.contents sink.old) text.old)
+        (standing session.new (K.contents sink.new) text.new))) }
     ensures end { OnOk result (IsAtEnd (S.remaining source.new)) }
-    ensures fault { IfErr result (λ e. (e ≡ BatchFault.OutOfMemory)
-        ⊎ IsFailure e (S.has_failed source.new) (K.has_failed sink.new)) }
-    ensures memory { result ≡ Err BatchFault.OutOfMemory
-        → (session.new ≡ session.old) × (sink.new ≡ sink.old) × (source.new ≡ source.old) }
+    ensures fault { IfErr result (λ e.
+        IsFailure e (S.has_failed source.new) (K.has_failed sink.new)) }
+    ensures left { IfErr result (λ e. IfSome (S.remaining source.old) (λ input.
+        EndsAt e snapshot.now input (S.remaining source.new) session.old session.new
+        (K.contents sink.old) (K.contents sink.new))) }
 {
-    let mut piece = vec![in alloc; 0u8; PIECE]?;
-    let mut pending = PendingLine::new(alloc)?;
-    answer_lines(
-        alloc,
-        source,
-        piece.as_mut_slice(),
-        &mut pending,
-        text,
-        sink,
-        session,
-        snapshot,
-    )?;
-    answer_last(alloc, &pending, text, sink, session, snapshot)
+    answer_lines(alloc, source, piece, pending, text, sink, session, snapshot)?;
+    answer_last(alloc, pending, text, sink, session, snapshot)
 }
 
 // Answers a last line, of which no LF has come.
@@ -136,7 +154,10 @@ fn answer_last<K: Sink>(
     session: &mut Session,
     snapshot: &Snapshot,
 ) -> Result<(), BatchFault>
-    ensures answered { OnOk result (Answered snapshot.now (commands_of pending.now)
+    ensures advances { OnOk result (Advances snapshot.now (commands_of pending.now)
+        (standing session.old (K.contents sink.old) text.old)
+        (standing session.new (K.contents sink.new) text.new)) }
+    ensures breaks { OnErr result (BreaksOff snapshot.now (commands_of pending.now)
         session.old session.new (K.contents sink.old) (K.contents sink.new)) }
     ensures fault { IfErr result (λ e. (e ≡ BatchFault.Write) × (K.has_failed sink.new ≡ true)) }
 {
@@ -162,13 +183,20 @@ fn answer_lines<S: Source, K: Sink>(
     requires pending { pending.old ≡ [] }
     ensures reads { OnOk result (Reads snapshot.now
         (S.remaining source.old) pending.new (S.remaining source.new)
-        session.old session.new (K.contents sink.old) (K.contents sink.new)) }
+        (standing session.old (K.contents sink.old) text.old)
+        (standing session.new (K.contents sink.new) text.new)) }
     ensures end { OnOk result (IsAtEnd (S.remaining source.new)) }
     ensures fault { IfErr result (λ e.
         IsFailure e (S.has_failed source.new) (K.has_failed sink.new)) }
+    ensures left { IfErr result (λ e. IfSome (S.remaining source.old) (λ input.
+        EndsAt e snapshot.now input (S.remaining source.new) session.old session.new
+        (K.contents sink.old) (K.contents sink.new))) }
 {
     'pieces: loop {
-        let count = read_piece(source, piece)?;
+        let count = match read_piece(source, piece) {
+            Ok(count) => count,
+            Err(fault) => return Err(fault),
+        };
         if count == 0 {
             return Ok(());
         }
@@ -192,6 +220,7 @@ fn read_piece<S: Source>(source: &mut S, piece: &mut [u8]) -> Result<usize, Batc
         n ≡ 0 → 0 < length piece.new → IsAtEnd (S.remaining source.new)) }
     ensures calls { OnOk result (S.calls_left source.new < S.calls_left source.old) }
     ensures fault { IfErr result (λ e. (e ≡ BatchFault.Read) × (S.has_failed source.new ≡ true)) }
+    ensures kept { OnErr result (Keeps (S.remaining source.old) (S.remaining source.new)) }
 {
     match source.read(piece) {
         Ok(count) => Ok(count),
@@ -210,7 +239,12 @@ fn answer_piece<K: Sink>(
     snapshot: &Snapshot,
 ) -> Result<(), BatchFault>
     ensures answers { OnOk result (Answers snapshot.now (pending.old ++ piece.now) pending.new
-        session.old session.new (K.contents sink.old) (K.contents sink.new)) }
+        (standing session.old (K.contents sink.old) text.old)
+        (standing session.new (K.contents sink.new) text.new)) }
+    ensures unbroken { OnOk result (IsUnbroken pending.new) }
+    ensures breaks { OnErr result (Breaks snapshot.now (pending.old ++ piece.now)
+        (standing session.old (K.contents sink.old) text.old)
+        (standing session.new (K.contents sink.new) text.new)) }
     ensures fault { IfErr result (λ e. (e ≡ BatchFault.Write) × (K.has_failed sink.new ≡ true)) }
 {
     let mut rest = piece;
@@ -264,7 +298,11 @@ fn answer_line<K: Sink>(
     session: &mut Session,
     snapshot: &Snapshot,
 ) -> Result<(), BatchFault>
-    ensures answered { OnOk result (Answered snapshot.now
+    ensures advances { OnOk result (Advances snapshot.now
+        (option_to_list (item_of (record { bytes = line.now; is_ended = is_ended })))
+        (standing session.old (K.contents sink.old) text.old)
+        (standing session.new (K.contents sink.new) text.new)) }
+    ensures breaks { OnErr result (BreaksOff snapshot.now
         (option_to_list (item_of (record { bytes = line.now; is_ended = is_ended })))
         session.old session.new (K.contents sink.old) (K.contents sink.new)) }
     ensures fault { IfErr result (λ e. (e ≡ BatchFault.Write) × (K.has_failed sink.new ≡ true)) }
@@ -280,6 +318,10 @@ fn answer_line<K: Sink>(
 fn send<K: Sink>(reply: &Reply, text: &mut ReplyText, sink: &mut K) -> Result<(), BatchFault>
     ensures reply { OnOk result
         (Appends (K.contents sink.old) (K.contents sink.new) (text_of_reply reply.now)) }
+    ensures accepted { OnOk result
+        (text.new.has_accepted ≡ (text.old.has_accepted || is_accepted reply.now)) }
+    ensures cut_off { OnErr result
+        (IsCutOff (text_of_reply reply.now) (K.contents sink.old) (K.contents sink.new)) }
     ensures fault { IfErr result (λ e. (e ≡ BatchFault.Write) × (K.has_failed sink.new ≡ true)) }
 {
     text.set(reply);
@@ -287,7 +329,7 @@ fn send<K: Sink>(reply: &Reply, text: &mut ReplyText, sink: &mut K) -> Result<()
 }
 
 fn reply_to(alloc: Global, item: Item, session: &mut Session, snapshot: &Snapshot) -> Reply
-    ensures step { StepOf snapshot.now session.old item result session.new }
+    ensures replied { Replied snapshot.now (item ∷ []) (result ∷ []) session.old session.new }
 {
     match item {
         Item::Edit(edit) => session.apply(alloc, &Command::Edit(edit, snapshot), &RESOLVER),
@@ -300,6 +342,8 @@ fn reply_to(alloc: Global, item: Item, session: &mut Session, snapshot: &Snapsho
 /// Writes all of the bytes, in as many calls as it takes.
 pub(crate) fn write_all<K: Sink>(sink: &mut K, bytes: &[u8]) -> Result<(), BatchFault>
     ensures bytes { OnOk result (Appends (K.contents sink.old) (K.contents sink.new) bytes.now) }
+    ensures cut_off { OnErr result
+        (IsCutOff bytes.now (K.contents sink.old) (K.contents sink.new)) }
     ensures fault { IfErr result (λ e. (e ≡ BatchFault.Write) × (K.has_failed sink.new ≡ true)) }
 {
     let mut rest = bytes;

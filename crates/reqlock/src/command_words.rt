@@ -63,8 +63,10 @@ fn with_others<'a>(alloc: Global, command: Command<'a>) -> Result<Command<'a>, A
         "log",
         "Print the history, a line for each edit",
     )?;
+    let about = "Tell whether the three files belong together; change nothing";
+    let check = plain(alloc, log, "check", about)?;
     let about = "Print which releases of the index are left out, and why";
-    plain(alloc, log, "skipped", about)
+    plain(alloc, check, "skipped", about)
 }
 
 // The command with `constrain`.

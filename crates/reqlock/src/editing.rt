@@ -5,7 +5,7 @@ use crate::counted::Counted;
 use crate::input_files::{InputFile, read_bytes, read_environment, read_index, read_requirements};
 use crate::reply_text::ReplyText;
 use crate::request::Inputs;
-use crate::saved_files::SavedFiles;
+use crate::saved_files::{SavedFiles, remove_left};
 use crate::stop::{Stop, in_file, print};
 use edits::Edit;
 use journal::{Command, Reply, Session};
@@ -27,6 +27,7 @@ pub fn init<R: Files + AllocGlobal, O: Write>(
     } = begin(rt, dir, inputs)?;
     let mut text = ReplyText::new(rt.alloc())?;
     text.set(&Reply::Done(session.cursor()));
+    remove_left(rt, dir)?;
     files.replace(rt, dir, &session)?;
     Ok(print(output, text.as_bytes())?)
 }
@@ -61,8 +62,7 @@ pub fn step_once<R: Files + AllocGlobal, O: Write>(
     command: &Command<'_>,
     output: &mut O,
 ) -> Result<(), Stop> {
-    let files = SavedFiles::read(rt, dir)?;
-    let session = files.open(rt.alloc())?;
+    let (files, session) = SavedFiles::read_to_save(rt, dir)?.open_to_save(rt, dir)?;
     apply(rt, dir, &files, session, command, output)
 }
 
@@ -140,9 +140,9 @@ struct Opened {
 // All files are read before a fault in one of them is told.
 fn open<R: Files + AllocGlobal>(rt: &R, dir: &str, index: &str) -> Result<Opened, Stop> {
     let alloc = rt.alloc();
-    let files = SavedFiles::read(rt, dir)?;
+    let files = SavedFiles::read_to_save(rt, dir)?;
     let index = in_file(InputFile::Index, read_bytes(rt, index))?;
-    let session = files.open(alloc)?;
+    let (files, session) = files.open_to_save(rt, dir)?;
     let snapshot = in_file(InputFile::Index, read_index(alloc, index.as_slice()))?;
     Ok(Opened {
         files,

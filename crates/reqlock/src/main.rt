@@ -6,6 +6,9 @@ mod command_line;
 mod command_words;
 mod counted;
 mod editing;
+#[cfg(test)]
+mod fault_tests;
+mod folder_lock;
 mod history_text;
 mod input_files;
 mod lock_text;
@@ -32,13 +35,36 @@ mod stop;
 mod tests;
 mod words;
 
-use std::io;
+use crate::batch::BatchFault;
+use crate::stop::{Status, report_fault};
+use std::io::{self, ErrorKind, Write};
 use std::process::ExitCode;
+use std::rt::Env;
 
-fn main(rt: HostRuntime) -> io::Result<ExitCode> {
-    let words: Vec<String> = std::env::args(&rt)?.collect(rt.alloc())?;
-    let mut output = rt.stdout();
+fn main(rt: HostRuntime) -> ExitCode {
     let mut errors = rt.stderr();
-    let status = program::program(&rt, words.as_slice(), rt.stdin(), &mut output, &mut errors);
-    Ok(ExitCode::from(status as u8))
+    let status = match given_words(&rt) {
+        Ok(words) => {
+            let mut output = rt.stdout();
+            program::program(&rt, words.as_slice(), rt.stdin(), &mut output, &mut errors)
+        }
+        Err(error) => report_words(&error, &mut errors),
+    };
+    ExitCode::from(status as u8)
+}
+
+// The words of the command line, the program's name in front.
+fn given_words<R: Env + AllocGlobal>(rt: &R) -> io::Result<Vec<String>> {
+    Ok(std::env::args(rt)?.collect(rt.alloc())?)
+}
+
+// Tells why there are no words.
+fn report_words<E: Write>(error: &io::Error, errors: &mut E) -> Status {
+    match error.kind() {
+        ErrorKind::OutOfMemory => report_fault(BatchFault::OutOfMemory, errors),
+        _ => {
+            let _ = writeln!(errors, "reqlock: a word of the command line is not UTF-8");
+            Status::Usage
+        }
+    }
 }

@@ -1,7 +1,8 @@
 // The program: what each subcommand does.
 
 use crate::editing::{edit_once, init, run_batch, step_once, try_commands};
-use crate::looking::{print_history, print_lock, print_skipped};
+use crate::folder_lock::{LockFile, lock_to_save};
+use crate::looking::{print_check, print_history, print_lock, print_skipped};
 use crate::request::{Invocation, Subcommand, request};
 use crate::stop::{Status, Stop, report};
 use journal::Command;
@@ -16,7 +17,10 @@ pub fn program<R: Files + AllocGlobal, I: Read + Drop, O: Write, E: Write>(
     input: I,
     output: &mut O,
     errors: &mut E,
-) -> Status {
+) -> Status
+where
+    R::File: LockFile,
+{
     match obey(rt, words, input, output) {
         Ok(()) => Status::Done,
         Err(stop) => report(&stop, output, errors),
@@ -28,8 +32,12 @@ fn obey<R: Files + AllocGlobal, I: Read + Drop, O: Write>(
     words: &[String],
     input: I,
     output: &mut O,
-) -> Result<(), Stop> {
+) -> Result<(), Stop>
+where
+    R::File: LockFile,
+{
     let Invocation { dir, subcommand } = request(rt.alloc(), words)?;
+    let _lock = locked(rt, dir, &subcommand)?;
     match subcommand {
         Subcommand::Init(inputs) => init(rt, dir, inputs, output),
         Subcommand::Edit(edit, index) => edit_once(rt, dir, edit, index, output),
@@ -39,6 +47,30 @@ fn obey<R: Files + AllocGlobal, I: Read + Drop, O: Write>(
         Subcommand::Try(inputs) => try_commands(rt, dir, inputs, input, output),
         Subcommand::Show => print_lock(rt, dir, output),
         Subcommand::Log => print_history(rt, dir, output),
+        Subcommand::Check => print_check(rt, dir, output),
         Subcommand::Skipped(index) => print_skipped(rt, index, output),
+    }
+}
+
+// The lock on the folder of a subcommand that saves. One that only reads locks it as it reads.
+fn locked<R: Files + AllocGlobal>(
+    rt: &R,
+    dir: &str,
+    subcommand: &Subcommand<'_>,
+) -> Result<Option<R::File>, Stop>
+where
+    R::File: LockFile,
+{
+    match subcommand {
+        Subcommand::Init(_)
+        | Subcommand::Edit(_, _)
+        | Subcommand::Undo
+        | Subcommand::Redo
+        | Subcommand::Batch(_) => lock_to_save(rt, dir),
+        Subcommand::Try(_)
+        | Subcommand::Show
+        | Subcommand::Log
+        | Subcommand::Check
+        | Subcommand::Skipped(_) => Ok(None),
     }
 }

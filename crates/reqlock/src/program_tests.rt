@@ -1,5 +1,6 @@
 // The program from end to end, over files in the folder for temporary files.
 
+use crate::folder_lock::LockFile;
 use crate::program::program;
 use crate::stop::Status;
 use crate::tests::ENVIRONMENT;
@@ -36,7 +37,10 @@ pub fn run_program<R: Files + AllocGlobal>(
     rt: &R,
     words: &[&str],
     input: &[u8],
-) -> Result<Outcome, Fail> {
+) -> Result<Outcome, Fail>
+where
+    R::File: LockFile,
+{
     let alloc = rt.alloc();
     let mut owned = Vec::new(alloc);
     for word in words {

@@ -1,5 +1,5 @@
-// Replacing files so that none is ever half written: each is written whole beside its place, and
-// only when all of them stand are they put into their places.
+// Replacing files so that none is ever half written: each is written whole beside its place, under
+// its name and `.new`, and only when all of them stand are they put into their places.
 
 use crate::batch::BatchFault;
 use crate::input_files::InputFile;
@@ -8,9 +8,6 @@ use std::fs::{File, OpenFile, OpenOptions, Permissions};
 use std::io::{ErrorKind, Write};
 use std::rt::Files;
 use std::{fs, io};
-
-// How many names are tried for a file beside its place.
-const NAMES: u32 = 1000;
 
 /// A file that is to be replaced, and the bytes that are to stand in its place.
 #[derive(Drop)]
@@ -29,7 +26,8 @@ struct Staged {
 }
 
 /// Replaces the files in turn. Where one can't be written, none is replaced, and what was written
-/// beside is removed. Where one can't be put into its place, those behind it aren't replaced either.
+/// beside is removed. Where one can't be put into its place when others are, it stays beside with
+/// those behind it.
 pub fn replace_all<R: Files + AllocGlobal>(
     rt: &R,
     replacements: &[Replacement<'_>],
@@ -51,7 +49,9 @@ fn put_in_place<R: Files>(rt: &R, staged: &[Staged]) -> Result<(), Stop> {
     for number in 0..staged.len() {
         let file = &staged[number];
         if let Err(error) = fs::rename(rt, file.beside.as_str(), file.place.as_str()) {
-            remove_staged(rt, &staged[number..]);
+            if number == 0 {
+                remove_staged(rt, staged);
+            }
             return Err(unwritten(file.file, &error));
         }
     }
@@ -75,7 +75,8 @@ fn unwritten(file: InputFile, error: &io::Error) -> Stop {
 fn stage<R: Files + AllocGlobal>(rt: &R, replacement: &Replacement<'_>) -> io::Result<Staged> {
     let place = place_of(rt, replacement.path.as_str())?;
     let permissions = permissions_at(rt, place.as_str())?;
-    let (beside, mut file) = create_beside(rt, place.as_str())?;
+    let beside = format!(in rt.alloc(); "{place}.new")?;
+    let mut file = create_anew(rt, beside.as_str())?;
     match write_whole(&mut file, replacement.bytes, permissions) {
         Ok(()) => Ok(Staged {
             file: replacement.file,
@@ -115,17 +116,14 @@ fn permissions_at<R: Files>(rt: &R, place: &str) -> io::Result<Option<Permission
     }
 }
 
-// A new file beside a place, and its path. A name that is taken, as by another process, is left.
-fn create_beside<R: Files + AllocGlobal>(rt: &R, place: &str) -> io::Result<(String, R::File)> {
-    for number in 0..NAMES {
-        let beside = format!(in rt.alloc(); "{place}.new{number}")?;
-        match File::create_new(rt, beside.as_str()) {
-            Ok(file) => return Ok((beside, file)),
-            Err(error) if error.kind() == ErrorKind::AlreadyExists => {}
-            Err(error) => return Err(error),
-        }
+// A new file at a path, in the place of one that a stopped call left there.
+fn create_anew<R: Files>(rt: &R, path: &str) -> io::Result<R::File> {
+    match fs::remove_file(rt, path) {
+        Ok(()) => {}
+        Err(error) if error.kind() == ErrorKind::NotFound => {}
+        Err(error) => return Err(error),
     }
-    Err(io::Error::from(ErrorKind::AlreadyExists))
+    File::create_new(rt, path)
 }
 
 fn write_whole<F: Write + OpenFile>(
@@ -138,4 +136,30 @@ fn write_whole<F: Write + OpenFile>(
     }
     file.write_all(bytes)?;
     file.sync_all()
+}
+
+/// Where a file is written before it is put into its place.
+pub fn beside_of<R: Files + AllocGlobal>(
+    rt: &R,
+    file: InputFile,
+    path: &str,
+) -> Result<String, Stop> {
+    match place_of(rt, path) {
+        Ok(place) => Ok(format!(in rt.alloc(); "{place}.new")?),
+        Err(error) => Err(unwritten(file, &error)),
+    }
+}
+
+/// Puts what stands beside a file's place into it.
+pub fn put_beside_in_place<R: Files + AllocGlobal>(
+    rt: &R,
+    file: InputFile,
+    path: &str,
+) -> Result<(), Stop> {
+    let beside = beside_of(rt, file, path)?;
+    let place = beside.as_str().strip_suffix(".new").unwrap_or(path);
+    match fs::rename(rt, beside.as_str(), place) {
+        Ok(()) => Ok(()),
+        Err(error) => Err(unwritten(file, &error)),
+    }
 }

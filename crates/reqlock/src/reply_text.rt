@@ -1,7 +1,7 @@
 // Replies as they are written.
 
-ghost use Rattle.std.specs.Prelude.{◌≡◌, ◌+◌, ◌≤◌, [], ◌++◌, IfOk, length, vec_len, vec_capacity};
-ghost use Rattle.reqlock.specs.Replies.{text_of_reply, word_of};
+ghost use Rattle.std.specs.Prelude.{◌≡◌, ◌+◌, ◌≤◌, ◌||◌, [], ◌++◌, false, IfOk, length, vec_len, vec_capacity};
+ghost use Rattle.reqlock.specs.Replies.{is_accepted, text_of_reply, word_of};
 
 use edits::Refusal;
 use itoa::Buffer;
@@ -44,11 +44,12 @@ pub struct ReplyText {
 }
 
 impl Model for ReplyText {
-    ghost use Rattle.std.specs.Prelude.{List, ℕ, ◌≤◌, vec_capacity};
+    ghost use Rattle.std.specs.Prelude.{◌≤◌, vec_capacity};
+    ghost use Rattle.reqlock.specs.Replies.{Telling};
 
-    ghost Value = { List ℕ };
+    ghost Value = { Telling };
 
-    ghost view = { λ t. t.bytes.items };
+    ghost view = { λ t. record { text = t.bytes.items; has_accepted = t.has_accepted } };
 
     ghost invariant = { λ t. 64 ≤ vec_capacity t.bytes };
 }
@@ -56,7 +57,7 @@ impl Model for ReplyText {
 impl ReplyText {
     /// The empty text, with room for every reply.
     pub fn new(alloc: Global) -> Result<ReplyText, AllocError>
-        ensures empty { IfOk result (λ t. t ≡ []) }
+        ensures empty { IfOk result (λ t. t ≡ record { text = []; has_accepted = false }) }
     {
         Ok(ReplyText {
             bytes: Vec::with_capacity(alloc, LONGEST_REPLY)?,
@@ -66,22 +67,35 @@ impl ReplyText {
 
     /// Makes it the text of this reply. It has no refusal.
     pub fn set(&mut self, reply: &Reply)
-        ensures text { self.new ≡ text_of_reply reply.now }
+        ensures text { self.new.text ≡ text_of_reply reply.now }
+        ensures accepted { self.new.has_accepted ≡ (self.old.has_accepted || is_accepted reply.now) }
     {
-        self.has_accepted |= matches!(reply, Reply::Done(_));
+        self.has_accepted = self.has_accepted || is_done(reply);
         self.bytes.clear();
         write_reply(&mut self.bytes, reply);
     }
 
     /// Whether one of the replies so far was `ok`.
-    pub fn has_accepted(&self) -> bool {
+    pub fn has_accepted(&self) -> bool
+        ensures accepted { result ≡ self.now.has_accepted }
+    {
         self.has_accepted
     }
 
     pub fn as_bytes(&self) -> &[u8]
-        ensures text { result.now ≡ self.now }
+        ensures text { result.now ≡ self.now.text }
     {
         self.bytes.as_slice()
+    }
+}
+
+// Whether a reply tells of an accepted command.
+fn is_done(reply: &Reply) -> bool
+    ensures { result ≡ is_accepted reply.now }
+{
+    match reply {
+        Reply::Done(_) => true,
+        Reply::Same | Reply::Refused(_) => false,
     }
 }
 

@@ -40,6 +40,8 @@ pub enum Subcommand<'a> {
     Show,
     /// Prints the history.
     Log,
+    /// Tells whether the three files belong together.
+    Check,
     /// Prints what was left out of this index.
     Skipped(&'a str),
 }
@@ -148,6 +150,7 @@ fn read_subcommand<'a>(
         "redo" => Ok(Subcommand::Redo),
         "show" => Ok(Subcommand::Show),
         "log" => Ok(Subcommand::Log),
+        "check" => Ok(Subcommand::Check),
         _ => Err(no_subcommand(alloc)),
     }
 }

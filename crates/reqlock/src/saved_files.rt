@@ -1,11 +1,22 @@
 // The three files of the folder: the requirements file, its lock and the journal.
 
+use crate::folder_lock::sync_folder;
 use crate::input_files::{InputFile, read_bytes};
-use crate::replacing::{Replacement, replace_all};
+use crate::replacing::{Replacement, beside_of, put_beside_in_place, replace_all};
 use crate::stop::{Stop, in_file};
 use journal::Session;
 use std::alloc::Global;
+use std::fs;
 use std::rt::Files;
+
+// The files in the order in which they are put into their places.
+const FILES: [InputFile; 3] = [InputFile::Requirements, InputFile::Lock, InputFile::Journal];
+
+// What a save that was stopped between two files can have left beside their places.
+const LEFT_BESIDE: [&[InputFile]; 2] = [
+    &[InputFile::Journal],
+    &[InputFile::Lock, InputFile::Journal],
+];
 
 /// What the three files held when they were read.
 #[derive(Drop)]
@@ -18,14 +29,22 @@ pub struct SavedFiles {
 impl SavedFiles {
     /// Reads the three files of a folder. The requirements file is read first and the lock last.
     pub fn read<R: Files + AllocGlobal>(rt: &R, dir: &str) -> Result<SavedFiles, Stop> {
-        let requirements = read_in(rt, dir, InputFile::Requirements)?;
-        let journal = read_in(rt, dir, InputFile::Journal)?;
-        let lock = read_in(rt, dir, InputFile::Lock)?;
-        Ok(SavedFiles {
-            requirements,
-            lock,
-            journal,
-        })
+        SavedFiles::read_with(rt, dir, &[])
+    }
+
+    /// Reads the three files to save others in their place. Where one can't be read, a save may
+    /// have been stopped: then that is ended first.
+    pub fn read_to_save<R: Files + AllocGlobal>(rt: &R, dir: &str) -> Result<SavedFiles, Stop> {
+        match SavedFiles::read(rt, dir) {
+            Err(Stop::Input(file, fault)) => {
+                if end_save(rt, dir)? {
+                    SavedFiles::read(rt, dir)
+                } else {
+                    Err(Stop::Input(file, fault))
+                }
+            }
+            read => read,
+        }
     }
 
     /// Reads the requirements file alone. The other two count as empty, and since neither ever is,
@@ -34,11 +53,27 @@ impl SavedFiles {
         rt: &R,
         dir: &str,
     ) -> Result<SavedFiles, Stop> {
-        let requirements = read_in(rt, dir, InputFile::Requirements)?;
+        let requirements = read_in(rt, dir, InputFile::Requirements, &[])?;
         Ok(SavedFiles {
             requirements,
             lock: Vec::new(rt.alloc()),
             journal: Vec::new(rt.alloc()),
+        })
+    }
+
+    // Reads the three files, and of these the one that stands beside its place.
+    fn read_with<R: Files + AllocGlobal>(
+        rt: &R,
+        dir: &str,
+        beside: &[InputFile],
+    ) -> Result<SavedFiles, Stop> {
+        let requirements = read_in(rt, dir, InputFile::Requirements, beside)?;
+        let journal = read_in(rt, dir, InputFile::Journal, beside)?;
+        let lock = read_in(rt, dir, InputFile::Lock, beside)?;
+        Ok(SavedFiles {
+            requirements,
+            lock,
+            journal,
         })
     }
 
@@ -52,6 +87,29 @@ impl SavedFiles {
         let requirements = self.requirements.as_slice();
         let lock = self.lock.as_slice();
         Ok(Session::open(alloc, requirements, lock, self.journal.as_slice())?)
+    }
+
+    /// The files, with the history that they stand for, to save another in their place. Where they
+    /// stand for none, a save may have been stopped: then that is ended first. Nothing of one is left.
+    pub fn open_to_save<R: Files + AllocGlobal>(
+        self,
+        rt: &R,
+        dir: &str,
+    ) -> Result<(SavedFiles, Session), Stop> {
+        let opened = match self.open(rt.alloc()) {
+            Ok(session) => (self, session),
+            Err(Stop::Input(file, fault)) => {
+                if !end_save(rt, dir)? {
+                    return Err(Stop::Input(file, fault));
+                }
+                let files = SavedFiles::read(rt, dir)?;
+                let session = files.open(rt.alloc())?;
+                (files, session)
+            }
+            Err(stop) => return Err(stop),
+        };
+        remove_left(rt, dir)?;
+        Ok(opened)
     }
 
     /// Saves a history in the place of these files. A file that doesn't change isn't touched.
@@ -80,15 +138,76 @@ impl SavedFiles {
                 changed.push(Replacement { file, path, bytes })?;
             }
         }
-        replace_all(rt, changed.as_slice())
+        replace_all(rt, changed.as_slice())?;
+        sync_folder(rt, dir);
+        Ok(())
     }
+}
+
+// Ends a save that was stopped between two files, where the files open with those in place that it
+// left beside. It answers whether there was one.
+fn end_save<R: Files + AllocGlobal>(rt: &R, dir: &str) -> Result<bool, Stop> {
+    for left in LEFT_BESIDE {
+        if opens_with(rt, dir, left)? {
+            for file in left {
+                let path = path_of(rt.alloc(), dir, *file)?;
+                put_beside_in_place(rt, *file, path.as_str())?;
+            }
+            sync_folder(rt, dir);
+            return Ok(true);
+        }
+    }
+    Ok(false)
+}
+
+// Whether the files open with these from beside their places.
+fn opens_with<R: Files + AllocGlobal>(
+    rt: &R,
+    dir: &str,
+    beside: &[InputFile],
+) -> Result<bool, Stop> {
+    match SavedFiles::read_with(rt, dir, beside) {
+        Ok(files) => match files.open(rt.alloc()) {
+            Ok(_) => Ok(true),
+            Err(Stop::Input(_, _)) => Ok(false),
+            Err(stop) => Err(stop),
+        },
+        // What has no place has nothing beside it.
+        Err(Stop::Input(_, _) | Stop::Unwritten(_)) => Ok(false),
+        Err(stop) => Err(stop),
+    }
+}
+
+/// Removes what a save that was stopped has left beside the places of the files.
+pub fn remove_left<R: Files + AllocGlobal>(rt: &R, dir: &str) -> Result<(), Stop> {
+    for file in FILES {
+        let path = path_of(rt.alloc(), dir, file)?;
+        match beside_of(rt, file, path.as_str()) {
+            Ok(beside) => {
+                let _ = fs::remove_file(rt, beside.as_str());
+            }
+            Err(Stop::Unwritten(_)) => {}
+            Err(stop) => return Err(stop),
+        }
+    }
+    Ok(())
 }
 
 fn path_of(alloc: Global, dir: &str, file: InputFile) -> Result<String, Stop> {
     Ok(format!(in alloc; "{dir}/{file}")?)
 }
 
-fn read_in<R: Files + AllocGlobal>(rt: &R, dir: &str, file: InputFile) -> Result<Vec<u8>, Stop> {
+// The bytes of a file, in its place or, where it is among these, beside it.
+fn read_in<R: Files + AllocGlobal>(
+    rt: &R,
+    dir: &str,
+    file: InputFile,
+    beside: &[InputFile],
+) -> Result<Vec<u8>, Stop> {
     let path = path_of(rt.alloc(), dir, file)?;
+    if beside.contains(&file) {
+        let path = beside_of(rt, file, path.as_str())?;
+        return in_file(file, read_bytes(rt, path.as_str()));
+    }
     in_file(file, read_bytes(rt, path.as_str()))
 }

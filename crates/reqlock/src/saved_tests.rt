@@ -1,5 +1,6 @@
 // The three files: each command is a new call of the program, over what the last one saved.
 
+use crate::folder_lock::LockFile;
 use crate::program_tests::{Outcome, folder, run_program};
 use crate::resolving_tests::{Told, index_of};
 use std::alloc::Global;
@@ -35,7 +36,10 @@ fn call<R: Files + AllocGlobal>(
     dir: &str,
     words: &[&str],
     input: &[u8],
-) -> Result<Outcome, Fail> {
+) -> Result<Outcome, Fail>
+where
+    R::File: LockFile,
+{
     let alloc = rt.alloc();
     let index = format!(in alloc; "{dir}/index.json")?;
     let environment = format!(in alloc; "{dir}/environment.json")?;
@@ -64,11 +68,10 @@ fn said(alloc: Global, outcome: &Outcome) -> Result<String, Fail> {
     Ok(text)
 }
 
-pub fn plays<R: Abort + Files + AllocGlobal>(
-    rt: &R,
-    dir: &str,
-    calls: &[Call],
-) -> Result<(), Fail> {
+pub fn plays<R: Abort + Files + AllocGlobal>(rt: &R, dir: &str, calls: &[Call]) -> Result<(), Fail>
+where
+    R::File: LockFile,
+{
     for (words, wanted) in calls {
         let outcome = call(rt, dir, words, b"".as_slice())?;
         assert_eq!(rt; said(rt.alloc(), &outcome)?.as_str(), *wanted);

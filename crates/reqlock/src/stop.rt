@@ -132,7 +132,8 @@ pub fn report<O: Write, E: Write>(stop: &Stop, output: &mut O, errors: &mut E) -
     }
 }
 
-fn report_fault<E: Write>(fault: BatchFault, errors: &mut E) -> Status {
+/// Tells a fault of memory or of a stream, and gives its status.
+pub fn report_fault<E: Write>(fault: BatchFault, errors: &mut E) -> Status {
     let text = match fault {
         BatchFault::Read => "input: read failed",
         BatchFault::Write => "output: write failed",

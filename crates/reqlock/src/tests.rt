@@ -194,6 +194,7 @@ fn request_text(alloc: Global, words: &[&str]) -> Result<String, AllocError> {
         }
         Subcommand::Show => format!(in alloc; "{dir} show"),
         Subcommand::Log => format!(in alloc; "{dir} log"),
+        Subcommand::Check => format!(in alloc; "{dir} check"),
         Subcommand::Skipped(index) => format!(in alloc; "{dir} skipped {index}"),
     }
 }
@@ -205,6 +206,7 @@ fn reads_requests(rt: HostRuntime) -> Result<(), Fail> {
         (["redo"].as_slice(), ". redo"),
         (["show"].as_slice(), ". show"),
         (["log"].as_slice(), ". log"),
+        (["check"].as_slice(), ". check"),
         (
             ["--index", "i", "--env", "e", "init"].as_slice(),
             ". init i e",

@@ -1,0 +1,20 @@
+use Rattle.std.proofs.Common.{◌≡◌, ◌∙◌, ap, codes}
+use Rattle.std.proofs.lemmas.Result.{IfOk-weaker}
+use Rattle.clap.specs.Words.{App, Text, with_subcommand}
+use Rattle.clap.specs.Simple.{new_shape}
+use Rattle.reqlock.proofs.command_words.with_others.Goals as goal
+
+-- one subcommand more
+more : (name : Text) (old new made : App) → made ≡ with_subcommand new (new_shape name) → new ≡ old → made ≡ with_subcommand old (new_shape name)
+more name old new made is before = is ∙ ap (λ (a : App). with_subcommand a (new_shape name)) before
+
+pub returns : goal.returns
+returns c =
+    let undo = c.in_ok-undo.ensures.app in
+    let redo = more (codes "redo") _ _ _ c.in_ok-redo.ensures.app undo in
+    let batch = more (codes "batch") _ _ _ c.in_ok-batch.ensures.app redo in
+    let attempt = more (codes "try") _ _ _ c.in_ok-attempt.ensures.app batch in
+    let show = more (codes "show") _ _ _ c.in_ok-show.ensures.app attempt in
+    let log = more (codes "log") _ _ _ c.in_ok-log.ensures.app show in
+    let check = more (codes "check") _ _ _ c.in_ok-check.ensures.app log in
+    record { app = IfOk-weaker c.plain-8.result _ _ (λ made is. more (codes "skipped") _ _ _ is check) c.plain-8.ensures.app }

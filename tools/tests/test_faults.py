@@ -1,0 +1,134 @@
+"""The program where a stream, a file or the folder fails: the fault names it, and the folder holds what it held."""
+
+import os
+import subprocess
+import unittest
+
+from test_program import PROGRAM, Program
+
+UNWRITTEN = "reqlock: output: write failed\n"
+
+
+class Faults(Program):
+    def setUp(self):
+        super().setUp()
+        self.begin(b"a\n", ("a", "1", []), ("c", "1", []))
+        self.assertEqual(self.call("init"), (0, "ok 0\n"))
+
+    def told(self, *words, output, text="", before=None):
+        """The status of a call with this output, and what it writes to standard error."""
+        options = "--dir", self.folder, "--index", self.outside / "index.json", "--env", self.outside / "environment.json"
+        done = subprocess.run(
+            [PROGRAM, *options, *words], input=text, stdout=output, stderr=subprocess.PIPE, encoding="utf-8", check=False,
+            preexec_fn=before,
+        )
+        return done.returncode, done.stderr
+
+    def test_an_output_that_takes_nothing(self):
+        readings, writings = os.pipe()
+        os.close(readings)
+        outputs = {"a full device": (open("/dev/full", "wb"), None), "a closed pipe": (writings, None), "no output": (None, closed)}
+        for name, (output, before) in outputs.items():
+            for words in ["show"], ["log"], ["check"], ["try"], ["--help"]:
+                with self.subTest(output=name, words=words):
+                    files = self.files()
+                    self.assertEqual(self.told(*words, output=output, before=before), (5, UNWRITTEN))
+                    self.assertEqual(self.files(), files)
+            with self.subTest(output=name, words="batch"):
+                files = self.files()
+                self.assertEqual(self.told("batch", output=output, text="add c\n", before=before), (5, UNWRITTEN))
+                self.assertEqual(self.files(), files)
+        outputs["a full device"][0].close()
+        os.close(writings)
+
+    def test_a_single_command_is_saved_before_its_reply(self):
+        with open("/dev/full", "wb") as full:
+            self.assertEqual(self.told("add", "c", output=full), (5, UNWRITTEN))
+        self.assertEqual(self.call("check"), (0, "ok 1\n"))
+        self.assertEqual(len(self.files()), 3)
+
+    def test_a_closed_error_stream_changes_no_status(self):
+        (self.folder / "pylock.toml").write_bytes(b"")
+        for words, status in (["show"], 4), (["add"], 2), (["undo"], 4):
+            done = subprocess.run(
+                [PROGRAM, "--dir", self.folder, *words], stdout=subprocess.PIPE, check=False, preexec_fn=lambda: os.close(2),
+            )
+            self.assertEqual((done.returncode, done.stdout), (status, b""))
+
+    def test_a_folder_in_the_place_of_a_file(self):
+        for name in "requirements.txt", "pylock.toml", "reqlock.journal":
+            with self.subTest(name=name):
+                path = self.folder / name
+                content = path.read_bytes()
+                path.unlink()
+                path.mkdir()
+                for words in ["show"], ["check"], ["undo"], ["add", "c"]:
+                    self.assertEqual(self.call(*words), (4, f"reqlock: {name}: unreadable\n"))
+                fault = "unreadable" if name == "requirements.txt" else "write failed"
+                status = 4 if name == "requirements.txt" else 5
+                self.assertEqual(self.call("init"), (status, f"reqlock: {name}: {fault}\n"))
+                self.assertEqual((len(list(self.folder.iterdir())), list(path.iterdir())), (3, []))
+                path.rmdir()
+                path.write_bytes(content)
+        self.assertEqual(self.call("check"), (0, "ok 0\n"))
+
+    def test_a_folder_beside_the_place_of_a_file(self):
+        files = self.files()
+        beside = self.folder / "pylock.toml.new"
+        beside.mkdir()
+        self.assertEqual(self.call("add", "c"), (5, "reqlock: pylock.toml: write failed\n"))
+        self.assertEqual(list(beside.iterdir()), [])
+        beside.rmdir()
+        self.assertEqual(self.files(), files)
+
+    def test_a_link_that_leads_nowhere(self):
+        for name in "requirements.txt", "pylock.toml", "reqlock.journal":
+            with self.subTest(name=name):
+                path = self.folder / name
+                content = path.read_bytes()
+                path.unlink()
+                path.symlink_to("nowhere")
+                for words in ["show"], ["check"], ["undo"], ["add", "c"]:
+                    self.assertEqual(self.call(*words), (4, f"reqlock: {name}: unreadable\n"))
+                self.assertEqual(len(list(self.folder.iterdir())), 3)
+                self.assertEqual(os.readlink(path), "nowhere")
+                if name == "requirements.txt":
+                    self.assertEqual(self.call("init"), (4, f"reqlock: {name}: unreadable\n"))
+                    path.unlink()
+                    path.write_bytes(content)
+                else:
+                    # one that isn't read gives way to the file
+                    self.assertEqual(self.call("init"), (0, "ok 0\n"))
+                    self.assertEqual((path.is_symlink(), path.read_bytes()), (False, content))
+                self.assertEqual(self.call("check"), (0, "ok 0\n"))
+                self.assertEqual(len(self.files()), 3)
+
+    def test_a_folder_that_is_not_there(self):
+        done = subprocess.run(
+            [PROGRAM, "--dir", self.outside / "none", "check"], stdout=subprocess.PIPE, stderr=subprocess.STDOUT, check=False
+        )
+        self.assertEqual((done.returncode, done.stdout), (4, b"reqlock: requirements.txt: unreadable\n"))
+        self.assertFalse((self.outside / "none").exists())
+
+    @unittest.skipIf(os.geteuid() == 0, "root may write everywhere")
+    def test_a_folder_without_a_right_to_write(self):
+        files = self.files()
+        mode = self.folder.stat().st_mode
+        self.folder.chmod(mode & ~0o222)
+        self.assertEqual(self.call("add", "c"), (5, "reqlock: requirements.txt: write failed\n"))
+        self.assertEqual(self.call("check"), (0, "ok 0\n"))
+        self.folder.chmod(mode)
+        self.assertEqual(self.files(), files)
+
+    def test_words_that_are_no_text(self):
+        done = subprocess.run([PROGRAM, b"add", b"\xff"], stdout=subprocess.PIPE, stderr=subprocess.PIPE, check=False)
+        told = b"reqlock: a word of the command line is not UTF-8\n"
+        self.assertEqual((done.returncode, done.stdout, done.stderr), (2, b"", told))
+
+
+def closed():
+    os.close(1)
+
+
+if __name__ == "__main__":
+    unittest.main()

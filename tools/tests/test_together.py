@@ -1,0 +1,212 @@
+"""Calls of the program at the same time, and calls that are stopped. 300 calls are stopped, or 3,000 with LONG_TESTS=1."""
+
+import os
+import random
+import shutil
+import subprocess
+import time
+import unittest
+from collections import Counter
+
+from test_program import FILES, PROGRAM, Program
+
+NAMES = [f"p{number:02}" for number in range(50)]
+RELEASES = [(name, version, []) for name in NAMES for version in ("1", "2")]
+STOPS = 3000 if os.environ.get("LONG_TESTS") == "1" else 300
+SEED = 4
+
+
+class Folders(Program):
+    def start(self, *words, folder=None):
+        """A call of the program that goes on by itself. Its input is empty."""
+        options = "--dir", folder or self.folder, "--index", self.outside / "index.json", "--env", self.outside / "environment.json"
+        return subprocess.Popen(
+            [PROGRAM, *options, *words], stdin=subprocess.DEVNULL, stdout=subprocess.PIPE, stderr=subprocess.STDOUT,
+            encoding="utf-8",
+        )
+
+    def begin_all(self, requirements=b"# fifty\r\n"):
+        self.begin(requirements, *RELEASES)
+        self.assertEqual(self.call("init"), (0, "ok 0\n"))
+
+    def put(self, files):
+        """Makes these the files of the folder."""
+        for path in self.folder.iterdir():
+            path.unlink()
+        for name, content in files.items():
+            (self.folder / name).write_bytes(content)
+
+
+class Together(Folders):
+    def test_fifty_calls_wait_for_one_another(self):
+        self.begin_all()
+        first = self.files()
+        calls = [self.start("add", name) for name in NAMES]
+        outputs = [call.communicate()[0] for call in calls]
+        self.assertEqual([call.returncode for call in calls], [0] * 50)
+        self.assertEqual(sorted(outputs), sorted(f"ok {place}\n" for place in range(1, 51)))
+        last = self.files()
+        self.assertEqual(sorted(last), sorted(FILES))
+        lines = last["requirements.txt"].decode().split("\r\n")
+        self.assertEqual(sorted(lines[1:-1]), NAMES)
+        status, log = self.call("log")
+        self.assertEqual((status, log.count("\n")), (0, 51))
+        for place in reversed(range(50)):
+            self.assertEqual(self.call("undo"), (0, f"ok {place}\n"))
+        undone = self.files()
+        self.assertEqual([undone[name] for name in FILES[:2]], [first[name] for name in FILES[:2]])
+        for place in range(1, 51):
+            self.assertEqual(self.call("redo"), (0, f"ok {place}\n"))
+        self.assertEqual(self.files(), last)
+
+    def test_readers_see_files_that_belong_together(self):
+        self.begin_all()
+        calls = []
+        for name in NAMES[:20]:
+            calls += [self.start(*words) for words in (["add", name], ["check"], ["show"], ["log"], ["batch"])]
+        for call in calls:
+            output = call.communicate()[0]
+            self.assertEqual(call.returncode, 0, output)
+        self.assertEqual(self.call("check"), (0, "ok 20\n"))
+        self.assertEqual(sorted(self.files()), sorted(FILES))
+
+    def test_try_waits_for_nothing(self):
+        self.begin_all()
+        waiting = subprocess.Popen(
+            [PROGRAM, "--dir", self.folder, "--index", self.outside / "index.json", "batch"],
+            stdin=subprocess.PIPE, stdout=subprocess.PIPE, encoding="utf-8",
+        )
+        waiting.stdin.write("undo\n")
+        waiting.stdin.flush()
+        # it has the folder once it replies
+        self.assertEqual(waiting.stdout.readline(), "refused nothing-to-undo\n")
+        self.assertEqual(self.call("try", text="add p01\n"), (0, "ok 1\n# fifty\np01\n"))
+        others = [self.start("add", "p02"), self.start("check")]
+        time.sleep(0.2)
+        self.assertEqual([call.poll() for call in others], [None, None])
+        self.assertEqual(waiting.communicate("add p03\n")[0], "ok 1\n")
+        self.assertEqual(waiting.returncode, 0)
+        self.assertEqual([call.communicate()[0] for call in others][0], "ok 2\n")
+
+
+class Stopped(Folders):
+    def after(self, words):
+        """What a folder with the same files holds once the command is done."""
+        copy = self.outside / "copy"
+        shutil.copytree(self.folder, copy)
+        call = self.start(*words, folder=copy)
+        output = call.communicate()[0]
+        files = {path.name: path.read_bytes() for path in copy.iterdir()}
+        shutil.rmtree(copy)
+        self.assertEqual(call.returncode, 0, output)
+        return files
+
+    def command(self, chance):
+        """A command that changes something, drawn by chance."""
+        present = (self.folder / "requirements.txt").read_text(encoding="utf-8").split()[2:]
+        absent = [name for name in NAMES if name not in present]
+        drawn = [["add", chance.choice(absent)]] if absent else []
+        if present:
+            drawn += [["remove", chance.choice(present)], ["undo"]]
+        if len(present) > 8:
+            del drawn[0]
+        return chance.choice(drawn)
+
+    def usual(self):
+        """How long a command takes."""
+        times = []
+        for words in ["add", "p00"], ["undo"], ["redo"]:
+            start = time.monotonic()
+            self.assertEqual(self.call(*words)[0], 0)
+            times.append(time.monotonic() - start)
+        return max(times)
+
+    def healed(self, before, after):
+        """What the files were when the call stopped; then the next call that saves makes them whole."""
+        found = {name: content for name, content in self.files().items() if name in FILES}
+        self.assertEqual(sorted(found), sorted(FILES))
+        status, output = self.call("check")
+        if found in (before, after):
+            self.assertEqual(status, 0, output)
+        else:
+            self.assertEqual(status, 4, output)
+            self.assertTrue(output.endswith(": files-disagree\n"), output)
+            for name, content in found.items():
+                self.assertIn(content, (before[name], after[name]))
+        self.assertEqual(self.call("relock"), (0, "same\n"))
+        self.assertIn(self.files(), (before, after))
+        return "before" if found == before else "after" if found == after else "between"
+
+    def test_a_call_that_is_killed_leaves_what_the_next_one_heals(self):
+        chance = random.Random(SEED)
+        self.begin_all()
+        usual = self.usual()
+        came = Counter()
+        for _ in range(STOPS):
+            if self.call("undo")[0] == 0 and chance.random() < 0.5:
+                self.call("redo")
+            words = self.command(chance)
+            before = self.files()
+            after = self.after(words)
+            call = self.start(*words)
+            time.sleep(chance.random() * 1.3 * usual)
+            call.kill()
+            call.communicate()
+            with self.subTest(words=words):
+                came[self.healed(before, after)] += 1
+        print(f"{STOPS} calls stopped: " + ", ".join(f"{count} {where}" for where, count in sorted(came.items())))
+
+    def sides(self):
+        """The files before and after an edit that changes all three."""
+        self.begin_all()
+        before = self.files()
+        self.assertEqual(self.call("add", "p01"), (0, "ok 1\n"))
+        return before, self.files()
+
+    def test_a_save_that_stopped_between_two_files_is_ended(self):
+        before, after = self.sides()
+        for moved in range(4):
+            with self.subTest(moved=moved):
+                stopped = before | {name: after[name] for name in FILES[:moved]}
+                self.put(stopped | {f"{name}.new": after[name] for name in FILES[moved:]})
+                left = self.files()
+                if moved in (1, 2):
+                    self.assertEqual(self.call("check"), (4, "reqlock: requirements.txt: files-disagree\n"))
+                    self.assertEqual(self.files(), left)
+                self.assertEqual(self.call("relock"), (0, "same\n"))
+                self.assertEqual(self.files(), after if moved else before)
+
+    def test_the_answer_is_that_of_the_healed_files(self):
+        before, after = self.sides()
+        self.put(before | {"requirements.txt": after["requirements.txt"]} | {f"{name}.new": after[name] for name in FILES[1:]})
+        self.assertEqual(self.call("add", "p01"), (1, "refused already-present\n"))
+        self.assertEqual(self.files(), after)
+
+    def test_files_that_nothing_makes_whole_stay(self):
+        before, after = self.sides()
+        for name, others in ("requirements.txt", {}), ("requirements.txt", {"pylock.toml.new": after["pylock.toml"]}):
+            self.put(before | {name: after[name]} | others)
+            left = self.files()
+            for words in ["relock"], ["undo"], ["show"], ["check"]:
+                self.assertEqual(self.call(*words), (4, "reqlock: requirements.txt: files-disagree\n"))
+            self.assertEqual(self.files(), left)
+
+    def test_a_first_save_that_stopped_is_ended(self):
+        before, _ = self.sides()
+        requirements = {"requirements.txt": before["requirements.txt"]}
+        for moved in range(1, 3):
+            stopped = requirements | {name: before[name] for name in FILES[1:moved]}
+            self.put(stopped | {f"{name}.new": before[name] for name in FILES[moved:]})
+            self.assertEqual(self.call("check"), (4, "reqlock: reqlock.journal: unreadable\n"))
+            self.assertEqual(self.call("relock"), (0, "same\n"))
+            self.assertEqual(self.files(), before)
+
+    def test_a_new_history_leaves_nothing_beside(self):
+        before, after = self.sides()
+        self.put(before | {f"{name}.new": after[name] for name in FILES})
+        self.assertEqual(self.call("init"), (0, "ok 0\n"))
+        self.assertEqual(self.files(), before)
+
+
+if __name__ == "__main__":
+    unittest.main()
