@@ -1,6 +1,6 @@
 -- Lemmas on what clap reads.
 use Rattle.std.proofs.Common.{◌≡◌, ◌∙◌, ℕ, Bor, true, true≢false, List, [], Option, None, Some, refl, sym, ap, subst, inl, inr, codes}
-use Rattle.std.specs.Prelude.{IsSome, IsSomeAnd, is_some, option_map, unwrap_or, Box, Result}
+use Rattle.std.specs.Prelude.{IsSomeAnd, is_some, option_map, unwrap_or, Box, Result}
 use Rattle.clap.specs.Words.{App, FailsBy, HasMatchesOf, Row, Text, all_of, HasKind, IsAmong, fault_of, first_of, first_value, found_of, is_simple, is_simple_and_free, kind_of, matches_of, rows_of, subcommand_name_of, subcommand_of, subcommand_rows, subcommand_rows_of}
 use Rattle.clap.specs.declared.error.Error.{Error}
 use Rattle.clap.specs.declared.parser.matches.ArgMatches.{ArgMatches}

@@ -1,7 +1,7 @@
 -- What the words of a command line ask for, as clap reads them. All of it is reqlock's own rule.
-use Rattle.std.specs.Prelude.{ℕ, ◌≡◌, ◌≢◌, ◌⊎◌, List, [], ◌∷◌, Option, None, Some, codes, map, unwrap_or, option_map, if◌then◌else◌, IsSome, IsSomeAnd}
+use Rattle.std.specs.Prelude.{◌≡◌, ◌≢◌, ◌⊎◌, List, [], ◌∷◌, Option, None, Some, codes, map, unwrap_or, option_map, if◌then◌else◌, IsSome, IsSomeAnd}
 use Rattle.std.specs.Borrow.{Bor}
-use Rattle.std.specs.List.{All, Any}
+use Rattle.std.specs.List.{All}
 use Rattle.std.specs.Str.{bytes_eq}
 use Rattle.clap.specs.Words.{Row, Text, IsAmong, all_of, fault_of, first_of, kind_of, matches_of, subcommand_of}
 use Rattle.clap.specs.declared.error.Error.{Error}

@@ -1,4 +1,4 @@
-use Rattle.std.proofs.Common.{◌≡◌, ◌<◌, ◌∙◌, Some, ap, length, sym}
+use Rattle.std.proofs.Common.{◌<◌, ◌∙◌, Some, ap, length, sym}
 use Rattle.reqlock.specs.declared.command_line.Item.{Item}
 use Rattle.reqlock.proofs.Texts.{asked_some, some-bytes}
 use Rattle.reqlock.proofs.command_line.read_text.Goals as goal

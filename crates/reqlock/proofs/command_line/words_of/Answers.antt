@@ -1,4 +1,4 @@
-use Rattle.std.proofs.Common.{◌≡◌, ◌<◌, ◌∙◌, ◌++◌, ℕ, List, append_assoc, ap, length, sym}
+use Rattle.std.proofs.Common.{◌<◌, ◌∙◌, ◌++◌, ℕ, List, append_assoc, ap, length, sym}
 use Rattle.reqlock.specs.CommandLine.{from_first, is_space}
 use Rattle.reqlock.proofs.Texts.{behind-shorter, some-bytes, trimmed-again, words_of-first, words_of-trimmed}
 use Rattle.reqlock.proofs.command_line.words_of.Goals as goal

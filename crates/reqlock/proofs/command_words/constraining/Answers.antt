@@ -1,8 +1,8 @@
-use Rattle.std.proofs.Common.{◌≡◌, ◌∙◌, [], ◌∷◌, ap, ap₂, rules, codes, false}
+use Rattle.std.proofs.Common.{◌≡◌, ◌∙◌, ap, ap₂, rules, codes}
 use Rattle.std.proofs.lemmas.Result.{IfOk-weaker}
 use Rattle.clap.specs.Words.{App, app_of, new_app, rule_of, with_rule, with_subcommand}
 use Rattle.clap.specs.Simple.{app_of_fields}
-use Rattle.reqlock.specs.CommandWords.{needed_rule, shape_with, text_rule}
+use Rattle.reqlock.specs.CommandWords.{needed_rule, text_rule}
 use Rattle.reqlock.proofs.command_words.constraining.Goals as goal
 
 pub returns : goal.returns

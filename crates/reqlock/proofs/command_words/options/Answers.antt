@@ -2,7 +2,7 @@ use Rattle.std.proofs.Common.{◌≡◌, ◌∙◌, ap, ap₂, rules, codes, tru
 use Rattle.std.proofs.lemmas.Result.{IfOk-weaker}
 use Rattle.clap.specs.Words.{App, app_of, new_app, rule_of, with_rule}
 use Rattle.clap.specs.Simple.{Shape, app_of_fields, on_top}
-use Rattle.reqlock.specs.CommandWords.{option_rule, options_app}
+use Rattle.reqlock.specs.CommandWords.{option_rule}
 use Rattle.reqlock.proofs.command_words.options.Goals as goal
 
 pub returns : goal.returns

@@ -1,6 +1,6 @@
-use Rattle.std.proofs.Common.{◌≡◌, ◌∙◌, [], ◌∷◌, ap, ap₂, rules, codes}
+use Rattle.std.proofs.Common.{◌≡◌, ◌∙◌, [], ◌∷◌, ap, ap₂, codes}
 use Rattle.std.proofs.lemmas.Result.{IfOk-weaker}
-use Rattle.clap.specs.Words.{App, Rule, app_of, rule_of, with_subcommand}
+use Rattle.clap.specs.Words.{App, Rule, rule_of, with_subcommand}
 use Rattle.clap.specs.Simple.{new_shape}
 use Rattle.reqlock.specs.CommandWords.{needed_rule, shape_with, text_rule, texts_rule}
 use Rattle.reqlock.proofs.Requests.{some_with}

@@ -1,8 +1,7 @@
-use Rattle.std.proofs.Common.{◌≡◌, ◌∙◌, List, Option, Some, ap, codes, inr, map, subst, sym}
+use Rattle.std.proofs.Common.{◌∙◌, List, Option, ap, codes, inr, map, subst, sym}
 use Rattle.std.specs.Prelude.{IsSomeAnd, unwrap_or}
 use Rattle.std.proofs.lemmas.Result.{err_from_is_err_and}
-use Rattle.clap.specs.Words.{Row, Text, found_of, rows_of, subcommand_of}
-use Rattle.reqlock.specs.CommandWords.{reqlock_app}
+use Rattle.clap.specs.Words.{Row, Text, found_of, rows_of}
 use Rattle.reqlock.specs.Requests.{IsAsked, IsLackingIn, given}
 use Rattle.reqlock.proofs.Requests.{asked_over, both_of, given_is, lacking_over, name_in, now_or}
 use Rattle.reqlock.proofs.request.request.Goals as goal
