@@ -1,25 +1,26 @@
 -- What the steps of a search that learns keep.
-use Rattle.std.proofs.Common.{ℕ, zero, suc, List, [], ◌∷◌, ◌++◌, ◌≡◌, ◌<◌, ◌≤◌, ◌⊎◌, inl, inr, Contains, length, get_or, take, refl, sym, ◌∙◌, subst, arith, add-one, Some, None, Option, true, option_to_list, append_assoc, append-nil}
-use Rattle.std.proofs.lemmas.List.Elements.{Contains-push_cases}
+use Rattle.std.proofs.Common.{ℕ, suc, List, [], ◌∷◌, ◌++◌, ◌≡◌, ◌<◌, ◌≤◌, ◌⊎◌, inl, inr, Contains, length, get_or, take, refl, sym, ◌∙◌, ap, subst, add-one, Some, None, Option, true, option_to_list, append_assoc, append-nil}
+use Rattle.std.proofs.lemmas.List.{get_or_push}
+use Rattle.std.proofs.lemmas.List.Elements.{Contains-get_or, Contains-push_cases}
 use Rattle.std.specs.Ordering.{nat_cmp}
 use Rattle.search.proofs.Asked.{leader-version}
 use Rattle.search.proofs.Entries.{eq-itself}
 use Rattle.search.proofs.Holding.{decisions-push}
-use Rattle.search.proofs.LearnedSearch.{IsLearning-push, IsLearning-pop, learning-more, follows-excluded}
+use Rattle.search.proofs.LearnedSearch.{IsLearning-push, IsLearning-pop, learning-more}
 use Rattle.lists.proofs.Members.{Contains-here, Contains-cons_cases, Contains-nil, Contains-take_suc, take-whole}
 use Rattle.search.proofs.Ranges.{lines-known, wants-known, nodes-known}
-use Rattle.search.proofs.Work.{table-lawful}
 use Rattle.search.specs.declared.conflict.NodeChoice.{NodeChoice}
 use Rattle.search.specs.declared.held.Partial.{Partial}
 use Rattle.search.specs.declared.trial.Held.{Held}
 use Rattle.search.specs.declared.trial.Trial.{Trial}
 use Rattle.search.specs.Asking.{Clashes}
-use Rattle.search.specs.Conflicts.{IsSameChoice, Completes, NeedsNode, Follows, EachFollows}
+use Rattle.search.specs.Conflicts.{IsSameChoice, Completes, NeedsNode, Follows, EachFollows, IsRefutation}
 use Rattle.search.specs.Gathering.{Gathers, IsCompleted, IsWithin, decision, places_eq}
+use Rattle.search.specs.Known.{IsKnown, AreKnown}
 use Rattle.search.specs.Learned.{decision_of, decisions_of, names_held, leaders_held, IsInTurn, IsNeededBy, IsFree, IsTrial, FitsBefore, IsHeld, IsLearning, IsPartial, LastIsNew}
 use Rattle.search.specs.Learning.{IsLearned, version_of}
 use Rattle.search.specs.Rules.{Rules}
-use Rattle.search.specs.Solutions.{Needed, IsNext, HasNoSolution, version_in}
+use Rattle.search.specs.Solutions.{Needed, IsNext, version_in}
 use Rattle.search.specs.Table.{TableParts, rules_of, name_of, candidates_of, in_range}
 use Rattle.search.specs.Trials.{IsRefused}
 
@@ -66,10 +67,17 @@ each-push : (rules : Rules ℕ ℕ ℕ ℕ) (earlier cs : List (List (NodeChoice
 each-push rules earlier [] c f g = (subst (λ xs. Follows rules places_eq xs c) (append-nil earlier) g, tt)
 each-push rules earlier (d ∷ cs) c f g = (f.0, each-push rules (earlier ++ d ∷ []) cs c f.1 (subst (λ xs. Follows rules places_eq xs c) (sym (append_assoc earlier (d ∷ []) cs)) g))
 
-pub learned-more : (t : TableParts) (p : Partial) (conflicts : List (List (NodeChoice ℕ ℕ))) (c : List (NodeChoice ℕ ℕ)) → IsLearned t p conflicts → Follows (rules_of t) places_eq conflicts c → IsLearned t p (conflicts ++ c ∷ [])
-learned-more t p conflicts c h f = record {
+known-push : (t : TableParts) (conflicts : List (List (NodeChoice ℕ ℕ))) (conflict : List (NodeChoice ℕ ℕ)) → AreKnown t conflicts → ((c : NodeChoice ℕ ℕ) → Contains conflict c → IsKnown t c) → AreKnown t (conflicts ++ conflict ∷ [])
+known-push t conflicts conflict all own other c i j = elim (Contains-push_cases conflicts conflict other i) [
+  | inl a ↦ all other c a j
+  | inr b ↦ own c (subst (λ (xs : List (NodeChoice ℕ ℕ)). Contains xs c) (sym b) j)
+]
+
+pub learned-more : (t : TableParts) (p : Partial) (conflicts : List (List (NodeChoice ℕ ℕ))) (conflict : List (NodeChoice ℕ ℕ)) → IsLearned t p conflicts → Follows (rules_of t) places_eq conflicts conflict → ((c : NodeChoice ℕ ℕ) → Contains conflict c → IsKnown t c) → IsLearned t p (conflicts ++ conflict ∷ [])
+learned-more t p conflicts c h f own = record {
   partial = h.partial;
   follows = each-push (rules_of t) [] conflicts c h.follows f;
+  known = known-push t conflicts c h.known own;
   learning = learning-more (rules_of t) conflicts (c ∷ []) [] p.held.items h.learning;
 }
 
@@ -107,9 +115,8 @@ exhausted-within rules conflicts before trial conflict h g c i = elim (g.only c 
   | inr b ↦ by-held rules (decisions_of before) trial.node trial.by h.by c b.0
 ]
 
-pub last-recorded : {X : Type 0} (xs : List (List X)) (x d : List X) → get_or (xs ++ x ∷ []) (length xs) d ≡ x
-last-recorded [] x d = refl
-last-recorded (y ∷ ys) x d = last-recorded ys x d
+pub last-recorded : {X : Type 0} (before after : List (List X)) (last : List X) (at : ℕ) → after ≡ before ++ last ∷ [] → at ≡ length before → get_or after at [] ≡ last
+last-recorded before after last at is size = ap (λ xs. get_or xs at []) is ∙ get_or_push before last [] at (sym size)
 
 -- ---- choices are given back
 
@@ -119,6 +126,33 @@ needed-known t known decisions node (Some c) h = nodes-known t known h.0 (wants-
 
 pub trial-known : (t : TableParts) → in_range t ≡ true → (conflicts : List (List (NodeChoice ℕ ℕ))) (before : List Held) (trial : Trial) → IsTrial (rules_of t) conflicts before trial → trial.node < length t.nodes
 trial-known t known conflicts before trial h = needed-known t known (decisions_of before) trial.node trial.by h.by
+
+-- the candidate of a turn is known
+pub candidate-known : (t : TableParts) (trial : Trial) (place : ℕ) → trial.node < length t.nodes → trial.turn < length (candidates_of t (name_of t trial.node)) → get_or (candidates_of t (name_of t trial.node)) trial.turn place ≡ place → IsKnown t (decision trial.node place)
+candidate-known t trial place node turn at = (
+  node,
+  subst (λ v. Contains (candidates_of t (name_of t trial.node)) v) at (Contains-get_or (candidates_of t (name_of t trial.node)) trial.turn place turn),
+)
+
+pub held-known : (t : TableParts) → in_range t ≡ true → (conflicts : List (List (NodeChoice ℕ ℕ))) (before hs : List Held) → IsLearning (rules_of t) conflicts before hs → (c : NodeChoice ℕ ℕ) → Contains (decisions_of hs) c → IsKnown t c
+held-known t known conflicts before [] l c i = absurd (Contains-nil c i)
+held-known t known conflicts before (h ∷ hs) l c i = elim (Contains-cons_cases (decision_of h) (decisions_of hs) c i) [
+  | inl e ↦ subst (λ d. IsKnown t d) e (candidate-known t h.trial h.place (trial-known t known conflicts before h.trial l.0.trial) l.0.turn l.0.place)
+  | inr r ↦ held-known t known conflicts (before ++ h ∷ []) hs l.1 c r
+]
+
+-- so is each choice of a conflict that is held but for the candidate
+pub within-known : (t : TableParts) → in_range t ≡ true → (conflicts : List (List (NodeChoice ℕ ℕ))) (before : List Held) (conflict : List (NodeChoice ℕ ℕ)) (candidate : NodeChoice ℕ ℕ) → IsLearning (rules_of t) conflicts [] before → IsWithin conflict (decisions_of before) candidate → IsKnown t candidate → (c : NodeChoice ℕ ℕ) → Contains conflict c → IsKnown t c
+within-known t known conflicts before conflict candidate l within own c i = elim (within c i) [
+  | inl a ↦ held-known t known conflicts [] before l c a
+  | inr b ↦ subst (λ d. IsKnown t d) b own
+]
+
+-- where no candidate is left, the conflict that follows is recorded
+pub exhausted-learned : (t : TableParts) → in_range t ≡ true → (p : Partial) (before after : List (List (NodeChoice ℕ ℕ))) (trial : Trial) (conflict : List (NodeChoice ℕ ℕ)) → IsLearned t p before → IsTrial (rules_of t) before p.held.items trial → Gathers trial.blame.items conflict (option_to_list trial.by) [] → length (candidates_of t (name_of t trial.node)) ≤ trial.turn → after ≡ before ++ conflict ∷ [] → IsLearned t p after
+exhausted-learned t known p before after trial conflict h k g l is = subst (λ (xs : List (List (NodeChoice ℕ ℕ))). IsLearned t p xs) (sym is)
+    (learned-more t p before conflict h (exhausted-follows (rules_of t) before p.held.items trial conflict k g l)
+    (λ c i. held-known t known before [] p.held.items h.learning c (exhausted-within (rules_of t) before p.held.items trial conflict k g c i)))
 
 version-none : (o : Option (NodeChoice ℕ ℕ)) → version_of o ≡ None → o ≡ None
 version-none None e = refl
@@ -145,20 +179,25 @@ within-front hs h conflict within lacks c i = elim (Contains-push_cases (decisio
 pub within-last : (hs : List Held) (h : Held) (conflict : List (NodeChoice ℕ ℕ)) → ((c : NodeChoice ℕ ℕ) → Contains conflict c → Contains (decisions_of (hs ++ h ∷ [])) c) → IsWithin conflict (decisions_of hs) (decision_of h)
 within-last hs h conflict within c i = Contains-push_cases (decisions_of hs) (decision_of h) c (subst (λ cs. Contains cs c) (decisions-push hs h) (within c i))
 
--- where nothing is held, no conflict that is held by it lies in a solution
-pub nothing-held : (t : TableParts) → in_range t ≡ true → (conflicts : List (List (NodeChoice ℕ ℕ))) (conflict : List (NodeChoice ℕ ℕ)) → EachFollows (rules_of t) places_eq [] conflicts → Contains conflicts conflict → ((c : NodeChoice ℕ ℕ) → Contains conflict c → Contains (decisions_of []) c) → HasNoSolution (rules_of t)
-nothing-held t known conflicts conflict f there within s sol = follows-excluded (rules_of t) (table-lawful t known) conflicts f conflict there s sol (λ c i. absurd (Contains-nil c (within c i)))
+-- where nothing is held, a conflict that is held is empty
+pub nothing-held : (conflict : List (NodeChoice ℕ ℕ)) → ((c : NodeChoice ℕ ℕ) → Contains conflict c → Contains (decisions_of []) c) → conflict ≡ []
+nothing-held [] within = refl
+nothing-held (c ∷ cs) within = absurd (Contains-nil c (within c (Contains-here c cs)))
 
-pub member-at : {X : Type 0} (xs : List (List X)) (i : ℕ) → i < length xs → Contains xs (get_or xs i [])
-member-at [] i l = absurd (omega arith)
-member-at (x ∷ xs) zero l = Contains-here x xs
-member-at (x ∷ xs) (suc i) l = let k : Contains xs (get_or xs i []) = member-at xs i (omega arith) in (suc k.0, omega arith, k.2)
+-- then what is recorded is a refutation
+pub recorded-refutation : (rules : Rules ℕ ℕ ℕ ℕ) (before conflicts : List (List (NodeChoice ℕ ℕ))) (last : List (NodeChoice ℕ ℕ)) → EachFollows rules places_eq [] conflicts → conflicts ≡ before ++ last ∷ [] → last ≡ [] → IsRefutation rules places_eq conflicts
+recorded-refutation rules before conflicts last f is none = record {
+  each = f;
+  front = before;
+  ends = is ∙ ap (λ (c : List (NodeChoice ℕ ℕ)). before ++ c ∷ []) none;
+}
 
 -- a candidate that fits is held
 pub learned-push : (t : TableParts) (p q : Partial) (conflicts : List (List (NodeChoice ℕ ℕ))) (trial : Trial) (place : ℕ) → IsLearned t p conflicts → IsPartial t q → q.held.items ≡ p.held.items ++ (record { trial = trial; place = place }) ∷ [] → IsTrial (rules_of t) conflicts p.held.items trial → trial.turn < length (candidates_of t (name_of t trial.node)) → get_or (candidates_of t (name_of t trial.node)) trial.turn place ≡ place → FitsBefore (rules_of t) p.held.items (decision trial.node place) → IsLearned t q conflicts
 learned-push t p q conflicts trial place h s held k turn at fits = record {
   partial = s;
   follows = h.follows;
+  known = h.known;
   learning = subst (λ xs. IsLearning (rules_of t) conflicts [] xs) (sym held) (IsLearning-push (rules_of t) conflicts [] p.held.items (record { trial = trial; place = place }) h.learning (record { trial = k; turn = turn; place = at; fits = fits }));
 }
 

@@ -25,3 +25,4 @@ pub mod Watching
 pub mod Needs
 pub mod Learns
 pub mod LearnedWork
+pub mod PicturedConflicts

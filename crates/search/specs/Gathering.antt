@@ -1,5 +1,5 @@
 -- Lists of choices that are read as sets.
--- Tied to `Follows` by the contract of `learned_best`; need not be read.
+-- Tied to `Follows` by the contract of `learned_or_refuted`; but for `places_eq` need not be read.
 use Rattle.std.specs.Prelude.{ℕ, List, ◌≡◌, ◌==◌, ◌⊎◌, Bool}
 use Rattle.std.specs.List.{Contains}
 use Rattle.search.specs.declared.conflict.NodeChoice.{NodeChoice}

@@ -8,17 +8,19 @@ use Rattle.search.specs.declared.learning.Progress.{Progress}
 use Rattle.search.specs.declared.learning.Progress.TheVariants.{Trying, Solved, Refuted}
 use Rattle.search.specs.declared.trial.Held.{Held}
 use Rattle.search.specs.declared.trial.Trial.{Trial}
-use Rattle.search.specs.Conflicts.{EachFollows}
+use Rattle.search.specs.Conflicts.{EachFollows, IsRefutation}
 use Rattle.search.specs.Gathering.{places_eq}
+use Rattle.search.specs.Known.{AreKnown}
 use Rattle.search.specs.Learned.{IsLearning, IsPartial, IsTrial, chosen_held}
-use Rattle.search.specs.Solutions.{HasNoSolution, IsBest}
+use Rattle.search.specs.Solutions.{IsBest}
 use Rattle.search.specs.Table.{TableParts, rules_of, candidates_of, name_of}
 use Rattle.search.specs.Trials.{IsRefused}
 
--- each recorded conflict follows from those before it, and what is held is in keeping with them
+-- each recorded conflict follows from those before it and is known to the table, and what is held is in keeping with them
 pub record IsLearned (t : TableParts) (p : Partial) (conflicts : List (List (NodeChoice ℕ ℕ))) : Type 0 where
   pub partial : IsPartial t p
   pub follows : EachFollows (rules_of t) places_eq [] conflicts
+  pub known : AreKnown t conflicts
   pub learning : IsLearning (rules_of t) conflicts [] p.held.items
 
 abbrev pub version_of : Option (NodeChoice ℕ ℕ) → Option ℕ
@@ -62,7 +64,7 @@ IsOnward t old new before after = IsRetried t old new before after ⊎ (IsEntere
 abbrev pub StandsAt : TableParts → Partial → List (List (NodeChoice ℕ ℕ)) → Progress → Type 0
 StandsAt t p conflicts (Trying trial) = IsLearned t p conflicts × IsTrial (rules_of t) conflicts p.held.items trial
 StandsAt t p conflicts Solved = IsPartial t p × IsBest (rules_of t) (chosen_held (rules_of t) p.held.items)
-StandsAt t p conflicts Refuted = HasNoSolution (rules_of t)
+StandsAt t p conflicts Refuted = IsRefutation (rules_of t) places_eq conflicts × AreKnown t conflicts
 
 abbrev pub GoesOnward : TableParts → List Held → List Held → Trial → Progress → Type 0
 GoesOnward t old new before (Trying trial) = IsOnward t old new before trial

@@ -6,6 +6,7 @@ pub mod Trials
 pub mod Learned
 pub mod Asking
 pub mod Learning
+pub mod Found
 pub mod Conflicts
 pub mod Table
 pub mod Search
@@ -14,3 +15,4 @@ pub mod Nodes
 pub mod Steps
 pub mod Front
 pub mod Picture
+pub mod Known

@@ -83,6 +83,18 @@ impl Conflicts {
         Ok(())
     }
 
+    /// The recorded conflicts, in their order.
+    pub fn into_list(self) -> Seq<Seq<Decision>>
+        ensures { result ≡ self.list.items }
+    {
+        let Conflicts {
+            list,
+            links: _,
+            last: _,
+        } = self;
+        Seq::from_vec(list)
+    }
+
     /// A recorded conflict.
     pub fn at(&self, place: usize) -> &[Decision]
         ensures { result.now ≡ slice_index_or self.now.list.items place [] }

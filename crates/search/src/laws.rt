@@ -1,8 +1,10 @@
 //! Laws of solutions, each the contract of a function that does nothing.
 
-ghost use Rattle.std.specs.Prelude.{◌≡◌, List, [], Option, Bool, true};
+ghost use Rattle.std.specs.Prelude.{ℕ, ◌≡◌, List, [], Option, Bool, true};
 ghost use Rattle.std.specs.List.{Contains};
 ghost use Rattle.search.specs.Conflicts.{IsVersionEquality, LiesInNone, Follows, EachFollows, IsRefutation};
+ghost use Rattle.search.specs.Gathering.{places_eq};
+ghost use Rattle.search.specs.Known.{AreKnown, AreApart, conflicts_pictured};
 ghost use Rattle.search.specs.Picture.{Picture, IsPicture, pictured};
 ghost use Rattle.search.specs.Rules.{Rules, IsOrder, IsLawful};
 ghost use Rattle.search.specs.Solutions.{Solution, IsBest, IsBetter, HasNoSolution, version_in};
@@ -49,4 +51,20 @@ pub fn what_follows_lies_in_no_solution<N, X, V, R>()
     ensures none { (rules : Rules N X V R) (same : V → V → Bool) → IsLawful rules
         → IsVersionEquality rules same → (conflicts : List (List (NodeChoice X V)))
         → IsRefutation rules same conflicts → HasNoSolution rules }
+{}
+
+/// Where a table pictures other rules, and no two candidates of a name stand for equal versions, a
+/// list of conflicts over choices that the table knows, in which each follows from those before it,
+/// stands for such a list of the rules, and a refutation stands for a refutation.
+pub fn a_picture_keeps_refutations<N, X, V, R>()
+    ensures each { (t : TableParts) (picture : Picture N X V R) (rules : Rules N X V R)
+        (same : V → V → Bool) → in_range t ≡ true → IsPicture t picture rules
+        → AreApart t picture same → (conflicts : List (List (NodeChoice ℕ ℕ)))
+        → AreKnown t conflicts → EachFollows (rules_of t) places_eq [] conflicts
+        → EachFollows rules same [] (conflicts_pictured t picture conflicts) }
+    ensures refutation { (t : TableParts) (picture : Picture N X V R) (rules : Rules N X V R)
+        (same : V → V → Bool) → in_range t ≡ true → IsPicture t picture rules
+        → AreApart t picture same → (conflicts : List (List (NodeChoice ℕ ℕ)))
+        → AreKnown t conflicts → IsRefutation (rules_of t) places_eq conflicts
+        → IsRefutation rules same (conflicts_pictured t picture conflicts) }
 {}

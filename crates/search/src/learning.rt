@@ -3,7 +3,10 @@
 ghost use Rattle.std.specs.Prelude.{◌≡◌, ◌<◌, ◌≤◌, ◌+◌, IsTrue, IsFalse, IfOk, MatchOption, length, map, [], true, ℕ};
 ghost use Rattle.std.specs.List.{Contains, slice_index_or};
 ghost use Rattle.search.specs.declared.conflict.NodeChoice.{NodeChoice};
-ghost use Rattle.search.specs.Gathering.{decision};
+ghost use Rattle.search.specs.Conflicts.{IsRefutation};
+ghost use Rattle.search.specs.Found.{MatchFound};
+ghost use Rattle.search.specs.Gathering.{decision, places_eq};
+ghost use Rattle.search.specs.Known.{AreKnown};
 ghost use Rattle.search.specs.Learned.{FitsBefore, IsPartial, IsTrial, chosen_held, decisions_of};
 ghost use Rattle.search.specs.Learning as spec;
 ghost use Rattle.search.specs.Learning.{GoesOnward, IsBack, IsFirst, IsLearned, IsRefusedFor, StandsAt};
@@ -30,6 +33,15 @@ pub enum Progress {
     Trying(Trial),
     Solved,
     Refuted,
+}
+
+/// What a search finds: the best solution, its choices in the order of their names; or a
+/// refutation, a list of conflicts in which each follows from those before it and the last one is
+/// empty.
+#[derive(Drop)]
+pub enum Found {
+    Best(Seq<Choice>),
+    Refuted(Seq<Seq<Decision>>),
 }
 
 /// Refuses a candidate for a clash with a choice, which it records.
@@ -116,7 +128,7 @@ fn cut_back(
         → Contains (slice_index_or conflicts.now.list.items at []) c
         → Contains (decisions_of partial.old.held.items) c }
     ensures none { IfOk result
-        (λ found. MatchOption found (HasNoSolution (rules_of table.now))
+        (λ found. MatchOption found (slice_index_or conflicts.now.list.items at [] ≡ [])
         (λ trial. IsBack partial.old.held.items partial.new.held.items trial)) }
     ensures learned { IfOk result
         (λ found. MatchOption found Unit
@@ -254,14 +266,19 @@ fn choices_of(alloc: Global, partial: &Partial) -> Result<Seq<Choice>, AllocErro
     Ok(choices)
 }
 
-/// The best solution of a table, its choices in the order of their names; nothing where there is
-/// no solution. The search learns from its conflicts.
-pub fn learned_best(alloc: Global, table: &Table) -> Result<Option<Seq<Choice>>, AllocError>
+/// The best solution of a table, or a refutation where there is no solution. The search learns
+/// from its conflicts, and the refutation is what it has learned.
+pub fn learned_or_refuted(alloc: Global, table: &Table) -> Result<Found, AllocError>
     ensures best { IfOk result
-        (λ answer. MatchOption answer (HasNoSolution (rules_of table.now))
-        (λ choices. IsBest (rules_of table.now) (place_in choices))) }
+        (λ found. MatchFound found (λ choices. IsBest (rules_of table.now) (place_in choices))
+        (λ _. HasNoSolution (rules_of table.now))) }
     ensures ascending { IfOk result
-        (λ answer. MatchOption answer Unit (λ choices. IsAscending choices)) }
+        (λ found. MatchFound found (λ choices. IsAscending choices) (λ _. Unit)) }
+    ensures refutation { IfOk result
+        (λ found. MatchFound found (λ _. Unit)
+        (λ conflicts. IsRefutation (rules_of table.now) places_eq conflicts)) }
+    ensures known { IfOk result
+        (λ found. MatchFound found (λ _. Unit) (λ conflicts. AreKnown table.now conflicts)) }
 {
     let mut partial = Partial::new(alloc, table)?;
     let mut conflicts = Conflicts::new(alloc);
@@ -273,10 +290,10 @@ pub fn learned_best(alloc: Global, table: &Table) -> Result<Option<Seq<Choice>>,
     let mut progress = onward(alloc, table, &mut partial, &conflicts, &mut cursor);
     'search: loop {
         match progress {
-            Progress::Refuted => return Ok(None),
+            Progress::Refuted => return Ok(Found::Refuted(conflicts.into_list())),
             Progress::Solved => {
                 let choices = choices_of(alloc, &partial)?;
-                return Ok(Some(choices));
+                return Ok(Found::Best(choices));
             }
             Progress::Trying(trial) => {
                 progress = step(
@@ -289,5 +306,20 @@ pub fn learned_best(alloc: Global, table: &Table) -> Result<Option<Seq<Choice>>,
                 )?;
             }
         }
+    }
+}
+
+/// The best solution of a table, its choices in the order of their names; nothing where there is
+/// no solution. The search learns from its conflicts.
+pub fn learned_best(alloc: Global, table: &Table) -> Result<Option<Seq<Choice>>, AllocError>
+    ensures best { IfOk result
+        (λ answer. MatchOption answer (HasNoSolution (rules_of table.now))
+        (λ choices. IsBest (rules_of table.now) (place_in choices))) }
+    ensures ascending { IfOk result
+        (λ answer. MatchOption answer Unit (λ choices. IsAscending choices)) }
+{
+    match learned_or_refuted(alloc, table)? {
+        Found::Best(choices) => Ok(Some(choices)),
+        Found::Refuted(_) => Ok(None),
     }
 }

@@ -3,8 +3,9 @@
 //! `specs/Rules` and `specs/Solutions` say what a solution of rules is and which one is the best,
 //! whatever a name, a node, a version or a requirement is made of. A `Table` holds rules as
 //! numbers; `best` searches it plainly, and `learned_best` learns from its conflicts and finds the
-//! same. `specs/Conflicts` says what a conflict is and when it follows from others. `specs/Picture`
-//! says when the numbers of a table stand for other rules; `laws` carries the best solution over to
+//! same. Where there is no solution, `learned_or_refuted` gives out its conflicts as a refutation.
+//! `specs/Conflicts` says what a conflict is and when it follows from others. `specs/Picture` says
+//! when the numbers of a table stand for other rules; `laws` carries the best solution over to
 //! those, and says that what follows from conflicts lies in no solution.
 #![tactic(auto)]
 
@@ -27,8 +28,8 @@ mod table;
 mod taken;
 mod trial;
 
-pub use crate::conflict::NodeChoice;
-pub use crate::learning::learned_best;
+pub use crate::conflict::{Decision, NodeChoice};
+pub use crate::learning::{Found, learned_best, learned_or_refuted};
 pub use crate::parts::{Choice, Requirement};
 pub use crate::search::best;
 pub use crate::table::Table;

@@ -1,6 +1,7 @@
 use Rattle.std.proofs.Common.{Option, Some, None, MatchOption, ℕ, List, [], ◌∷◌, ◌++◌, ◌≡◌, ◌<◌, ◌+◌, ◌∙◌, Contains, length, get_or, sym, ap, subst, arith, append_assoc}
+use Rattle.std.proofs.lemmas.List.Elements.{Contains-get_or}
 use Rattle.search.proofs.LearnedSearch.{IsLearning-pop}
-use Rattle.search.proofs.Learns.{trial-refused, trial-known, last-new, within-front, within-last, nothing-held, member-at}
+use Rattle.search.proofs.Learns.{trial-refused, trial-known, last-new, within-front, within-last, nothing-held}
 use Rattle.search.specs.declared.conflict.NodeChoice.{NodeChoice}
 use Rattle.search.specs.declared.held.Partial.{Partial}
 use Rattle.search.specs.declared.trial.Held.{Held}
@@ -67,8 +68,8 @@ returns-then-has-clause-learned c =
     let refused : IsRefused h.trial c.refuse.new.self conflict (decision h.trial.node h.place) =
     subst (λ (xs : List (NodeChoice ℕ ℕ)). IsRefused h.trial c.refuse.new.self xs (decision h.trial.node h.place)) c.at-conflict.ensures
     (subst (λ (x : Trial). IsRefused x c.refuse.new.self c.at-conflict.result.now (decision x.node h.place)) c.into_trial-trial.ensures c.in_ok-refuse.ensures) in (
-      record { partial = (now-partial c.args.table.now c.pop.new.self c.in-Some.held c.in_ok-held.field-0 c.in-Some.is c.in_ok-held.ensures.partial); follows = c.loop-held.invariant.learned.follows; learning = k.0 },
-      trial-refused (rules_of t) cs front h.trial c.refuse.new.self h.place conflict k.1.trial refused (member-at cs c.args.at c.requires.at)
+      record { partial = (now-partial c.args.table.now c.pop.new.self c.in-Some.held c.in_ok-held.field-0 c.in-Some.is c.in_ok-held.ensures.partial); follows = c.loop-held.invariant.learned.follows; known = c.loop-held.invariant.learned.known; learning = k.0 },
+      trial-refused (rules_of t) cs front h.trial c.refuse.new.self h.place conflict k.1.trial refused (Contains-get_or cs c.args.at [] c.requires.at)
           (within-last front h conflict (λ d i. subst (λ (xs : List Held). Contains (decisions_of xs) d) (popped c.loop-held.partial.held.items c.pop.new.self.held.items c.in-Some.held c.in_ok-held.field-0 c.in-Some.is c.in_ok-held.ensures.popped) (c.loop-held.invariant.within d i)))
           k.1.turn k.1.place,
     )
@@ -86,10 +87,10 @@ loop-held-preserved c =
     record {
       rest = h ∷ c.loop-held.invariant.rest;
       split = c.loop-held.invariant.split ∙ ap (λ xs. xs ++ c.loop-held.invariant.rest) (popped c.loop-held.partial.held.items c.pop.new.self.held.items c.in-Some.held c.in_ok-held.field-0 c.in-Some.is c.in_ok-held.ensures.popped) ∙ append_assoc front (h ∷ []) c.loop-held.invariant.rest;
-      learned = record { partial = (now-partial c.args.table.now c.pop.new.self c.in-Some.held c.in_ok-held.field-0 c.in-Some.is c.in_ok-held.ensures.partial); follows = c.loop-held.invariant.learned.follows; learning = k.0 };
+      learned = record { partial = (now-partial c.args.table.now c.pop.new.self c.in-Some.held c.in_ok-held.field-0 c.in-Some.is c.in_ok-held.ensures.partial); follows = c.loop-held.invariant.learned.follows; known = c.loop-held.invariant.learned.known; learning = k.0 };
       within = within-front front h conflict (λ d i. subst (λ (xs : List Held). Contains (decisions_of xs) d) (popped c.loop-held.partial.held.items c.pop.new.self.held.items c.in-Some.held c.in_ok-held.field-0 c.in-Some.is c.in_ok-held.ensures.popped) (c.loop-held.invariant.within d i)) lacks;
     }
 
 pub returns-clause-none : goal.returns-clause-none
-returns-clause-none c = nothing-held c.args.table.now c.requires.table c.args.conflicts.now.list.items (get_or c.args.conflicts.now.list.items c.args.at []) c.loop-held.invariant.learned.follows (member-at c.args.conflicts.now.list.items c.args.at c.requires.at)
+returns-clause-none c = nothing-held (get_or c.args.conflicts.now.list.items c.args.at [])
     (λ d i. subst (λ (xs : List Held). Contains (decisions_of xs) d) (all-popped c.loop-held.partial.held.items c.pop.new.self.held.items c.in_ok-held.field-0 c.in_default.is c.in_ok-held.ensures.popped) (c.loop-held.invariant.within d i))

@@ -19,6 +19,7 @@ returns-in-Some-clause-stands c = (
   record {
     partial = c.in-Some.ensures.partial;
     follows = c.requires.learned.follows;
+    known = c.requires.learned.known;
     learning = subst (λ (hs : List Held). IsLearning (rules_of c.args.table.now) c.args.conflicts.now.list.items [] hs) (sym (ap (λ v. v.items) c.in-Some.ensures.held)) c.requires.learned.learning;
   },
   subst (λ (hs : List Held). IsTrial (rules_of c.args.table.now) c.args.conflicts.now.list.items hs c.in-Some.trial) (sym (ap (λ v. v.items) c.in-Some.ensures.held)) (c.in-Some.ensures.next.1 c.args.conflicts.now.list.items),

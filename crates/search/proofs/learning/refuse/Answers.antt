@@ -1,12 +1,13 @@
 use Rattle.std.proofs.Common.{ℕ, List, [], ◌∷◌, ◌++◌, ◌<◌, ◌∙◌, get_or, map, sym, ap, subst}
-use Rattle.std.proofs.lemmas.List.Elements.{Contains-push}
+use Rattle.std.proofs.lemmas.List.Elements.{Contains-get_or, Contains-push}
 use Rattle.search.proofs.Entries.{entries-decisions}
 use Rattle.search.proofs.LearnedSearch.{trial-more}
-use Rattle.search.proofs.Learns.{trial-refused, trial-known, learned-more, member-at, clash-within}
+use Rattle.search.proofs.Learns.{trial-refused, trial-known, candidate-known, within-known, learned-more, clash-within}
 use Rattle.search.specs.declared.conflict.NodeChoice.{NodeChoice}
 use Rattle.search.specs.declared.trial.Held.{Held}
 use Rattle.search.specs.declared.trial.Trial.{Trial}
 use Rattle.search.specs.Gathering.{IsWithin, choice_at, decision}
+use Rattle.search.specs.Known.{IsKnown}
 use Rattle.search.specs.Learned.{IsTrial}
 use Rattle.search.specs.Learning.{IsLearned, IsRefusedFor}
 use Rattle.search.specs.Table.{TableParts, rules_of}
@@ -25,7 +26,7 @@ returns-in-Some-clause-trial c =
     let conflict : List (NodeChoice ℕ ℕ) = get_or cs c.in-Some.found [] in
     trial-refused (rules_of t) cs hs old c.refuse.new.self c.args.place conflict c.requires.trial
     (subst (λ (xs : List (NodeChoice ℕ ℕ)). IsRefused old c.refuse.new.self xs (decision old.node c.args.place)) c.at.ensures c.in_ok-refuse.ensures)
-    (member-at cs c.in-Some.found c.in-Some.ensures.0)
+    (Contains-get_or cs c.in-Some.found [] c.in-Some.ensures.0)
     (subst (λ (ds : List (NodeChoice ℕ ℕ)). IsWithin conflict ds (decision old.node c.args.place)) (ap (map choice_at) c.requires.learned.partial.choices ∙ entries-decisions hs) c.in-Some.ensures.1)
     (subst (λ k. old.turn < k) c.requires.count c.requires.turn) c.requires.place
 
@@ -34,8 +35,14 @@ pub returns-in_ok-refuse_for-in-Some-clash-clause-learned :
 returns-in_ok-refuse_for-in-Some-clash-clause-learned c =
     let t : TableParts = c.args.table.now in
     let cs : List (List (NodeChoice ℕ ℕ)) = c.args.conflicts.now.list.items in
-    let h : IsRefusedFor c.args.trial.now c.refuse_for.new.trial cs c.refuse_for.new.conflicts.list.items (decision c.args.trial.now.node c.args.place) c.in-Some-clash.other = c.in_ok-refuse_for-in-Some-clash.ensures in
-    subst (λ (xs : List (List (NodeChoice ℕ ℕ))). IsLearned t c.args.partial.now xs) (sym h.recorded) (learned-more t c.args.partial.now cs h.conflict c.requires.learned (c.in-Some-clash.ensures.follows cs h.conflict h.one h.two))
+    let hs : List Held = c.args.partial.now.held.items in
+    let old : Trial = c.args.trial.now in
+    let candidate : NodeChoice ℕ ℕ = decision old.node c.args.place in
+    let h : IsRefusedFor old c.refuse_for.new.trial cs c.refuse_for.new.conflicts.list.items candidate c.in-Some-clash.other = c.in_ok-refuse_for-in-Some-clash.ensures in
+    let own : IsKnown t candidate = candidate-known t old c.args.place (trial-known t c.requires.table cs hs old c.requires.trial) (subst (λ k. old.turn < k) c.requires.count c.requires.turn) c.requires.place in
+    subst (λ (xs : List (List (NodeChoice ℕ ℕ))). IsLearned t c.args.partial.now xs) (sym h.recorded)
+    (learned-more t c.args.partial.now cs h.conflict c.requires.learned (c.in-Some-clash.ensures.follows cs h.conflict h.one h.two)
+    (within-known t c.requires.table cs hs h.conflict candidate c.requires.learned.learning (clash-within (rules_of t) hs candidate c.in-Some-clash.other h.conflict c.in-Some-clash.ensures h.only) own))
 
 pub returns-in_ok-refuse_for-in-Some-clash-clause-trial :
     goal.returns-in_ok-refuse_for-in-Some-clash-clause-trial

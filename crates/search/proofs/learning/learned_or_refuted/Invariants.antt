@@ -1,6 +1,6 @@
 use Rattle.search.proofs.LearnedWork.{progress_work}
 use Rattle.search.specs.Learning.{StandsAt}
-use Rattle.search.proofs.learning.learned_best.Given as goal
+use Rattle.search.proofs.learning.learned_or_refuted.Given as goal
 
 abbrev pub invariant-search : goal.invariant-search
 invariant-search l = StandsAt l.table l.partial l.conflicts.list.items l.progress

@@ -1,14 +1,24 @@
 use Rattle.std.proofs.Common.{ℕ, Option, List, ◌≡◌, ◌<◌, sym, subst}
+use Rattle.search.proofs.LearnedSearch.{places-equality}
 use Rattle.search.proofs.LearnedWork.{progress_work, work-onward}
+use Rattle.search.proofs.Refutations.{refutation-none}
+use Rattle.search.proofs.Work.{table-lawful}
 use Rattle.search.specs.declared.conflict.NodeChoice.{NodeChoice}
 use Rattle.search.specs.declared.held.Partial.{Partial}
 use Rattle.search.specs.declared.learning.Progress.{Progress}
-use Rattle.search.specs.declared.learning.Progress.TheVariants.{Trying, Solved}
+use Rattle.search.specs.declared.learning.Progress.TheVariants.{Trying, Solved, Refuted}
+use Rattle.search.specs.Conflicts.{IsRefutation}
+use Rattle.search.specs.Gathering.{places_eq}
+use Rattle.search.specs.Known.{AreKnown}
 use Rattle.search.specs.Learned.{chosen_held}
 use Rattle.search.specs.Learning.{StandsAt}
 use Rattle.search.specs.Solutions.{IsBest}
 use Rattle.search.specs.Table.{TableParts, rules_of, place_in}
-use Rattle.search.proofs.learning.learned_best.Goals as goal
+use Rattle.search.proofs.learning.learned_or_refuted.Goals as goal
+
+-- where the search is at its end, what it has recorded is a refutation
+refuted-at-end : (t : TableParts) (p : Partial) (conflicts : List (List (NodeChoice ℕ ℕ))) (progress : Progress) → progress ≡ Refuted → StandsAt t p conflicts progress → IsRefutation (rules_of t) places_eq conflicts × AreKnown t conflicts
+refuted-at-end t p conflicts progress is h = subst (λ (x : Progress). StandsAt t p conflicts x) is h
 
 pub onward-progress-requires-clause-table : goal.onward-progress-requires-clause-table
 onward-progress-requires-clause-table c = c.in_ok-partial.ensures.known
@@ -33,3 +43,16 @@ search-smaller c =
     let k : StandsAt t p cs (Trying c.in-Trying.trial) = subst (λ (x : Progress). StandsAt t p cs x) c.in-Trying.is c.search.invariant in
     subst (λ (x : Progress). progress_work t c.step.new.partial.held.items c.in_ok-progress-in-Trying.progress < progress_work t p.held.items x) (sym c.in-Trying.is)
     (work-onward t c.in_ok-partial.ensures.known p c.step.new.partial cs c.step.new.conflicts.list.items c.in-Trying.trial c.in_ok-progress-in-Trying.progress k c.in_ok-progress-in-Trying.ensures.stands c.in_ok-progress-in-Trying.ensures.onward)
+
+pub returns-in-Refuted-clause-best : goal.returns-in-Refuted-clause-best
+returns-in-Refuted-clause-best c =
+    let t : TableParts = c.args.table.now in
+    let cs : List (List (NodeChoice ℕ ℕ)) = c.search.conflicts.list.items in
+    let k : IsRefutation (rules_of t) places_eq cs × AreKnown t cs = refuted-at-end t c.search.partial cs c.search.progress c.in-Refuted.is c.search.invariant in
+    refutation-none (rules_of t) places_eq (table-lawful t c.in_ok-partial.ensures.known) (places-equality (rules_of t)) cs k.0
+
+pub returns-in-Refuted-clause-known : goal.returns-in-Refuted-clause-known
+returns-in-Refuted-clause-known c =
+    let t : TableParts = c.args.table.now in
+    let cs : List (List (NodeChoice ℕ ℕ)) = c.search.conflicts.list.items in
+    subst (λ (xs : List (List (NodeChoice ℕ ℕ))). AreKnown t xs) (sym c.into_list.ensures) (refuted-at-end t c.search.partial cs c.search.progress c.in-Refuted.is c.search.invariant).1
