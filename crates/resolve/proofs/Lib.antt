@@ -10,3 +10,7 @@ pub mod PictureOf
 pub mod InRange
 pub mod TableOf
 pub mod Solving
+pub mod Deciding
+pub mod Equals
+pub mod Checked
+pub mod Counting

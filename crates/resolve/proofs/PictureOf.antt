@@ -21,7 +21,7 @@ use Rattle.resolve.specs.Places.{version_at}
 use Rattle.resolve.specs.Rules.{bare, nodes_of, wants, wants_of}
 use Rattle.resolve.specs.Standing.{AllStand, Stands}
 use Rattle.resolve.specs.declared.node.Node.{Node}
-use Rattle.resolve.proofs.Falling.{release_at-place, version_at-apart, version_at-get}
+use Rattle.resolve.proofs.Falling.{release_at-place, same-itself, version_at-apart, version_at-get, version_at-one}
 use Rattle.resolve.proofs.Standing.{length-map}
 use Rattle.resolve.proofs.Picturing.{AllStand-map, AllZip-at, AllZip-length, Rising, order-places}
 
@@ -124,9 +124,8 @@ module _ (given : ProblemParts) (g : Gathered) (names : List (List ℕ)) (t : Ta
   named-as : (n : ℕ) (name : List ℕ) → Stands names n name → name ≡ name_at names n
   named-as n name at = sym (get_or_from_slice_get names n name [] at)
 
-  pub is-pictured : IsPictured given names t
+  pub is-pictured : IsPictured given names g.nodes t
   is-pictured = record {
-    nodes = g.nodes;
     asked = g.asked;
     pictured = record {
       lines = AllStand-map g.asked t.lines given.active no_wanted is.lines;
@@ -152,6 +151,13 @@ module _ (given : ProblemParts) (g : Gathered) (names : List (List ℕ)) (t : Ta
           let l = listed-at n (subst (λ k. n < k) name-count (within-member t.candidates n p left)) in
           version_at-apart (releases_on given (name_at names n)) p q l.fall (l.candidates.within p left) (l.candidates.within q right) same;
     };
+    apart = record {
+      apart = λ n p q left right same.
+          let l = listed-at n (subst (λ k. n < k) name-count (within-member t.candidates n p left)) in
+          version_at-one (releases_on given (name_at names n)) p q l.fall (l.candidates.within p left) (l.candidates.within q right) same;
+      own = same-itself;
+    };
     counted = name-count;
+    counted_nodes = node-count;
     within = λ n place h. (listed-at n (subst (λ k. n < k) name-count (within-member t.candidates n place h))).candidates.within place h;
   }

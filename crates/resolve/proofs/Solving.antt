@@ -15,7 +15,7 @@ use Rattle.snapshot.specs.Release.{Release}
 use Rattle.resolve.specs.Problem.{ProblemParts, releases_on}
 use Rattle.resolve.specs.Pictured.{AreKnown, IsKnown, IsPictured, chosen, name_at, picture_of}
 use Rattle.resolve.specs.Places.{version_at}
-use Rattle.resolve.specs.Resolves.{version_in}
+use Rattle.resolve.specs.Resolves.{HasSolution, version_in}
 use Rattle.resolve.specs.Rules.{rules_of}
 use Rattle.resolve.specs.declared.node.Node.{Node}
 use Rattle.resolve.proofs.Falling.{version_at-get}
@@ -23,12 +23,23 @@ use Rattle.resolve.proofs.PictureOf.{within-member}
 use Rattle.resolve.proofs.Picturing.{nat_cmp-less}
 use Rattle.resolve.proofs.Preferring.{lookup-get}
 
+-- a name that was read at its place
+pub name-read : (names : List (List ℕ)) (n : ℕ) (name : List ℕ) → n < length names → name ≡ get_or names n name → name_at names n ≡ name
+name-read names n name within read = get_or_from_slice_get names n name [] (slice_get_read names (length names) n name refl within read)
+
+-- the version of a release that was read at its place
+pub version-read : (given : ProblemParts) (name : List ℕ) (place : ℕ) (rs : List Release) (release : Release) → place < length (releases_on given name) → rs ≡ releases_on given name → release ≡ get_or rs place release
+    → release.version ≡ version_at (releases_on given name) place
+version-read given name place rs release within listed read =
+    let inside : place < length rs = subst (λ (l : List Release). place < length l) (sym listed) within in
+    sym (ap (λ l. version_at l place) (sym listed) ∙ version_at-get rs place release (slice_get_read rs (length rs) place release refl inside read))
+
 -- what the code puts at a name
 pub put-as : (given : ProblemParts) (names : List (List ℕ)) (choice : Choice) (name key : List ℕ) (rs : List Release) (release : Release) (v : Version) (old new : BTreeMap (List ℕ) Version) → IsKnown given names choice
     → name ≡ get_or names choice.name name → rs ≡ releases_on given name → release ≡ get_or rs choice.place release → key ≡ name → v ≡ release.version
     → Updates (slice_cmp nat_cmp) old new key (Some v) → Updates (slice_cmp nat_cmp) old new (name_at names choice.name) (Some (version_at (releases_on given (name_at names choice.name)) choice.place))
 put-as given names choice name key rs release v old new known named listed placed keyed versioned updates =
-    let is : name_at names choice.name ≡ name = get_or_from_slice_get names choice.name name [] (slice_get_read names (length names) choice.name name refl known.0 named) in
+    let is : name_at names choice.name ≡ name = name-read names choice.name name known.0 named in
     let own : releases_on given (name_at names choice.name) ≡ rs = ap (releases_on given) is ∙ sym listed in
     let inside : choice.place < length rs = subst (λ (l : List Release). choice.place < length l) own known.1 in
     let version : version_at (releases_on given (name_at names choice.name)) choice.place ≡ v = ap (λ l. version_at l choice.place) own ∙ version_at-get rs choice.place release (slice_get_read rs (length rs) choice.place release refl inside placed) ∙ sym versioned in
@@ -60,8 +71,8 @@ ascending-place (c ∷ cs) up choice (suc k, within, is) =
     ap (λ o. cond (is_eq o) (Some c.place) (place_in cs choice.name)) (nat_cmp-less c.name choice.name (up.0 choice there)) ∙ ascending-place cs up.1 choice there
 
 -- the choices of a solution are releases that are there
-pub best-known : (given : ProblemParts) (names : List (List ℕ)) (t : TableParts) (choices : List Choice) → IsPictured given names t → IsBest (rules_of_table t) (place_in choices) → IsAscending choices → AreKnown given names choices
-best-known given names t choices is best up choice h =
+pub best-known : (given : ProblemParts) (names : List (List ℕ)) (nodes : List Node) (t : TableParts) (choices : List Choice) → IsPictured given names nodes t → IsBest (rules_of_table t) (place_in choices) → IsAscending choices → AreKnown given names choices
+best-known given names nodes t choices is best up choice h =
     let there = best.solution.released choice.name choice.place (ascending-place choices up choice h) in
     (subst (λ n. choice.name < n) is.counted (within-member t.candidates choice.name choice.place there), is.within choice.name choice.place there)
 
@@ -69,6 +80,9 @@ best-known given names t choices is best up choice h =
 pub best-same : (given : ProblemParts) (names : List (List ℕ)) (choices : List Choice) (nodes : List Node) (asked : List RequirementParts) (versions : List (List ℕ × Version)) → ((name : List ℕ) → version_in versions name ≡ chosen given names choices name)
     → IsBest (rules_of given) (version_in_pins (slice_cmp nat_cmp) (pictured (picture_of given names nodes asked) choices)) → IsBest (rules_of given) (version_in versions)
 best-same given names choices nodes asked versions same best = subst (λ (s : List ℕ → Option Version). IsBest (rules_of given) s) (λ i name. sym (same name) i) best
+
+pub best-solves : (given : ProblemParts) (s : List ℕ → Option Version) → IsBest (rules_of given) s → HasSolution given
+best-solves given s best = (s, best.solution)
 
 pub get_or-any : {A : Type 0} (xs : List A) (n : ℕ) (d e : A) → n < length xs → get_or xs n d ≡ get_or xs n e
 get_or-any [] n d e within = absurd (omega arith)

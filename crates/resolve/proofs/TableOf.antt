@@ -31,8 +31,8 @@ made given g names t result is e = e ∙ ap (λ b. if b then Some t else None) (
 pub never-none : (given : ProblemParts) (g : Gathered) (names : List (List ℕ)) (t : TableParts) (result : Option TableParts) → IsGathered given g names t → result ≡ (if in_range t then Some t else None) → result ≡ None → ⊥
 never-none given g names t result is e none = let k : Some t ≡ None = sym (made given g names t result is e) ∙ none in cc
 
-pub made-pictured : (given : ProblemParts) (g : Gathered) (names : List (List ℕ)) (t table : TableParts) (result : Option TableParts) → IsGathered given g names t → result ≡ (if in_range t then Some t else None) → result ≡ Some table → IsPictured given names table
+pub made-pictured : (given : ProblemParts) (g : Gathered) (names : List (List ℕ)) (t table : TableParts) (result : Option TableParts) → IsGathered given g names t → result ≡ (if in_range t then Some t else None) → result ≡ Some table → IsPictured given names g.nodes table
 made-pictured given g names t table result is e some =
     let k : Some t ≡ Some table = sym (made given g names t result is e) ∙ some in
     let same : t ≡ table = cc in
-    subst (λ parts. IsPictured given names parts) same (is-pictured given g names t is)
+    subst (λ parts. IsPictured given names g.nodes parts) same (is-pictured given g names t is)

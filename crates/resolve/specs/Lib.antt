@@ -9,3 +9,5 @@ pub mod Building
 pub mod Pictured
 pub mod Resolves
 pub mod Laws
+pub mod Refutations
+pub mod Checking

@@ -7,13 +7,16 @@ use Rattle.std.specs.List.{AllZip, Contains, slice_index_or}
 use Rattle.std.specs.List.Sorted.{IsStrictlySortedBy}
 use Rattle.pep440.specs.Version.{VersionParts as Version}
 use Rattle.pep508.specs.Requirement.{RequirementParts}
+use Rattle.search.specs.Known.{AreApart, choice_pictured}
 use Rattle.search.specs.Picture.{Picture, IsPicture, pictured}
 use Rattle.search.specs.Solutions.{version_in}
 use Rattle.search.specs.Table.{TableParts, candidates_of}
+use Rattle.search.specs.declared.conflict.NodeChoice.{NodeChoice}
 use Rattle.search.specs.declared.parts.Choice.{Choice}
 use Rattle.snapshot.specs.Releases.{newer_cmp}
 use Rattle.resolve.specs.Problem.{ProblemParts, releases_on}
 use Rattle.resolve.specs.Places.{AreCandidates, version_at}
+use Rattle.resolve.specs.Refutations.{ChoiceParts, same_version}
 use Rattle.resolve.specs.Rules.{bare, rules_of}
 use Rattle.resolve.specs.declared.node.Node.{Node}
 
@@ -29,13 +32,18 @@ picture_of given names nodes asked = record {
   requirement = λ r. slice_index_or asked r (record { name = []; extras = []; clauses = []; marker = None });
 }
 
--- the table stands for the problem; its names are these
-pub record IsPictured (given : ProblemParts) (names : List (List ℕ)) (t : TableParts) : Type 0 where
-  pub nodes : List Node
+-- the table stands for the problem; its names and nodes are these
+pub record IsPictured (given : ProblemParts) (names : List (List ℕ)) (nodes : List Node) (t : TableParts) : Type 0 where
   pub asked : List RequirementParts
   pub pictured : IsPicture t (picture_of given names nodes asked) (rules_of given)
+  pub apart : AreApart t (picture_of given names nodes asked) same_version
   pub counted : length t.candidates ≡ length names
+  pub counted_nodes : length t.nodes ≡ length nodes
   pub within : (n place : ℕ) → Contains (candidates_of t n) place → place < length (releases_on given (name_at names n))
+
+-- the choice that a decision of a search stands for
+abbrev pub choice_at : ProblemParts → List (List ℕ) → List Node → TableParts → NodeChoice ℕ ℕ → ChoiceParts
+choice_at given names nodes t decision = choice_pictured t (picture_of given names nodes []) decision
 
 -- a choice of a name that is there, with the place of one of its releases
 abbrev pub IsKnown : ProblemParts → List (List ℕ) → Choice → Type 0

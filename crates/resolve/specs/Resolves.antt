@@ -4,7 +4,7 @@ use Rattle.std.specs.List.{Contains}
 use Rattle.std.specs.Map.{lookup}
 use Rattle.std.specs.Str.{bytes_eq}
 use Rattle.pep440.specs.Version.{VersionParts}
-use Rattle.search.specs.Solutions.{HasNoSolution, IsBest, Needed}
+use Rattle.search.specs.Solutions.{HasNoSolution, IsBest, Needed, Solution as IsSolution}
 use Rattle.resolve.specs.Problem.{ProblemParts}
 use Rattle.resolve.specs.Rules.{rules_of}
 use Rattle.resolve.specs.declared.answer.Answer.{Answer}
@@ -19,6 +19,10 @@ version_in versions name = lookup (bytes_eq name) versions
 abbrev pub Resolves : ProblemParts → Answer → Type 0
 Resolves given (Solution versions) = IsBest (rules_of given) (version_in versions.entries)
 Resolves given NoSolution = HasNoSolution (rules_of given)
+
+-- some versions are a solution
+abbrev pub HasSolution : ProblemParts → Type 0
+HasSolution given = (s : List ℕ → Option VersionParts) × IsSolution (rules_of given) s
 
 -- the nodes that are needed with these versions, and no others
 pub record AreNeeded (given : ProblemParts) (chosen : List ℕ → Option VersionParts) (nodes : List Node) : Type 0 where

@@ -11,6 +11,7 @@ ghost use Rattle.resolve.specs.Problem.{releases_on};
 
 use crate::question::Question;
 use lists::Seq;
+use pep440::Version;
 use pep508::{Environment, Requirement};
 use snapshot::{Release, RequiresPython};
 use std::alloc::{AllocError, Global};
@@ -163,4 +164,24 @@ pub(crate) fn admissions(
     let pre = has_pre(releases) && takes_pre(question, wanted);
     let yanked = has_yanked(releases) && takes_yanked(question, wanted);
     admitted(alloc, &question.environment, wanted, pre, yanked, releases)
+}
+
+/// Whether the requirement admits a release of its name. The lines are asked about pre-releases and
+/// yanked releases only where the release is one.
+fn admits_found(question: &Question<'_>, wanted: &Requirement, release: &Release) -> bool
+    ensures { result ≡ spec.admits_release question.now wanted.now release.now }
+{
+    let pre = release.version().is_pre() && takes_pre(question, wanted);
+    let yanked = release.yanked() && takes_yanked(question, wanted);
+    admits_release(&question.environment, wanted, pre, yanked, release)
+}
+
+/// Whether the requirement admits a version of its name: none that is no release's.
+pub(crate) fn admits(question: &Question<'_>, wanted: &Requirement, version: &Version) -> bool
+    ensures { result ≡ spec.admits question.now wanted.now version.now }
+{
+    match question.release(wanted.name(), version) {
+        Some(release) => admits_found(question, wanted, release),
+        None => false,
+    }
 }

@@ -1,9 +1,20 @@
 // Choices.
 
+ghost use Rattle.std.specs.Prelude.{◌≡◌, ◌↔◌, IsTrue};
+ghost use Rattle.std.specs.Option.{option_copied};
+ghost use Rattle.search.specs.Conflicts.{IsSameChoice};
+ghost use Rattle.resolve.specs.Checking.{is_same};
+ghost use Rattle.resolve.specs.Refutations.{same_version};
+
+use crate::nodes::{copied, is_asked};
+use lists::Faithful;
 use pep440::Version;
 use pep508::Name;
+use std::alloc::AllocError;
+use std::marker::Model;
 
-/// A version that is chosen for a name, at its node with an extra or with none.
+/// A version that is chosen for a name, at its node with an extra or with none. It may be a version
+/// that the index doesn't have. In a clause it is a node with a version.
 pub struct Choice {
     pub name: Name,
     pub extra: Option<Name>,
@@ -17,5 +28,63 @@ impl Drop for Choice {
             extra: _,
             version: _,
         } = self;
+    }
+}
+
+impl Model for Choice {
+    ghost use Rattle.resolve.specs.Refutations.{ChoiceParts};
+
+    ghost Value = { ChoiceParts };
+
+    ghost view = { λ c. record {
+      node = record { name = c.name; extra = c.extra };
+      version = c.version;
+    } };
+}
+
+impl Clone for Choice {
+    ghost is_clone = { λ c d. d ≡ c };
+
+    fn clone(&self) -> Result<Choice, AllocError> {
+        let name = self.name.clone()?;
+        let extra = copied(self.extra.as_ref())?;
+        let version = self.version.clone()?;
+        Ok(Choice {
+            name,
+            extra,
+            version,
+        })
+    }
+}
+
+impl Faithful for Choice {
+    ghost clone_is_source = { λ x y h. h };
+}
+
+/// Whether a choice is at this node, with a version that equals this one.
+pub(crate) fn is_at(choice: &Choice, name: &Name, extra: Option<&Name>, version: &Version) -> bool
+    ensures { result ≡ is_same choice.now (record {
+      node = record { name = name.now; extra = option_copied extra.entry };
+      version = version.now;
+    }) }
+{
+    choice.name.normal() == name.normal()
+        && is_asked(choice.extra.as_ref(), extra)
+        && choice.version.cmp(version).is_eq()
+}
+
+/// Whether two choices are one.
+pub(crate) fn are_one(choice: &Choice, other: &Choice) -> bool
+    ensures { result ≡ is_same choice.now other.now }
+{
+    is_at(choice, &other.name, other.extra.as_ref(), &other.version)
+}
+
+impl Choice {
+    /// Whether the other choice is at the same node, with a version that equals this one's.
+    pub fn is_same(&self, other: &Choice) -> bool
+        ensures { IsTrue result ↔ IsSameChoice same_version self.now other.now }
+    {
+        are_one(self, other)
     }
 }

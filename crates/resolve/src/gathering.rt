@@ -217,15 +217,16 @@ impl<'q> Gathering<'q> {
         self.nodes.as_slice()
     }
 
-    /// The entries of the requirements.
-    pub(crate) fn into_entries(self) -> Seq<Entry>
-        ensures { result ≡ self.entry.entries }
+    /// The nodes, and the entries of the requirements.
+    pub(crate) fn into_parts(self) -> (Seq<Node>, Seq<Entry>)
+        ensures nodes { result.0 ≡ self.entry.nodes }
+        ensures entries { result.1 ≡ self.entry.entries }
     {
         let Gathering {
-            nodes: _,
+            nodes,
             asked: _,
             entries,
         } = self;
-        Seq::from_vec(entries)
+        (nodes.into_seq(), Seq::from_vec(entries))
     }
 }

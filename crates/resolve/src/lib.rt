@@ -4,7 +4,9 @@
 mod admission;
 mod answer;
 mod candidates;
+mod checking;
 mod choice;
+mod cutting;
 mod gathering;
 pub mod laws;
 mod method;
@@ -14,13 +16,17 @@ mod node;
 mod nodes;
 mod problem;
 mod question;
+mod refutation;
+mod refuting;
 mod releases;
 mod resolver;
 mod solution;
 mod tabling;
 
 pub use crate::answer::Answer;
+pub use crate::checking::check;
 pub use crate::choice::Choice;
 pub use crate::node::Node;
 pub use crate::problem::Problem;
+pub use crate::refutation::Refutation;
 pub use crate::resolver::{Learning, Plain, Resolver};

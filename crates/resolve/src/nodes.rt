@@ -39,7 +39,7 @@ impl Model for Nodes {
 }
 
 /// Whether the extra that may be there is the one that is asked for.
-fn is_asked(extra: Option<&Name>, asked: Option<&Name>) -> bool
+pub(crate) fn is_asked(extra: Option<&Name>, asked: Option<&Name>) -> bool
     ensures { result ≡ is_asked (option_copied extra.entry) (option_copied asked.entry) }
 {
     match (extra, asked) {
@@ -57,7 +57,7 @@ fn is_node(node: &Node, name: &Name, extra: Option<&Name>) -> bool
 }
 
 /// A copy of a name that may be there.
-fn copied(name: Option<&Name>) -> Result<Option<Name>, AllocError>
+pub(crate) fn copied(name: Option<&Name>) -> Result<Option<Name>, AllocError>
     ensures { IfOk result (λ copy. copy ≡ option_copied name.entry) }
 {
     match name {

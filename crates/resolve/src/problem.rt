@@ -1,23 +1,27 @@
 // Problems.
 
-ghost use Rattle.std.specs.Prelude.{◌≡◌, IfOk};
+ghost use Rattle.std.specs.Prelude.{◌≡◌, IfOk, MatchOption};
 ghost use Rattle.std.specs.Option.{option_copied};
+ghost use Rattle.search.specs.Conflicts.{IsRefutation};
 ghost use Rattle.resolve.specs.Admission.{release_at};
 ghost use Rattle.resolve.specs.Problem.{ProblemParts, requirements};
-ghost use Rattle.resolve.specs.Resolves.{AreNeeded, Resolves, version_in};
-ghost use Rattle.resolve.specs.Rules.{counts};
+ghost use Rattle.resolve.specs.Refutations.{same_version};
+ghost use Rattle.resolve.specs.Resolves.{AreNeeded, HasSolution, Resolves, version_in};
+ghost use Rattle.resolve.specs.Rules.{counts, rules_of};
 
 use crate::answer::Answer;
 use crate::method::Method;
 use crate::node::Node;
 use crate::question::Question;
+use crate::refutation::Refutation;
+use crate::refuting::refutation_of;
 use crate::solution::versions_of;
 use crate::tabling::{Tabled, table_of};
 use crate::{needed, releases};
 use lists::Seq;
 use pep440::Version;
 use pep508::{Environment, Name, ReqFile, Requirement};
-use search::laws;
+use search::{Found, laws, learned_or_refuted};
 use snapshot::{Release, Snapshot};
 use std::alloc::{AllocError, Global};
 use std::collections::BTreeMap;
@@ -51,7 +55,7 @@ impl<'a> Model for Problem<'a> {
 
     ghost view = { λ p. p.question };
 
-    ghost invariant = { λ p. IsPictured p.question p.tabled.names p.tabled.table };
+    ghost invariant = { λ p. IsPictured p.question p.tabled.names p.tabled.nodes p.tabled.table };
 }
 
 impl<'a> Problem<'a> {
@@ -77,6 +81,13 @@ impl<'a> Problem<'a> {
         let question = Question::new(alloc, lines, environment, snapshot, kept)?;
         let tabled = table_of(alloc, &question)?;
         Ok(Problem { question, tabled })
+    }
+
+    /// What the problem asks.
+    pub(crate) fn question(&self) -> &Question<'a>
+        ensures { result.now ≡ self.now }
+    {
+        &self.question
     }
 
     /// The release of a name with a version that equals this one, if the index has one.
@@ -118,6 +129,25 @@ impl<'a> Problem<'a> {
                 let names = self.tabled.names.as_slice();
                 let versions = versions_of(alloc, &self.question, names, choices.as_slice())?;
                 Ok(Answer::Solution(versions))
+            }
+        }
+    }
+    /// A refutation, or nothing where there is a solution, worked out on the table of the problem.
+    pub(crate) fn refuted(&self, alloc: Global) -> Result<Option<Refutation>, AllocError>
+        ensures { IfOk result
+            (λ found. MatchOption found (HasSolution self.now)
+            (IsRefutation (rules_of self.now) same_version)) }
+    {
+        laws::a_picture_keeps_the_best_solution::<Name, Node, Version, Requirement>();
+        laws::a_picture_keeps_refutations::<Name, Node, Version, Requirement>();
+        let table = &self.tabled.table;
+        let _count = table.name_count();
+        match learned_or_refuted(alloc, table)? {
+            Found::Best(_) => Ok(None),
+            Found::Refuted(conflicts) => {
+                let conflicts = conflicts.as_slice();
+                let refutation = refutation_of(alloc, &self.question, &self.tabled, conflicts)?;
+                Ok(Some(refutation))
             }
         }
     }

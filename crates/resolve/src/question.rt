@@ -6,6 +6,7 @@ ghost use Rattle.std.specs.Option.{option_copied, option_to_list};
 ghost use Rattle.pep508.specs.Requirement.{requirement_of};
 ghost use Rattle.snapshot.specs.Releases.{newer_cmp};
 ghost use Rattle.resolve.specs.Admission.{release_at};
+ghost use Rattle.resolve.specs.Checking.{dependencies_at};
 ghost use Rattle.resolve.specs.Problem.{active_in, releases_on, requirements};
 
 use crate::releases;
@@ -121,5 +122,15 @@ impl<'a> Question<'a> {
         ensures { option_copied result ≡ release_at self.now name.now version.now }
     {
         releases::release_at(self.releases(name), version)
+    }
+
+    /// The dependencies of the release with that version; none where the index has no such release.
+    pub(crate) fn dependencies(&self, name: &Name, version: &Version) -> &[Requirement]
+        ensures { result.now ≡ dependencies_at self.now name.now version.now }
+    {
+        match self.release(name, version) {
+            Some(release) => release.dependencies(),
+            None => &[],
+        }
     }
 }

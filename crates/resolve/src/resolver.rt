@@ -1,11 +1,16 @@
 // Resolvers.
 
-ghost use Rattle.std.specs.Prelude.{IfOk};
-ghost use Rattle.resolve.specs.Resolves.{Resolves};
+ghost use Rattle.std.specs.Prelude.{IfOk, MatchOption};
+ghost use Rattle.search.specs.Conflicts.{IsRefutation};
+ghost use Rattle.resolve.specs.Refutations.{same_version};
+ghost use Rattle.resolve.specs.Resolves.{HasSolution, Resolves};
+ghost use Rattle.resolve.specs.Rules.{rules_of};
 
 use crate::answer::Answer;
+use crate::cutting::cut;
 use crate::method::Method;
 use crate::problem::Problem;
+use crate::refutation::Refutation;
 use std::alloc::{AllocError, Global};
 
 /// What finds the best solution of each problem, or tells that it has none.
@@ -32,5 +37,24 @@ pub struct Learning;
 impl Resolver for Learning {
     fn resolve(&self, alloc: Global, problem: &Problem<'_>) -> Result<Answer, AllocError> {
         problem.best(alloc, Method::Learning)
+    }
+}
+
+impl Learning {
+    /// A refutation of the problem, which `check` accepts: of what the search has learned, the conflicts
+    /// that the last one rests on. Nothing where the problem has a solution.
+    pub fn refute(
+        &self,
+        alloc: Global,
+        problem: &Problem<'_>,
+    ) -> Result<Option<Refutation>, AllocError>
+        ensures { IfOk result
+            (λ found. MatchOption found (HasSolution problem.now)
+            (IsRefutation (rules_of problem.now) same_version)) }
+    {
+        match problem.refuted(alloc)? {
+            None => Ok(None),
+            Some(refutation) => Ok(Some(cut(alloc, problem, refutation)?)),
+        }
     }
 }

@@ -9,16 +9,18 @@ ghost use Rattle.resolve.specs.Pictured.{AreListed, IsListed, IsPictured};
 use crate::candidates::candidates;
 use crate::gathering::Gathering;
 use crate::names::{names_of, numbers_of};
+use crate::node::Node;
 use crate::question::Question;
 use lists::Seq;
 use pep508::Name;
 use search::Table;
 use std::alloc::{AllocError, Global};
 
-/// The table of a problem, and the names that its numbers stand for.
+/// The table of a problem, and the names and nodes that its numbers stand for.
 #[derive(Drop)]
 pub(crate) struct Tabled {
     pub(crate) names: Seq<Name>,
+    pub(crate) nodes: Seq<Node>,
     pub(crate) table: Table,
 }
 
@@ -47,17 +49,21 @@ fn all_listed(
 
 /// The table of a problem.
 pub(crate) fn table_of(alloc: Global, question: &Question<'_>) -> Result<Tabled, AllocError>
-    ensures { IfOk result (λ tabled. IsPictured question.now tabled.names tabled.table) }
+    ensures { IfOk result (λ tabled. IsPictured question.now tabled.names tabled.nodes tabled.table) }
 {
     let mut gathering = Gathering::new(alloc);
     let lines = gathering.ask_lines(alloc, question)?;
     let wants = gathering.ask_nodes(alloc, question)?;
     let names = names_of(alloc, gathering.nodes())?;
-    let nodes = numbers_of(alloc, names.as_slice(), gathering.nodes())?;
+    let numbers = numbers_of(alloc, names.as_slice(), gathering.nodes())?;
     let candidates = all_listed(alloc, question, names.as_slice())?;
-    let requirements = gathering.into_entries();
-    match Table::new(nodes, requirements, candidates, wants, lines) {
-        Some(table) => Ok(Tabled { names, table }),
+    let (nodes, requirements) = gathering.into_parts();
+    match Table::new(numbers, requirements, candidates, wants, lines) {
+        Some(table) => Ok(Tabled {
+            names,
+            nodes,
+            table,
+        }),
         None => unreachable!(),
     }
 }

@@ -17,14 +17,14 @@ versions_of-requires c =
     let ascending : IsAscending c.in-Some.choices = rw c.in-Some.is at c.in_ok-best.ensures.ascending in
     subst (λ (names : List (List ℕ)). AreKnown c.self.inside.question names c.as_slice.result.now) (sym c.as_slice-names.ensures)
     (subst (λ (choices : List Choice). AreKnown c.self.inside.question c.self.inside.tabled.names choices) (sym c.as_slice.ensures)
-    (best-known c.self.inside.question c.self.inside.tabled.names c.self.inside.tabled.table c.in-Some.choices c.self.invariant best ascending))
+    (best-known c.self.inside.question c.self.inside.tabled.names c.self.inside.tabled.nodes c.self.inside.tabled.table c.in-Some.choices c.self.invariant best ascending))
 
 pub returns-in-None : goal.returns-in-None
 returns-in-None c =
     let table = c.self.inside.tabled.table in
     let none : HasNoSolution (rules_of_table table) = rw c.in-None.is at c.in_ok-best.ensures.best in
     subst (λ (given : ProblemParts). HasNoSolution (rules_of given)) c.self.view_is
-    (c.a_picture_keeps_the_best_solution.ensures.none table (picture_of c.self.inside.question c.self.inside.tabled.names c.self.invariant.nodes c.self.invariant.asked) (rules_of c.self.inside.question)
+    (c.a_picture_keeps_the_best_solution.ensures.none table (picture_of c.self.inside.question c.self.inside.tabled.names c.self.inside.tabled.nodes c.self.invariant.asked) (rules_of c.self.inside.question)
     c.name_count-count.ensures.known bytes-order c.self.invariant.pictured none)
 
 pub returns-in_ok-versions-in-Some : goal.returns-in_ok-versions-in-Some
@@ -36,5 +36,5 @@ returns-in_ok-versions-in-Some c =
     let same = subst (λ (ns : List (List ℕ)). (name : List ℕ) → version_in c.in_ok-versions-in-Some.versions.entries name ≡ chosen given ns c.in-Some.choices name) c.as_slice-names.ensures
     (subst (λ (choices : List Choice). (name : List ℕ) → version_in c.in_ok-versions-in-Some.versions.entries name ≡ chosen given c.as_slice-names.result.now choices name) c.as_slice.ensures c.in_ok-versions-in-Some.ensures) in
     subst (λ (g : ProblemParts). IsBest (rules_of g) (version_in c.in_ok-versions-in-Some.versions.entries)) c.self.view_is
-    (best-same given names c.in-Some.choices c.self.invariant.nodes c.self.invariant.asked c.in_ok-versions-in-Some.versions.entries same
-    (c.a_picture_keeps_the_best_solution.ensures.best table (picture_of given names c.self.invariant.nodes c.self.invariant.asked) (rules_of given) c.name_count-count.ensures.known bytes-order c.self.invariant.pictured c.in-Some.choices best))
+    (best-same given names c.in-Some.choices c.self.inside.tabled.nodes c.self.invariant.asked c.in_ok-versions-in-Some.versions.entries same
+    (c.a_picture_keeps_the_best_solution.ensures.best table (picture_of given names c.self.inside.tabled.nodes c.self.invariant.asked) (rules_of given) c.name_count-count.ensures.known bytes-order c.self.invariant.pictured c.in-Some.choices best))
