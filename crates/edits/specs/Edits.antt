@@ -35,18 +35,17 @@ pub record IsLocked (given : ProblemParts) (lines : List (List ℕ)) (state : St
 abbrev pub IsNew : Option StateParts → StateParts → Type 0
 IsNew old state = old ≢ Some state
 
--- what lines in an environment over an index lead to, with the versions that are kept and the old state, where there is one:
--- the state of the lines with their lock; that they have none; or that this state is the old one, to the byte of each line,
--- the index's digest and the text of each entry
-abbrev pub Locks : Option StateParts → List (List ℕ) → Texts → Index → List (List ℕ × VersionParts) → Result StateParts Refusal → Type 0
-Locks old lines environment index kept (Ok state) = IsLocked (given_of lines environment index kept) lines state × IsNew old state
-Locks old lines environment index kept (Err refusal) =
-    ((refusal ≡ NoSolution) × HasNoSolution (rules_of (given_of lines environment index kept)))
-    ⊎ ((refusal ≡ NothingChanges) × IsSomeAnd old (IsLocked (given_of lines environment index kept) lines))
+-- what lines lead to by their problem, with the old state, where there is one: the state of the lines with the problem's lock;
+-- that the problem has no solution; or that this state is the old one, to the byte of each line, the index's digest and the text
+-- of each entry
+abbrev pub Locks : Option StateParts → ProblemParts → List (List ℕ) → Result StateParts Refusal → Type 0
+Locks old given lines (Ok state) = IsLocked given lines state × IsNew old state
+Locks old given lines (Err refusal) =
+    ((refusal ≡ NoSolution) × HasNoSolution (rules_of given)) ⊎ ((refusal ≡ NothingChanges) × IsSomeAnd old (IsLocked given lines))
 
 -- what a history of these lines begins with: there is no old state, and no version is kept
 abbrev pub InitResult : List (List ℕ) → Texts → Index → Result StateParts Refusal → Type 0
-InitResult lines environment index answer = Locks None lines environment index [] answer
+InitResult lines environment index answer = Locks None (given_of lines environment index []) lines answer
 
 -- the first refusal that lines and lock alone give
 abbrev pub refusal_of : StateParts → Edit → Option Refusal
@@ -69,14 +68,18 @@ kept_pins pins (Upgrade names) = without_pins (map normal_of names) pins
 kept_pins pins UpgradeAll = []
 kept_pins pins edit = pins
 
+-- the problem whose best solution an edit locks: that of the lines after it in the state's environment over the index, with the
+-- versions that it keeps
+abbrev pub problem_after : StateParts → Edit → Index → ProblemParts
+problem_after state edit index = given_of (lines_after state.lines edit) state.environment index (kept_pins (versions_of state.lock.entries) edit)
+
 -- this is answered where a refusal applies, and else what else is
 abbrev pub Unless : Option Refusal → (Result StateParts Refusal → Type 0) → Result StateParts Refusal → Type 0
 Unless (Some refusal) otherwise answer = answer ≡ Err refusal
 Unless None otherwise answer = otherwise answer
 
--- what an edit answers, memory aside: the first refusal that lines and lock give, else what the edited lines lead to with the
--- kept versions
+-- what an edit answers, memory aside: the first refusal that lines and lock give, else what the edited lines lead to by their
+-- problem
 abbrev pub EditResult : StateParts → Edit → Index → Result StateParts Refusal → Type 0
 EditResult state edit index answer =
-    Unless (refusal_of state edit)
-    (Locks (Some state) (lines_after state.lines edit) state.environment index (kept_pins (versions_of state.lock.entries) edit)) answer
+    Unless (refusal_of state edit) (Locks (Some state) (problem_after state edit index) (lines_after state.lines edit)) answer

@@ -3,7 +3,16 @@
 ghost use Rattle.lists.specs.Answers.{Answers};
 ghost use Rattle.std.specs.Prelude.{◌≡◌, ◌⊎◌, ◌≤◌, length, IfOk, IfErr, None, Some, Ok, Err};
 ghost use Rattle.edits.specs.Changes.{After, IsMinimal};
-ghost use Rattle.edits.specs.Edits.{EditResult, InitResult, Locks, kept_pins, lines_after};
+ghost use Rattle.edits.specs.Edits.{
+  EditResult,
+  InitResult,
+  Locks,
+  given_of,
+  kept_pins,
+  lines_after,
+  problem_after,
+  refusal_of,
+};
 ghost use Rattle.edits.specs.Locking.{versions_of};
 ghost use Rattle.edits.specs.Refused.{or_refused, refused_by_lines, refused_by_lock};
 ghost use Rattle.edits.specs.declared.refusal.Refusal.TheVariants.{OutOfMemory};
@@ -35,10 +44,10 @@ fn with_lock<R: Resolver>(
     kept: BTreeMap<Name, Version>,
     resolver: &R,
 ) -> Result<State, Refusal>
-    ensures ok { IfOk result
-        (λ state. Locks None lines environment snapshot.now kept.entries (Ok state)) }
+    ensures ok { IfOk result (λ state.
+        Locks None (given_of lines environment snapshot.now kept.entries) lines (Ok state)) }
     ensures err { IfErr result (λ refusal. (refusal ≡ OutOfMemory)
-        ⊎ Locks None lines environment snapshot.now kept.entries (Err refusal)) }
+        ⊎ Locks None (given_of lines environment snapshot.now kept.entries) lines (Err refusal)) }
 {
     equal_versions_match_alike();
     lines.is_lawful();
@@ -94,6 +103,26 @@ fn kept_pins(alloc: Global, state: &State, edit: &Edit) -> Result<BTreeMap<Name,
         Edit::UpgradeAll => Ok(BTreeMap::new(alloc)),
         Edit::Add(_) | Edit::Remove(_) | Edit::Constrain(_, _) | Edit::Relock => Ok(state.kept()?),
     }
+}
+
+/// The problem whose best solution the edit of the state would lock, over the snapshot: that of the
+/// lines after the edit, with the versions that it keeps. It may have no solution. Where lines and
+/// lock refuse the edit, the first refusal is answered. The state stays.
+pub fn problem_after<'a>(
+    alloc: Global,
+    state: &State,
+    edit: &Edit,
+    snapshot: &'a Snapshot,
+) -> Result<Problem<'a>, Refusal>
+    ensures ok { IfOk result (λ problem. (refusal_of state.now edit.now ≡ None)
+        × (problem ≡ problem_after state.now edit.now snapshot.now)) }
+    ensures err { IfErr result (λ refusal. (refusal ≡ OutOfMemory)
+        ⊎ (refusal_of state.now edit.now ≡ Some refusal)) }
+{
+    let after = lines_after(alloc, state.lines(), edit)?;
+    let kept = kept_pins(alloc, state, edit)?;
+    let problem = Problem::new(alloc, &after, state.environment(), snapshot, kept)?;
+    Ok(problem)
 }
 
 /// What the edit of the state leads to, over the snapshot: the new state, and the minimal change that

@@ -18,11 +18,11 @@ mod state;
 mod upgrading;
 
 pub use crate::change::{Change, DigestChange, EntryChange, Splice};
-pub use crate::editing::{edit, init};
+pub use crate::editing::{edit, init, problem_after};
 pub use crate::refusal::{Refusal, SavedFile};
 pub use crate::request::{Edit, Edited};
 pub use crate::state::State;
 pub use pep508::{Cause, Environment, Fault, Line, Name, ReqFile, Requirement};
 pub use pylock::{Entry, FileEntry, Lock};
-pub use resolve::{Learning, Plain, Resolver};
+pub use resolve::{Choice, Learning, Plain, Problem, Refutation, Resolver, check};
 pub use snapshot::{Release, Snapshot};

@@ -9,6 +9,8 @@ mod changes;
 #[cfg(test)]
 mod edited_files;
 #[cfg(test)]
+mod edited_problems;
+#[cfg(test)]
 mod every_edit;
 #[cfg(test)]
 mod indexes;
@@ -18,6 +20,8 @@ mod lock_shapes;
 mod locked_files;
 #[cfg(test)]
 mod locks;
+#[cfg(test)]
+mod refutations;
 #[cfg(test)]
 mod searches;
 #[cfg(test)]
