@@ -176,6 +176,13 @@ class Program(unittest.TestCase):
         ):
             self.check_single(*words, starts=starts)
 
+    def test_why(self):
+        self.prepare("init")
+        for words, starts in (
+            (["why"], "solvable"), (["why", "x[e]"], "d==1 x[e]==1"), (["why", "A"], "refused already-present"),
+        ):
+            self.check_single(*words, starts=starts)
+
     def test_undo_and_redo(self):
         self.prepare("init")
         self.prepare("add", "d")

@@ -13,8 +13,8 @@ use Rattle.reqlock.specs.declared.request.RequestFault.TheVariants.{Usage, Neede
 use Rattle.reqlock.specs.CommandWords.{reqlock_app}
 use Rattle.reqlock.specs.declared.request.Subcommand.{Subcommand}
 use Rattle.edits.specs.declared.request.Edit.{Edit}
-use Rattle.edits.specs.declared.request.Edit.TheVariants.{Add, Constrain, Remove}
-use Rattle.reqlock.specs.Requests.{given, FaultOf, IsAsked, IsFault, IsLacking, edit_of, upgrade_with}
+use Rattle.edits.specs.declared.request.Edit.TheVariants.{Add, Constrain, Relock, Remove}
+use Rattle.reqlock.specs.Requests.{given, FaultOf, IsAsked, IsFault, IsLacking, edit_of, questioned, upgrade_with}
 
 -- the command is one of which clap's contracts say all
 pub app_is_simple : is_simple reqlock_app ≡ true
@@ -81,6 +81,10 @@ constrain_is name rows other specifiers named given behind = rw (named, given, b
 pub upgrade_is : (name : Text) (rows : List Row) (names : Option (List Text)) (edit : Edit) → name ≡ codes "upgrade" → names ≡ all_of (codes "names") rows → edit ≡ upgrade_with (unwrap_or names [])
     → Some edit ≡ edit_of name rows
 upgrade_is name rows names edit named given is = rw (named, is, given) refl
+
+-- the edit of a question, by its text
+pub question_is : (rows : List Row) (text : Option Text) (addition : Option Edit) → addition ≡ option_map Add text → text ≡ first_of (codes "text") rows → unwrap_or addition Relock ≡ questioned rows
+question_is rows text addition is given = ap (λ a. unwrap_or a Relock) (is ∙ ap (option_map Add) given)
 
 -- what is asked of the values that the words give the options
 pub asked_over : (index index' environment environment' : Option Text) (name : Text) (rows : List Row) (subcommand : Subcommand) → index ≡ index' → environment ≡ environment'

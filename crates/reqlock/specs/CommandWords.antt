@@ -46,7 +46,7 @@ edit_shapes =
     ∷ new_shape (codes "relock")
     ∷ []
 
--- the others, which take no texts
+-- the others
 abbrev pub other_shapes : List Shape
 other_shapes =
     new_shape (codes "undo")
@@ -57,6 +57,7 @@ other_shapes =
     ∷ new_shape (codes "log")
     ∷ new_shape (codes "check")
     ∷ new_shape (codes "skipped")
+    ∷ shape_with (codes "why") (text_rule (codes "text") ∷ [])
     ∷ []
 
 -- an app with these subcommands behind its own

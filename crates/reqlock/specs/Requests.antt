@@ -14,7 +14,7 @@ use Rattle.reqlock.specs.declared.request.Invocation.{Invocation}
 use Rattle.reqlock.specs.declared.request.RequestFault.{RequestFault}
 use Rattle.reqlock.specs.declared.request.RequestFault.TheVariants.{Usage, Needed, OutOfMemory}
 use Rattle.reqlock.specs.declared.request.Subcommand.{Subcommand}
-use Rattle.reqlock.specs.declared.request.Subcommand.TheVariants.{Init, Edit, Undo, Redo, Batch, Try, Show, Log, Check, Skipped}
+use Rattle.reqlock.specs.declared.request.Subcommand.TheVariants.{Init, Edit, Undo, Redo, Batch, Try, Show, Log, Check, Skipped, Why}
 use Rattle.reqlock.specs.declared.request.NeededOption.TheVariants.{Index, Environment}
 use Rattle.reqlock.specs.CommandWords.{reqlock_app}
 
@@ -44,6 +44,10 @@ edit_of name rows =
     if bytes_eq name (codes "relock") then Some Relock else
     None
 
+-- the edit that a question is about: the addition of the text that clap found, or a new lock where there is none
+abbrev pub questioned : List Row → EditValue
+questioned rows = unwrap_or (option_map Add (first_of (codes "text") rows)) Relock
+
 -- the index and the environment that were given
 abbrev pub HasInputs : Option Text → Option Text → Inputs → Type 0
 HasInputs index environment inputs = (index ≡ Some inputs.index.now) × (environment ≡ Some inputs.environment.now)
@@ -60,6 +64,7 @@ IsAsked index environment name rows Show = name ≡ codes "show"
 IsAsked index environment name rows Log = name ≡ codes "log"
 IsAsked index environment name rows Check = name ≡ codes "check"
 IsAsked index environment name rows (Skipped over) = (name ≡ codes "skipped") × (index ≡ Some over.now)
+IsAsked index environment name rows (Why edit over) = (name ≡ codes "why") × (edit ≡ questioned rows) × (index ≡ Some over.now)
 
 -- clap reads the words, and the request has what it finds in them
 pub record IsRequest (words : List Text) (request : Invocation) : Type 0 where
@@ -72,13 +77,13 @@ abbrev pub NeedsEnvironment : Text → Type 0
 NeedsEnvironment name = (name ≡ codes "init") ⊎ (name ≡ codes "try")
 
 abbrev pub NeedsIndex : Text → List Row → Type 0
-NeedsIndex name rows = NeedsEnvironment name ⊎ (name ≡ codes "batch") ⊎ (name ≡ codes "skipped") ⊎ IsSome (edit_of name rows)
+NeedsIndex name rows = NeedsEnvironment name ⊎ (name ≡ codes "batch") ⊎ (name ≡ codes "skipped") ⊎ (name ≡ codes "why") ⊎ IsSome (edit_of name rows)
 
 -- no subcommand of the program, or an edit that lacks a text
 abbrev pub AsksNothing : Text → List Row → Type 0
 AsksNothing name rows =
     (edit_of name rows ≡ None)
-    × All (λ known. name ≢ known) (codes "init" ∷ codes "try" ∷ codes "batch" ∷ codes "skipped" ∷ codes "undo" ∷ codes "redo" ∷ codes "show" ∷ codes "log" ∷ codes "check" ∷ [])
+    × All (λ known. name ≢ known) (codes "init" ∷ codes "try" ∷ codes "batch" ∷ codes "skipped" ∷ codes "why" ∷ codes "undo" ∷ codes "redo" ∷ codes "show" ∷ codes "log" ∷ codes "check" ∷ [])
 
 -- the option that is missing; the index is asked for first
 abbrev pub LacksInput : Option Text → Option Text → RequestFault → Type 0

@@ -43,7 +43,7 @@ fn with_edits<'a>(alloc: Global, command: Command<'a>) -> Result<Command<'a>, Al
     plain(alloc, upgrade, "relock", about)
 }
 
-// The other subcommands, which take no texts.
+// The other subcommands.
 fn with_others<'a>(alloc: Global, command: Command<'a>) -> Result<Command<'a>, AllocError>
     ensures app { IfOk result
         (λ c. app_of c ≡ with_subcommands (app_of command.entry) other_shapes) }
@@ -66,7 +66,10 @@ fn with_others<'a>(alloc: Global, command: Command<'a>) -> Result<Command<'a>, A
     let about = "Tell whether the three files belong together; change nothing";
     let check = plain(alloc, log, "check", about)?;
     let about = "Print which releases of the index are left out, and why";
-    plain(alloc, check, "skipped", about)
+    let skipped = plain(alloc, check, "skipped", about)?;
+    let about = "Print a proof that nothing can be locked with this line, where that is so";
+    let line = text(alloc, "text", "TEXT").help("The line; without it, the file as it stands");
+    taking(alloc, skipped, "why", about, line)
 }
 
 // The command with `constrain`.

@@ -1,14 +1,23 @@
 // The subcommands that read alone.
 
+ghost use Rattle.std.specs.Prelude.{IfOk, MatchOption};
+ghost use Rattle.search.specs.Conflicts.{IsRefutation};
+ghost use Rattle.resolve.specs.Refutations.{same_version};
+ghost use Rattle.resolve.specs.Resolves.{HasSolution};
+ghost use Rattle.resolve.specs.Rules.{rules_of};
+
 use crate::folder_lock::{LockFile, lock_to_read};
 use crate::history_text::history_text;
 use crate::input_files::{InputFile, read_bytes, read_index};
 use crate::lock_text::lock_text;
+use crate::refutation_text::refutation_text;
 use crate::reply_text::ReplyText;
 use crate::saved_files::SavedFiles;
 use crate::skipped_text::skipped_text;
 use crate::stop::{Stop, in_file, print};
+use edits::{Edit, Learning, Problem, Refutation, check, problem_after};
 use journal::{Reply, Session};
+use std::alloc::{AllocError, Global};
 use std::io::Write;
 use std::rt::Files;
 
@@ -60,8 +69,57 @@ fn saved_session<R: Files + AllocGlobal>(rt: &R, dir: &str) -> Result<Session, S
 where
     R::File: LockFile,
 {
+    saved_files(rt, dir)?.open(rt.alloc())
+}
+
+fn saved_files<R: Files + AllocGlobal>(rt: &R, dir: &str) -> Result<SavedFiles, Stop>
+where
+    R::File: LockFile,
+{
     let _lock = lock_to_read(rt, dir)?;
-    SavedFiles::read(rt, dir)?.open(rt.alloc())
+    SavedFiles::read(rt, dir)
+}
+
+/// Prints why an edit of the saved state has no solution over an index: a refutation that `check`
+/// accepts. Where it has one, that is printed. All files are read before a fault in one is told.
+pub fn print_why<R: Files + AllocGlobal, O: Write>(
+    rt: &R,
+    dir: &str,
+    edit: &Edit,
+    index: &str,
+    output: &mut O,
+) -> Result<(), Stop>
+where
+    R::File: LockFile,
+{
+    let alloc = rt.alloc();
+    let files = saved_files(rt, dir)?;
+    let bytes = in_file(InputFile::Index, read_bytes(rt, index))?;
+    let session = files.open(alloc)?;
+    let snapshot = in_file(InputFile::Index, read_index(alloc, bytes.as_slice()))?;
+    let problem = problem_after(alloc, session.state(), edit, &snapshot)?;
+    match refuted(alloc, &problem)? {
+        Some(refutation) => Err(Stop::Refuted(refutation_text(alloc, &refutation)?)),
+        None => Ok(print(output, b"solvable\n".as_slice())?),
+    }
+}
+
+// A refutation of the problem, which `check` has accepted. Nothing where the problem has a solution.
+fn refuted(alloc: Global, problem: &Problem<'_>) -> Result<Option<Refutation>, AllocError>
+    ensures { IfOk result
+        (λ found. MatchOption found (HasSolution problem.now)
+        (IsRefutation (rules_of problem.now) same_version)) }
+{
+    match Learning.refute(alloc, problem)? {
+        Some(refutation) => {
+            if check(problem, &refutation) {
+                return Ok(Some(refutation));
+            }
+            // `refute` gives nothing that `check` doesn't accept
+            Ok(None)
+        }
+        None => Ok(None),
+    }
 }
 
 /// Prints what was left out of an index.

@@ -17,6 +17,7 @@ mod pending_line;
 mod program;
 #[cfg(test)]
 mod program_tests;
+mod refutation_text;
 mod replacing;
 #[cfg(test)]
 mod replacing_tests;
@@ -33,6 +34,8 @@ mod source;
 mod stop;
 #[cfg(test)]
 mod tests;
+#[cfg(test)]
+mod why_tests;
 mod words;
 
 use crate::batch::BatchFault;

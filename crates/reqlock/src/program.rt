@@ -2,7 +2,7 @@
 
 use crate::editing::{edit_once, init, run_batch, step_once, try_commands};
 use crate::folder_lock::{LockFile, lock_to_save};
-use crate::looking::{print_check, print_history, print_lock, print_skipped};
+use crate::looking::{print_check, print_history, print_lock, print_skipped, print_why};
 use crate::request::{Invocation, Subcommand, request};
 use crate::stop::{Status, Stop, report};
 use journal::Command;
@@ -49,6 +49,7 @@ where
         Subcommand::Log => print_history(rt, dir, output),
         Subcommand::Check => print_check(rt, dir, output),
         Subcommand::Skipped(index) => print_skipped(rt, index, output),
+        Subcommand::Why(edit, index) => print_why(rt, dir, &edit, index, output),
     }
 }
 
@@ -71,6 +72,7 @@ where
         | Subcommand::Show
         | Subcommand::Log
         | Subcommand::Check
-        | Subcommand::Skipped(_) => Ok(None),
+        | Subcommand::Skipped(_)
+        | Subcommand::Why(_, _) => Ok(None),
     }
 }

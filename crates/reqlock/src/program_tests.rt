@@ -4,6 +4,7 @@ use crate::folder_lock::LockFile;
 use crate::program::program;
 use crate::stop::Status;
 use crate::tests::ENVIRONMENT;
+use std::alloc::Global;
 use std::rt::Files;
 use std::test::Fail;
 use std::{env, fs, process};
@@ -41,14 +42,30 @@ pub fn run_program<R: Files + AllocGlobal>(
 where
     R::File: LockFile,
 {
-    let alloc = rt.alloc();
-    let mut owned = Vec::new(alloc);
+    let mut copies = Vec::new(rt.alloc());
+    put_words(rt.alloc(), &mut copies, words)?;
+    run_words(rt, copies.as_slice(), input)
+}
+
+// Puts copies of words behind others.
+pub fn put_words(alloc: Global, all: &mut Vec<String>, words: &[&str]) -> Result<(), Fail> {
     for word in words {
-        owned.push(String::from_str(alloc, word)?)?;
+        all.push(String::from_str(alloc, word)?)?;
     }
-    let mut output = Vec::new(alloc);
-    let mut errors = Vec::new(alloc);
-    let status = program(rt, owned.as_slice(), input, &mut output, &mut errors);
+    Ok(())
+}
+
+pub fn run_words<R: Files + AllocGlobal>(
+    rt: &R,
+    words: &[String],
+    input: &[u8],
+) -> Result<Outcome, Fail>
+where
+    R::File: LockFile,
+{
+    let mut output = Vec::new(rt.alloc());
+    let mut errors = Vec::new(rt.alloc());
+    let status = program(rt, words, input, &mut output, &mut errors);
     Ok(Outcome {
         status,
         output,

@@ -3,7 +3,7 @@
 ghost use Rattle.std.specs.Prelude.{◌≡◌, [], map, option_map, unwrap_or, Some, None, IfOk, IfErr};
 ghost use Rattle.clap.specs.Words.{fault_of, found_of, kind_of, matches_of, rows_of, subcommand_of, subcommand_rows_of};
 ghost use Rattle.reqlock.specs.CommandWords.{reqlock_app};
-ghost use Rattle.reqlock.specs.Requests.{FaultOf, FaultWith, HasInputs, IsAsked, IsFault, IsLacking, IsRequest, LacksInput, edit_of, text_of, texts_of, upgrade_with};
+ghost use Rattle.reqlock.specs.Requests.{FaultOf, FaultWith, HasInputs, IsAsked, IsFault, IsLacking, IsRequest, LacksInput, edit_of, questioned, text_of, texts_of, upgrade_with};
 ghost use Rattle.edits.specs.declared.request.Edit.TheVariants.{Add, Constrain, Remove};
 ghost use Rattle.reqlock.specs.declared.request.RequestFault.TheVariants.{OutOfMemory};
 
@@ -44,6 +44,8 @@ pub enum Subcommand<'a> {
     Check,
     /// Prints what was left out of this index.
     Skipped(&'a str),
+    /// Prints why this edit has no solution over this index, where it has none.
+    Why(Edit, &'a str),
 }
 
 /// The files that a new history begins with, beside the requirements file.
@@ -145,6 +147,10 @@ fn read_subcommand<'a>(
     if name == "skipped" {
         return Ok(Subcommand::Skipped(needed_index(options)?));
     }
+    if name == "why" {
+        let edit = read_question(alloc, given)?;
+        return Ok(Subcommand::Why(edit, needed_index(options)?));
+    }
     match name {
         "undo" => Ok(Subcommand::Undo),
         "redo" => Ok(Subcommand::Redo),
@@ -179,6 +185,14 @@ fn read_addition(alloc: Global, text: Option<&str>) -> Result<Option<Edit>, Allo
         Some(text) => Ok(Some(Edit::Add(Text::copy_of(alloc, text)?))),
         None => Ok(None),
     }
+}
+
+// Without a text, the question is about a new lock.
+fn read_question(alloc: Global, given: &ArgMatches<'_>) -> Result<Edit, AllocError>
+    ensures edit { IfOk result (λ edit. edit ≡ questioned (rows_of (found_of given.now))) }
+{
+    let addition = read_addition(alloc, given.get_str("text"))?;
+    Ok(addition.unwrap_or(Edit::Relock))
 }
 
 fn read_removal(alloc: Global, name: Option<&str>) -> Result<Option<Edit>, AllocError>

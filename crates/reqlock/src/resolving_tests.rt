@@ -9,7 +9,7 @@ use std::test::Fail;
 pub type Told = (&'static str, &'static str, &'static str);
 
 // Releases of `b` of which `a` 2 and `c` can't both have one.
-const SHARED: &[Told] = &[
+pub const SHARED: &[Told] = &[
     ("a", "1", r#""requires_dist":["b"],"#),
     ("a", "2", r#""requires_dist":["b<2"],"#),
     ("b", "1", ""),
@@ -18,7 +18,7 @@ const SHARED: &[Told] = &[
 ];
 
 // A dependency of an extra, which no release meets.
-const UNMET_EXTRA: &[Told] = &[
+pub const UNMET_EXTRA: &[Told] = &[
     ("x", "1", r#""requires_dist":["y>=2; extra==\"e\""],"#),
     ("y", "1", ""),
 ];

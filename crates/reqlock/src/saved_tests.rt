@@ -1,7 +1,7 @@
 // The three files: each command is a new call of the program, over what the last one saved.
 
 use crate::folder_lock::LockFile;
-use crate::program_tests::{Outcome, folder, run_program};
+use crate::program_tests::{Outcome, folder, put_words, run_words};
 use crate::resolving_tests::{Told, index_of};
 use std::alloc::Global;
 use std::fs;
@@ -41,22 +41,15 @@ where
     R::File: LockFile,
 {
     let alloc = rt.alloc();
-    let index = format!(in alloc; "{dir}/index.json")?;
-    let environment = format!(in alloc; "{dir}/environment.json")?;
     let mut all = Vec::new(alloc);
-    for word in [
-        "reqlock",
-        "--dir",
-        dir,
-        "--index",
-        index.as_str(),
-        "--env",
-        environment.as_str(),
-    ] {
-        all.push(word)?;
-    }
-    all.extend_from_slice(words)?;
-    run_program(rt, all.as_slice(), input)
+    put_words(alloc, &mut all, ["reqlock", "--dir"].as_slice())?;
+    all.push(String::from_str(alloc, dir)?)?;
+    put_words(alloc, &mut all, ["--index"].as_slice())?;
+    all.push(format!(in alloc; "{dir}/index.json")?)?;
+    put_words(alloc, &mut all, ["--env"].as_slice())?;
+    all.push(format!(in alloc; "{dir}/environment.json")?)?;
+    put_words(alloc, &mut all, words)?;
+    run_words(rt, all.as_slice(), input)
 }
 
 // The status, and all that was written.
@@ -90,7 +83,7 @@ pub fn holds<R: Abort + Files + AllocGlobal>(
     Ok(())
 }
 
-fn read<R: Files + AllocGlobal>(rt: &R, dir: &str, file: &str) -> Result<String, Fail> {
+pub fn read<R: Files + AllocGlobal>(rt: &R, dir: &str, file: &str) -> Result<String, Fail> {
     Ok(fs::read_to_string(rt, format!(in rt.alloc(); "{dir}/{file}")?)?)
 }
 

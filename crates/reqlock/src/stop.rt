@@ -31,6 +31,8 @@ pub enum Stop {
     Usage(clap::Error),
     Needed(NeededOption),
     Refused(Refusal),
+    /// There is no solution, as this text shows.
+    Refuted(String),
     Input(InputFile, InputFault),
     /// This file can't be written.
     Unwritten(InputFile),
@@ -120,6 +122,7 @@ pub fn report<O: Write, E: Write>(stop: &Stop, output: &mut O, errors: &mut E) -
             Status::Usage
         }
         Stop::Refused(refusal) => report_refusal(refusal, output, errors),
+        Stop::Refuted(text) => report_refutation(text.as_str(), output, errors),
         Stop::Input(file, fault) => {
             let _ = writeln!(errors, "reqlock: {file}: {fault}");
             Status::InputRefused
@@ -163,5 +166,12 @@ fn report_refusal<O: Write, E: Write>(refusal: &Refusal, output: &mut O, errors:
     match refusal {
         Refusal::NoSolution => Status::NoSolution,
         _ => Status::Refused,
+    }
+}
+
+fn report_refutation<O: Write, E: Write>(text: &str, output: &mut O, errors: &mut E) -> Status {
+    match print(output, text.as_bytes()) {
+        Ok(()) => Status::NoSolution,
+        Err(fault) => report_fault(fault, errors),
     }
 }

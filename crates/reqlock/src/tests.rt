@@ -196,6 +196,10 @@ fn request_text(alloc: Global, words: &[&str]) -> Result<String, AllocError> {
         Subcommand::Log => format!(in alloc; "{dir} log"),
         Subcommand::Check => format!(in alloc; "{dir} check"),
         Subcommand::Skipped(index) => format!(in alloc; "{dir} skipped {index}"),
+        Subcommand::Why(edit, index) => {
+            let text = asked(alloc, &Some(Item::Edit(edit)))?;
+            format!(in alloc; "{dir} why {text} {index}")
+        }
     }
 }
 
@@ -214,6 +218,9 @@ fn reads_requests(rt: HostRuntime) -> Result<(), Fail> {
         (["--index=i", "--env=e", "try"].as_slice(), ". try i e"),
         (["--index", "i", "batch"].as_slice(), ". batch i"),
         (["--index", "i", "skipped"].as_slice(), ". skipped i"),
+        (["--index", "i", "why"].as_slice(), ". why (relock) i"),
+        (["--index", "i", "why", "a >=1"].as_slice(), ". why a >=1 i"),
+        (["why"].as_slice(), "needs index"),
         (["--index", "i", "relock"].as_slice(), ". (relock) i"),
         (
             ["--index", "i", "add", "a >=1 # x "].as_slice(),

@@ -1,7 +1,8 @@
-use Rattle.std.proofs.Common.{◌≡◌, ◌∙◌, ap, codes}
+use Rattle.std.proofs.Common.{◌≡◌, ◌∙◌, [], ◌∷◌, ap, ap₂, codes}
 use Rattle.std.proofs.lemmas.Result.{IfOk-weaker}
-use Rattle.clap.specs.Words.{App, Text, with_subcommand}
+use Rattle.clap.specs.Words.{App, Rule, Text, rule_of, with_subcommand}
 use Rattle.clap.specs.Simple.{new_shape}
+use Rattle.reqlock.specs.CommandWords.{shape_with, text_rule}
 use Rattle.reqlock.proofs.command_words.with_others.Goals as goal
 
 -- one subcommand more
@@ -17,4 +18,6 @@ returns c =
     let show = more (codes "show") _ _ _ c.in_ok-show.ensures.app attempt in
     let log = more (codes "log") _ _ _ c.in_ok-log.ensures.app show in
     let check = more (codes "check") _ _ _ c.in_ok-check.ensures.app log in
-    record { app = IfOk-weaker c.plain-8.result _ _ (λ made is. more (codes "skipped") _ _ _ is check) c.plain-8.ensures.app }
+    let skipped = more (codes "skipped") _ _ _ c.in_ok-skipped.ensures.app check in
+    let line_is : rule_of c.help-line.result ≡ text_rule (codes "text") = ap rule_of c.help-line.ensures ∙ c.text.ensures.rule in
+    record { app = IfOk-weaker c.taking.result _ _ (λ made is. is ∙ ap₂ (λ (a : App) (r : Rule). with_subcommand a (shape_with (codes "why") (r ∷ []))) skipped line_is) c.taking.ensures.app }

@@ -1,0 +1,53 @@
+// Refutations as they are written.
+
+use edits::{Choice, Refutation};
+use std::alloc::{AllocError, Global};
+use std::collections::BTreeSet;
+
+/// A line for each conflict, in their order: its choices sorted by bytes, each once, with one space
+/// between two, or `-` where it has none.
+pub fn refutation_text(alloc: Global, refutation: &Refutation) -> Result<String, AllocError> {
+    let mut text = String::new(alloc);
+    for conflict in refutation.conflicts() {
+        add_conflict(alloc, &mut text, conflict.as_slice())?;
+        text.push_str("\n")?;
+    }
+    Ok(text)
+}
+
+fn add_conflict(alloc: Global, text: &mut String, conflict: &[Choice]) -> Result<(), AllocError> {
+    if conflict.is_empty() {
+        return text.push_str("-");
+    }
+    let mut is_first = true;
+    for choice in sorted_texts(alloc, conflict)? {
+        if !is_first {
+            text.push_str(" ")?;
+        }
+        text.push_str(choice.as_str())?;
+        is_first = false;
+    }
+    Ok(())
+}
+
+// A conflict is a set: a choice that stands twice in it is told once.
+fn sorted_texts(alloc: Global, conflict: &[Choice]) -> Result<BTreeSet<String>, AllocError> {
+    let mut texts = BTreeSet::new(alloc);
+    for choice in conflict {
+        texts.insert(choice_text(alloc, choice)?)?;
+    }
+    Ok(texts)
+}
+
+// `name==version`, or `name[extra]==version` at the node of an extra.
+fn choice_text(alloc: Global, choice: &Choice) -> Result<String, AllocError> {
+    let name = choice.name.normal();
+    let version = &choice.version;
+    match &choice.extra {
+        Some(extra) => {
+            let extra = extra.normal();
+            format!(in alloc; "{name}[{extra}]=={version}")
+        }
+        None => format!(in alloc; "{name}=={version}"),
+    }
+}
