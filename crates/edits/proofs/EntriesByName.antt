@@ -6,7 +6,7 @@ use Rattle.std.specs.Cmp.Lexicographic.{nat_list_eq_equiv}
 use Rattle.std.specs.Option.{IsSome}
 use Rattle.pep440.specs.Version.{VersionParts}
 use Rattle.pylock.specs.Packages.{EntryParts}
-use Rattle.resolve.specs.Resolves.{version_in}
+use Rattle.resolve.specs.Resolves.{version_for}
 use Rattle.edits.specs.Locking.{versions_of}
 use Rattle.lists.proofs.Members.{Contains-map, Contains-map_of}
 
@@ -18,7 +18,7 @@ pub record Has (entries : List EntryParts) (name : List ℕ) (version : VersionP
   pub versioned : entry.version ≡ version
 
 -- a name with a version has an entry
-pub Has-from : (entries : List EntryParts) (name : List ℕ) (version : VersionParts) → version_in (versions_of entries) name ≡ Some version → Has entries name version
+pub Has-from : (entries : List EntryParts) (name : List ℕ) (version : VersionParts) → version_for (versions_of entries) name ≡ Some version → Has entries name version
 Has-from entries name version e =
     let there = Contains-from_lookup (λ x y. (bytes_eq-Decides x y).0) name version (versions_of entries) e in
     let k = Contains-map (λ (p : EntryParts). (p.name, p.version)) entries (name, version) there in
@@ -29,7 +29,7 @@ found None some = absurd cc
 found (Some x) some = (x, refl)
 
 -- the name of an entry has a version
-pub version-there : (entries : List EntryParts) (e : EntryParts) → Contains entries e → (version : VersionParts) × (version_in (versions_of entries) e.name ≡ Some version)
+pub version-there : (entries : List EntryParts) (e : EntryParts) → Contains entries e → (version : VersionParts) × (version_for (versions_of entries) e.name ≡ Some version)
 version-there entries e there =
     let pair = Contains-map_of (λ (p : EntryParts). (p.name, p.version)) entries e there in
     let name = Contains-map_of (λ (p : List ℕ × VersionParts). p.0) (versions_of entries) (e.name, e.version) pair in

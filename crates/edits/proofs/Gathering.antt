@@ -19,7 +19,7 @@ use Rattle.snapshot.specs.Release.{Release}
 use Rattle.resolve.specs.Problem.{ProblemParts}
 use Rattle.resolve.specs.declared.node.Node.{Node}
 use Rattle.edits.specs.Dependencies.{names_at, names_in, names_of, names_wanted, release_chosen, with_names}
-use Rattle.edits.specs.Entries.{AreNeeds, entry_of}
+use Rattle.edits.specs.Entries.{AreNeeds, entry_for}
 use Rattle.lists.proofs.Members.{Contains-nil}
 
 -- a look-up by bytes is the look-up of a map
@@ -57,7 +57,7 @@ gathered-more given chosen node release old rest new names more picked taken out
 -- what is locked for names above one stays where the names of that one are taken out
 entries-rest : (given : ProblemParts) (name : List ℕ) (old new : BTreeMap (List ℕ) (BTreeSet (List ℕ))) (rest : List (List ℕ × VersionParts))
     → UpdatesBy (slice_cmp nat_cmp) (slice_cmp nat_cmp name) old new None → AllByRecursion (λ y. slice_cmp nat_cmp name y ≡ Less) (keys_of rest)
-    → map (entry_of given (names_in new)) rest ≡ map (entry_of given (names_in old)) rest
+    → map (entry_for given (names_in new)) rest ≡ map (entry_for given (names_in old)) rest
 entries-rest given name old new [] out above = refl
 entries-rest given name old new (p ∷ rest) out above =
     let apart : is_at (slice_cmp nat_cmp name) p.0 ≡ false = ap is_eq above.0 in
@@ -67,8 +67,8 @@ entries-rest given name old new (p ∷ rest) out above =
 -- one more entry is locked
 pub entries-more : (given : ProblemParts) (name : List ℕ) (version : VersionParts) (e : EntryParts) (items target : List EntryParts) (rest : List (List ℕ × VersionParts)) (old new : BTreeMap (List ℕ) (BTreeSet (List ℕ)))
     → IsStrictlySortedBy (slice_cmp nat_cmp) (keys_of ((name, version) ∷ rest)) → UpdatesBy (slice_cmp nat_cmp) (slice_cmp nat_cmp name) old new None
-    → e ≡ entry_of given (names_in old) (name, version) → items ++ map (entry_of given (names_in old)) ((name, version) ∷ rest) ≡ target
-    → (items ++ e ∷ []) ++ map (entry_of given (names_in new)) rest ≡ target
+    → e ≡ entry_for given (names_in old) (name, version) → items ++ map (entry_for given (names_in old)) ((name, version) ∷ rest) ≡ target
+    → (items ++ e ∷ []) ++ map (entry_for given (names_in new)) rest ≡ target
 entries-more given name version e items target rest old new rising out is made =
     rw (append_assoc, entries-rest given name old new rest out (sorted_head _ name (keys_of rest) rising), is) made
 

@@ -19,13 +19,13 @@ use Rattle.search.specs.Solutions.{IsBest}
 use Rattle.snapshot.specs.Release.{Release}
 use Rattle.resolve.specs.Admission.{release_at}
 use Rattle.resolve.specs.Problem.{ProblemParts}
-use Rattle.resolve.specs.Resolves.{AreNeeded, version_in}
+use Rattle.resolve.specs.Resolves.{AreNeeded, version_for}
 use Rattle.resolve.specs.Rules.{counts, rules_of, wants}
 use Rattle.resolve.specs.declared.node.Node.{Node}
 use Rattle.edits.specs.Dependencies.{leads_away, names_at, names_in, names_needed, names_over, names_wanted, release_chosen, with_names}
 use Rattle.edits.specs.StateParts.{StateParts}
 use Rattle.edits.specs.Edits.{IsLocked, IsNew}
-use Rattle.edits.specs.Entries.{AreEntries, AreNeeds, HasRelease, entry_of}
+use Rattle.edits.specs.Entries.{AreEntries, AreNeeds, HasRelease, entry_for}
 use Rattle.edits.specs.Locking.{IsDependency, IsEntry, versions_of}
 use Rattle.edits.proofs.LawfulNames.{apart, differ, rises-from}
 use Rattle.lists.proofs.Members.{Contains-cons_cases, Contains-filter, Contains-filter_of, Contains-flat_map, Contains-flat_map_of, Contains-map, Contains-map_of, Contains-nil}
@@ -121,7 +121,7 @@ AreNeeds-gathered given chosen nodes gathered needed is own = rw (is own) (AreNe
 
 -- what is locked for a name is its entry
 IsEntry-from : (given : ProblemParts) (chosen : List ℕ → Option VersionParts) (nodes : List Node) (gathered : BTreeMap (List ℕ) (BTreeSet (List ℕ))) → AreNeeded given chosen nodes
-    → ((own : List ℕ) → names_in gathered own ≡ with_names [] (names_over given chosen own nodes)) → (p : List ℕ × VersionParts) → IsEntry given chosen (entry_of given (names_in gathered) p)
+    → ((own : List ℕ) → names_in gathered own ≡ with_names [] (names_over given chosen own nodes)) → (p : List ℕ × VersionParts) → IsEntry given chosen (entry_for given (names_in gathered) p)
 IsEntry-from given chosen nodes gathered needed is p = record {
   python = refl;
   sdist = refl;
@@ -136,32 +136,32 @@ IsEntry-from given chosen nodes gathered needed is p = record {
   );
 }
 
-versions_of-entries : (given : ProblemParts) (names : List ℕ → List (List ℕ)) (versions : List (List ℕ × VersionParts)) → versions_of (map (entry_of given names) versions) ≡ versions
+versions_of-entries : (given : ProblemParts) (names : List ℕ → List (List ℕ)) (versions : List (List ℕ × VersionParts)) → versions_of (map (entry_for given names) versions) ≡ versions
 versions_of-entries given names [] = refl
 versions_of-entries given names (p ∷ rest) = ap (λ (l : List (List ℕ × VersionParts)). p ∷ l) (versions_of-entries given names rest)
 
-names-entries : (given : ProblemParts) (names : List ℕ → List (List ℕ)) (versions : List (List ℕ × VersionParts)) → map (λ e. e.name) (map (entry_of given names) versions) ≡ keys_of versions
+names-entries : (given : ProblemParts) (names : List ℕ → List (List ℕ)) (versions : List (List ℕ × VersionParts)) → map (λ e. e.name) (map (entry_for given names) versions) ≡ keys_of versions
 names-entries given names [] = refl
 names-entries given names (p ∷ rest) = ap (λ (l : List (List ℕ)). p.0 ∷ l) (names-entries given names rest)
 
 AreEntries-from : (given : ProblemParts) (versions : List (List ℕ × VersionParts)) (nodes : List Node) (gathered : BTreeMap (List ℕ) (BTreeSet (List ℕ))) → IsStrictlySortedBy (slice_cmp nat_cmp) (keys_of versions)
-    → ((e : EntryParts) → Contains (map (entry_of given (names_in gathered)) versions) e → HasRelease given e.name e.version)
-    → AreNeeded given (version_in versions) nodes → ((own : List ℕ) → names_in gathered own ≡ with_names [] (names_over given (version_in versions) own nodes))
-    → AreEntries given versions (map (entry_of given (names_in gathered)) versions)
+    → ((e : EntryParts) → Contains (map (entry_for given (names_in gathered)) versions) e → HasRelease given e.name e.version)
+    → AreNeeded given (version_for versions) nodes → ((own : List ℕ) → names_in gathered own ≡ with_names [] (names_over given (version_for versions) own nodes))
+    → AreEntries given versions (map (entry_for given (names_in gathered)) versions)
 AreEntries-from given versions nodes gathered rising releases needed is = record {
   versions_are = versions_of-entries given (names_in gathered) versions;
   rising = rw (names-entries given (names_in gathered) versions) rising;
   entries = λ e h.
-      let k = Contains-map (entry_of given (names_in gathered)) versions e h in
-      subst (IsEntry given (version_in versions)) k.2 (IsEntry-from given (version_in versions) nodes gathered needed is k.0);
+      let k = Contains-map (entry_for given (names_in gathered)) versions e h in
+      subst (IsEntry given (version_for versions)) k.2 (IsEntry-from given (version_for versions) nodes gathered needed is k.0);
   releases = releases;
 }
 
 -- the answer that goes over what was gathered
 pub AreEntries-answer : {E : Type 0} (given : ProblemParts) (versions : List (List ℕ × VersionParts)) (nodes : List Node) (gathered : BTreeMap (List ℕ) (BTreeSet (List ℕ))) (answer : Result (List EntryParts) E)
-    → IfOk answer (λ lock. lock ≡ map (entry_of given (names_in gathered)) versions) → IfOk answer (λ _. IsStrictlySortedBy (slice_cmp nat_cmp) (keys_of versions))
+    → IfOk answer (λ lock. lock ≡ map (entry_for given (names_in gathered)) versions) → IfOk answer (λ _. IsStrictlySortedBy (slice_cmp nat_cmp) (keys_of versions))
     → IfOk answer (λ lock. (e : EntryParts) → Contains lock e → HasRelease given e.name e.version)
-    → AreNeeded given (version_in versions) nodes → ((own : List ℕ) → names_in gathered own ≡ with_names [] (names_over given (version_in versions) own nodes))
+    → AreNeeded given (version_for versions) nodes → ((own : List ℕ) → names_in gathered own ≡ with_names [] (names_over given (version_for versions) own nodes))
     → IfOk answer (λ lock. AreEntries given versions lock)
 AreEntries-answer given versions nodes gathered (Ok lock) made rising releases needed is =
     rw made (AreEntries-from given versions nodes gathered rising (rw made at releases) needed is)
@@ -192,7 +192,7 @@ releases-more given items e before here x h = elim (Contains-append_cases items 
 ]
 
 -- the entries of the best solution are the lock
-pub IsLocked-from : (given : ProblemParts) (lines : List (List ℕ)) (versions : List (List ℕ × VersionParts)) (lock : LockParts) → IsBest (rules_of given) (version_in versions) → AreEntries given versions lock.entries
+pub IsLocked-from : (given : ProblemParts) (lines : List (List ℕ)) (versions : List (List ℕ × VersionParts)) (lock : LockParts) → IsBest (rules_of given) (version_for versions) → AreEntries given versions lock.entries
     → lock.environment ≡ marker_text given.environment → lock.snapshot ≡ given.index.digest
     → IsLocked given lines (record { lines = lines; environment = given.environment; lock = lock })
 IsLocked-from given lines versions lock best h environment snapshot = record {

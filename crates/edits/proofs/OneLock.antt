@@ -11,7 +11,7 @@ use Rattle.pylock.specs.Locks.{LockParts}
 use Rattle.pylock.specs.Packages.{EntryParts}
 use Rattle.resolve.specs.Admission.{release_at}
 use Rattle.resolve.specs.Problem.{ProblemParts}
-use Rattle.resolve.specs.Resolves.{version_in}
+use Rattle.resolve.specs.Resolves.{version_for}
 use Rattle.resolve.specs.Rules.{rules_of}
 use Rattle.search.specs.Rules.{IsOrder}
 use Rattle.search.specs.Solutions.{IsBest}
@@ -73,7 +73,7 @@ keys-are : (es : List EntryParts) → keys_of (versions_of es) ≡ map (λ e. e.
 keys-are [] = refl
 keys-are (e ∷ es) = ap (λ rest. e.name ∷ rest) (keys-are es)
 
-version-of : (es : List EntryParts) (e : EntryParts) → IsStrictlySortedBy (slice_cmp nat_cmp) (map (λ e. e.name) es) → Contains es e → version_in (versions_of es) e.name ≡ Some e.version
+version-of : (es : List EntryParts) (e : EntryParts) → IsStrictlySortedBy (slice_cmp nat_cmp) (map (λ e. e.name) es) → Contains es e → version_for (versions_of es) e.name ≡ Some e.version
 version-of es e rising there =
     lookup-there e.name e.version (versions_of es) (subst (IsStrictlySortedBy (slice_cmp nat_cmp)) (sym (keys-are es)) rising)
     (Contains-map_of (λ (e : EntryParts). (e.name, e.version)) es e there)
@@ -95,13 +95,13 @@ entry-one given chosen e f named versioned one another =
     let needs = dependencies-one given chosen e f named one another in
     λ i. record { name = named i; version = versioned i; requires_python = python i; dependencies = needs i; sdist = sdist i; wheels = wheels i }
 
-entries-there : (given : ProblemParts) (one another : LockParts) → IsLockOf given one → IsLockOf given another → version_in (versions_of another.entries) ≡ version_in (versions_of one.entries)
+entries-there : (given : ProblemParts) (one another : LockParts) → IsLockOf given one → IsLockOf given another → version_for (versions_of another.entries) ≡ version_for (versions_of one.entries)
     → Has-all one.entries another.entries
 entries-there given one another l m same e there =
     let found = (λ i. same i e.name) ∙ version-of one.entries e l.rising there in
     let k = Has-from another.entries e.name e.version found in
     let mine = subst (λ chosen. IsEntry given chosen k.entry) same (m.entries k.entry k.there) in
-    subst (Contains another.entries) (entry-one given (version_in (versions_of one.entries)) k.entry e k.named k.versioned mine (l.entries e there)) k.there
+    subst (Contains another.entries) (entry-one given (version_for (versions_of one.entries)) k.entry e k.named k.versioned mine (l.entries e there)) k.there
 
 pub bytes-order : IsOrder (slice_cmp nat_cmp)
 bytes-order = record { total = nat_list_cmp_total; exact = λ a b e. exact_bytes a b e }
@@ -109,7 +109,7 @@ bytes-order = record { total = nat_list_cmp_total; exact = λ a b e. exact_bytes
 pub lock-one : (given : ProblemParts) (one another : LockParts) → ((s t : List ℕ → Option VersionParts) → IsBest (rules_of given) s → IsBest (rules_of given) t → (n : List ℕ) → t n ≡ s n)
     → IsLockOf given one → IsLockOf given another → one ≡ another
 lock-one given one another unique l m =
-    let same : version_in (versions_of another.entries) ≡ version_in (versions_of one.entries) = λ i n. unique _ _ l.best m.best n i in
+    let same : version_for (versions_of another.entries) ≡ version_for (versions_of one.entries) = λ i n. unique _ _ l.best m.best n i in
     let entries : one.entries ≡ another.entries =
     members-one (λ (e : EntryParts). e.name) one.entries another.entries l.rising m.rising (entries-there given one another l m same) (entries-there given another one m l (sym same)) in
     let environment : one.environment ≡ another.environment = l.environment ∙ sym m.environment in

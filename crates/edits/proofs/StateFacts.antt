@@ -23,21 +23,21 @@ use Rattle.snapshot.specs.Lawful.{IsRelease}
 use Rattle.snapshot.specs.Release.{Release}
 use Rattle.snapshot.specs.Python.{is_blank, python_of, python_with}
 use Rattle.snapshot.specs.declared.python.RequiresPython.{RequiresPython}
-use Rattle.resolve.specs.Admission.{admits, admits_release, fits, has_python as runs_with, has_version, meets_python, release_at}
+use Rattle.resolve.specs.Admission.{admits, admits_release, fits, is_for_python as runs_with, has_version, meets_python, release_at}
 use Rattle.resolve.specs.Problem.{ProblemParts, releases_on, requirements}
-use Rattle.resolve.specs.Resolves.{version_in}
+use Rattle.resolve.specs.Resolves.{version_for}
 use Rattle.resolve.specs.Rules.{bare, nodes_of, rules_of, wants, with_extra}
 use Rattle.resolve.specs.declared.node.Node.{Node}
 use Rattle.edits.specs.StateParts.{StateParts}
 use Rattle.edits.specs.Edits.{IsLocked}
 use Rattle.edits.specs.Locking.{IsDependency, IsEntry, versions_of}
-use Rattle.edits.specs.State.{IsAnEntry, IsMet, IsState, Reached, by_entry, by_line as by_active, has_python, has_version as set_has}
+use Rattle.edits.specs.State.{IsAnEntry, IsMet, IsState, Reached, by_entry, by_line as by_active, is_for_python, has_version as set_has}
 use Rattle.edits.proofs.EntriesByName.{Has-from, version-there}
 use Rattle.lists.proofs.Members.{Contains-cons_cases, Contains-map}
 
 -- each entry is that of the solution of the entries' versions
 abbrev pub AreEntriesOf : ProblemParts → List EntryParts → Type 0
-AreEntriesOf given entries = (e : EntryParts) → Contains entries e → IsEntry given (version_in (versions_of entries)) e
+AreEntriesOf given entries = (e : EntryParts) → Contains entries e → IsEntry given (version_for (versions_of entries)) e
 
 -- the release of each entry is there, and lawful
 abbrev pub AreReleased : ProblemParts → List EntryParts → Type 0
@@ -67,7 +67,7 @@ set-has p (Some version) met = met
 
 -- an entry runs where its release does
 runs-from : (environment : Texts) (python : Option RequiresPython) → MatchOption python Unit (λ p. python_of p.text ≡ Ok (Some p)) → meets_python environment python ≡ true
-    → option_map_or (has_python environment) (option_map (λ p. p.text) python) true ≡ true
+    → option_map_or (is_for_python environment) (option_map (λ p. p.text) python) true ≡ true
 runs-from environment None lawful met = refl
 runs-from environment (Some p) lawful met = rw (set-read p lawful) (set-has p (version_read (text_of environment PythonFullVersion)) met)
 
@@ -83,7 +83,7 @@ found-passes p (y ∷ ys) x e = elim (cases_Bool (p y)) [
 
 -- a requirement that admits the version of its name is met by the entry
 met-by : (given : ProblemParts) (entries : List EntryParts) → MatchAlike → AreEntriesOf given entries → AreReleased given entries → (wanted : RequirementParts) (version : VersionParts)
-    → version_in (versions_of entries) wanted.name ≡ Some version → admits given wanted version ≡ true → IsMet given.environment entries wanted
+    → version_for (versions_of entries) wanted.name ≡ Some version → admits given wanted version ≡ true → IsMet given.environment entries wanted
 met-by given entries alike are released wanted version picked admitted =
     let k = Has-from entries wanted.name version picked in
     let r : (r : Release) × (release_at given k.entry.name k.entry.version ≡ Some r) × IsRelease r = released k.entry k.there in
@@ -103,11 +103,11 @@ met-by given entries alike are released wanted version picked admitted =
 -- ---- closed
 
 -- a dependency of an entry is an entry
-closed-by : (given : ProblemParts) (entries : List EntryParts) → AreEntriesOf given entries → Solution (rules_of given) (version_in (versions_of entries)) → (e : EntryParts) (name : List ℕ)
+closed-by : (given : ProblemParts) (entries : List EntryParts) → AreEntriesOf given entries → Solution (rules_of given) (version_for (versions_of entries)) → (e : EntryParts) (name : List ℕ)
     → Contains entries e → Contains e.dependencies name → IsAnEntry entries name
 closed-by given entries are solution e name there depends =
     let d = ((are e there).dependencies name).0 depends in
-    let m : (v : VersionParts) × (version_in (versions_of entries) d.wanted.name ≡ Some v) × (admits given d.wanted v ≡ true) =
+    let m : (v : VersionParts) × (version_for (versions_of entries) d.wanted.name ≡ Some v) × (admits given d.wanted v ≡ true) =
     solution.dependencies_met d.node d.version d.wanted d.needed (rw d.on d.picked) d.counts in
     let k = Has-from entries d.wanted.name m.0 m.1 in
     record { entry = k.entry; there = k.there; named = k.named ∙ d.named }
@@ -123,13 +123,13 @@ on-own wanted node h = elim (Contains-cons_cases (bare wanted.name) (map (with_e
 
 -- what counts at a needed node is on the node's name, or on that of a dependency of its entry
 reached-from : (given : ProblemParts) (entries : List EntryParts) → AreEntriesOf given entries → (link : Node) (version : VersionParts) (wanted : RequirementParts)
-    → Needed (rules_of given) (version_in (versions_of entries)) link → version_in (versions_of entries) link.name ≡ Some version → Contains (wants given link version) wanted
+    → Needed (rules_of given) (version_for (versions_of entries)) link → version_for (versions_of entries) link.name ≡ Some version → Contains (wants given link version) wanted
     → Reached given.active entries link.name → Reached given.active entries wanted.name
 reached-from given entries are link version wanted needed picked counted reached = elim (cases_Bool (bytes_eq wanted.name link.name)) [
   | inl same ↦ subst (Reached given.active entries) (sym ((bytes_eq-Decides wanted.name link.name).0 same)) reached
   | inr other ↦
       let k = Has-from entries link.name version picked in
-      let depends : IsDependency given (version_in (versions_of entries)) k.entry.name wanted.name = record {
+      let depends : IsDependency given (version_for (versions_of entries)) k.entry.name wanted.name = record {
         other = λ same. cc (sym other ∙ (bytes_eq-Decides wanted.name link.name).1 (same ∙ k.named));
         node = link;
         on = sym k.named;
@@ -144,16 +144,16 @@ reached-from given entries are link version wanted needed picked counted reached
 ]
 
 -- the name of a needed node is reached
-reached-by : (given : ProblemParts) (entries : List EntryParts) → AreEntriesOf given entries → (node : Node) → Needed (rules_of given) (version_in (versions_of entries)) node → Reached given.active entries node.name
+reached-by : (given : ProblemParts) (entries : List EntryParts) → AreEntriesOf given entries → (node : Node) → Needed (rules_of given) (version_for (versions_of entries)) node → Reached given.active entries node.name
 reached-by given entries are _ (by_line wanted node there own) = subst (Reached given.active entries) (on-own wanted node own) (by_active wanted there)
 reached-by given entries are _ (by_dependency link version wanted node needed picked counted own) =
     subst (Reached given.active entries) (on-own wanted node own) (reached-from given entries are link version wanted needed picked counted (reached-by given entries are link needed))
 
 -- an entry is reached
-entry-reached : (given : ProblemParts) (entries : List EntryParts) → AreEntriesOf given entries → Solution (rules_of given) (version_in (versions_of entries)) → (e : EntryParts) → Contains entries e → Reached given.active entries e.name
+entry-reached : (given : ProblemParts) (entries : List EntryParts) → AreEntriesOf given entries → Solution (rules_of given) (version_for (versions_of entries)) → (e : EntryParts) → Contains entries e → Reached given.active entries e.name
 entry-reached given entries are solution e there =
-    let v : (v : VersionParts) × (version_in (versions_of entries) e.name ≡ Some v) = version-there entries e there in
-    let k : (node : Node) × Needed (rules_of given) (version_in (versions_of entries)) node × (node.name ≡ e.name) = solution.each_needed e.name v.0 v.1 in
+    let v : (v : VersionParts) × (version_for (versions_of entries) e.name ≡ Some v) = version-there entries e there in
+    let k : (node : Node) × Needed (rules_of given) (version_for (versions_of entries)) node × (node.name ≡ e.name) = solution.each_needed e.name v.0 v.1 in
     subst (Reached given.active entries) k.2 (reached-by given entries are k.0 k.1)
 
 -- ---- states
@@ -169,7 +169,7 @@ IsState-from given lines state is active read lock released alike =
       lock = record {
         lawful = lock;
         met = λ wanted there.
-            let m : (v : VersionParts) × (version_in (versions_of state.lock.entries) wanted.name ≡ Some v) × (admits given wanted v ≡ true) = solution.lines_met wanted (rw asked at there) in
+            let m : (v : VersionParts) × (version_for (versions_of state.lock.entries) wanted.name ≡ Some v) × (admits given wanted v ≡ true) = solution.lines_met wanted (rw asked at there) in
             rw is.environment (met-by given state.lock.entries alike is.lock.entries released wanted m.0 m.1 m.2);
         closed = closed-by given state.lock.entries is.lock.entries solution;
         reached = λ e there. rw asked (entry-reached given state.lock.entries is.lock.entries solution e there);

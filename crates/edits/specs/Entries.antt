@@ -11,7 +11,7 @@ use Rattle.snapshot.specs.Lawful.{IsRelease}
 use Rattle.snapshot.specs.Release.{Release}
 use Rattle.resolve.specs.Admission.{release_at}
 use Rattle.resolve.specs.Problem.{ProblemParts}
-use Rattle.resolve.specs.Resolves.{version_in}
+use Rattle.resolve.specs.Resolves.{version_for}
 use Rattle.edits.specs.Locking.{IsEntry, python_text, sdist_of, versions_of, wheels_of}
 
 -- the entry of a name with its version, where these names are needed and this release may be there
@@ -19,8 +19,8 @@ abbrev pub entry_with : (List ℕ × VersionParts) → List (List ℕ) → Optio
 entry_with p names release = record { name = p.0; version = p.1; requires_python = python_text release; dependencies = names; sdist = sdist_of release; wheels = wheels_of release }
 
 -- the entry of a name with its version, given the names that each name needs
-abbrev pub entry_of : ProblemParts → (List ℕ → List (List ℕ)) → (List ℕ × VersionParts) → EntryParts
-entry_of given names p = entry_with p (names p.0) (release_at given p.0 p.1)
+abbrev pub entry_for : ProblemParts → (List ℕ → List (List ℕ)) → (List ℕ × VersionParts) → EntryParts
+entry_for given names p = entry_with p (names p.0) (release_at given p.0 p.1)
 
 -- names that rise by their bytes, each of them another than this one
 pub record AreNeeds (own : List ℕ) (names : List (List ℕ)) : Type 0 where
@@ -36,5 +36,5 @@ HasRelease given name version = (r : Release) × (release_at given name version 
 pub record AreEntries (given : ProblemParts) (versions : List (List ℕ × VersionParts)) (lock : List EntryParts) : Type 0 where
   pub versions_are : versions_of lock ≡ versions
   pub rising : IsStrictlySortedBy (slice_cmp nat_cmp) (map (λ e. e.name) lock)
-  pub entries : (e : EntryParts) → Contains lock e → IsEntry given (version_in versions) e
+  pub entries : (e : EntryParts) → Contains lock e → IsEntry given (version_for versions) e
   pub releases : (e : EntryParts) → Contains lock e → HasRelease given e.name e.version

@@ -17,7 +17,7 @@ use Rattle.snapshot.specs.Release.{Release}
 use Rattle.snapshot.specs.declared.file.ReleaseFile.{ReleaseFile}
 use Rattle.resolve.specs.Admission.{release_at}
 use Rattle.resolve.specs.Problem.{ProblemParts}
-use Rattle.resolve.specs.Resolves.{version_in}
+use Rattle.resolve.specs.Resolves.{version_for}
 use Rattle.resolve.specs.Rules.{rules_of, wants}
 use Rattle.resolve.specs.declared.node.Node.{Node}
 
@@ -68,5 +68,5 @@ pub record IsLockOf (given : ProblemParts) (lock : LockParts) : Type 0 where
   pub environment : lock.environment ≡ marker_text given.environment
   pub snapshot : lock.snapshot ≡ given.index.digest
   pub rising : IsStrictlySortedBy (slice_cmp nat_cmp) (map (λ e. e.name) lock.entries)
-  pub best : IsBest (rules_of given) (version_in (versions_of lock.entries))
-  pub entries : (e : EntryParts) → Contains lock.entries e → IsEntry given (version_in (versions_of lock.entries)) e
+  pub best : IsBest (rules_of given) (version_for (versions_of lock.entries))
+  pub entries : (e : EntryParts) → Contains lock.entries e → IsEntry given (version_for (versions_of lock.entries)) e

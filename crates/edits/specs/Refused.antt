@@ -4,7 +4,7 @@ use Rattle.std.specs.List.{list_all}
 use Rattle.markers.specs.Names.{is_name, normal_of}
 use Rattle.pep508.specs.Requirement.{RequirementParts}
 use Rattle.pylock.specs.Packages.{EntryParts}
-use Rattle.resolve.specs.Resolves.{version_in}
+use Rattle.resolve.specs.Resolves.{version_for}
 use Rattle.edits.specs.Adding.{asked_by, line_number}
 use Rattle.edits.specs.Locking.{versions_of}
 use Rattle.edits.specs.Naming.{count_on, is_specifier}
@@ -39,7 +39,7 @@ refused_by_lines lines edit = None
 
 -- whether a lock has the name
 abbrev pub is_locked : List EntryParts → List ℕ → Bool
-is_locked entries name = is_some (version_in (versions_of entries) name)
+is_locked entries name = is_some (version_for (versions_of entries) name)
 
 -- of an upgrade of the names that texts are: all of them are names, and in the lock; the first that isn't there is told
 abbrev pub refused_upgrade : List EntryParts → List (List ℕ) → Option Refusal

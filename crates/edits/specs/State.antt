@@ -24,14 +24,14 @@ has_version (Ok clauses) None = false
 has_version (Err fault) version = false
 
 -- whether a text of specifiers has the full version of the environment's Python
-abbrev pub has_python : Texts → List ℕ → Bool
-has_python environment text = has_version (set_of text) (version_read (text_of environment PythonFullVersion))
+abbrev pub is_for_python : Texts → List ℕ → Bool
+is_for_python environment text = has_version (set_of text) (version_read (text_of environment PythonFullVersion))
 
 -- an entry meets a requirement: it is on its name, the clauses match its version, and it runs on the environment's Python
 pub record Meets (environment : Texts) (wanted : RequirementParts) (e : EntryParts) : Type 0 where
   pub named : e.name ≡ wanted.name
   pub matched : matches wanted.clauses e.version ≡ true
-  pub runs : option_map_or (has_python environment) e.requires_python true ≡ true
+  pub runs : option_map_or (is_for_python environment) e.requires_python true ≡ true
 
 -- an entry of the name
 pub record IsAnEntry (entries : List EntryParts) (name : List ℕ) : Type 0 where

@@ -3,7 +3,7 @@
 ghost use Rattle.std.specs.Prelude.{◌≡◌, ℕ, List, [], IfOk, OnOk};
 ghost use Rattle.std.specs.Option.{option_copied};
 ghost use Rattle.edits.specs.Dependencies.{leads_away, names_at, names_in, names_over, names_wanted, release_chosen, with_names};
-ghost use Rattle.resolve.specs.Resolves.{version_in};
+ghost use Rattle.resolve.specs.Resolves.{version_for};
 
 use pep440::Version;
 use pep508::{Name, Requirement};
@@ -44,7 +44,7 @@ fn release_chosen<'a>(
     name: &Name,
 ) -> Option<&'a Release>
     ensures { option_copied result
-        ≡ release_chosen problem.now (version_in versions.now.entries) name.now }
+        ≡ release_chosen problem.now (version_for versions.now.entries) name.now }
 {
     let version = versions.get(name)?;
     problem.release(name, version)
@@ -59,7 +59,7 @@ fn add_node(
     gathered: &mut BTreeMap<Name, BTreeSet<Name>>,
 ) -> Result<(), AllocError>
     ensures { OnOk result ((own : List ℕ) → names_in gathered.new own
-        ≡ with_names (names_in gathered.old own) (names_at problem.now (version_in versions.now.entries) own node.now)) }
+        ≡ with_names (names_in gathered.old own) (names_at problem.now (version_for versions.now.entries) own node.now)) }
 {
     let Some(release) = release_chosen(problem, versions, &node.name) else {
         return Ok(());
@@ -82,7 +82,7 @@ pub(crate) fn gather(
     nodes: &[Node],
 ) -> Result<BTreeMap<Name, BTreeSet<Name>>, AllocError>
     ensures { IfOk result (λ gathered. (own : List ℕ) → names_in gathered own
-        ≡ with_names [] (names_over problem.now (version_in versions.now.entries) own nodes.now)) }
+        ≡ with_names [] (names_over problem.now (version_for versions.now.entries) own nodes.now)) }
 {
     let mut gathered = BTreeMap::new(alloc);
     for node in nodes {

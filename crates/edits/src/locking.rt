@@ -7,13 +7,13 @@ ghost use Rattle.std.specs.List.Sorted.{IsStrictlySortedBy};
 ghost use Rattle.std.specs.Map.{keys_of};
 ghost use Rattle.std.specs.Ordering.{nat_cmp};
 ghost use Rattle.edits.specs.Dependencies.{names_in, names_of};
-ghost use Rattle.edits.specs.Entries.{AreEntries, AreNeeds, HasRelease, entry_of};
+ghost use Rattle.edits.specs.Entries.{AreEntries, AreNeeds, HasRelease, entry_for};
 ghost use Rattle.markers.specs.Environment.{marker_text};
 ghost use Rattle.markers.specs.Names.{is_normal};
 ghost use Rattle.pep440.specs.Version.{VersionParts};
 ghost use Rattle.pylock.specs.Packages.{EntryParts};
 ghost use Rattle.resolve.specs.Admission.{release_at};
-ghost use Rattle.resolve.specs.Resolves.{version_in};
+ghost use Rattle.resolve.specs.Resolves.{version_for};
 ghost use Rattle.resolve.specs.Rules.{rules_of};
 ghost use Rattle.search.specs.Solutions.{IsBest};
 
@@ -60,11 +60,11 @@ fn entries(
     mut gathered: BTreeMap<Name, BTreeSet<Name>>,
 ) -> Result<Seq<Entry>, AllocError>
     requires released { (name : List ℕ) (version : VersionParts)
-        → version_in versions.now.entries name ≡ Some version
+        → version_for versions.now.entries name ≡ Some version
         → IsSome (release_at problem.now name version) }
     requires needs { (own : List ℕ) → AreNeeds own (names_in gathered own) }
     ensures entries { IfOk result (λ lock. lock
-        ≡ map (entry_of problem.now (names_in gathered)) versions.now.entries) }
+        ≡ map (entry_for problem.now (names_in gathered)) versions.now.entries) }
     ensures rising { IfOk result
         (λ _. IsStrictlySortedBy (slice_cmp nat_cmp) (keys_of versions.now.entries)) }
     ensures releases { IfOk result (λ lock. (e : EntryParts) → Contains lock e
@@ -84,7 +84,7 @@ fn entries_of(
     problem: &Problem<'_>,
     versions: &BTreeMap<Name, Version>,
 ) -> Result<Seq<Entry>, AllocError>
-    requires { IsBest (rules_of problem.now) (version_in versions.now.entries) }
+    requires { IsBest (rules_of problem.now) (version_for versions.now.entries) }
     ensures { IfOk result (λ lock. AreEntries problem.now versions.now.entries lock) }
 {
     let nodes = problem.needed(alloc, versions)?;
@@ -100,7 +100,7 @@ pub(crate) fn lock_of(
     snapshot: &Snapshot,
     versions: &BTreeMap<Name, Version>,
 ) -> Result<Lock, AllocError>
-    requires { IsBest (rules_of problem.now) (version_in versions.now.entries) }
+    requires { IsBest (rules_of problem.now) (version_for versions.now.entries) }
     ensures entries { IfOk result
         (λ lock. AreEntries problem.now versions.now.entries lock.entries) }
     ensures environment { IfOk result (λ lock. lock.environment ≡ marker_text environment.now) }

@@ -8,7 +8,7 @@ ghost use Rattle.std.specs.Option.{option_copied};
 ghost use Rattle.edits.specs.StateParts.{StateParts};
 ghost use Rattle.edits.specs.Locking.{versions_of};
 ghost use Rattle.edits.specs.State.{IsState};
-ghost use Rattle.resolve.specs.Resolves.{version_in};
+ghost use Rattle.resolve.specs.Resolves.{version_for};
 
 mod deciding;
 mod reaching;
@@ -168,7 +168,7 @@ impl State {
 
     /// The locked version of the name.
     pub fn locked(&self, name: &Name) -> Option<&Version>
-        ensures { option_copied result ≡ version_in (versions_of self.now.lock.entries) name.now }
+        ensures { option_copied result ≡ version_for (versions_of self.now.lock.entries) name.now }
     {
         self.versions.get(name)
     }

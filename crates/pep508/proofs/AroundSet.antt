@@ -8,7 +8,7 @@ use Rattle.std.specs.Cmp.{first_so}
 use Rattle.std.specs.List.{list_all}
 use Rattle.markers.specs.Names.{is_name_byte}
 use Rattle.pep508.specs.Parts.{begins_with, comment_place, ends_with, has_odd, is_marked, is_space_or_tab, place_of}
-use Rattle.pep508.specs.Slices.{IsCut, IsExtras, IsMarker, Slices, behind, joined, with_version}
+use Rattle.pep508.specs.Slices.{IsCut, IsExtrasSlice, IsMarkerSlice, Slices, behind, joined, with_version}
 use Rattle.pep508.proofs.Comments.{Opens, clear_append, clear_parts, clear_plain, clear_same, opens_append, opens_behind, opens_last}
 use Rattle.pep508.proofs.LineCut.{all_at}
 use Rattle.pep508.proofs.OddFacts.{odd_append, odd_behind, odd_front, odd_plain}
@@ -54,7 +54,7 @@ join_closes xs [] one other = rw (append-nil xs) one
 join_closes xs (y ∷ ys) one other = rw (last_behind xs (y ∷ ys) (omega arith)) other
 
 -- extras end with `]`
-pub extras_last : (extras : List ℕ) → IsExtras extras → (extras ≡ []) ⊎ (get_or extras (length extras - 1) 0 ≡ 93)
+pub extras_last : (extras : List ℕ) → IsExtrasSlice extras → (extras ≡ []) ⊎ (get_or extras (length extras - 1) 0 ≡ 93)
 extras_last extras (inl none) = inl none
 extras_last extras (inr some) =
     let place : place_of 93 extras ≡ length extras - 1 = omega (arith, some.1) in
@@ -132,7 +132,7 @@ ends_with_set front one (b ∷ other) [] closes v ends =
 space_no_hash : (b : ℕ) → is_space_or_tab b ≡ true → eqb b 35 ≡ false
 space_no_hash b h = grind (arith, nat_tests)
 
-pub first_no_hash : (gap marker tail : List ℕ) → list_all is_space_or_tab gap ≡ true → IsMarker marker → list_all is_space_or_tab tail ≡ true → eqb (get_or (gap ++ (marker ++ tail)) 0 0) 35 ≡ false
+pub first_no_hash : (gap marker tail : List ℕ) → list_all is_space_or_tab gap ≡ true → IsMarkerSlice marker → list_all is_space_or_tab tail ≡ true → eqb (get_or (gap ++ (marker ++ tail)) 0 0) 35 ≡ false
 first_no_hash (b ∷ gap) marker tail space m more = space_no_hash b (first_so (is_space_or_tab b) (list_all is_space_or_tab gap) space)
 first_no_hash [] [] [] space m more = refl
 first_no_hash [] [] (b ∷ tail) space m more = space_no_hash b (first_so (is_space_or_tab b) (list_all is_space_or_tab tail) more)

@@ -10,7 +10,7 @@ use Rattle.std.specs.List.{list_all, prefix_len, suffix_len, take_while}
 use Rattle.markers.specs.Names.{is_name_byte}
 use Rattle.pep508.specs.Parts.{begins_with, before_comment, comment_of, comment_place, content_of, ending_of, ends_with, is_space_or_tab, lead_of, place_of, tail_of, trim_end, trim_start}
 use Rattle.pep508.specs.Requirement.{RequirementParts, asked_in, extras_of, requirement_of}
-use Rattle.pep508.specs.Slices.{IsCut, IsExtras, IsMarker, Slices, asking, behind, behind_extras, extras_gap, extras_part, has_extras, marker_field, slices_of, slices_with, version_field}
+use Rattle.pep508.specs.Slices.{IsCut, IsExtrasSlice, IsMarkerSlice, Slices, asking, behind, behind_extras, extras_gap, extras_part, has_extras, marker_field, slices_of, slices_with, version_field}
 use Rattle.pep508.proofs.OneCut.{joined_parts, last_behind}
 use Rattle.pep508.proofs.Runs.{Stops, behind_front, end_cut, front_cut, front_passes, front_stops, stops_first}
 use Rattle.pep508.proofs.Slicewise.{are_read, asks, no_name_reads}
@@ -151,7 +151,7 @@ begins_before (b ∷ before) run text whole space begins = rw (← whole) at beg
 marked : (text : List ℕ) → begins_with 59 text ≡ true → begins_with 59 (trim_end text) ≡ true
 marked text begins = let e = end_cut is_space_or_tab text refl in rw e.before_is (begins_before e.before e.run text e.whole e.passes begins)
 
-field_begins : (text : List ℕ) → (text ≡ []) ⊎ (begins_with 59 text ≡ true) → IsMarker (trim_end text)
+field_begins : (text : List ℕ) → (text ≡ []) ⊎ (begins_with 59 text ≡ true) → IsMarkerSlice (trim_end text)
 field_begins [] either = inl refl
 field_begins (b ∷ rest) (inl empty) = absurd cc
 field_begins (b ∷ rest) (inr begins) = inr (marked (b ∷ rest) begins, trimmed_last (b ∷ rest))
@@ -185,7 +185,7 @@ take_some : (byte n : ℕ) (xs : List ℕ) → begins_with byte xs ≡ true → 
 take_some byte n [] begins some = absurd (omega (arith, eqb-true 0 byte begins))
 take_some byte n (x ∷ xs) begins some = (begins, omega arith)
 
-bracketed : (text : List ℕ) → begins_with 91 text ≡ true → ends_with 93 (take (suc (place_of 93 text)) text) ≡ true → IsExtras (take (suc (place_of 93 text)) text)
+bracketed : (text : List ℕ) → begins_with 91 text ≡ true → ends_with 93 (take (suc (place_of 93 text)) text) ≡ true → IsExtrasSlice (take (suc (place_of 93 text)) text)
 bracketed text begins ends = elim (cases_lt (place_of 93 text) (length text)) [
   | inl within ↦
       let place = place_take 93 text (suc (place_of 93 text)) (omega arith) in
@@ -207,7 +207,7 @@ extras_end extras names reads = elim (cases_Bool (eqb (length extras) 0)) [
   ]
 ]
 
-extras_shape : (text : List ℕ) → (extras_part text ≡ []) ⊎ (ends_with 93 (extras_part text) ≡ true) → IsExtras (extras_part text)
+extras_shape : (text : List ℕ) → (extras_part text ≡ []) ⊎ (ends_with 93 (extras_part text) ≡ true) → IsExtrasSlice (extras_part text)
 extras_shape text (inl none) = inl none
 extras_shape text (inr ends) = elim (cases_Bool (has_extras text)) [
   | inl some ↦ rw some (bracketed (trim_start text) some (rw some at ends))

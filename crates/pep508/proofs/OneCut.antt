@@ -8,7 +8,7 @@ use Rattle.std.specs.Cmp.{first_so, second_so}
 use Rattle.std.specs.List.{list_all, prefix_len, take_while}
 use Rattle.markers.specs.Names.{is_name_byte}
 use Rattle.pep508.specs.Parts.{begins_with, before_comment, comment_of, comment_place, content_of, ending_of, is_space_or_tab, lead_of, place_of, tail_of, trim_end, trim_start}
-use Rattle.pep508.specs.Slices.{IsCut, IsExtras, IsMarker, IsVersion, Slices, asking, behind, behind_extras, extras_gap, extras_part, has_extras, joined, marker_field, slices_of, slices_with, version_field}
+use Rattle.pep508.specs.Slices.{IsCut, IsExtrasSlice, IsMarkerSlice, IsVersionSlice, Slices, asking, behind, behind_extras, extras_gap, extras_part, has_extras, joined, marker_field, slices_of, slices_with, version_field}
 use Rattle.pep508.proofs.Runs.{Stops, before_end, behind_front, end_is, front_cut, front_is, front_passes, run_front}
 
 -- ---- places
@@ -134,7 +134,7 @@ rest_marked gap2 version gap3 m marker gap4 space2 space3 space4 none ends first
     }
 
 pub rest_is : (gap2 version gap3 marker gap4 extras : List ℕ) → list_all is_space_or_tab gap2 ≡ true → list_all is_space_or_tab gap3 ≡ true → list_all is_space_or_tab gap4 ≡ true
-    → (version ≡ [] → gap2 ≡ []) → IsVersion extras version → IsMarker marker → (marker ≡ [] → gap3 ≡ [])
+    → (version ≡ [] → gap2 ≡ []) → IsVersionSlice extras version → IsMarkerSlice marker → (marker ≡ [] → gap3 ≡ [])
     → IsRest gap2 version gap3 marker gap4 (gap2 ++ (version ++ (gap3 ++ (marker ++ gap4))))
 rest_is gap2 version gap3 [] gap4 extras space2 space3 space4 none v m no_marker =
     rw (no_marker refl) (rest_bare gap2 version gap4 space2 space4 none v.ends v.first v.last)
@@ -188,7 +188,7 @@ space_no_bracket : (xs : List ℕ) → list_all is_space_or_tab xs ≡ true → 
 space_no_bracket xs all = ap (begins_with 91) (rw (append-nil xs) at (behind_front is_space_or_tab xs [] all tt))
 
 -- a text in which no `[` follows the space
-no_extras_marker : (gap3 marker gap4 : List ℕ) → list_all is_space_or_tab gap3 ≡ true → list_all is_space_or_tab gap4 ≡ true → IsMarker marker → (marker ≡ [] → gap3 ≡ [])
+no_extras_marker : (gap3 marker gap4 : List ℕ) → list_all is_space_or_tab gap3 ≡ true → list_all is_space_or_tab gap4 ≡ true → IsMarkerSlice marker → (marker ≡ [] → gap3 ≡ [])
     → has_extras (gap3 ++ (marker ++ gap4)) ≡ false
 no_extras_marker gap3 [] gap4 space3 space4 m none = rw (none refl) (space_no_bracket gap4 space4)
 no_extras_marker gap3 (b ∷ marker) gap4 space3 space4 (inl empty) none = absurd cc
@@ -198,7 +198,7 @@ no_extras_marker gap3 (b ∷ marker) gap4 space3 space4 (inr m) none =
     ap (begins_with 91) (behind_front is_space_or_tab gap3 ((b ∷ marker) ++ gap4) space3 stops) ∙ rw semicolon refl
 
 no_extras_version : (gap2 version gap3 marker gap4 : List ℕ) → list_all is_space_or_tab gap2 ≡ true → list_all is_space_or_tab gap3 ≡ true → list_all is_space_or_tab gap4 ≡ true
-    → (version ≡ [] → gap2 ≡ []) → IsVersion [] version → IsMarker marker → (marker ≡ [] → gap3 ≡ [])
+    → (version ≡ [] → gap2 ≡ []) → IsVersionSlice [] version → IsMarkerSlice marker → (marker ≡ [] → gap3 ≡ [])
     → has_extras (gap2 ++ (version ++ (gap3 ++ (marker ++ gap4)))) ≡ false
 no_extras_version gap2 [] gap3 marker gap4 space2 space3 space4 none v m no_marker =
     rw (none refl) (no_extras_marker gap3 marker gap4 space3 space4 m no_marker)
@@ -229,12 +229,12 @@ are_space s all =
     record { lead = a.0; gap1 = b.0; gap2 = c.0; gap3 = d.0; gap4 = d.1 }
 
 -- what stands behind the name
-extended : (s : Slices) → AreSpace s → IsExtras s.extras → IsVersion s.extras s.version → IsMarker s.marker → (s.extras ≡ [] → s.gap1 ≡ []) → (s.version ≡ [] → s.gap2 ≡ []) → (s.marker ≡ [] → s.gap3 ≡ [])
+extended : (s : Slices) → AreSpace s → IsExtrasSlice s.extras → IsVersionSlice s.extras s.version → IsMarkerSlice s.marker → (s.extras ≡ [] → s.gap1 ≡ []) → (s.version ≡ [] → s.gap2 ≡ []) → (s.marker ≡ [] → s.gap3 ≡ [])
     → IsExtended s.gap1 s.extras (s.gap2 ++ (s.version ++ (s.gap3 ++ (s.marker ++ s.gap4)))) (behind s)
 extended s spaces (inr bracket) version marker no_extras no_version no_marker =
     extended_some s.gap1 s.extras (s.gap2 ++ (s.version ++ (s.gap3 ++ (s.marker ++ s.gap4)))) spaces.gap1 bracket.0 bracket.1
 extended s spaces (inl none) version marker no_extras no_version no_marker =
-    let bare : IsVersion [] s.version = rw none at version in
+    let bare : IsVersionSlice [] s.version = rw none at version in
     rw (none, no_extras none)
     (extended_none (s.gap2 ++ (s.version ++ (s.gap3 ++ (s.marker ++ s.gap4))))
     (no_extras_version s.gap2 s.version s.gap3 s.marker s.gap4 spaces.gap2 spaces.gap3 spaces.gap4 no_version bare marker no_marker))
@@ -256,7 +256,7 @@ name_space [] rest all none = rw (none refl) tt
 name_space (b ∷ name) rest all none = name_byte_no_space b (first_so (is_name_byte b) (list_all is_name_byte name) all)
 
 -- the slices of a text, from their parts
-text_is : (s : Slices) → s.name ≡ take_while is_name_byte (s.name ++ behind s) → AreSpace s → IsExtras s.extras → IsVersion s.extras s.version → IsMarker s.marker
+text_is : (s : Slices) → s.name ≡ take_while is_name_byte (s.name ++ behind s) → AreSpace s → IsExtrasSlice s.extras → IsVersionSlice s.extras s.version → IsMarkerSlice s.marker
     → (s.extras ≡ [] → s.gap1 ≡ []) → (s.version ≡ [] → s.gap2 ≡ []) → (s.marker ≡ [] → s.gap3 ≡ []) → slices_with s.lead (s.name ++ behind s) s.comment s.end ≡ s
 unfolding slices_with
 text_is s name spaces extras version marker no_extras no_version no_marker =

@@ -8,7 +8,7 @@ use Rattle.pep440.specs.SetGrammar.{begins_operator, is_set_byte}
 use Rattle.markers.specs.Names.{is_name_byte}
 use Rattle.pep508.specs.Parts.{begins_with, is_space_or_tab}
 use Rattle.pep508.specs.Requirement.{set_text}
-use Rattle.pep508.specs.Slices.{IsVersion}
+use Rattle.pep508.specs.Slices.{IsVersionSlice}
 use Rattle.pep508.proofs.LineCut.{all_at}
 use Rattle.pep508.proofs.OddFacts.{is_plain}
 use Rattle.pep508.proofs.Runs.{Stops}
@@ -76,7 +76,7 @@ set_stops_name (b ∷ rest) h = elim h.begins [
 ]
 
 -- it may be a version part
-pub set_version : (extras text : List ℕ) → IsSetText text → IsVersion extras text
+pub set_version : (extras text : List ℕ) → IsSetText text → IsVersionSlice extras text
 set_version extras text h = record {
   ends = all_weaker is_set_byte (λ b. not (b == 59)) text set_byte_no_semicolon h.bytes;
   first = h.first;

@@ -11,7 +11,7 @@ use Rattle.pep440.specs.declared.specifier.Clause.{Clause}
 use Rattle.markers.specs.Names.{is_name_byte}
 use Rattle.pep508.specs.Parts.{IsEnding, begins_with, comment_of, content_of, ending_of, ends_with, has_odd, is_marked, is_space_or_tab, trim_start}
 use Rattle.pep508.specs.Requirement.{ReadsWith, RequirementParts, asked_in, clauses_of, requirement_of, wanted_by, wanted_in}
-use Rattle.pep508.specs.Slices.{IsCut, IsExtras, IsMarker, IsVersion, Slices, asking, behind, joined, slices_of, slices_with, with_version}
+use Rattle.pep508.specs.Slices.{IsCut, IsExtrasSlice, IsMarkerSlice, IsVersionSlice, Slices, asking, behind, joined, slices_of, slices_with, with_version}
 use Rattle.pep508.proofs.Comments.{Opens, comment_is, opened}
 use Rattle.pep508.proofs.Endings.{ending_of-ended}
 use Rattle.pep508.proofs.LineCut.{all_gaps}
@@ -71,12 +71,12 @@ space_stops : (xs : List ℕ) → list_all is_space_or_tab xs ≡ true → Stops
 space_stops [] all = tt
 space_stops (x ∷ xs) all = space_no_name x (first_so (is_space_or_tab x) (list_all is_space_or_tab xs) all)
 
-extras_stop : (extras : List ℕ) → IsExtras extras → Stops is_name_byte extras
+extras_stop : (extras : List ℕ) → IsExtrasSlice extras → Stops is_name_byte extras
 extras_stop [] h = tt
 extras_stop (e ∷ extras) (inl empty) = absurd (omega (arith, ap length empty))
 extras_stop (e ∷ extras) (inr some) = rw (eqb-true e 91 some.0) refl
 
-marker_stops : (marker : List ℕ) → IsMarker marker → Stops is_name_byte marker
+marker_stops : (marker : List ℕ) → IsMarkerSlice marker → Stops is_name_byte marker
 marker_stops [] h = tt
 marker_stops (m ∷ marker) (inl empty) = absurd (omega (arith, ap length empty))
 marker_stops (m ∷ marker) (inr some) = rw (eqb-true m 59 some.0) refl
@@ -90,7 +90,7 @@ record MayBe (s : Slices) (gap2 version gap3 gap4 : List ℕ) : Type 0 where
   space2 : list_all is_space_or_tab gap2 ≡ true
   space3 : list_all is_space_or_tab gap3 ≡ true
   space4 : list_all is_space_or_tab gap4 ≡ true
-  is : IsVersion s.extras version
+  is : IsVersionSlice s.extras version
   stops : Stops is_name_byte version
   no_version : version ≡ [] → gap2 ≡ []
   no_marker : s.marker ≡ [] → gap3 ≡ []

@@ -82,19 +82,19 @@ abbrev pub behind : Slices → List ℕ
 behind s = s.gap1 ++ (s.extras ++ (s.gap2 ++ (s.version ++ (s.gap3 ++ (s.marker ++ s.gap4)))))
 
 -- extras are nothing, or `[` up to the first `]`
-abbrev pub IsExtras : List ℕ → Type 0
-IsExtras extras = (extras ≡ []) ⊎ ((begins_with 91 extras ≡ true) × (suc (place_of 93 extras) ≡ length extras))
+abbrev pub IsExtrasSlice : List ℕ → Type 0
+IsExtrasSlice extras = (extras ≡ []) ⊎ ((begins_with 91 extras ≡ true) × (suc (place_of 93 extras) ≡ length extras))
 
 -- a version part has no `;` in it and no space around it, and without extras before it no `[` begins it
-pub record IsVersion (extras version : List ℕ) : Type 0 where
+pub record IsVersionSlice (extras version : List ℕ) : Type 0 where
   pub ends : list_all (λ b. not (b == 59)) version ≡ true
   pub first : is_space_or_tab (slice_index version 0) ≡ false
   pub last : is_space_or_tab (slice_index version (length version - 1)) ≡ false
   pub no_extras : extras ≡ [] → begins_with 91 version ≡ false
 
 -- a marker's slice is nothing, or begins with `;` and doesn't end with space
-abbrev pub IsMarker : List ℕ → Type 0
-IsMarker marker = (marker ≡ []) ⊎ ((begins_with 59 marker ≡ true) × (is_space_or_tab (slice_index marker (length marker - 1)) ≡ false))
+abbrev pub IsMarkerSlice : List ℕ → Type 0
+IsMarkerSlice marker = (marker ≡ []) ⊎ ((begins_with 59 marker ≡ true) × (is_space_or_tab (slice_index marker (length marker - 1)) ≡ false))
 
 -- these are the slices of the line: they join to it, in their order; the end and the comment are its own, the
 -- name is as long as can be, gaps are spaces and tabs, and there is none before a part that is absent
@@ -104,9 +104,9 @@ pub record IsCut (line : List ℕ) (s : Slices) : Type 0 where
   pub comment : s.comment ≡ comment_of (content_of line)
   pub gaps : list_all is_space_or_tab (s.lead ++ (s.gap1 ++ (s.gap2 ++ (s.gap3 ++ s.gap4)))) ≡ true
   pub name : s.name ≡ take_while is_name_byte (s.name ++ behind s)
-  pub extras : IsExtras s.extras
-  pub version : IsVersion s.extras s.version
-  pub marker : IsMarker s.marker
+  pub extras : IsExtrasSlice s.extras
+  pub version : IsVersionSlice s.extras s.version
+  pub marker : IsMarkerSlice s.marker
   pub no_name : s.name ≡ [] → behind s ≡ []
   pub no_extras : s.extras ≡ [] → s.gap1 ≡ []
   pub no_version : s.version ≡ [] → s.gap2 ≡ []

@@ -13,7 +13,7 @@ use Rattle.snapshot.specs.Release.{Release}
 use Rattle.resolve.specs.Admission.{release_at}
 use Rattle.resolve.specs.Problem.{ProblemParts}
 use Rattle.resolve.specs.Growing.{Grows, nodes_asked, nodes_linked}
-use Rattle.resolve.specs.Resolves.{AreNeeded, version_in}
+use Rattle.resolve.specs.Resolves.{AreNeeded, version_for}
 use Rattle.resolve.specs.Rules.{counts, nodes_of, rules_of, wants}
 use Rattle.resolve.specs.declared.node.Node.{Node}
 use Rattle.resolve.proofs.Preferring.{lookup-get}
@@ -26,17 +26,17 @@ pub record IsClosing (given : ProblemParts) (chosen : List ℕ → Option Versio
   pub linked : (link node : Node) → Contains (take at nodes) link → Contains (nodes_linked given link (chosen link.name)) node → Contains nodes node
 
 -- a node leads nowhere where its name has no version
-pub linked-unchosen : (given : ProblemParts) (node : Node) (versions : List (List ℕ × VersionParts)) → lookup (is_at (slice_cmp nat_cmp node.name)) versions ≡ None → [] ≡ nodes_linked given node (version_in versions node.name)
+pub linked-unchosen : (given : ProblemParts) (node : Node) (versions : List (List ℕ × VersionParts)) → lookup (is_at (slice_cmp nat_cmp node.name)) versions ≡ None → [] ≡ nodes_linked given node (version_for versions node.name)
 linked-unchosen given node versions none = rw (lookup-get node.name versions, none) refl
 
 -- nor where the index has no release with it
 pub linked-unreleased : (given : ProblemParts) (node : Node) (versions : List (List ℕ × VersionParts)) (version : VersionParts) → lookup (is_at (slice_cmp nat_cmp node.name)) versions ≡ Some version
-    → release_at given node.name version ≡ None → [] ≡ nodes_linked given node (version_in versions node.name)
+    → release_at given node.name version ≡ None → [] ≡ nodes_linked given node (version_for versions node.name)
 linked-unreleased given node versions version some none = rw (lookup-get node.name versions, some, none) refl
 
 -- else to what the dependencies of the release need that count at the node
 pub linked-released : (given : ProblemParts) (node : Node) (versions : List (List ℕ × VersionParts)) (version : VersionParts) (release : Release) → lookup (is_at (slice_cmp nat_cmp node.name)) versions ≡ Some version
-    → release_at given node.name version ≡ Some release → nodes_asked (filter (counts given.environment node.extra) release.dependencies) ≡ nodes_linked given node (version_in versions node.name)
+    → release_at given node.name version ≡ Some release → nodes_asked (filter (counts given.environment node.extra) release.dependencies) ≡ nodes_linked given node (version_for versions node.name)
 linked-released given node versions version release some there = rw (lookup-get node.name versions, some, there) refl
 
 asked-from : (requirements : List RequirementParts) (wanted : RequirementParts) (node : Node) → Contains requirements wanted → Contains (nodes_of wanted) node → Contains (nodes_asked requirements) node

@@ -4,7 +4,7 @@ use Rattle.std.specs.List.{AllZip}
 use Rattle.std.proofs.lemmas.Option.{get_or_from_slice_get, slice_get-get_or}
 use Rattle.std.proofs.lemmas.Slice.Zip.{all_zipped_more}
 use Rattle.pep508.specs.Requirement.{RequirementParts}
-use Rattle.search.specs.Table.{nodes_of as numbers_of}
+use Rattle.search.specs.Table.{asked_nodes}
 use Rattle.search.specs.declared.parts.Requirement.{Requirement as Entry}
 use Rattle.resolve.specs.Admission.{admits_release}
 use Rattle.resolve.specs.Building.{AreEntries, AreWants, Gathered, IsEntry, IsGrown, IsWanted}
@@ -15,7 +15,7 @@ use Rattle.resolve.specs.declared.node.Node.{Node}
 use Rattle.resolve.proofs.Standing.{AllStand-longer, AllZip-more_same, AllZip-weaker, Stands-longer, length-longer, longer-same, longer-then, take-longer}
 
 IsEntry-longer : (given : ProblemParts) (old new : List Node) → IsLonger old new → (entry : Entry) (wanted : RequirementParts) → IsEntry given old entry wanted → IsEntry given new entry wanted
-IsEntry-longer given old new longer entry wanted is = record { numbers = AllStand-longer old new (numbers_of entry) (nodes_of wanted) longer is.numbers; admitted = is.admitted }
+IsEntry-longer given old new longer entry wanted is = record { numbers = AllStand-longer old new (asked_nodes entry) (nodes_of wanted) longer is.numbers; admitted = is.admitted }
 
 pub entries-more : (given : ProblemParts) (old new : Gathered) (entry : Entry) (wanted : RequirementParts) → AreEntries given old → IsLonger old.nodes new.nodes → IsEntry given new.nodes entry wanted
     → new.asked ≡ old.asked ++ wanted ∷ [] → new.entries ≡ old.entries ++ entry ∷ [] → AreEntries given new

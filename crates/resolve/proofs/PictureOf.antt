@@ -10,7 +10,7 @@ use Rattle.std.specs.Ordering.{nat_cmp}
 use Rattle.pep508.specs.Requirement.{RequirementParts}
 use Rattle.search.specs.Picture.{name_asked}
 use Rattle.search.specs.Rules.{IsOrder}
-use Rattle.search.specs.Table.{TableParts, candidates_of, name_of, nodes_of as numbers_of, requirement_at}
+use Rattle.search.specs.Table.{TableParts, candidates_of, name_of, asked_nodes, requirement_at}
 use Rattle.snapshot.specs.Release.{Release}
 use Rattle.snapshot.specs.Releases.{newer_cmp}
 use Rattle.resolve.specs.Admission.{admits, admits_release, has_version}
@@ -130,7 +130,7 @@ module _ (given : ProblemParts) (g : Gathered) (names : List (List ℕ)) (t : Ta
     pictured = record {
       lines = AllStand-map g.asked t.lines given.active no_wanted is.lines;
       asked = λ r within. named-as (name_asked t r) (get_or g.asked r no_wanted).name (asked-named r within);
-      nodes = λ r within. AllStand-map g.nodes (numbers_of (requirement_at t r)) (nodes_of (get_or g.asked r no_wanted)) (bare []) (entry-at r within).numbers;
+      nodes = λ r within. AllStand-map g.nodes (asked_nodes (requirement_at t r)) (nodes_of (get_or g.asked r no_wanted)) (bare []) (entry-at r within).numbers;
       on = λ k within. named-as (name_of t k) (get_or g.nodes k (bare [])).name (node-named k (get_or g.nodes k (bare [])) (node-stands k within));
       admits = λ r place within h.
           let wanted = get_or g.asked r no_wanted in

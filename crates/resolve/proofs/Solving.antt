@@ -8,14 +8,14 @@ use Rattle.std.specs.Ordering.{is_eq, nat_cmp}
 use Rattle.pep440.specs.Version.{VersionParts as Version}
 use Rattle.pep508.specs.Requirement.{RequirementParts}
 use Rattle.search.specs.Picture.{pictured}
-use Rattle.search.specs.Solutions.{IsBest, version_in as version_in_pins}
+use Rattle.search.specs.Solutions.{IsBest, version_pinned}
 use Rattle.search.specs.Table.{IsAscending, TableParts, place_in, rules_of as rules_of_table}
 use Rattle.search.specs.declared.parts.Choice.{Choice}
 use Rattle.snapshot.specs.Release.{Release}
 use Rattle.resolve.specs.Problem.{ProblemParts, releases_on}
 use Rattle.resolve.specs.Pictured.{AreKnown, IsKnown, IsPictured, chosen, name_at, picture_of}
 use Rattle.resolve.specs.Places.{version_at}
-use Rattle.resolve.specs.Resolves.{HasSolution, version_in}
+use Rattle.resolve.specs.Resolves.{HasSolution, version_for}
 use Rattle.resolve.specs.Rules.{rules_of}
 use Rattle.resolve.specs.declared.node.Node.{Node}
 use Rattle.resolve.proofs.Falling.{version_at-get}
@@ -52,9 +52,9 @@ drop-at (y ∷ ys) (suc n) x within is = drop-at ys n x (omega arith) is
 
 -- one choice more, in front of those that were put
 pub put-more : (given : ProblemParts) (names : List (List ℕ)) (choices : List Choice) (n : ℕ) (choice : Choice) (old new : BTreeMap (List ℕ) Version) → n < length choices → choice ≡ get_or choices n choice
-    → ((name : List ℕ) → version_in old.entries name ≡ chosen given names (drop (suc n) choices) name)
+    → ((name : List ℕ) → version_for old.entries name ≡ chosen given names (drop (suc n) choices) name)
     → Updates (slice_cmp nat_cmp) old new (name_at names choice.name) (Some (version_at (releases_on given (name_at names choice.name)) choice.place))
-    → (name : List ℕ) → version_in new.entries name ≡ chosen given names (drop n choices) name
+    → (name : List ℕ) → version_for new.entries name ≡ chosen given names (drop n choices) name
 put-more given names choices n choice old new within is before updates name =
     let key = name_at names choice.name in
     let v = version_at (releases_on given key) choice.place in
@@ -77,8 +77,8 @@ best-known given names nodes t choices is best up choice h =
     (subst (λ n. choice.name < n) is.counted (within-member t.candidates choice.name choice.place there), is.within choice.name choice.place there)
 
 -- the best solution of the table stands for that of the problem
-pub best-same : (given : ProblemParts) (names : List (List ℕ)) (choices : List Choice) (nodes : List Node) (asked : List RequirementParts) (versions : List (List ℕ × Version)) → ((name : List ℕ) → version_in versions name ≡ chosen given names choices name)
-    → IsBest (rules_of given) (version_in_pins (slice_cmp nat_cmp) (pictured (picture_of given names nodes asked) choices)) → IsBest (rules_of given) (version_in versions)
+pub best-same : (given : ProblemParts) (names : List (List ℕ)) (choices : List Choice) (nodes : List Node) (asked : List RequirementParts) (versions : List (List ℕ × Version)) → ((name : List ℕ) → version_for versions name ≡ chosen given names choices name)
+    → IsBest (rules_of given) (version_pinned (slice_cmp nat_cmp) (pictured (picture_of given names nodes asked) choices)) → IsBest (rules_of given) (version_for versions)
 best-same given names choices nodes asked versions same best = subst (λ (s : List ℕ → Option Version). IsBest (rules_of given) s) (λ i name. sym (same name) i) best
 
 pub best-solves : (given : ProblemParts) (s : List ℕ → Option Version) → IsBest (rules_of given) s → HasSolution given

@@ -18,14 +18,14 @@ use Rattle.snapshot.specs.declared.python.RequiresPython.{RequiresPython}
 use Rattle.resolve.specs.Problem.{ProblemParts, releases_on}
 
 -- whether a set of Pythons has the full version of the environment
-abbrev pub has_python : RequiresPython → Option VersionParts → Bool
-has_python python None = false
-has_python python (Some version) = matches python.set version
+abbrev pub admits_python : RequiresPython → Option VersionParts → Bool
+admits_python python None = false
+admits_python python (Some version) = matches python.set version
 
 -- whether what a release asks of Python is met; where it asks for nothing, it is
 abbrev pub meets_python : Texts → Option RequiresPython → Bool
 meets_python environment None = true
-meets_python environment (Some python) = has_python python (version_read (text_of environment PythonFullVersion))
+meets_python environment (Some python) = admits_python python (version_read (text_of environment PythonFullVersion))
 
 -- whether the clauses match the version of a release that runs in the environment
 abbrev pub fits : Texts → RequirementParts → Release → Bool

@@ -3,7 +3,7 @@
 use Rattle.std.specs.Prelude.{◌≡◌, ℕ, List, map}
 use Rattle.std.specs.List.{AllZip}
 use Rattle.pep508.specs.Requirement.{RequirementParts}
-use Rattle.search.specs.Table.{nodes_of as numbers_of}
+use Rattle.search.specs.Table.{asked_nodes}
 use Rattle.search.specs.declared.parts.Requirement.{Requirement as Entry}
 use Rattle.resolve.specs.Admission.{admits_release}
 use Rattle.resolve.specs.Problem.{ProblemParts, releases_on}
@@ -19,7 +19,7 @@ pub record Gathered : Type 0 where
 
 -- the entry of a requirement: the numbers of its nodes, and for each release of its name whether it is admitted
 pub record IsEntry (given : ProblemParts) (nodes : List Node) (entry : Entry) (wanted : RequirementParts) : Type 0 where
-  pub numbers : AllStand nodes (numbers_of entry) (nodes_of wanted)
+  pub numbers : AllStand nodes (asked_nodes entry) (nodes_of wanted)
   pub admitted : entry.admits ≡ map (admits_release given wanted) (releases_on given wanted.name)
 
 abbrev pub AreEntries : ProblemParts → Gathered → Type 0

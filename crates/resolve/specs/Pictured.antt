@@ -9,7 +9,7 @@ use Rattle.pep440.specs.Version.{VersionParts as Version}
 use Rattle.pep508.specs.Requirement.{RequirementParts}
 use Rattle.search.specs.Known.{AreApart, choice_pictured}
 use Rattle.search.specs.Picture.{Picture, IsPicture, pictured}
-use Rattle.search.specs.Solutions.{version_in}
+use Rattle.search.specs.Solutions.{version_pinned}
 use Rattle.search.specs.Table.{TableParts, candidates_of}
 use Rattle.search.specs.declared.conflict.NodeChoice.{NodeChoice}
 use Rattle.search.specs.declared.parts.Choice.{Choice}
@@ -62,4 +62,4 @@ AreListed given rows names = AllZip (IsListed given) rows names
 
 -- the version that the first choice on a name stands for
 abbrev pub chosen : ProblemParts → List (List ℕ) → List Choice → List ℕ → Option Version
-chosen given names choices = version_in (slice_cmp nat_cmp) (pictured (picture_of given names [] []) choices)
+chosen given names choices = version_pinned (slice_cmp nat_cmp) (pictured (picture_of given names [] []) choices)

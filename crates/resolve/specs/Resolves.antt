@@ -12,12 +12,12 @@ use Rattle.resolve.specs.declared.node.Node.{Node}
 use Rattle.resolve.specs.declared.answer.Answer.TheVariants.{Solution, NoSolution}
 
 -- the version that a list of names with versions has for a name
-abbrev pub version_in : List (List ℕ × VersionParts) → List ℕ → Option VersionParts
-version_in versions name = lookup (bytes_eq name) versions
+abbrev pub version_for : List (List ℕ × VersionParts) → List ℕ → Option VersionParts
+version_for versions name = lookup (bytes_eq name) versions
 
 -- the best solution, or that there is none
 abbrev pub Resolves : ProblemParts → Answer → Type 0
-Resolves given (Solution versions) = IsBest (rules_of given) (version_in versions.entries)
+Resolves given (Solution versions) = IsBest (rules_of given) (version_for versions.entries)
 Resolves given NoSolution = HasNoSolution (rules_of given)
 
 -- some versions are a solution

@@ -4,7 +4,7 @@ ghost use Rattle.std.specs.Prelude.{◌≡◌, IfOk, map};
 ghost use Rattle.std.specs.List.{filter};
 ghost use Rattle.std.specs.Option.{option_copied};
 ghost use Rattle.resolve.specs.Growing.{Grows, nodes_asked, nodes_linked};
-ghost use Rattle.resolve.specs.Resolves.{AreNeeded, version_in};
+ghost use Rattle.resolve.specs.Resolves.{AreNeeded, version_for};
 ghost use Rattle.resolve.specs.Rules.{counts, nodes_of, with_extra};
 
 use crate::node::Node;
@@ -80,7 +80,7 @@ fn follow(
     node: &Node,
 ) -> Result<(), AllocError>
     ensures { IfOk result
-        (λ _. Grows nodes.old nodes.new (nodes_linked question.now node.now (version_in
+        (λ _. Grows nodes.old nodes.new (nodes_linked question.now node.now (version_for
         versions.now.entries node.now.name))) }
 {
     let Some(version) = versions.get(&node.name) else {
@@ -106,7 +106,7 @@ pub(crate) fn needed(
     question: &Question<'_>,
     versions: &BTreeMap<Name, Version>,
 ) -> Result<Seq<Node>, AllocError>
-    ensures { IfOk result (AreNeeded question.now (version_in versions.now.entries)) }
+    ensures { IfOk result (AreNeeded question.now (version_for versions.now.entries)) }
 {
     let mut nodes = Nodes::new(alloc);
     add_lines(alloc, &mut nodes, question.active.as_slice())?;

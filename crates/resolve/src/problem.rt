@@ -6,7 +6,7 @@ ghost use Rattle.search.specs.Conflicts.{IsRefutation};
 ghost use Rattle.resolve.specs.Admission.{release_at};
 ghost use Rattle.resolve.specs.Problem.{ProblemParts, requirements};
 ghost use Rattle.resolve.specs.Refutations.{same_version};
-ghost use Rattle.resolve.specs.Resolves.{AreNeeded, HasSolution, Resolves, version_in};
+ghost use Rattle.resolve.specs.Resolves.{AreNeeded, HasSolution, Resolves, version_for};
 ghost use Rattle.resolve.specs.Rules.{counts, rules_of};
 
 use crate::answer::Answer;
@@ -111,7 +111,7 @@ impl<'a> Problem<'a> {
         versions: &BTreeMap<Name, Version>,
     ) -> Result<Seq<Node>, AllocError>
         ensures { IfOk result
-            (λ nodes. AreNeeded self.now (version_in versions.now.entries) nodes) }
+            (λ nodes. AreNeeded self.now (version_for versions.now.entries) nodes) }
     {
         needed::needed(alloc, &self.question, versions)
     }

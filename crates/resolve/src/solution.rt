@@ -4,11 +4,11 @@ ghost use Rattle.std.specs.Prelude.{◌≡◌, ℕ, List, Some, IfOk, OnOk};
 ghost use Rattle.std.specs.BTreeMap.{Updates};
 ghost use Rattle.std.specs.Cmp.Lexicographic.{slice_cmp};
 ghost use Rattle.std.specs.Ordering.{nat_cmp};
-ghost use Rattle.search.specs.Solutions.{version_in as version_of_pins};
+ghost use Rattle.search.specs.Solutions.{version_pinned};
 ghost use Rattle.resolve.specs.Problem.{releases_on};
 ghost use Rattle.resolve.specs.Pictured.{AreKnown, IsKnown, chosen, name_at};
 ghost use Rattle.resolve.specs.Places.{version_at};
-ghost use Rattle.resolve.specs.Resolves.{version_in};
+ghost use Rattle.resolve.specs.Resolves.{version_for};
 
 use crate::question::Question;
 use pep440::Version;
@@ -45,7 +45,7 @@ pub(crate) fn versions_of(
 ) -> Result<BTreeMap<Name, Version>, AllocError>
     requires { AreKnown question.now names.now choices.now }
     ensures { IfOk result (λ versions. (name : List ℕ)
-        → version_in versions.entries name ≡ chosen question.now names.now choices.now name) }
+        → version_for versions.entries name ≡ chosen question.now names.now choices.now name) }
 {
     let mut versions = BTreeMap::new(alloc);
     let mut left = choices.len();

@@ -7,7 +7,7 @@ use Rattle.search.proofs.Entries.{off-of}
 use Rattle.search.proofs.LearnedSearch.{Lies, held-lie}
 use Rattle.search.proofs.Least.{nat-order}
 use Rattle.lists.proofs.Members.{Contains-here, Contains-there, Contains-cons_cases, Contains-nil, Contains-map, Contains-map_of, Contains-take_suc, take-whole, nat_cases}
-use Rattle.search.proofs.Theory.{version_in-cons_cases}
+use Rattle.search.proofs.Theory.{version_pinned-cons_cases}
 use Rattle.search.specs.declared.conflict.NodeChoice.{NodeChoice}
 use Rattle.search.specs.declared.agenda.Ask.{Ask}
 use Rattle.search.specs.declared.parts.Frame.{Frame}
@@ -17,7 +17,7 @@ use Rattle.search.specs.Learned.{decision_of, decisions_of, with_frame, frames_h
 use Rattle.search.specs.Learning.{version_of}
 use Rattle.search.specs.Rules.{Rules, IsLawful}
 use Rattle.search.specs.Search.{pins_of}
-use Rattle.search.specs.Solutions.{Pin, version_in}
+use Rattle.search.specs.Solutions.{Pin, version_pinned}
 use Rattle.search.specs.Table.{TableParts, rules_of}
 
 -- ---- the first choice on each name
@@ -26,12 +26,12 @@ cond-version : (b : Bool) (c : NodeChoice ℕ ℕ) (x : Option ℕ) (y : Option 
 cond-version true c x y e = refl
 cond-version false c x y e = e
 
-leader-step : (b : Bool) (rules : Rules ℕ ℕ ℕ ℕ) (h : Held) (fs : List Frame) (ps : List (Pin ℕ (NodeChoice ℕ ℕ))) (n : ℕ) → version_in nat_cmp (pins_of fs) n ≡ version_of (version_in nat_cmp ps n) → version_in nat_cmp (pins_of (with_frame rules b h fs)) n ≡ version_of (version_in nat_cmp (with_leader rules b h ps) n)
-leader-step true rules h fs ps n e = cond-version (is_eq (nat_cmp (rules.on h.trial.node) n)) (decision_of h) (version_in nat_cmp (pins_of fs) n) (version_in nat_cmp ps n) e
+leader-step : (b : Bool) (rules : Rules ℕ ℕ ℕ ℕ) (h : Held) (fs : List Frame) (ps : List (Pin ℕ (NodeChoice ℕ ℕ))) (n : ℕ) → version_pinned nat_cmp (pins_of fs) n ≡ version_of (version_pinned nat_cmp ps n) → version_pinned nat_cmp (pins_of (with_frame rules b h fs)) n ≡ version_of (version_pinned nat_cmp (with_leader rules b h ps) n)
+leader-step true rules h fs ps n e = cond-version (is_eq (nat_cmp (rules.on h.trial.node) n)) (decision_of h) (version_pinned nat_cmp (pins_of fs) n) (version_pinned nat_cmp ps n) e
 leader-step false rules h fs ps n e = e
 
 -- the version that a name has is that of its first choice
-pub leader-version : (rules : Rules ℕ ℕ ℕ ℕ) (hs : List Held) (n : ℕ) → version_in nat_cmp (names_held rules hs) n ≡ version_of (version_in nat_cmp (leaders_held rules hs) n)
+pub leader-version : (rules : Rules ℕ ℕ ℕ ℕ) (hs : List Held) (n : ℕ) → version_pinned nat_cmp (names_held rules hs) n ≡ version_of (version_pinned nat_cmp (leaders_held rules hs) n)
 leader-version rules [] n = refl
 leader-version rules (h ∷ hs) n = leader-step h.trial.leads rules h (frames_held rules hs) (leaders_held rules hs) n (leader-version rules hs n)
 
@@ -39,14 +39,14 @@ leader-version rules (h ∷ hs) n = leader-step h.trial.leads rules h (frames_he
 abbrev IsHeldOn : Rules ℕ ℕ ℕ ℕ → List Held → ℕ → NodeChoice ℕ ℕ → Type 0
 IsHeldOn rules hs n c = Contains (decisions_of hs) c × (rules.on c.node ≡ n)
 
-held-on : (b : Bool) (rules : Rules ℕ ℕ ℕ ℕ) (h : Held) (hs : List Held) (ps : List (Pin ℕ (NodeChoice ℕ ℕ))) (n : ℕ) (c : NodeChoice ℕ ℕ) → (version_in nat_cmp ps n ≡ Some c → IsHeldOn rules hs n c) → version_in nat_cmp (with_leader rules b h ps) n ≡ Some c → IsHeldOn rules (h ∷ hs) n c
-held-on true rules h hs ps n c rest e = elim (version_in-cons_cases nat_cmp nat-order (record { name = rules.on h.trial.node; version = decision_of h }) ps n c e) [
+held-on : (b : Bool) (rules : Rules ℕ ℕ ℕ ℕ) (h : Held) (hs : List Held) (ps : List (Pin ℕ (NodeChoice ℕ ℕ))) (n : ℕ) (c : NodeChoice ℕ ℕ) → (version_pinned nat_cmp ps n ≡ Some c → IsHeldOn rules hs n c) → version_pinned nat_cmp (with_leader rules b h ps) n ≡ Some c → IsHeldOn rules (h ∷ hs) n c
+held-on true rules h hs ps n c rest e = elim (version_pinned-cons_cases nat_cmp nat-order (record { name = rules.on h.trial.node; version = decision_of h }) ps n c e) [
   | inl a ↦ (subst (λ x. Contains (decision_of h ∷ decisions_of hs) x) a.1 (Contains-here (decision_of h) (decisions_of hs)), ap (λ (x : NodeChoice ℕ ℕ). rules.on x.node) (sym a.1) ∙ a.0)
   | inr b ↦ let k : IsHeldOn rules hs n c = rest b in (Contains-there (decision_of h) (decisions_of hs) c k.0, k.1)
 ]
 held-on false rules h hs ps n c rest e = let k : IsHeldOn rules hs n c = rest e in (Contains-there (decision_of h) (decisions_of hs) c k.0, k.1)
 
-pub leader-held : (rules : Rules ℕ ℕ ℕ ℕ) (hs : List Held) (n : ℕ) (c : NodeChoice ℕ ℕ) → version_in nat_cmp (leaders_held rules hs) n ≡ Some c → IsHeldOn rules hs n c
+pub leader-held : (rules : Rules ℕ ℕ ℕ ℕ) (hs : List Held) (n : ℕ) (c : NodeChoice ℕ ℕ) → version_pinned nat_cmp (leaders_held rules hs) n ≡ Some c → IsHeldOn rules hs n c
 leader-held rules [] n c e = absurd (cc)
 leader-held rules (h ∷ hs) n c e = held-on h.trial.leads rules h hs (leaders_held rules hs) n c (leader-held rules hs n c) e
 
@@ -60,17 +60,17 @@ version-none (Some c) e = absurd (cc)
 
 -- what the first choices are, as a map
 abbrev pub AreFirst : Rules ℕ ℕ ℕ ℕ → List Held → (ℕ → Option (NodeChoice ℕ ℕ)) → Type 0
-AreFirst rules hs first = (n : ℕ) → first n ≡ version_in nat_cmp (leaders_held rules hs) n
+AreFirst rules hs first = (n : ℕ) → first n ≡ version_pinned nat_cmp (leaders_held rules hs) n
 
-pub first-some : (rules : Rules ℕ ℕ ℕ ℕ) (hs : List Held) (first : ℕ → Option (NodeChoice ℕ ℕ)) → AreFirst rules hs first → (n v : ℕ) → version_in nat_cmp (names_held rules hs) n ≡ Some v → (c : NodeChoice ℕ ℕ) × (first n ≡ Some c) × (c.version ≡ v)
+pub first-some : (rules : Rules ℕ ℕ ℕ ℕ) (hs : List Held) (first : ℕ → Option (NodeChoice ℕ ℕ)) → AreFirst rules hs first → (n v : ℕ) → version_pinned nat_cmp (names_held rules hs) n ≡ Some v → (c : NodeChoice ℕ ℕ) × (first n ≡ Some c) × (c.version ≡ v)
 first-some rules hs first same n v e =
-    let k : (c : NodeChoice ℕ ℕ) × (version_in nat_cmp (leaders_held rules hs) n ≡ Some c) × (c.version ≡ v) = version-some (version_in nat_cmp (leaders_held rules hs) n) v (sym (leader-version rules hs n) ∙ e) in
+    let k : (c : NodeChoice ℕ ℕ) × (version_pinned nat_cmp (leaders_held rules hs) n ≡ Some c) × (c.version ≡ v) = version-some (version_pinned nat_cmp (leaders_held rules hs) n) v (sym (leader-version rules hs n) ∙ e) in
     (k.0, same n ∙ k.1, k.2)
 
-pub first-version : (rules : Rules ℕ ℕ ℕ ℕ) (hs : List Held) (first : ℕ → Option (NodeChoice ℕ ℕ)) → AreFirst rules hs first → (n : ℕ) → version_in nat_cmp (names_held rules hs) n ≡ version_of (first n)
+pub first-version : (rules : Rules ℕ ℕ ℕ ℕ) (hs : List Held) (first : ℕ → Option (NodeChoice ℕ ℕ)) → AreFirst rules hs first → (n : ℕ) → version_pinned nat_cmp (names_held rules hs) n ≡ version_of (first n)
 first-version rules hs first same n = leader-version rules hs n ∙ ap version_of (sym (same n))
 
-pub first-none : (rules : Rules ℕ ℕ ℕ ℕ) (hs : List Held) (first : ℕ → Option (NodeChoice ℕ ℕ)) → AreFirst rules hs first → (n : ℕ) → version_in nat_cmp (names_held rules hs) n ≡ None → first n ≡ None
+pub first-none : (rules : Rules ℕ ℕ ℕ ℕ) (hs : List Held) (first : ℕ → Option (NodeChoice ℕ ℕ)) → AreFirst rules hs first → (n : ℕ) → version_pinned nat_cmp (names_held rules hs) n ≡ None → first n ≡ None
 first-none rules hs first same n e = version-none (first n) (sym (first-version rules hs first same n) ∙ e)
 
 -- ---- what is asked for
@@ -170,17 +170,17 @@ clash-wanted rules hs first same c other r w h = elim h.is [
 pub none-clashes : (t : TableParts) (law : IsLawful (rules_of t)) (conflicts : List (List (NodeChoice ℕ ℕ))) (hs : List Held) (first : ℕ → Option (NodeChoice ℕ ℕ)) → AreFirst (rules_of t) hs first → IsLearning (rules_of t) conflicts [] hs → (c : NodeChoice ℕ ℕ) → ((d : NodeChoice ℕ ℕ) → first ((rules_of t).on c.node) ≡ Some d → d.version ≡ c.version) → AsksFit (rules_of t) (asks_of (rules_of t) hs) c → ((r : ℕ) → Contains ((rules_of t).wants c.node c.version) r → WantedFits (rules_of t) first c r) → FitsBefore (rules_of t) hs c
 none-clashes t law conflicts hs first same l c tied asks wants =
     let rules : Rules ℕ ℕ ℕ ℕ = rules_of t in
-    let one : (v : ℕ) → version_in nat_cmp (names_held (rules_of t) hs) ((rules_of t).on c.node) ≡ Some v → v ≡ c.version = λ v e.
+    let one : (v : ℕ) → version_pinned nat_cmp (names_held (rules_of t) hs) ((rules_of t).on c.node) ≡ Some v → v ≡ c.version = λ v e.
     (let k : (d : NodeChoice ℕ ℕ) × (first ((rules_of t).on c.node) ≡ Some d) × (d.version ≡ v) = first-some (rules_of t) hs first same ((rules_of t).on c.node) v e in
     sym k.2 ∙ tied k.0 k.1) in
     record {
       lines = λ r i named. asks (ask_of None r) (asks-whole (rules_of t) hs r None i) named;
       own = λ r i named. (wants r i).own named;
       to = λ d j r i named.
-          let lies : Lies (rules_of t) (version_in nat_cmp (names_held (rules_of t) hs)) d = held-lie (rules_of t) law conflicts hs l d j in
+          let lies : Lies (rules_of t) (version_pinned nat_cmp (names_held (rules_of t) hs)) d = held-lie (rules_of t) law conflicts hs l d j in
           elim (nat_cases ((rules_of t).name r) ((rules_of t).on c.node)) [
             | inl e ↦
-                let v : d.version ≡ c.version = one d.version (ap (version_in nat_cmp (names_held (rules_of t) hs)) (sym e ∙ named) ∙ lies.chosen) in
+                let v : d.version ≡ c.version = one d.version (ap (version_pinned nat_cmp (names_held (rules_of t) hs)) (sym e ∙ named) ∙ lies.chosen) in
                 subst (λ x. (rules_of t).admits r x ≡ true) (sym v) ((wants r i).own e)
             | inr o ↦
                 let k : (x : NodeChoice ℕ ℕ) × (first ((rules_of t).on d.node) ≡ Some x) × (x.version ≡ d.version) = first-some (rules_of t) hs first same ((rules_of t).on d.node) d.version lies.chosen in

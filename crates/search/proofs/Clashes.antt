@@ -4,7 +4,7 @@ use Rattle.std.specs.List.{list_any}
 use Rattle.lists.proofs.Members.{Contains-here, Contains-there, Contains-cons_cases, Contains-nil, take-whole}
 use Rattle.search.proofs.Theory.{clash-line, clash-dependency}
 use Rattle.search.specs.Rules.{Rules, IsLawful}
-use Rattle.search.specs.Solutions.{Needed, by_line, by_dependency, version_in, Pin}
+use Rattle.search.specs.Solutions.{Needed, by_line, by_dependency, version_pinned, Pin}
 use Rattle.search.specs.Search.{IsRefuted, IsComplete, AllFit, AreNeeded, AreAsked, NoneFree, clash_at, clash_in}
 
 or-true : (a b : Bool) → (a || b) ≡ true → (a ≡ true) ⊎ (b ≡ true)
@@ -41,9 +41,9 @@ clash_at-true rules r None h = absurd (cc)
 clash_at-true rules r (Some w) h = (w, refl, not-true (rules.admits r w) h)
 
 -- where something that is asked for clashes, no solution has what is taken
-pub asked-refuted : (rules : Rules ℕ ℕ ℕ ℕ) (taken : List (Pin ℕ ℕ)) (asked : List ℕ) → AreAsked rules (version_in rules.compare taken) asked → list_any (clash_in rules (version_in rules.compare taken)) asked ≡ true → IsRefuted rules taken
+pub asked-refuted : (rules : Rules ℕ ℕ ℕ ℕ) (taken : List (Pin ℕ ℕ)) (asked : List ℕ) → AreAsked rules (version_pinned rules.compare taken) asked → list_any (clash_in rules (version_pinned rules.compare taken)) asked ≡ true → IsRefuted rules taken
 asked-refuted rules taken asked a h =
-    let chosen : ℕ → Option ℕ = version_in rules.compare taken in
+    let chosen : ℕ → Option ℕ = version_pinned rules.compare taken in
     let r : (r : ℕ) × Contains asked r × (clash_in rules chosen r ≡ true) = any-true (clash_in rules chosen) asked h in
     let w : (w : ℕ) × (chosen (rules.name r.0) ≡ Some w) × (rules.admits r.0 w ≡ false) = clash_at-true rules r.0 (chosen (rules.name r.0)) r.2 in
     elim (a.sound r.0 r.1) [

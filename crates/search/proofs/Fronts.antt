@@ -11,7 +11,7 @@ use Rattle.search.specs.declared.parts.Since.{Since}
 use Rattle.search.specs.Front.{HaveFit}
 use Rattle.search.specs.Rules.{Rules}
 use Rattle.search.specs.Search.{pins_of, taken_at, clash_at, clash_in}
-use Rattle.search.specs.Solutions.{version_in}
+use Rattle.search.specs.Solutions.{version_pinned}
 use Rattle.search.specs.Steps.{IsTried, TakesFirst}
 use Rattle.search.specs.Table.{TableParts}
 
@@ -25,8 +25,8 @@ fit-kept rules old new before asked since front h others r i d =
     ap (clash_at rules r) (others (rules.name r) d) ∙ any-false (clash_in rules old) before r h (subst (λ xs. Contains xs r) front i)
 
 -- the map of the frames, with one frame more
-pub same-push : (old new : List (Option ℕ)) (fs : List Frame) (f : Frame) → TakesFirst old new f → ((n : ℕ) → taken_at old n ≡ version_in nat_cmp (pins_of fs) n) → (n : ℕ) → taken_at new n ≡ version_in nat_cmp (pins_of (fs ++ f ∷ [])) n
-same-push old new fs f h same n = first-step old new f (pins_of fs) h same n ∙ ap (λ ps. version_in nat_cmp ps n) (sym (pins_of-push fs f))
+pub same-push : (old new : List (Option ℕ)) (fs : List Frame) (f : Frame) → TakesFirst old new f → ((n : ℕ) → taken_at old n ≡ version_pinned nat_cmp (pins_of fs) n) → (n : ℕ) → taken_at new n ≡ version_pinned nat_cmp (pins_of (fs ++ f ∷ [])) n
+same-push old new fs f h same n = first-step old new f (pins_of fs) h same n ∙ ap (λ ps. version_pinned nat_cmp ps n) (sym (pins_of-push fs f))
 
 last-step : (fs : List Frame) (f d : Frame) → get_or (fs ++ f ∷ []) (length fs) d ≡ f
 last-step [] f d = refl

@@ -6,7 +6,7 @@ use Rattle.search.proofs.Entries.{eq-itself}
 use Rattle.lists.proofs.Members.{Contains-cons_cases, Contains-nil}
 use Rattle.search.proofs.Refutations.{list-excluded}
 use Rattle.search.proofs.Stack.{search-best}
-use Rattle.search.proofs.Theory.{some-inj, Needed-more, version_in-last, Has-front}
+use Rattle.search.proofs.Theory.{some-inj, Needed-more, version_pinned-last, Has-front}
 use Rattle.search.specs.declared.conflict.NodeChoice.{NodeChoice}
 use Rattle.search.specs.declared.parts.Frame.{Frame}
 use Rattle.search.specs.declared.trial.Held.{Held}
@@ -66,7 +66,7 @@ held-lies rules law conflicts t before h k has =
         | inl e ↦
             let next : IsNext rules (names_held rules before) (rules.on h.trial.node) = subst (λ b. IsInTurn rules (names_held rules before) h.trial.node b) e k.trial.in_turn in
             let whole : Has rules t (names_held rules before ++ record { name = rules.on h.trial.node; version = h.place } ∷ []) = subst (λ b. Has rules t (names_held rules before ++ pins_of (with_frame rules b h []))) e all in
-            whole (rules.on h.trial.node) h.place (version_in-last rules.compare law.order (names_held rules before) (record { name = rules.on h.trial.node; version = h.place }) next.free)
+            whole (rules.on h.trial.node) h.place (version_pinned-last rules.compare law.order (names_held rules before) (record { name = rules.on h.trial.node; version = h.place }) next.free)
         | inr e ↦
             let turn : (v : ℕ) × (chosen_held rules before (rules.on h.trial.node) ≡ Some v) = subst (λ b. IsInTurn rules (names_held rules before) h.trial.node b) e k.trial.in_turn in
             low (rules.on h.trial.node) turn.0 turn.1 ∙ ap (λ x. Some x) (k.fits.tied turn.0 turn.1)

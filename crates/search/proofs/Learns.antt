@@ -20,7 +20,7 @@ use Rattle.search.specs.Known.{IsKnown, AreKnown}
 use Rattle.search.specs.Learned.{decision_of, decisions_of, names_held, leaders_held, IsInTurn, IsNeededBy, IsFree, IsTrial, FitsBefore, IsHeld, IsLearning, IsPartial, LastIsNew}
 use Rattle.search.specs.Learning.{IsLearned, version_of}
 use Rattle.search.specs.Rules.{Rules}
-use Rattle.search.specs.Solutions.{Needed, IsNext, version_in}
+use Rattle.search.specs.Solutions.{Needed, IsNext, version_pinned}
 use Rattle.search.specs.Table.{TableParts, rules_of, name_of, candidates_of, in_range}
 use Rattle.search.specs.Trials.{IsRefused}
 
@@ -42,7 +42,7 @@ refused-completed conflicts old new conflict candidate there g = (
 pub trial-refused : (rules : Rules ℕ ℕ ℕ ℕ) (conflicts : List (List (NodeChoice ℕ ℕ))) (before : List Held) (old new : Trial) (place : ℕ) (conflict : List (NodeChoice ℕ ℕ)) → IsTrial rules conflicts before old → IsRefused old new conflict (decision old.node place) → Contains conflicts conflict → IsWithin conflict (decisions_of before) (decision old.node place) → old.turn < length (rules.candidates (rules.on old.node)) → get_or (rules.candidates (rules.on old.node)) old.turn place ≡ place → IsTrial rules conflicts before new
 trial-refused rules conflicts before old new place conflict h r there within turn at = record {
   in_turn = subst (λ n. IsInTurn rules (names_held rules before) n new.leads) (sym r.node) (subst (λ b. IsInTurn rules (names_held rules before) old.node b) (sym r.leads) h.in_turn);
-  needed = subst (λ n. Needed rules (version_in rules.compare (names_held rules before)) n) (sym r.node) h.needed;
+  needed = subst (λ n. Needed rules (version_pinned rules.compare (names_held rules before)) n) (sym r.node) h.needed;
   by = subst (λ n. IsNeededBy rules (decisions_of before) n new.by) (sym r.node) (subst (λ (o : Option (NodeChoice ℕ ℕ)). IsNeededBy rules (decisions_of before) old.node o) (sym r.by) h.by);
   free = subst (λ n. IsFree (decisions_of before) n) (sym r.node) h.free;
   blamed = λ c i. elim (r.blame.only c i) [
@@ -159,10 +159,10 @@ version-none None e = refl
 version-none (Some c) e = absurd (cc)
 
 -- where a trial leads, its name had no choice
-pub leads-first : (t : TableParts) (conflicts : List (List (NodeChoice ℕ ℕ))) (before : List Held) (trial : Trial) → IsTrial (rules_of t) conflicts before trial → trial.leads ≡ true → version_in nat_cmp (leaders_held (rules_of t) before) (name_of t trial.node) ≡ None
+pub leads-first : (t : TableParts) (conflicts : List (List (NodeChoice ℕ ℕ))) (before : List Held) (trial : Trial) → IsTrial (rules_of t) conflicts before trial → trial.leads ≡ true → version_pinned nat_cmp (leaders_held (rules_of t) before) (name_of t trial.node) ≡ None
 leads-first t conflicts before trial h leads =
     let next : IsNext (rules_of t) (names_held (rules_of t) before) (name_of t trial.node) = subst (λ b. IsInTurn (rules_of t) (names_held (rules_of t) before) trial.node b) leads h.in_turn in
-    version-none (version_in nat_cmp (leaders_held (rules_of t) before) (name_of t trial.node)) (sym (leader-version (rules_of t) before (name_of t trial.node)) ∙ next.free)
+    version-none (version_pinned nat_cmp (leaders_held (rules_of t) before) (name_of t trial.node)) (sym (leader-version (rules_of t) before (name_of t trial.node)) ∙ next.free)
 
 pub last-new : (t : TableParts) → in_range t ≡ true → (conflicts : List (List (NodeChoice ℕ ℕ))) (hs : List Held) → IsLearning (rules_of t) conflicts [] hs → LastIsNew t hs
 last-new t known conflicts hs l front last e =

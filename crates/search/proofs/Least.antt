@@ -10,7 +10,7 @@ use Rattle.search.proofs.Counts.{nat_less}
 use Rattle.lists.proofs.Members.{get_or-any}
 use Rattle.search.proofs.Nodes.{take-more}
 use Rattle.search.specs.Rules.{Rules, IsOrder}
-use Rattle.search.specs.Solutions.{IsNext, version_in, Pin}
+use Rattle.search.specs.Solutions.{IsNext, version_pinned, Pin}
 use Rattle.search.specs.Search.{NoneFree, IsLeastFree, AreNeeded}
 
 pub nat-order : IsOrder nat_cmp
@@ -100,9 +100,9 @@ pub found-lesser : (rules : Rules ℕ ℕ ℕ ℕ) (chosen : ℕ → Option ℕ)
 found-lesser rules chosen nodes i m found o b l h e f g k = rw add-one (subst (λ ns. IsFound rules chosen ns (Some m)) (sym (front-more nodes i l)) (found-free rules chosen (take i nodes) (get_or nodes i 0) m found h (sym e ∙ is_none-true o b f g) k))
 
 -- the least free name of the needed nodes is the next name
-pub least-next : (rules : Rules ℕ ℕ ℕ ℕ) → rules.compare ≡ nat_cmp → (taken : List (Pin ℕ ℕ)) (nodes : List ℕ) (n : ℕ) → AreNeeded rules (version_in rules.compare taken) nodes → IsLeastFree rules (version_in rules.compare taken) nodes n → IsNext rules taken n
+pub least-next : (rules : Rules ℕ ℕ ℕ ℕ) → rules.compare ≡ nat_cmp → (taken : List (Pin ℕ ℕ)) (nodes : List ℕ) (n : ℕ) → AreNeeded rules (version_pinned rules.compare taken) nodes → IsLeastFree rules (version_pinned rules.compare taken) nodes n → IsNext rules taken n
 least-next rules numbers taken nodes n a h = record {
   needed = (h.node, a.sound h.node h.there, h.named);
   free = h.free;
-  least = λ m k e. subst (λ cmp. cmp n m ≢ Greater) (sym numbers) (not_greater n m (subst (λ x. n ≤ x) k.2 (h.least k.0 (a.whole k.0 k.1) (ap (version_in rules.compare taken) k.2 ∙ e))));
+  least = λ m k e. subst (λ cmp. cmp n m ≢ Greater) (sym numbers) (not_greater n m (subst (λ x. n ≤ x) k.2 (h.least k.0 (a.whole k.0 k.1) (ap (version_pinned rules.compare taken) k.2 ∙ e))));
 }

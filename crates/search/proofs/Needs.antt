@@ -16,7 +16,7 @@ use Rattle.search.specs.Gathering.{decision}
 use Rattle.search.specs.Learned.{decisions_of, names_held, chosen_held, ask_of, asks_of, IsFree, IsNeededBy, IsInTurn, IsTrial, IsLearning}
 use Rattle.search.specs.Learning.{version_of}
 use Rattle.search.specs.Rules.{Rules, IsLawful}
-use Rattle.search.specs.Solutions.{Needed, by_line, by_dependency, IsNext, version_in}
+use Rattle.search.specs.Solutions.{Needed, by_line, by_dependency, IsNext, version_pinned}
 use Rattle.search.specs.Table.{TableParts, rules_of}
 
 -- ---- a node on a name that has a version
@@ -60,8 +60,8 @@ tied-trial t law conflicts any hs first same l need h trial node by leads turn b
     let rules : Rules ℕ ℕ ℕ ℕ = rules_of t in
     let asked : IsAskedBy (rules_of t) (decisions_of hs) h.ask.requirement h.ask.by = asks-sound (rules_of t) hs h.ask h.there in
     let own : (rules_of t).on need.node ≡ (rules_of t).name h.ask.requirement = law.own h.ask.requirement need.node h.node in
-    let named : version_in nat_cmp (names_held (rules_of t) hs) ((rules_of t).on trial.node) ≡ Some h.one.version =
-    ap (λ n. version_in nat_cmp (names_held (rules_of t) hs) ((rules_of t).on n)) node ∙ ap (version_in nat_cmp (names_held (rules_of t) hs)) own
+    let named : version_pinned nat_cmp (names_held (rules_of t) hs) ((rules_of t).on trial.node) ≡ Some h.one.version =
+    ap (λ n. version_pinned nat_cmp (names_held (rules_of t) hs) ((rules_of t).on n)) node ∙ ap (version_pinned nat_cmp (names_held (rules_of t) hs)) own
     ∙ first-version (rules_of t) hs first same ((rules_of t).name h.ask.requirement) ∙ ap version_of h.named in
     record {
       in_turn = subst (λ b. IsInTurn (rules_of t) (names_held (rules_of t) hs) trial.node b) (sym leads) (h.one.version, named);
@@ -77,8 +77,8 @@ pub least-trial : (t : TableParts) (law : IsLawful (rules_of t)) (conflicts any 
 least-trial t law conflicts any hs first same l tied need h trial node by leads turn blame =
     let asked : IsAskedBy (rules_of t) (decisions_of hs) h.ask.requirement h.ask.by = asks-sound (rules_of t) hs h.ask h.there in
     let needed : Needed (rules_of t) (chosen_held (rules_of t) hs) need.node = asked-needed (rules_of t) law conflicts hs l h.ask.requirement need.node h.ask.by asked h.node in
-    let free : version_in nat_cmp (names_held (rules_of t) hs) ((rules_of t).on need.node) ≡ None =
-    ap (version_in nat_cmp (names_held (rules_of t) hs)) h.named ∙ first-version (rules_of t) hs first same ((rules_of t).name h.ask.requirement) ∙ ap version_of h.free in
+    let free : version_pinned nat_cmp (names_held (rules_of t) hs) ((rules_of t).on need.node) ≡ None =
+    ap (version_pinned nat_cmp (names_held (rules_of t) hs)) h.named ∙ first-version (rules_of t) hs first same ((rules_of t).name h.ask.requirement) ∙ ap version_of h.free in
     let next : IsNext (rules_of t) (names_held (rules_of t) hs) ((rules_of t).on need.node) = record {
       needed = (need.node, needed, refl);
       free = free;
@@ -93,7 +93,7 @@ least-trial t law conflicts any hs first same l tied need h trial node by leads 
       needed = subst (λ n. Needed (rules_of t) (chosen_held (rules_of t) hs) n) (sym node) needed;
       by = subst (λ n. IsNeededBy (rules_of t) (decisions_of hs) n trial.by) (sym node) (subst (λ (o : Option (NodeChoice ℕ ℕ)). IsNeededBy (rules_of t) (decisions_of hs) need.node o) (sym (by ∙ h.by)) (needed-by (rules_of t) (decisions_of hs) h.ask.requirement need.node h.ask.by asked h.node));
       free = λ v i. let k : Lies (rules_of t) (chosen_held (rules_of t) hs) (decision trial.node v) = held-lie (rules_of t) law conflicts hs l (decision trial.node v) i in
-          absurd (let e : None ≡ Some v = sym free ∙ ap (λ n. version_in nat_cmp (names_held (rules_of t) hs) ((rules_of t).on n)) (sym node) ∙ k.chosen in cc);
+          absurd (let e : None ≡ Some v = sym free ∙ ap (λ n. version_pinned nat_cmp (names_held (rules_of t) hs) ((rules_of t).on n)) (sym node) ∙ k.chosen in cc);
       blamed = λ c i. absurd (Contains-nil c (subst (λ xs. Contains xs c) blame i));
       refused = λ w i. absurd (Contains-take_zero ((rules_of t).candidates ((rules_of t).on trial.node)) w (subst (λ k. Contains (take k ((rules_of t).candidates ((rules_of t).on trial.node))) w) turn i));
     }

@@ -11,7 +11,7 @@ use Rattle.search.proofs.Theory.{pin-member, option_cases, some-inj, is_eq-same,
 use Rattle.search.specs.declared.parts.Choice.{Choice}
 use Rattle.search.specs.Picture.{Picture, IsPicture, pin_pictured, pictured}
 use Rattle.search.specs.Rules.{Rules, IsOrder}
-use Rattle.search.specs.Solutions.{Needed, IsNeededName, Solution, Pin, version_in, IsNext, IsWalk, Has, ComesFirst, IsBetter, IsBest, HasNoSolution}
+use Rattle.search.specs.Solutions.{Needed, IsNeededName, Solution, Pin, version_pinned, IsNext, IsWalk, Has, ComesFirst, IsBetter, IsBest, HasNoSolution}
 use Rattle.search.specs.Table.{TableParts, rules_of, name_of, candidates_of, in_range, pin_of, place_in}
 
 -- ---- maps made of pins
@@ -24,12 +24,12 @@ cond-image : {V : Type 0} (b : Bool) (f : ℕ → V) (g : ℕ → V) (p : ℕ) (
 cond-image true f g p x o h e = ap (λ v. Some v) (h refl)
 cond-image false f g p x o h e = e
 
-version-up : {N X V R : Type 0} (t : TableParts) (picture : Picture N X V R) (rules : Rules N X V R) → IsPicture t picture rules → (ps : List (Pin ℕ ℕ)) → AreKnownPins t ps → (n : ℕ) → n < length t.candidates → version_in rules.compare (map (pin_pictured picture) ps) (picture.name n) ≡ image (picture.version n) (version_in nat_cmp ps n)
+version-up : {N X V R : Type 0} (t : TableParts) (picture : Picture N X V R) (rules : Rules N X V R) → IsPicture t picture rules → (ps : List (Pin ℕ ℕ)) → AreKnownPins t ps → (n : ℕ) → n < length t.candidates → version_pinned rules.compare (map (pin_pictured picture) ps) (picture.name n) ≡ image (picture.version n) (version_pinned nat_cmp ps n)
 version-up t picture rules h [] k n l = refl
 version-up {N} {X} {V} t picture rules h (p ∷ ps) k n l =
     let same : rules.compare (picture.name p.name) (picture.name n) ≡ nat_cmp p.name n = h.order p.name n (k p (Contains-here p ps)) l in
-    subst (λ o. cond (is_eq o) (Some (picture.version p.name p.version)) (version_in rules.compare (map (pin_pictured picture) ps) (picture.name n)) ≡ image (picture.version n) (cond (is_eq (nat_cmp p.name n)) (Some p.version) (version_in nat_cmp ps n))) (sym same)
-    (cond-image (is_eq (nat_cmp p.name n)) (picture.version n) (picture.version p.name) p.version _ (version_in nat_cmp ps n)
+    subst (λ o. cond (is_eq o) (Some (picture.version p.name p.version)) (version_pinned rules.compare (map (pin_pictured picture) ps) (picture.name n)) ≡ image (picture.version n) (cond (is_eq (nat_cmp p.name n)) (Some p.version) (version_pinned nat_cmp ps n))) (sym same)
+    (cond-image (is_eq (nat_cmp p.name n)) (picture.version n) (picture.version p.name) p.version _ (version_pinned nat_cmp ps n)
     (λ e. ap (λ m. picture.version m p.version) (is_eq-same nat_cmp nat-order p.name n e))
     (version-up t picture rules h ps (λ q i. k q (Contains-there p ps q i)) n l))
 
@@ -37,9 +37,9 @@ cond-some : (b : Bool) (v : ℕ) (x : Option ℕ) → ((b ≡ true → ⊥) → 
 cond-some true v x h = (v, refl)
 cond-some false v x h = h (λ e. absurd (cc))
 
-member-some : (ps : List (Pin ℕ ℕ)) (p : Pin ℕ ℕ) → Contains ps p → (w : ℕ) × (version_in nat_cmp ps p.name ≡ Some w)
+member-some : (ps : List (Pin ℕ ℕ)) (p : Pin ℕ ℕ) → Contains ps p → (w : ℕ) × (version_pinned nat_cmp ps p.name ≡ Some w)
 member-some [] p i = absurd (Contains-nil p i)
-member-some (q ∷ ps) p i = cond-some (is_eq (nat_cmp q.name p.name)) q.version (version_in nat_cmp ps p.name) (λ off. elim (Contains-cons_cases q ps p i) [
+member-some (q ∷ ps) p i = cond-some (is_eq (nat_cmp q.name p.name)) q.version (version_pinned nat_cmp ps p.name) (λ off. elim (Contains-cons_cases q ps p i) [
   | inl e ↦ absurd (off (subst (λ (x : Pin ℕ ℕ). is_eq (nat_cmp q.name x.name) ≡ true) e (is_eq-self nat_cmp nat-order q.name)))
   | inr r ↦ member-some ps p r
 ])
@@ -47,16 +47,16 @@ member-some (q ∷ ps) p i = cond-some (is_eq (nat_cmp q.name p.name)) q.version
 -- pins that a map of candidates has are known
 known-pins : (t : TableParts) (s : ℕ → Option ℕ) (ps : List (Pin ℕ ℕ)) → ((n p : ℕ) → s n ≡ Some p → Contains (candidates_of t n) p) → Has (rules_of t) s ps → AreKnownPins t ps
 known-pins t s ps released had p i =
-    let w : (w : ℕ) × (version_in nat_cmp ps p.name ≡ Some w) = member-some ps p i in
+    let w : (w : ℕ) × (version_pinned nat_cmp ps p.name ≡ Some w) = member-some ps p i in
     candidate-known t p.name w.0 (released p.name w.0 (had p.name w.0 w.1))
 
-alike-pins : {N X V R : Type 0} (t : TableParts) (picture : Picture N X V R) (rules : Rules N X V R) → IsPicture t picture rules → (s : ℕ → Option ℕ) (ps : List (Pin ℕ ℕ)) → ((n p : ℕ) → s n ≡ Some p → Contains (candidates_of t n) p) → Has (rules_of t) s ps → IsAlike t picture (version_in nat_cmp ps) (version_in rules.compare (map (pin_pictured picture) ps))
+alike-pins : {N X V R : Type 0} (t : TableParts) (picture : Picture N X V R) (rules : Rules N X V R) → IsPicture t picture rules → (s : ℕ → Option ℕ) (ps : List (Pin ℕ ℕ)) → ((n p : ℕ) → s n ≡ Some p → Contains (candidates_of t n) p) → Has (rules_of t) s ps → IsAlike t picture (version_pinned nat_cmp ps) (version_pinned rules.compare (map (pin_pictured picture) ps))
 alike-pins t picture rules h s ps released had = record {
   at = λ n l. version-up t picture rules h ps (known-pins t s ps released had) n l;
   released = λ n p e. released n p (had n p e);
 }
 
-named-pins : {N X V R : Type 0} (t : TableParts) (picture : Picture N X V R) (rules : Rules N X V R) → IsOrder rules.compare → (ps : List (Pin ℕ ℕ)) → AreKnownPins t ps → AreNamed t picture (version_in rules.compare (map (pin_pictured picture) ps))
+named-pins : {N X V R : Type 0} (t : TableParts) (picture : Picture N X V R) (rules : Rules N X V R) → IsOrder rules.compare → (ps : List (Pin ℕ ℕ)) → AreKnownPins t ps → AreNamed t picture (version_pinned rules.compare (map (pin_pictured picture) ps))
 named-pins {N} {X} {V} t picture rules order ps k m v e =
     let q : (q : Pin N V) × Contains (map (pin_pictured picture) ps) q × (q.name ≡ m) = pin-member rules.compare order (map (pin_pictured picture) ps) m v e in
     let p : (p : Pin ℕ ℕ) × Contains ps p × (pin_pictured picture p ≡ q.0) = Contains-map (pin_pictured picture) ps q.0 q.1 in
@@ -101,10 +101,10 @@ named-solution t picture rules known h s T a sol m v e =
 
 -- ---- the walk, and the better of two
 
-next-up : {N X V R : Type 0} (t : TableParts) (picture : Picture N X V R) (rules : Rules N X V R) → in_range t ≡ true → IsPicture t picture rules → (taken : List (Pin ℕ ℕ)) (n : ℕ) → IsAlike t picture (version_in nat_cmp taken) (version_in rules.compare (map (pin_pictured picture) taken)) → IsNext (rules_of t) taken n → (n < length t.candidates) × IsNext rules (map (pin_pictured picture) taken) (picture.name n)
+next-up : {N X V R : Type 0} (t : TableParts) (picture : Picture N X V R) (rules : Rules N X V R) → in_range t ≡ true → IsPicture t picture rules → (taken : List (Pin ℕ ℕ)) (n : ℕ) → IsAlike t picture (version_pinned nat_cmp taken) (version_pinned rules.compare (map (pin_pictured picture) taken)) → IsNext (rules_of t) taken n → (n < length t.candidates) × IsNext rules (map (pin_pictured picture) taken) (picture.name n)
 next-up t picture rules known h taken n a next =
-    let s : ℕ → Option ℕ = version_in nat_cmp taken in
-    let S = version_in rules.compare (map (pin_pictured picture) taken) in
+    let s : ℕ → Option ℕ = version_pinned nat_cmp taken in
+    let S = version_pinned rules.compare (map (pin_pictured picture) taken) in
     let up : (next.needed.0 < length t.nodes) × Needed rules S (picture.node next.needed.0) = needed-up t picture rules known h s S a next.needed.0 next.needed.1 in
     let l : n < length t.candidates = subst (λ m. m < length t.candidates) next.needed.2 (name-known t known next.needed.0 up.0) in (
       l,
@@ -135,8 +135,8 @@ has-up : {N X V R : Type 0} (t : TableParts) (picture : Picture N X V R) (rules 
 has-up t picture rules h order s S a ps had m v e =
     let k : AreKnownPins t ps = known-pins t s ps a.released had in
     let n : (n : ℕ) × (n < length t.candidates) × (picture.name n ≡ m) = named-pins t picture rules order ps k m v e in
-    let p : (p : ℕ) × (version_in nat_cmp ps n.0 ≡ Some p) × (picture.version n.0 p ≡ v) = image-some (picture.version n.0) (version_in nat_cmp ps n.0) v
-    (sym (version-up t picture rules h ps k n.0 n.1) ∙ ap (version_in rules.compare (map (pin_pictured picture) ps)) n.2 ∙ e) in
+    let p : (p : ℕ) × (version_pinned nat_cmp ps n.0 ≡ Some p) × (picture.version n.0 p ≡ v) = image-some (picture.version n.0) (version_pinned nat_cmp ps n.0) v
+    (sym (version-up t picture rules h ps k n.0 n.1) ∙ ap (version_pinned rules.compare (map (pin_pictured picture) ps)) n.2 ∙ e) in
     sym (ap S n.2) ∙ a.at n.0 n.1 ∙ ap (image (picture.version n.0)) (had n.0 p.0 p.1) ∙ ap (λ w. Some w) p.2
 
 first-up : {N X V R : Type 0} (t : TableParts) (picture : Picture N X V R) (rules : Rules N X V R) → IsPicture t picture rules → (n p q : ℕ) → n < length t.candidates → Contains (candidates_of t n) p → Contains (candidates_of t n) q → ComesFirst (candidates_of t n) p q → ComesFirst (rules.candidates (picture.name n)) (picture.version n p) (picture.version n q)
@@ -182,14 +182,14 @@ same-up {N} {X} {V} t picture s u S U a b c d e m =
       | inr some ↦ let n : (n : ℕ) × (n < length t.candidates) × (picture.name n ≡ m) = d m some.0 some.1 in chain n.0 n.1 n.2
     ]
 
-has-own : (t : TableParts) (ps : List (Pin ℕ ℕ)) → Has (rules_of t) (version_in nat_cmp ps) ps
+has-own : (t : TableParts) (ps : List (Pin ℕ ℕ)) → Has (rules_of t) (version_pinned nat_cmp ps) ps
 has-own t ps n v e = e
 
-pub picture-best : {N X V R : Type 0} (t : TableParts) (picture : Picture N X V R) (rules : Rules N X V R) → in_range t ≡ true → IsOrder rules.compare → IsPicture t picture rules → (choices : List Choice) → IsBest (rules_of t) (place_in choices) → IsBest rules (version_in rules.compare (pictured picture choices))
+pub picture-best : {N X V R : Type 0} (t : TableParts) (picture : Picture N X V R) (rules : Rules N X V R) → in_range t ≡ true → IsOrder rules.compare → IsPicture t picture rules → (choices : List Choice) → IsBest (rules_of t) (place_in choices) → IsBest rules (version_pinned rules.compare (pictured picture choices))
 picture-best {N} {X} {V} t picture rules known order h choices best =
     let ps : List (Pin ℕ ℕ) = map pin_of choices in
-    let s : ℕ → Option ℕ = version_in nat_cmp ps in
-    let S : N → Option V = version_in rules.compare (map (pin_pictured picture) ps) in
+    let s : ℕ → Option ℕ = version_pinned nat_cmp ps in
+    let S : N → Option V = version_pinned rules.compare (map (pin_pictured picture) ps) in
     let a : IsAlike t picture s S = alike-pins t picture rules h s ps best.solution.released (has-own t ps) in
     let named : AreNamed t picture S = named-pins t picture rules order ps (known-pins t s ps best.solution.released (has-own t ps)) in
     record {
@@ -219,7 +219,7 @@ picture-none_back {N} {X} {V} t picture rules known order h none s sol =
     let path : s ≡ place_in cs.0 = λ i n. sym (same n) i in
     let listed_sol : Solution (rules_of t) (place_in cs.0) = subst (λ (u : ℕ → Option ℕ). Solution (rules_of t) u) path sol in
     let ps : List (Pin ℕ ℕ) = map pin_of cs.0 in
-    let S : N → Option V = version_in rules.compare (map (pin_pictured picture) ps) in
+    let S : N → Option V = version_pinned rules.compare (map (pin_pictured picture) ps) in
     none S (solution-up t picture rules known h (place_in cs.0) S
     (alike-pins t picture rules h (place_in cs.0) ps listed_sol.released (has-own t ps))
     (named-pins t picture rules order ps (known-pins t (place_in cs.0) ps listed_sol.released (has-own t ps)))

@@ -1,10 +1,10 @@
 -- What a search learns of solutions, as its frames come and go.
 use Rattle.std.proofs.Common.{ℕ, suc, List, [], ◌∷◌, ◌++◌, ◌≡◌, ◌≢◌, ◌≤◌, ◌⊎◌, inl, inr, Contains, length, take, drop, refl, sym, ◌∙◌, ap, subst, Some, None, Option, append_assoc, append-nil}
 use Rattle.lists.proofs.Members.{Contains-take_suc, take-whole, nat_cases, split_at, get_or-any}
-use Rattle.search.proofs.Theory.{version_in-cons_cases, version_in-last, Has-front, Has-push, Needed-more, next-in_solution, complete-same}
+use Rattle.search.proofs.Theory.{version_pinned-cons_cases, version_pinned-last, Has-front, Has-push, Needed-more, next-in_solution, complete-same}
 use Rattle.search.specs.declared.parts.Frame.{Frame}
 use Rattle.search.specs.Rules.{Rules, IsLawful}
-use Rattle.search.specs.Solutions.{Pin, IsNeededName, Solution, version_in, IsNext, IsWalk, Has, ComesFirst, IsBetter, IsBest}
+use Rattle.search.specs.Solutions.{Pin, IsNeededName, Solution, version_pinned, IsNext, IsWalk, Has, ComesFirst, IsBetter, IsBest}
 use Rattle.search.specs.Search.{pin_at, pins_of, Refutes, IsFrame, IsSearch, IsRefuted, IsComplete}
 
 -- ---- the choices of a search
@@ -59,7 +59,7 @@ search-compare rules law s t before [] sol walk search has had = inl (subst (λ 
 search-compare rules law s t before (f ∷ fs) sol walk search has had =
     let w : (w : ℕ) × (t f.name ≡ Some w) × Contains (rules.candidates f.name) w = next-in_solution rules law t before f.name sol had search.0.next in
     let next_has : Has rules s ((before ++ pin_at f ∷ []) ++ pins_of fs) = subst (λ cs. Has rules s cs) (sym (append-step before (pin_at f) (pins_of fs))) has in
-    let chosen : s f.name ≡ Some f.place = Has-front rules s (before ++ pin_at f ∷ []) (pins_of fs) next_has f.name f.place (version_in-last rules.compare law.order before (pin_at f) search.0.next.free) in
+    let chosen : s f.name ≡ Some f.place = Has-front rules s (before ++ pin_at f ∷ []) (pins_of fs) next_has f.name f.place (version_pinned-last rules.compare law.order before (pin_at f) search.0.next.free) in
     elim (nat_cases f.place w.0) [
       | inl same ↦ elim (search-compare rules law s t (before ++ pin_at f ∷ []) fs sol
           (IsWalk-push rules law [] before (pin_at f) walk search.0.next)
@@ -83,36 +83,36 @@ search-compare rules law s t before (f ∷ fs) sol walk search has had =
       })
     ]
 
-search-released : (rules : Rules ℕ ℕ ℕ ℕ) (law : IsLawful rules) (before : List (Pin ℕ ℕ)) (fs : List Frame) → IsSearch rules before fs → (n : ℕ) (v : ℕ) → version_in rules.compare (pins_of fs) n ≡ Some v → Contains (rules.candidates n) v
+search-released : (rules : Rules ℕ ℕ ℕ ℕ) (law : IsLawful rules) (before : List (Pin ℕ ℕ)) (fs : List Frame) → IsSearch rules before fs → (n : ℕ) (v : ℕ) → version_pinned rules.compare (pins_of fs) n ≡ Some v → Contains (rules.candidates n) v
 search-released rules law before [] h n v e = absurd (cc)
-search-released rules law before (f ∷ fs) h n v e = elim (version_in-cons_cases rules.compare law.order (pin_at f) (pins_of fs) n v e) [
+search-released rules law before (f ∷ fs) h n v e = elim (version_pinned-cons_cases rules.compare law.order (pin_at f) (pins_of fs) n v e) [
   | inl a ↦ subst (λ m. Contains (rules.candidates m) v) a.0 (f.turn, h.0.turn, get_or-any (rules.candidates f.name) f.turn v f.place h.0.turn ∙ h.0.place ∙ a.1)
   | inr b ↦ search-released rules law (before ++ pin_at f ∷ []) fs h.1 n v b
 ]
 
-search-needed : (rules : Rules ℕ ℕ ℕ ℕ) (law : IsLawful rules) (whole : ℕ → Option ℕ) (before : List (Pin ℕ ℕ)) (fs : List Frame) → IsSearch rules before fs → Has rules whole (before ++ pins_of fs) → (n : ℕ) (v : ℕ) → version_in rules.compare (pins_of fs) n ≡ Some v → IsNeededName rules whole n
+search-needed : (rules : Rules ℕ ℕ ℕ ℕ) (law : IsLawful rules) (whole : ℕ → Option ℕ) (before : List (Pin ℕ ℕ)) (fs : List Frame) → IsSearch rules before fs → Has rules whole (before ++ pins_of fs) → (n : ℕ) (v : ℕ) → version_pinned rules.compare (pins_of fs) n ≡ Some v → IsNeededName rules whole n
 search-needed rules law whole before [] h has n v e = absurd (cc)
-search-needed rules law whole before (f ∷ fs) h has n v e = elim (version_in-cons_cases rules.compare law.order (pin_at f) (pins_of fs) n v e) [
+search-needed rules law whole before (f ∷ fs) h has n v e = elim (version_pinned-cons_cases rules.compare law.order (pin_at f) (pins_of fs) n v e) [
   | inl a ↦
-      let k : IsNeededName rules (version_in rules.compare before) f.name = h.0.next.needed in
-      (k.0, Needed-more rules (version_in rules.compare before) whole (Has-front rules whole before (pin_at f ∷ pins_of fs) has) k.0 k.1, k.2 ∙ a.0)
+      let k : IsNeededName rules (version_pinned rules.compare before) f.name = h.0.next.needed in
+      (k.0, Needed-more rules (version_pinned rules.compare before) whole (Has-front rules whole before (pin_at f ∷ pins_of fs) has) k.0 k.1, k.2 ∙ a.0)
   | inr b ↦ search-needed rules law whole (before ++ pin_at f ∷ []) fs h.1 (subst (λ cs. Has rules whole cs) (sym (append-step before (pin_at f) (pins_of fs))) has) n v b
 ]
 
-pub search-solution : (rules : Rules ℕ ℕ ℕ ℕ) (law : IsLawful rules) (fs : List Frame) → IsSearch rules [] fs → IsComplete rules (version_in rules.compare (pins_of fs)) → Solution rules (version_in rules.compare (pins_of fs))
+pub search-solution : (rules : Rules ℕ ℕ ℕ ℕ) (law : IsLawful rules) (fs : List Frame) → IsSearch rules [] fs → IsComplete rules (version_pinned rules.compare (pins_of fs)) → Solution rules (version_pinned rules.compare (pins_of fs))
 search-solution rules law fs h c = record {
   released = search-released rules law [] fs h;
   lines_met = c.lines_met;
   dependencies_met = c.dependencies_met;
-  each_needed = search-needed rules law (version_in rules.compare (pins_of fs)) [] fs h (λ n v e. e);
+  each_needed = search-needed rules law (version_pinned rules.compare (pins_of fs)) [] fs h (λ n v e. e);
 }
 
 -- a search whose choices meet all that is asked for has found the best solution
-pub search-best : (rules : Rules ℕ ℕ ℕ ℕ) (law : IsLawful rules) (fs : List Frame) → IsSearch rules [] fs → IsComplete rules (version_in rules.compare (pins_of fs)) → IsBest rules (version_in rules.compare (pins_of fs))
+pub search-best : (rules : Rules ℕ ℕ ℕ ℕ) (law : IsLawful rules) (fs : List Frame) → IsSearch rules [] fs → IsComplete rules (version_pinned rules.compare (pins_of fs)) → IsBest rules (version_pinned rules.compare (pins_of fs))
 search-best rules law fs h c = record {
   solution = search-solution rules law fs h c;
-  best = λ t s. elim (search-compare rules law (version_in rules.compare (pins_of fs)) t [] fs s tt h (λ n v e. e) (λ n v e. absurd (let k : None ≡ Some v = e in cc))) [
-    | inl same ↦ inl (complete-same rules law (version_in rules.compare (pins_of fs)) t c same s)
+  best = λ t s. elim (search-compare rules law (version_pinned rules.compare (pins_of fs)) t [] fs s tt h (λ n v e. e) (λ n v e. absurd (let k : None ≡ Some v = e in cc))) [
+    | inl same ↦ inl (complete-same rules law (version_pinned rules.compare (pins_of fs)) t c same s)
     | inr better ↦ inr better
   ];
 }

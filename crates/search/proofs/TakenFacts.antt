@@ -8,11 +8,11 @@ use Rattle.search.proofs.Least.{nat-order}
 use Rattle.lists.proofs.Members.{Contains-map, map-append, Contains-nil, Contains-here, Contains-there, nat_cases}
 use Rattle.search.proofs.Nodes.{take-more}
 use Rattle.search.proofs.Stack.{pins_of-push}
-use Rattle.search.proofs.Theory.{pin-member, is_eq-same, option_cases, version_in-append_some, version_in-append_none, version_in-last}
+use Rattle.search.proofs.Theory.{pin-member, is_eq-same, option_cases, version_pinned-append_some, version_pinned-append_none, version_pinned-last}
 use Rattle.search.specs.declared.parts.Choice.{Choice}
 use Rattle.search.specs.declared.parts.Frame.{Frame}
 use Rattle.search.specs.Search.{pin_at, pins_of, taken_at}
-use Rattle.search.specs.Solutions.{Pin, version_in}
+use Rattle.search.specs.Solutions.{Pin, version_pinned}
 use Rattle.search.specs.Steps.{TakesFirst}
 use Rattle.search.specs.Table.{pin_of, place_in, IsAscending}
 
@@ -26,29 +26,29 @@ bool-off true h = absurd (h refl)
 bool-off false h = refl
 
 -- a pin on another name adds nothing
-version_in-other : (ps : List (Pin ℕ ℕ)) (p : Pin ℕ ℕ) (n : ℕ) → n ≢ p.name → version_in nat_cmp (ps ++ p ∷ []) n ≡ version_in nat_cmp ps n
-version_in-other ps p n d = elim (option_cases (version_in nat_cmp ps n)) [
+version_pinned-other : (ps : List (Pin ℕ ℕ)) (p : Pin ℕ ℕ) (n : ℕ) → n ≢ p.name → version_pinned nat_cmp (ps ++ p ∷ []) n ≡ version_pinned nat_cmp ps n
+version_pinned-other ps p n d = elim (option_cases (version_pinned nat_cmp ps n)) [
   | inl none ↦
-      version_in-append_none nat_cmp ps (p ∷ []) n none
+      version_pinned-append_none nat_cmp ps (p ∷ []) n none
       ∙ ap (λ b. cond b (Some p.version) None) (bool-off (is_eq (nat_cmp p.name n)) (λ e. d (sym (is_eq-same nat_cmp nat-order p.name n e))))
       ∙ sym none
-  | inr some ↦ version_in-append_some nat_cmp ps (p ∷ []) n some.0 some.1 ∙ sym some.1
+  | inr some ↦ version_pinned-append_some nat_cmp ps (p ∷ []) n some.0 some.1 ∙ sym some.1
 ]
 
-pub first-step : (old new : List (Option ℕ)) (f : Frame) (ps : List (Pin ℕ ℕ)) → TakesFirst old new f → ((n : ℕ) → taken_at old n ≡ version_in nat_cmp ps n) → (n : ℕ) → taken_at new n ≡ version_in nat_cmp (ps ++ pin_at f ∷ []) n
-first-step old new f ps h same n = elim (option_cases (version_in nat_cmp ps n)) [
+pub first-step : (old new : List (Option ℕ)) (f : Frame) (ps : List (Pin ℕ ℕ)) → TakesFirst old new f → ((n : ℕ) → taken_at old n ≡ version_pinned nat_cmp ps n) → (n : ℕ) → taken_at new n ≡ version_pinned nat_cmp (ps ++ pin_at f ∷ []) n
+first-step old new f ps h same n = elim (option_cases (version_pinned nat_cmp ps n)) [
   | inl none ↦ elim (nat_cases n f.name) [
     | inl e ↦
-        let free : version_in nat_cmp ps f.name ≡ None = sym (ap (version_in nat_cmp ps) e) ∙ none in
-        ap (taken_at new) e ∙ h.own (same f.name ∙ free) ∙ sym (version_in-last nat_cmp nat-order ps (pin_at f) free) ∙ ap (version_in nat_cmp (ps ++ pin_at f ∷ [])) (sym e)
-    | inr d ↦ h.others n d ∙ same n ∙ sym (version_in-other ps (pin_at f) n d)
+        let free : version_pinned nat_cmp ps f.name ≡ None = sym (ap (version_pinned nat_cmp ps) e) ∙ none in
+        ap (taken_at new) e ∙ h.own (same f.name ∙ free) ∙ sym (version_pinned-last nat_cmp nat-order ps (pin_at f) free) ∙ ap (version_pinned nat_cmp (ps ++ pin_at f ∷ [])) (sym e)
+    | inr d ↦ h.others n d ∙ same n ∙ sym (version_pinned-other ps (pin_at f) n d)
   ]
-  | inr some ↦ h.kept n some.0 (same n ∙ some.1) ∙ sym (version_in-append_some nat_cmp ps (pin_at f ∷ []) n some.0 some.1)
+  | inr some ↦ h.kept n some.0 (same n ∙ some.1) ∙ sym (version_pinned-append_some nat_cmp ps (pin_at f ∷ []) n some.0 some.1)
 ]
 
-pub first-more : (old new : List (Option ℕ)) (fs : List Frame) (i : ℕ) (f : Frame) → i < length fs → f ≡ get_or fs i f → TakesFirst old new f → ((n : ℕ) → taken_at old n ≡ version_in nat_cmp (pins_of (take i fs)) n) → (n : ℕ) → taken_at new n ≡ version_in nat_cmp (pins_of (take (i + 1) fs)) n
+pub first-more : (old new : List (Option ℕ)) (fs : List Frame) (i : ℕ) (f : Frame) → i < length fs → f ≡ get_or fs i f → TakesFirst old new f → ((n : ℕ) → taken_at old n ≡ version_pinned nat_cmp (pins_of (take i fs)) n) → (n : ℕ) → taken_at new n ≡ version_pinned nat_cmp (pins_of (take (i + 1) fs)) n
 first-more old new fs i f l is h same n = rw add-one (first-step old new f (pins_of (take i fs)) h same n
-    ∙ ap (λ ps. version_in nat_cmp ps n) (sym (ap pins_of (take-more fs i f l is) ∙ pins_of-push (take i fs) f)))
+    ∙ ap (λ ps. version_pinned nat_cmp ps n) (sym (ap pins_of (take-more fs i f l is) ∙ pins_of-push (take i fs) f)))
 
 -- ---- the choices in the order of their names
 
@@ -107,9 +107,9 @@ listed-push chosen bound place cs h e =
         | inr f ↦ subst (λ (x : Choice). x.name < bound + 1) f (omega arith)
       ];
       same = λ n l. elim (nat_less bound n (omega arith)) [
-        | inl low ↦ ap (λ ps. version_in nat_cmp ps n) (map-append pin_of cs (c ∷ [])) ∙ version_in-other (map pin_of cs) (pin_of c) n (λ f. omega arith) ∙ h.same n low
+        | inl low ↦ ap (λ ps. version_pinned nat_cmp ps n) (map-append pin_of cs (c ∷ [])) ∙ version_pinned-other (map pin_of cs) (pin_of c) n (λ f. omega arith) ∙ h.same n low
         | inr at ↦ subst (λ m. place_in (cs ++ c ∷ []) m ≡ chosen m) at
-            (ap (λ ps. version_in nat_cmp ps bound) (map-append pin_of cs (c ∷ [])) ∙ version_in-last nat_cmp nat-order (map pin_of cs) (pin_of c) (beyond chosen bound cs bound h (omega arith)) ∙ sym e)
+            (ap (λ ps. version_pinned nat_cmp ps bound) (map-append pin_of cs (c ∷ [])) ∙ version_pinned-last nat_cmp nat-order (map pin_of cs) (pin_of c) (beyond chosen bound cs bound h (omega arith)) ∙ sym e)
       ];
       ascending = ascending-push cs c h.ascending (λ d i. h.below d i);
     }
@@ -144,5 +144,5 @@ listed chosen (suc bound) =
     ]
 
 -- the list of what is taken is the map of the frames
-pub taken-same : (seen items : List (Option ℕ)) (frames fs : List Frame) → seen ≡ items → frames ≡ fs → ((n : ℕ) → taken_at items n ≡ version_in nat_cmp (pins_of frames) n) → taken_at seen ≡ version_in nat_cmp (pins_of fs)
-taken-same seen items frames fs e f h = ap taken_at e ∙ (λ i n. h n i) ∙ ap (λ xs. version_in nat_cmp (pins_of xs)) f
+pub taken-same : (seen items : List (Option ℕ)) (frames fs : List Frame) → seen ≡ items → frames ≡ fs → ((n : ℕ) → taken_at items n ≡ version_pinned nat_cmp (pins_of frames) n) → taken_at seen ≡ version_pinned nat_cmp (pins_of fs)
+taken-same seen items frames fs e f h = ap taken_at e ∙ (λ i n. h n i) ∙ ap (λ xs. version_pinned nat_cmp (pins_of xs)) f

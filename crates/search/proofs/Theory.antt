@@ -5,7 +5,7 @@ use Rattle.std.specs.Cmp.{Equal-is}
 use Rattle.std.proofs.lemmas.Cmp.{tied_itself}
 use Rattle.lists.proofs.Members.{Contains-here, Contains-there}
 use Rattle.search.specs.Rules.{Rules, IsOrder, IsLawful}
-use Rattle.search.specs.Solutions.{Pin, Needed, by_line, by_dependency, IsNeededName, IsMet, Solution, version_in, IsNext, Has}
+use Rattle.search.specs.Solutions.{Pin, Needed, by_line, by_dependency, IsNeededName, IsMet, Solution, version_pinned, IsNext, Has}
 use Rattle.search.specs.Search.{IsRefuted, IsComplete}
 
 -- ---- maps made of choices
@@ -20,20 +20,20 @@ cond_append : {V : Type 0} (b : Bool) (v : V) (x y : Option V) (z : Option V) �
 cond_append true v x y z h w e = e
 cond_append false v x y z h w e = h w e
 
-pub version_in-append_some : {N V : Type 0} (compare : N → N → Ordering) (xs ys : List (Pin N V)) (n : N) (w : V) → version_in compare xs n ≡ Some w → version_in compare (xs ++ ys) n ≡ Some w
-version_in-append_some compare [] ys n w e = absurd (cc)
-version_in-append_some compare (c ∷ cs) ys n w e = cond_append (is_eq (compare c.name n)) c.version (version_in compare cs n) (version_in compare (cs ++ ys) n) None (λ v h. version_in-append_some compare cs ys n v h) w e
+pub version_pinned-append_some : {N V : Type 0} (compare : N → N → Ordering) (xs ys : List (Pin N V)) (n : N) (w : V) → version_pinned compare xs n ≡ Some w → version_pinned compare (xs ++ ys) n ≡ Some w
+version_pinned-append_some compare [] ys n w e = absurd (cc)
+version_pinned-append_some compare (c ∷ cs) ys n w e = cond_append (is_eq (compare c.name n)) c.version (version_pinned compare cs n) (version_pinned compare (cs ++ ys) n) None (λ v h. version_pinned-append_some compare cs ys n v h) w e
 
 cond_none : {V : Type 0} (b : Bool) (v : V) (x y z : Option V) → (x ≡ None → y ≡ z) → cond b (Some v) x ≡ None → cond b (Some v) y ≡ z
 cond_none true v x y z h e = absurd (cc)
 cond_none false v x y z h e = h e
 
-pub version_in-append_none : {N V : Type 0} (compare : N → N → Ordering) (xs ys : List (Pin N V)) (n : N) → version_in compare xs n ≡ None → version_in compare (xs ++ ys) n ≡ version_in compare ys n
-version_in-append_none compare [] ys n e = refl
-version_in-append_none compare (c ∷ cs) ys n e = cond_none (is_eq (compare c.name n)) c.version (version_in compare cs n) (version_in compare (cs ++ ys) n) (version_in compare ys n) (λ h. version_in-append_none compare cs ys n h) e
+pub version_pinned-append_none : {N V : Type 0} (compare : N → N → Ordering) (xs ys : List (Pin N V)) (n : N) → version_pinned compare xs n ≡ None → version_pinned compare (xs ++ ys) n ≡ version_pinned compare ys n
+version_pinned-append_none compare [] ys n e = refl
+version_pinned-append_none compare (c ∷ cs) ys n e = cond_none (is_eq (compare c.name n)) c.version (version_pinned compare cs n) (version_pinned compare (cs ++ ys) n) (version_pinned compare ys n) (λ h. version_pinned-append_none compare cs ys n h) e
 
-pub version_in-last : {N V : Type 0} (compare : N → N → Ordering) (order : IsOrder compare) (xs : List (Pin N V)) (c : Pin N V) → version_in compare xs c.name ≡ None → version_in compare (xs ++ c ∷ []) c.name ≡ Some c.version
-version_in-last compare order xs c e = version_in-append_none compare xs (c ∷ []) c.name e ∙ ap (λ b. cond b (Some c.version) None) (is_eq-self compare order c.name)
+pub version_pinned-last : {N V : Type 0} (compare : N → N → Ordering) (order : IsOrder compare) (xs : List (Pin N V)) (c : Pin N V) → version_pinned compare xs c.name ≡ None → version_pinned compare (xs ++ c ∷ []) c.name ≡ Some c.version
+version_pinned-last compare order xs c e = version_pinned-append_none compare xs (c ∷ []) c.name e ∙ ap (λ b. cond b (Some c.version) None) (is_eq-self compare order c.name)
 
 cond_push : {V : Type 0} (b : Bool) (v w : V) → cond b (Some v) None ≡ Some w → (b ≡ true) × (v ≡ w)
 cond_push true v w e = (refl, cc)
@@ -44,37 +44,37 @@ option_cases None = inl refl
 option_cases (Some v) = inr (v, refl)
 
 -- what a pushed choice adds
-pub version_in-push_cases : {N V : Type 0} (compare : N → N → Ordering) (order : IsOrder compare) (xs : List (Pin N V)) (c : Pin N V) (n : N) (w : V) → version_in compare (xs ++ c ∷ []) n ≡ Some w → (version_in compare xs n ≡ Some w) ⊎ ((c.name ≡ n) × (c.version ≡ w))
-version_in-push_cases compare order xs c n w e = elim (option_cases (version_in compare xs n)) [
+pub version_pinned-push_cases : {N V : Type 0} (compare : N → N → Ordering) (order : IsOrder compare) (xs : List (Pin N V)) (c : Pin N V) (n : N) (w : V) → version_pinned compare (xs ++ c ∷ []) n ≡ Some w → (version_pinned compare xs n ≡ Some w) ⊎ ((c.name ≡ n) × (c.version ≡ w))
+version_pinned-push_cases compare order xs c n w e = elim (option_cases (version_pinned compare xs n)) [
   | inl none ↦
-      let k : (is_eq (compare c.name n) ≡ true) × (c.version ≡ w) = cond_push (is_eq (compare c.name n)) c.version w (sym (version_in-append_none compare xs (c ∷ []) n none) ∙ e) in
+      let k : (is_eq (compare c.name n) ≡ true) × (c.version ≡ w) = cond_push (is_eq (compare c.name n)) c.version w (sym (version_pinned-append_none compare xs (c ∷ []) n none) ∙ e) in
       inr (is_eq-same compare order c.name n k.0, k.1)
-  | inr some ↦ inl (some.1 ∙ sym (version_in-append_some compare xs (c ∷ []) n some.0 some.1) ∙ e)
+  | inr some ↦ inl (some.1 ∙ sym (version_pinned-append_some compare xs (c ∷ []) n some.0 some.1) ∙ e)
 ]
 
 cond_some : {V : Type 0} (b : Bool) (v w : V) (x : Option V) → cond b (Some v) x ≡ Some w → ((b ≡ true) × (v ≡ w)) ⊎ (x ≡ Some w)
 cond_some true v w x e = inl (refl, cc)
 cond_some false v w x e = inr e
 
-pub version_in-cons_cases : {N V : Type 0} (compare : N → N → Ordering) → IsOrder compare → (c : Pin N V) (cs : List (Pin N V)) (n : N) (w : V) → version_in compare (c ∷ cs) n ≡ Some w → ((c.name ≡ n) × (c.version ≡ w)) ⊎ (version_in compare cs n ≡ Some w)
-version_in-cons_cases compare order c cs n w e = elim (cond_some (is_eq (compare c.name n)) c.version w (version_in compare cs n) e) [
+pub version_pinned-cons_cases : {N V : Type 0} (compare : N → N → Ordering) → IsOrder compare → (c : Pin N V) (cs : List (Pin N V)) (n : N) (w : V) → version_pinned compare (c ∷ cs) n ≡ Some w → ((c.name ≡ n) × (c.version ≡ w)) ⊎ (version_pinned compare cs n ≡ Some w)
+version_pinned-cons_cases compare order c cs n w e = elim (cond_some (is_eq (compare c.name n)) c.version w (version_pinned compare cs n) e) [
   | inl a ↦ inl (is_eq-same compare order c.name n a.0, a.1)
   | inr b ↦ inr b
 ]
 
 -- a name that has a version has a pin
-pub pin-member : {N V : Type 0} (compare : N → N → Ordering) → IsOrder compare → (ps : List (Pin N V)) (n : N) (v : V) → version_in compare ps n ≡ Some v → (p : Pin N V) × Contains ps p × (p.name ≡ n)
+pub pin-member : {N V : Type 0} (compare : N → N → Ordering) → IsOrder compare → (ps : List (Pin N V)) (n : N) (v : V) → version_pinned compare ps n ≡ Some v → (p : Pin N V) × Contains ps p × (p.name ≡ n)
 pin-member compare order [] n v e = absurd (cc)
-pin-member {N} {V} compare order (p ∷ ps) n v e = elim (version_in-cons_cases compare order p ps n v e) [
+pin-member {N} {V} compare order (p ∷ ps) n v e = elim (version_pinned-cons_cases compare order p ps n v e) [
   | inl a ↦ (p, Contains-here p ps, a.0)
   | inr b ↦ let k : (q : Pin N V) × Contains ps q × (q.name ≡ n) = pin-member compare order ps n v b in (k.0, Contains-there p ps k.0 k.1, k.2)
 ]
 
 pub Has-front : {N X V R : Type 0} (rules : Rules N X V R) (s : N → Option V) (xs ys : List (Pin N V)) → Has rules s (xs ++ ys) → Has rules s xs
-Has-front rules s xs ys h n v e = h n v (version_in-append_some rules.compare xs ys n v e)
+Has-front rules s xs ys h n v e = h n v (version_pinned-append_some rules.compare xs ys n v e)
 
 pub Has-push : {N X V R : Type 0} (rules : Rules N X V R) (order : IsOrder rules.compare) (s : N → Option V) (xs : List (Pin N V)) (c : Pin N V) → Has rules s xs → s c.name ≡ Some c.version → Has rules s (xs ++ c ∷ [])
-Has-push rules order s xs c h e n v k = elim (version_in-push_cases rules.compare order xs c n v k) [
+Has-push rules order s xs c h e n v k = elim (version_pinned-push_cases rules.compare order xs c n v k) [
   | inl a ↦ h n v a
   | inr b ↦ sym (ap s b.0) ∙ e ∙ ap (λ w. Some w) b.1
 ]
@@ -100,7 +100,7 @@ Needed-in_solution {N} {X} {V} rules law t s _ (by_dependency link v r node k e 
 pub next-in_solution : {N X V R : Type 0} (rules : Rules N X V R) (law : IsLawful rules) (t : N → Option V) (taken : List (Pin N V)) (n : N) → Solution rules t → Has rules t taken → IsNext rules taken n → (w : V) × (t n ≡ Some w) × Contains (rules.candidates n) w
 next-in_solution {N} {X} {V} rules law t taken n s h next =
     let node : X = next.needed.0 in
-    let k : Needed rules t node = Needed-more rules (version_in rules.compare taken) t h node next.needed.1 in
+    let k : Needed rules t node = Needed-more rules (version_pinned rules.compare taken) t h node next.needed.1 in
     let v : (v : V) × (t (rules.on node) ≡ Some v) = Needed-in_solution rules law t s node k in
     let e : t n ≡ Some v.0 = sym (ap t next.needed.2) ∙ v.1 in
     (v.0, e, s.released n v.0 e)
@@ -109,16 +109,16 @@ pub some-inj : {V : Type 0} (v w : V) → Some v ≡ Some w → v ≡ w
 some-inj v w e = cc
 
 -- what is taken contradicts a requirement that counts, so no solution has it
-pub clash-line : {N X V R : Type 0} (rules : Rules N X V R) (taken : List (Pin N V)) (r : R) (w : V) → Contains rules.lines r → version_in rules.compare taken (rules.name r) ≡ Some w → rules.admits r w ≡ false → IsRefuted rules taken
+pub clash-line : {N X V R : Type 0} (rules : Rules N X V R) (taken : List (Pin N V)) (r : R) (w : V) → Contains rules.lines r → version_pinned rules.compare taken (rules.name r) ≡ Some w → rules.admits r w ≡ false → IsRefuted rules taken
 clash-line {N} {X} {V} rules taken r w l e bad t s h =
     let m : IsMet rules t r = s.lines_met r l in
     let v : m.0 ≡ w = some-inj m.0 w (sym m.1 ∙ h (rules.name r) w e) in
     let k : rules.admits r w ≡ true = subst (λ x. rules.admits r x ≡ true) v m.2 in
     absurd (cc)
 
-pub clash-dependency : {N X V R : Type 0} (rules : Rules N X V R) (taken : List (Pin N V)) (node : X) (v : V) (r : R) (w : V) → Needed rules (version_in rules.compare taken) node → version_in rules.compare taken (rules.on node) ≡ Some v → Contains (rules.wants node v) r → version_in rules.compare taken (rules.name r) ≡ Some w → rules.admits r w ≡ false → IsRefuted rules taken
+pub clash-dependency : {N X V R : Type 0} (rules : Rules N X V R) (taken : List (Pin N V)) (node : X) (v : V) (r : R) (w : V) → Needed rules (version_pinned rules.compare taken) node → version_pinned rules.compare taken (rules.on node) ≡ Some v → Contains (rules.wants node v) r → version_pinned rules.compare taken (rules.name r) ≡ Some w → rules.admits r w ≡ false → IsRefuted rules taken
 clash-dependency {N} {X} {V} rules taken node v r w k e want f bad t s h =
-    let m : IsMet rules t r = s.dependencies_met node v r (Needed-more rules (version_in rules.compare taken) t h node k) (h (rules.on node) v e) want in
+    let m : IsMet rules t r = s.dependencies_met node v r (Needed-more rules (version_pinned rules.compare taken) t h node k) (h (rules.on node) v e) want in
     let v : m.0 ≡ w = some-inj m.0 w (sym m.1 ∙ h (rules.name r) w f) in
     let k : rules.admits r w ≡ true = subst (λ x. rules.admits r x ≡ true) v m.2 in
     absurd (cc)

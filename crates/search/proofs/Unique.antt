@@ -2,9 +2,9 @@
 use Rattle.std.proofs.Common.{List, [], ◌∷◌, ◌++◌, ◌≡◌, ◌≢◌, inl, inr, Contains, refl, sym, ◌∙◌, ap, subst, subst₂, Some, Option, Greater, Less, Equal, Ordering, append_assoc, append-nil, ap₂}
 use Rattle.std.specs.Ordering.{ordering_reverse}
 use Rattle.lists.proofs.Members.{Contains-here, Contains-there}
-use Rattle.search.proofs.Theory.{version_in-last, version_in-append_some, some-inj}
+use Rattle.search.proofs.Theory.{version_pinned-last, version_pinned-append_some, some-inj}
 use Rattle.search.specs.Rules.{Rules, IsOrder}
-use Rattle.search.specs.Solutions.{Pin, IsNext, IsWalk, Has, ComesFirst, IsBetter, IsBest, Solution, version_in}
+use Rattle.search.specs.Solutions.{Pin, IsNext, IsWalk, Has, ComesFirst, IsBetter, IsBest, Solution, version_pinned}
 
 tied : (o p : Ordering) → o ≡ ordering_reverse p → o ≢ Greater → p ≢ Greater → o ≡ Equal
 tied Less Less e h k = cc
@@ -32,7 +32,7 @@ ComesFirst-not_both : {V : Type 0} (cs : List V) (v w : V) → ComesFirst cs v w
 ComesFirst-not_both cs v w f g = first-not_both cs f.0 g.0 f.1 g.1 v w f.2 g.2 f.3 g.3 f.4
 
 chosen-first : {N X V R : Type 0} (rules : Rules N X V R) (order : IsOrder rules.compare) (s : N → Option V) (before : List (Pin N V)) (c : Pin N V) (cs : List (Pin N V)) → IsNext rules before c.name → Has rules s (before ++ c ∷ cs) → s c.name ≡ Some c.version
-chosen-first {N} {X} {V} rules order s before c cs next has = has c.name c.version (subst (λ xs. version_in rules.compare xs c.name ≡ Some c.version) (append_assoc before (c ∷ []) cs) (version_in-append_some rules.compare (before ++ c ∷ []) cs c.name c.version (version_in-last rules.compare order before c next.free)))
+chosen-first {N} {X} {V} rules order s before c cs next has = has c.name c.version (subst (λ xs. version_pinned rules.compare xs c.name ≡ Some c.version) (append_assoc before (c ∷ []) cs) (version_pinned-append_some rules.compare (before ++ c ∷ []) cs c.name c.version (version_pinned-last rules.compare order before c next.free)))
 
 -- where one walk ends at a name on which two solutions differ, another walk that both have doesn't go on, and ends alike
 walks-end : {N X V R : Type 0} (rules : Rules N X V R) (order : IsOrder rules.compare) (s t : N → Option V) (before us ws : List (Pin N V)) (n m : N) (v w x y : V) → IsWalk rules before us → IsWalk rules before ws → Has rules s (before ++ us) → Has rules t (before ++ us) → Has rules s (before ++ ws) → Has rules t (before ++ ws) → IsNext rules (before ++ us) n → IsNext rules (before ++ ws) m → s n ≡ Some v → t n ≡ Some w → s m ≡ Some x → t m ≡ Some y → v ≢ w → x ≢ y → n ≡ m

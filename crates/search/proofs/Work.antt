@@ -6,12 +6,12 @@ use Rattle.search.proofs.Least.{nat-order}
 use Rattle.lists.proofs.Members.{Contains-here, Contains-cons_cases, Contains-nil, Contains-map_of, map-append}
 use Rattle.search.proofs.Ranges.{nodes-own}
 use Rattle.search.proofs.Stack.{IsSearch-pop}
-use Rattle.search.proofs.Theory.{version_in-append_some, version_in-last}
+use Rattle.search.proofs.Theory.{version_pinned-append_some, version_pinned-last}
 use Rattle.search.specs.declared.parts.Frame.{Frame}
 use Rattle.search.specs.Nodes.{Distinct}
 use Rattle.search.specs.Rules.{Rules, IsLawful}
 use Rattle.search.specs.Search.{pin_at, pins_of, IsSearch, IsFrame}
-use Rattle.search.specs.Solutions.{Pin, version_in}
+use Rattle.search.specs.Solutions.{Pin, version_pinned}
 use Rattle.search.specs.Steps.{IsForward}
 use Rattle.search.specs.Table.{TableParts, rules_of, requirement_at, candidates_of, in_range}
 
@@ -20,17 +20,17 @@ use Rattle.search.specs.Table.{TableParts, rules_of, requirement_at, candidates_
 abbrev pub names_of : List Frame → List ℕ
 names_of fs = map (λ f. f.name) fs
 
-not_taken : (rules : Rules ℕ ℕ ℕ ℕ) (law : IsLawful rules) (before : List (Pin ℕ ℕ)) (fs : List Frame) (n : ℕ) (v : ℕ) → IsSearch rules before fs → version_in rules.compare before n ≡ Some v → Contains (names_of fs) n → ⊥
+not_taken : (rules : Rules ℕ ℕ ℕ ℕ) (law : IsLawful rules) (before : List (Pin ℕ ℕ)) (fs : List Frame) (n : ℕ) (v : ℕ) → IsSearch rules before fs → version_pinned rules.compare before n ≡ Some v → Contains (names_of fs) n → ⊥
 not_taken rules law before [] n v h e i = Contains-nil n i
 not_taken rules law before (f ∷ fs) n v h e i = elim (Contains-cons_cases f.name (names_of fs) n i) [
-  | inl s ↦ let k : None ≡ Some v = sym h.0.next.free ∙ ap (version_in rules.compare before) s ∙ e in absurd (cc)
-  | inr r ↦ not_taken rules law (before ++ pin_at f ∷ []) fs n v h.1 (version_in-append_some rules.compare before (pin_at f ∷ []) n v e) r
+  | inl s ↦ let k : None ≡ Some v = sym h.0.next.free ∙ ap (version_pinned rules.compare before) s ∙ e in absurd (cc)
+  | inr r ↦ not_taken rules law (before ++ pin_at f ∷ []) fs n v h.1 (version_pinned-append_some rules.compare before (pin_at f ∷ []) n v e) r
 ]
 
 names-distinct : (rules : Rules ℕ ℕ ℕ ℕ) (law : IsLawful rules) (before : List (Pin ℕ ℕ)) (fs : List Frame) → IsSearch rules before fs → Distinct (names_of fs)
 names-distinct rules law before [] h = tt
 names-distinct rules law before (f ∷ fs) h = (
-  not_taken rules law (before ++ pin_at f ∷ []) fs f.name f.place h.1 (version_in-last rules.compare law.order before (pin_at f) h.0.next.free),
+  not_taken rules law (before ++ pin_at f ∷ []) fs f.name f.place h.1 (version_pinned-last rules.compare law.order before (pin_at f) h.0.next.free),
   names-distinct rules law (before ++ pin_at f ∷ []) fs h.1,
 )
 

@@ -9,7 +9,7 @@ use Rattle.search.specs.declared.parts.Since.{Since}
 use Rattle.search.specs.Nodes.{IsClosing, nodes_linked, wants_linked}
 use Rattle.search.specs.Rules.{Rules}
 use Rattle.search.specs.Search.{taken_at, pins_of, clash_in, IsAsked, AreNeeded, AreAsked}
-use Rattle.search.specs.Solutions.{version_in}
+use Rattle.search.specs.Solutions.{version_pinned}
 use Rattle.search.specs.Table.{TableParts, rules_of}
 
 -- the requirements of a walk, as far as the first `at` nodes have been followed
@@ -42,4 +42,4 @@ pub record IsFront (t : TableParts) (front : Front) : Type 0 where
 -- and it takes what the frames take
 pub record IsFrontOf (t : TableParts) (frames : List Frame) (front : Front) : Type 0 where
   pub stands : IsFront t front
-  pub same : (n : ℕ) → taken_at front.taken.items n ≡ version_in nat_cmp (pins_of frames) n
+  pub same : (n : ℕ) → taken_at front.taken.items n ≡ version_pinned nat_cmp (pins_of frames) n

@@ -13,7 +13,7 @@ use Rattle.search.specs.Agendas.{AreRowed, IsWatched}
 use Rattle.search.specs.Gathering.{IsCompleted, choice_at, decision}
 use Rattle.search.specs.Rules.{Rules}
 use Rattle.search.specs.Search.{pins_of}
-use Rattle.search.specs.Solutions.{Pin, Needed, IsNext, version_in}
+use Rattle.search.specs.Solutions.{Pin, Needed, IsNext, version_pinned}
 use Rattle.search.specs.Table.{TableParts, rules_of, name_of}
 
 abbrev pub decision_of : Held → NodeChoice ℕ ℕ
@@ -37,7 +37,7 @@ abbrev pub names_held : Rules ℕ ℕ ℕ ℕ → List Held → List (Pin ℕ �
 names_held rules hs = pins_of (frames_held rules hs)
 
 abbrev pub chosen_held : Rules ℕ ℕ ℕ ℕ → List Held → ℕ → Option ℕ
-chosen_held rules hs = version_in rules.compare (names_held rules hs)
+chosen_held rules hs = version_pinned rules.compare (names_held rules hs)
 
 -- for each name the first choice on it
 abbrev pub with_leader : Rules ℕ ℕ ℕ ℕ → Bool → Held → List (Pin ℕ (NodeChoice ℕ ℕ)) → List (Pin ℕ (NodeChoice ℕ ℕ))
@@ -51,7 +51,7 @@ leaders_held rules (h ∷ hs) = with_leader rules h.trial.leads h (leaders_held 
 -- the node is on the next name; or its name has a version
 abbrev pub IsInTurn : Rules ℕ ℕ ℕ ℕ → List (Pin ℕ ℕ) → ℕ → Bool → Type 0
 IsInTurn rules taken node true = IsNext rules taken (rules.on node)
-IsInTurn rules taken node false = (v : ℕ) × (version_in rules.compare taken (rules.on node) ≡ Some v)
+IsInTurn rules taken node false = (v : ℕ) × (version_pinned rules.compare taken (rules.on node) ≡ Some v)
 
 -- a line needs the node, or one of the choices, this one, does
 abbrev pub IsNeededBy : Rules ℕ ℕ ℕ ℕ → List (NodeChoice ℕ ℕ) → ℕ → Option (NodeChoice ℕ ℕ) → Type 0
@@ -113,12 +113,12 @@ asks_held rules (h ∷ hs) = asks_by rules h ++ asks_held rules hs
 abbrev pub asks_of : Rules ℕ ℕ ℕ ℕ → List Held → List Ask
 asks_of rules hs = map (ask_of None) rules.lines ++ asks_held rules hs
 
-abbrev pub entry_of : Held → ℕ × ℕ
-entry_of h = (h.trial.node, h.place)
+abbrev pub held_entry : Held → ℕ × ℕ
+held_entry h = (h.trial.node, h.place)
 
 abbrev pub entries_of : List Held → List (ℕ × ℕ)
 entries_of [] = []
-entries_of (h ∷ hs) = entry_of h ∷ entries_of hs
+entries_of (h ∷ hs) = held_entry h ∷ entries_of hs
 
 abbrev pub first_at : List (Option (NodeChoice ℕ ℕ)) → ℕ → Option (NodeChoice ℕ ℕ)
 first_at taken n = slice_index_or taken n None
@@ -126,11 +126,11 @@ first_at taken n = slice_index_or taken n None
 pub record IsPartial (t : TableParts) (p : Partial) : Type 0 where
   pub choices : p.choices.entries ≡ entries_of p.held.items
   pub room : length p.taken.items ≡ length t.candidates
-  pub taken : (n : ℕ) → first_at p.taken.items n ≡ version_in nat_cmp (leaders_held (rules_of t) p.held.items) n
+  pub taken : (n : ℕ) → first_at p.taken.items n ≡ version_pinned nat_cmp (leaders_held (rules_of t) p.held.items) n
   pub asks : p.agenda.asks.items ≡ asks_of (rules_of t) p.held.items
   pub rowed : AreRowed t p.agenda
   pub watched : IsWatched t p.agenda p.taken.items (map choice_at p.choices.entries)
 
 -- the last choice is at a node of the table; where it leads, its name had no choice before
 abbrev pub LastIsNew : TableParts → List Held → Type 0
-LastIsNew t hs = (front : List Held) (last : Held) → hs ≡ front ++ last ∷ [] → (last.trial.node < length t.nodes) × (last.trial.leads ≡ true → version_in nat_cmp (leaders_held (rules_of t) front) (name_of t last.trial.node) ≡ None)
+LastIsNew t hs = (front : List Held) (last : Held) → hs ≡ front ++ last ∷ [] → (last.trial.node < length t.nodes) × (last.trial.leads ≡ true → version_pinned nat_cmp (leaders_held (rules_of t) front) (name_of t last.trial.node) ≡ None)

@@ -5,7 +5,7 @@ use Rattle.std.specs.Ordering.{nat_cmp}
 use Rattle.search.specs.declared.parts.Choice.{Choice}
 use Rattle.search.specs.Rules.{Rules}
 use Rattle.search.specs.Solutions.{Pin}
-use Rattle.search.specs.Table.{TableParts, requirement_at, name_of, nodes_of, admits_at, wants_at, candidates_of, pin_of}
+use Rattle.search.specs.Table.{TableParts, requirement_at, name_of, asked_nodes, admits_at, wants_at, candidates_of, pin_of}
 
 -- what each number stands for; a version by the number of its name and its place
 pub record Picture (N X V R : Type 0) : Type 0 where
@@ -22,7 +22,7 @@ name_asked t r = name_of t (requirement_at t r).node
 pub record IsPicture {N X V R : Type 0} (t : TableParts) (picture : Picture N X V R) (rules : Rules N X V R) : Type 0 where
   pub lines : rules.lines ≡ map picture.requirement t.lines
   pub asked : (r : ℕ) → r < length t.requirements → rules.name (picture.requirement r) ≡ picture.name (name_asked t r)
-  pub nodes : (r : ℕ) → r < length t.requirements → rules.nodes (picture.requirement r) ≡ map picture.node (nodes_of (requirement_at t r))
+  pub nodes : (r : ℕ) → r < length t.requirements → rules.nodes (picture.requirement r) ≡ map picture.node (asked_nodes (requirement_at t r))
   pub on : (node : ℕ) → node < length t.nodes → rules.on (picture.node node) ≡ picture.name (name_of t node)
   pub admits : (r place : ℕ) → r < length t.requirements → Contains (candidates_of t (name_asked t r)) place → rules.admits (picture.requirement r) (picture.version (name_asked t r) place) ≡ admits_at t r place
   pub wants : (node place : ℕ) → node < length t.nodes → Contains (candidates_of t (name_of t node)) place → rules.wants (picture.node node) (picture.version (name_of t node) place) ≡ map picture.requirement (wants_at t node place)

@@ -32,15 +32,15 @@ pub record Pin (N V : Type 0) : Type 0 where
   pub version : V
 
 -- the map that pins make: at a name, the first pin on it
-abbrev pub version_in : {N V : Type 0} → (N → N → Ordering) → List (Pin N V) → N → Option V
-version_in compare [] n = None
-version_in compare (p ∷ ps) n = if is_eq (compare p.name n) then Some p.version else version_in compare ps n
+abbrev pub version_pinned : {N V : Type 0} → (N → N → Ordering) → List (Pin N V) → N → Option V
+version_pinned compare [] n = None
+version_pinned compare (p ∷ ps) n = if is_eq (compare p.name n) then Some p.version else version_pinned compare ps n
 
 -- n is the least name that is needed and not yet taken
 pub record IsNext {N X V R : Type 0} (rules : Rules N X V R) (taken : List (Pin N V)) (n : N) : Type 0 where
-  pub needed : IsNeededName rules (version_in rules.compare taken) n
-  pub free : version_in rules.compare taken n ≡ None
-  pub least : (m : N) → IsNeededName rules (version_in rules.compare taken) m → version_in rules.compare taken m ≡ None → rules.compare n m ≢ Greater
+  pub needed : IsNeededName rules (version_pinned rules.compare taken) n
+  pub free : version_pinned rules.compare taken n ≡ None
+  pub least : (m : N) → IsNeededName rules (version_pinned rules.compare taken) m → version_pinned rules.compare taken m ≡ None → rules.compare n m ≢ Greater
 
 -- behind the pins before, each further pin is on the next name
 abbrev pub IsWalk : {N X V R : Type 0} → Rules N X V R → List (Pin N V) → List (Pin N V) → Type 0
@@ -49,7 +49,7 @@ IsWalk rules before (p ∷ ps) = IsNext rules before p.name × IsWalk rules (bef
 
 -- s has what is taken
 abbrev pub Has : {N X V R : Type 0} → Rules N X V R → (N → Option V) → List (Pin N V) → Type 0
-Has {N} {X} {V} rules s taken = (n : N) (v : V) → version_in rules.compare taken n ≡ Some v → s n ≡ Some v
+Has {N} {X} {V} rules s taken = (n : N) (v : V) → version_pinned rules.compare taken n ≡ Some v → s n ≡ Some v
 
 -- v stands in the list, with no w before it
 abbrev pub ComesFirst : {V : Type 0} → List V → V → V → Type 0

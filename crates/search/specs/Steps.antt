@@ -5,7 +5,7 @@ use Rattle.std.specs.List.{Contains, slice_index_or}
 use Rattle.search.specs.declared.parts.Frame.{Frame}
 use Rattle.search.specs.declared.parts.Step.{Step}
 use Rattle.search.specs.declared.parts.Step.TheVariants.{Complete, Entered, Refuted}
-use Rattle.search.specs.Solutions.{version_in}
+use Rattle.search.specs.Solutions.{version_pinned}
 use Rattle.search.specs.Search.{pins_of, IsSearch, IsRefuted, IsComplete}
 use Rattle.search.specs.Table.{TableParts, rules_of, candidates_of}
 
@@ -33,7 +33,7 @@ pub record IsForward (old new : List Frame) : Type 0 where
   pub later : next.turn ≡ last.turn + 1
 
 abbrev pub IsStep : TableParts → List Frame → List Frame → Step → Type 0
-IsStep t old new Complete = (new ≡ old) × IsComplete (rules_of t) (version_in (rules_of t).compare (pins_of old))
+IsStep t old new Complete = (new ≡ old) × IsComplete (rules_of t) (version_pinned (rules_of t).compare (pins_of old))
 IsStep t old new Refuted = (new ≡ old) × IsRefuted (rules_of t) (pins_of old)
 IsStep t old new Entered = (f : Frame) × (new ≡ old ++ f ∷ []) × IsSearch (rules_of t) [] new
 

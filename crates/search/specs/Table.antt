@@ -5,7 +5,7 @@ use Rattle.std.specs.Ordering.{nat_cmp}
 use Rattle.search.specs.declared.parts.Requirement.{Requirement}
 use Rattle.search.specs.declared.parts.Choice.{Choice}
 use Rattle.search.specs.Rules.{Rules}
-use Rattle.search.specs.Solutions.{Pin, version_in}
+use Rattle.search.specs.Solutions.{Pin, version_pinned}
 
 -- Names, nodes, requirements and a name's releases are numbers from 0 on: the place of each in its list. A release is told by its place alone.
 pub record TableParts : Type 0 where
@@ -29,8 +29,8 @@ abbrev pub name_of : TableParts → ℕ → ℕ
 name_of t = name_at t.nodes
 
 -- the nodes that a requirement needs
-abbrev pub nodes_of : Requirement → List ℕ
-nodes_of r = r.node ∷ r.more
+abbrev pub asked_nodes : Requirement → List ℕ
+asked_nodes r = r.node ∷ r.more
 
 -- whether a requirement admits the release at a place; none where nothing is said of it
 abbrev pub admits_at : TableParts → ℕ → ℕ → Bool
@@ -48,7 +48,7 @@ abbrev pub rules_of : TableParts → Rules ℕ ℕ ℕ ℕ
 rules_of t = record {
   lines = t.lines;
   name = λ r. name_of t (requirement_at t r).node;
-  nodes = λ r. nodes_of (requirement_at t r);
+  nodes = λ r. asked_nodes (requirement_at t r);
   on = name_of t;
   admits = admits_at t;
   wants = wants_at t;
@@ -81,7 +81,7 @@ pin_of c = record { name = c.name; version = c.place }
 
 -- the map that choices make: at a name, the place of the first choice on it
 abbrev pub place_in : List Choice → ℕ → Option ℕ
-place_in cs = version_in nat_cmp (map pin_of cs)
+place_in cs = version_pinned nat_cmp (map pin_of cs)
 
 -- each choice is on a greater name than those before it
 abbrev pub IsAscending : List Choice → Type 0

@@ -8,7 +8,7 @@ ghost use Rattle.search.specs.Agendas.{AreRowed, IsListed, IsWatched, row_at};
 ghost use Rattle.search.specs.Gathering.{choice_at, decision};
 ghost use Rattle.search.specs.Learned.{IsFree, ask_of, first_at};
 ghost use Rattle.search.specs.Ranges.{EachBelow};
-ghost use Rattle.search.specs.Table.{rules_of, nodes_of, requirement_at, in_range};
+ghost use Rattle.search.specs.Table.{rules_of, asked_nodes, requirement_at, in_range};
 
 use crate::conflict::Decision;
 use crate::table::Table;
@@ -64,9 +64,9 @@ pub fn first_free_of(
 ) -> Option<usize>
     requires { requirement < length table.now.requirements }
     ensures { MatchOption result ((node : ℕ)
-        → Contains (nodes_of (requirement_at table.now requirement)) node → (v : ℕ)
+        → Contains (asked_nodes (requirement_at table.now requirement)) node → (v : ℕ)
         × Contains (map choice_at choices.now.entries) (decision node v))
-        (λ node. Contains (nodes_of (requirement_at table.now requirement)) node
+        (λ node. Contains (asked_nodes (requirement_at table.now requirement)) node
         × IsFree (map choice_at choices.now.entries) node) }
 {
     let asked = table.requirement(requirement);

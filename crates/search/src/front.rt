@@ -4,7 +4,7 @@ ghost use Rattle.std.specs.Prelude.{◌≡◌, ◌<◌, ℕ, IfOk, MatchOption, 
 ghost use Rattle.std.specs.Ordering.{nat_cmp};
 ghost use Rattle.search.specs.Front.{IsFront};
 ghost use Rattle.search.specs.Search.{taken_at, pins_of, NoneFree, IsLeastFree};
-ghost use Rattle.search.specs.Solutions.{version_in};
+ghost use Rattle.search.specs.Solutions.{version_pinned};
 ghost use Rattle.search.specs.Steps.{AreKnown, TakesFirst};
 ghost use Rattle.search.specs.Table.{rules_of};
 
@@ -42,7 +42,7 @@ impl Front {
         requires { AreKnown (length table.now.candidates) frames.now }
         ensures front { IfOk result (λ front. IsFront table.now front) }
         ensures same { IfOk result (λ front. (n : ℕ)
-            → taken_at front.taken.items n ≡ version_in nat_cmp (pins_of frames.now) n) }
+            → taken_at front.taken.items n ≡ version_pinned nat_cmp (pins_of frames.now) n) }
     {
         let taken = taken_of(alloc, table, frames)?;
         let mut needed = NodeSet::new(alloc, table.node_count())?;

@@ -5,7 +5,7 @@ ghost use Rattle.std.specs.List.{Contains};
 ghost use Rattle.std.specs.Ordering.{nat_cmp};
 ghost use Rattle.search.specs.Gathering.{IsWithin, choice_at, decision};
 ghost use Rattle.search.specs.Learned.{IsFree, IsPartial, LastIsNew, ask_of, decisions_of, leaders_held};
-ghost use Rattle.search.specs.Solutions.{version_in};
+ghost use Rattle.search.specs.Solutions.{version_pinned};
 ghost use Rattle.search.specs.Table.{rules_of, name_of, in_range};
 
 use crate::agenda::Agenda;
@@ -132,7 +132,7 @@ impl Partial {
         requires known { trial.node < length table.now.nodes }
         requires free { IsFree (decisions_of self.old.held.items) trial.node }
         requires first { trial.leads ≡ true
-            → version_in nat_cmp (leaders_held (rules_of table.now) self.old.held.items) (name_of
+            → version_pinned nat_cmp (leaders_held (rules_of table.now) self.old.held.items) (name_of
             table.now trial.node) ≡ None }
         ensures partial { IfOk result (λ _. IsPartial table.now self.new) }
         ensures held { IfOk result

@@ -7,7 +7,7 @@ ghost use Rattle.search.specs.Gathering.{places_eq};
 ghost use Rattle.search.specs.Known.{AreKnown, AreApart, conflicts_pictured};
 ghost use Rattle.search.specs.Picture.{Picture, IsPicture, pictured};
 ghost use Rattle.search.specs.Rules.{Rules, IsOrder, IsLawful};
-ghost use Rattle.search.specs.Solutions.{Solution, IsBest, IsBetter, HasNoSolution, version_in};
+ghost use Rattle.search.specs.Solutions.{Solution, IsBest, IsBetter, HasNoSolution, version_pinned};
 ghost use Rattle.search.specs.Table.{TableParts, in_range, place_in, rules_of};
 ghost use Rattle.search.specs.declared.conflict.NodeChoice.{NodeChoice};
 ghost use Rattle.search.specs.declared.parts.Choice.{Choice};
@@ -26,7 +26,7 @@ pub fn a_picture_keeps_the_best_solution<N, X, V, R>()
     ensures best { (t : TableParts) (picture : Picture N X V R) (rules : Rules N X V R)
         → in_range t ≡ true → IsOrder rules.compare → IsPicture t picture rules
         → (choices : List Choice) → IsBest (rules_of t) (place_in choices)
-        → IsBest rules (version_in rules.compare (pictured picture choices)) }
+        → IsBest rules (version_pinned rules.compare (pictured picture choices)) }
     ensures none { (t : TableParts) (picture : Picture N X V R) (rules : Rules N X V R)
         → in_range t ≡ true → IsOrder rules.compare → IsPicture t picture rules
         → HasNoSolution (rules_of t) → HasNoSolution rules }

@@ -6,7 +6,7 @@ ghost use Rattle.search.specs.Front.{IsFollowed};
 ghost use Rattle.search.specs.Nodes.{Extends, IsGrown, nodes_asked, nodes_linked, wants_linked};
 ghost use Rattle.search.specs.Ranges.{EachBelow};
 ghost use Rattle.search.specs.Search.{AreNeeded, AreAsked, taken_at};
-ghost use Rattle.search.specs.Table.{rules_of, nodes_of, requirement_at, name_of};
+ghost use Rattle.search.specs.Table.{rules_of, asked_nodes, requirement_at, name_of};
 
 use crate::node_set::NodeSet;
 use crate::parts::Since;
@@ -28,7 +28,7 @@ fn add_nodes(table: &Table, nodes: &mut NodeSet, requirement: usize) -> Result<(
     requires known { requirement < length table.now.requirements }
     requires room { nodes.old.room ≡ length table.now.nodes }
     ensures { IfOk result
-        (λ _. IsGrown nodes.old nodes.new (nodes_of (requirement_at table.now requirement))) }
+        (λ _. IsGrown nodes.old nodes.new (asked_nodes (requirement_at table.now requirement))) }
 {
     let asked = table.requirement(requirement);
     nodes.insert(asked.node)?;

@@ -10,7 +10,7 @@ ghost use Rattle.search.specs.Asking.{AreKnownAsks, IsFoundNeed, IsTied, NoneTie
 ghost use Rattle.search.specs.Gathering.{choice_at, decision};
 ghost use Rattle.search.specs.Learned.{IsFree, IsLearning, IsPartial, IsTrial, decisions_of, chosen_held, first_at};
 ghost use Rattle.search.specs.Solutions.{Needed};
-ghost use Rattle.search.specs.Table.{rules_of, nodes_of, requirement_at, in_range};
+ghost use Rattle.search.specs.Table.{rules_of, asked_nodes, requirement_at, in_range};
 
 use crate::agenda::{Agenda, Ask, first_free_of, first_on, row_of};
 use crate::ahead::{Cursor, need_ahead};
@@ -118,7 +118,7 @@ fn need_on(table: &Table, taken: &[Option<Decision>], row: &[Ask], name: usize) 
     ensures { MatchOption result (first_at taken.now name ≡ None → row.now ≡ [])
         (λ need. (first_at taken.now name ≡ None) × (ask : AskValue) × Contains row.now ask
         × (need.by ≡ ask.by)
-        × Contains (nodes_of (requirement_at table.now ask.requirement)) need.node) }
+        × Contains (asked_nodes (requirement_at table.now ask.requirement)) need.node) }
 {
     if first_on(taken, name).is_some() {
         return None;

@@ -4,7 +4,7 @@ ghost use Rattle.std.specs.Prelude.{◌≡◌, ◌<◌, ◌+◌, ◌-◌, [], If
 ghost use Rattle.std.specs.List.{slice_index_or};
 ghost use Rattle.search.specs.Front.{IsFrontOf};
 ghost use Rattle.search.specs.Search.{taken_at, pins_of, IsSearch, IsRefuted};
-ghost use Rattle.search.specs.Solutions.{HasNoSolution, IsBest, IsNext, version_in};
+ghost use Rattle.search.specs.Solutions.{HasNoSolution, IsBest, IsNext, version_pinned};
 ghost use Rattle.search.specs.declared.parts.Step.TheVariants.{Entered};
 ghost use Rattle.search.specs.Steps.{IsTried, IsForward, IsStep};
 ghost use Rattle.search.specs.Table.{rules_of, candidates_of, in_range, place_in, IsAscending};

@@ -2,7 +2,7 @@
 
 ghost use Rattle.std.specs.Prelude.{◌≡◌, ◌<◌, Some, None, true, length, if◌then◌else◌, nat_lt};
 ghost use Rattle.std.specs.List.{Contains, list_all};
-ghost use Rattle.search.specs.Table.{TableParts, requirement_at, name_of, nodes_of, wants_at, candidates_of, all_below, is_on, requirement_in_range, in_range, admits_at};
+ghost use Rattle.search.specs.Table.{TableParts, requirement_at, name_of, asked_nodes, wants_at, candidates_of, all_below, is_on, requirement_in_range, in_range, admits_at};
 ghost use Rattle.search.specs.Ranges.{EachBelow};
 
 use crate::parts::Requirement;
@@ -187,7 +187,7 @@ impl Table {
     pub fn requirement(&self, requirement: usize) -> &Requirement
         requires { requirement < length self.now.requirements }
         ensures requirement { result.now ≡ requirement_at self.now requirement }
-        ensures known { EachBelow (length self.now.nodes) (nodes_of (requirement_at self.now
+        ensures known { EachBelow (length self.now.nodes) (asked_nodes (requirement_at self.now
             requirement)) }
     {
         let requirements = self.requirements.as_slice();

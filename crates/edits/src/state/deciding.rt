@@ -4,7 +4,7 @@ ghost use Rattle.std.specs.Prelude.{◌≡◌, ◌↔◌, IfOk, IsTrue, true};
 ghost use Rattle.std.specs.List.{AllByRecursion};
 ghost use Rattle.std.specs.Option.{option_copied, option_map_or};
 ghost use Rattle.edits.specs.Changes.{entry_on};
-ghost use Rattle.edits.specs.State.{IsAnEntry, IsLockFor, IsMet, Meets, has_python};
+ghost use Rattle.edits.specs.State.{IsAnEntry, IsLockFor, IsMet, Meets, is_for_python};
 ghost use Rattle.edits.specs.Tied.Deciding.{IsClosed, IsLineMet};
 ghost use Rattle.markers.specs.Environment.{marker_text};
 ghost use Rattle.pylock.specs.Locks.{are_entries};
@@ -26,8 +26,8 @@ pub(crate) fn entry_on<'a>(entries: &'a [Entry], name: &Name) -> Option<&'a Entr
 }
 
 /// Whether the specifiers that the text is have the full version of the environment's Python.
-fn has_python(alloc: Global, environment: &Environment, text: &Text) -> Result<bool, AllocError>
-    ensures { IfOk result (λ has. has ≡ has_python environment.now text.now) }
+fn is_for_python(alloc: Global, environment: &Environment, text: &Text) -> Result<bool, AllocError>
+    ensures { IfOk result (λ has. has ≡ is_for_python environment.now text.now) }
 {
     match SpecifierSet::parse(alloc, text.as_str()) {
         Ok(set) => Ok(set.matches(environment.full_version())),
@@ -39,10 +39,10 @@ fn has_python(alloc: Global, environment: &Environment, text: &Text) -> Result<b
 /// The same of specifiers that may be there.
 fn runs(alloc: Global, environment: &Environment, python: &Option<Text>) -> Result<bool, AllocError>
     ensures { IfOk result
-        (λ runs. runs ≡ option_map_or (has_python environment.now) python.now true) }
+        (λ runs. runs ≡ option_map_or (is_for_python environment.now) python.now true) }
 {
     match python {
-        Some(text) => has_python(alloc, environment, text),
+        Some(text) => is_for_python(alloc, environment, text),
         None => Ok(true),
     }
 }

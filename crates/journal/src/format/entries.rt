@@ -106,7 +106,7 @@ impl Read for [u8; 32] {
 
 /// The entry of the name.
 #[tactic(auto, unfolding(crate::specs::Format::Entries::entry_in))]
-fn entry_of(alloc: Global, name: &Name, value: &Value) -> Result<Entry, Flaw>
+fn entry_in(alloc: Global, name: &Name, value: &Value) -> Result<Entry, Flaw>
     ensures { Gives (λ e. e) (entry_in name.now (view value.now)) result }
 {
     only_keys(
@@ -142,5 +142,5 @@ pub(crate) fn entry_or_null(
     if value.is_null() {
         return Ok(None);
     }
-    Ok(Some(entry_of(alloc, name, value)?))
+    Ok(Some(entry_in(alloc, name, value)?))
 }

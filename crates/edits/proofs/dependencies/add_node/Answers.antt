@@ -1,6 +1,6 @@
 use Rattle.std.proofs.Common.{◌≡◌, ◌∙◌, ap, sym}
 use Rattle.std.specs.BTreeSet.{keys}
-use Rattle.resolve.specs.Resolves.{version_in}
+use Rattle.resolve.specs.Resolves.{version_for}
 use Rattle.edits.specs.Dependencies.{names_in, names_of}
 use Rattle.edits.proofs.Gathering.{gathered-more}
 use Rattle.edits.proofs.dependencies.add_node.Goals as goal
@@ -14,6 +14,6 @@ returns c =
     ] in
     let added = rw c.dependencies.ensures at c.in_ok-add_names.ensures in
     let put = rw c.in_ok-name.ensures.cases at c.in_ok-insert.ensures.updates in
-    gathered-more c.args.problem.now (version_in c.args.versions.now.entries) c.args.node.now c.in-Some.release.now
+    gathered-more c.args.problem.now (version_for c.args.versions.now.entries) c.args.node.now c.in-Some.release.now
     c.args.gathered.now c.remove.new.self c.insert.new.self c.match-remove.names c.add_names.new.names
     c.in-Some.ensures taken c.remove.ensures.updates added put

@@ -9,12 +9,12 @@ use Rattle.pep440.specs.Version.{VersionParts}
 use Rattle.pylock.specs.Packages.{EntryParts}
 use Rattle.resolve.specs.Admission.{release_at}
 use Rattle.edits.specs.Dependencies.{names_in}
-use Rattle.edits.specs.Entries.{AreNeeds, HasRelease, entry_of}
+use Rattle.edits.specs.Entries.{AreNeeds, HasRelease, entry_for}
 use Rattle.edits.proofs.locking.entries.Given as goal
 
 abbrev pub invariant-loop-name : goal.invariant-loop-name
 invariant-loop-name l = record {
-  made : l.lock.items ++ map (entry_of l.problem (names_in l.gathered)) l.name-iterator ≡ map (entry_of l.problem (names_in l.fn.gathered)) l.versions.entries;
+  made : l.lock.items ++ map (entry_for l.problem (names_in l.gathered)) l.name-iterator ≡ map (entry_for l.problem (names_in l.fn.gathered)) l.versions.entries;
   rising : IsStrictlySortedBy (slice_cmp nat_cmp) (keys_of l.name-iterator);
   released : (name : List ℕ) (version : VersionParts) → Contains l.name-iterator (name, version) → IsSome (release_at l.problem name version);
   needs : (own : List ℕ) → AreNeeds own (names_in l.gathered own);

@@ -1,15 +1,15 @@
-use Rattle.resolve.specs.Resolves.{version_in}
+use Rattle.resolve.specs.Resolves.{version_for}
 use Rattle.edits.proofs.LockFacts.{AreEntries-answer, AreNeeds-gathered}
 use Rattle.edits.proofs.Released.{solution-released}
 use Rattle.edits.proofs.locking.entries_of.Goals as goal
 
 pub entries-requires-clause-released : goal.entries-requires-clause-released
-entries-requires-clause-released c = solution-released c.args.problem.now (version_in c.args.versions.now.entries) c.requires.solution
+entries-requires-clause-released c = solution-released c.args.problem.now (version_for c.args.versions.now.entries) c.requires.solution
 
 pub entries-requires-clause-needs : goal.entries-requires-clause-needs
 entries-requires-clause-needs c =
     let gathered = rw c.as_slice.ensures at c.in_ok-gathered.ensures in
-    AreNeeds-gathered c.args.problem.now (version_in c.args.versions.now.entries) c.in_ok-nodes.nodes c.in_ok-gathered.gathered c.in_ok-nodes.ensures gathered
+    AreNeeds-gathered c.args.problem.now (version_for c.args.versions.now.entries) c.in_ok-nodes.nodes c.in_ok-gathered.gathered c.in_ok-nodes.ensures gathered
 
 pub returns : goal.returns
 returns c =

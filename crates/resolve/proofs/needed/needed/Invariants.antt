@@ -1,11 +1,11 @@
 use Rattle.std.proofs.Common.{◌-◌, ◌^◌, ◌≤◌, length}
-use Rattle.resolve.specs.Resolves.{version_in}
+use Rattle.resolve.specs.Resolves.{version_for}
 use Rattle.resolve.proofs.Closing.{IsClosing}
 use Rattle.resolve.proofs.needed.needed.Given as goal
 
 abbrev pub invariant-loop-at : goal.invariant-loop-at
 invariant-loop-at l = record {
-  closing : IsClosing l.question (version_in l.versions.entries) l.nodes l.at;
+  closing : IsClosing l.question (version_for l.versions.entries) l.nodes l.at;
   within : l.at ≤ length l.nodes;
 }
 

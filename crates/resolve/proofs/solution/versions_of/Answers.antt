@@ -1,7 +1,7 @@
 use Rattle.std.proofs.Common.{◌≡◌, ◌<◌, ◌-◌, ℕ, suc, List, get_or, drop, length, subst, arith}
 use Rattle.search.specs.declared.parts.Choice.{Choice}
 use Rattle.resolve.specs.Pictured.{chosen}
-use Rattle.resolve.specs.Resolves.{version_in}
+use Rattle.resolve.specs.Resolves.{version_for}
 use Rattle.resolve.proofs.Solving.{get_or-any, put-more}
 use Rattle.resolve.proofs.solution.versions_of.Goals as goal
 
@@ -18,5 +18,5 @@ loop-left-preserved c =
     let next : c.loop-left.left ≡ suc (c.loop-left.left - 1) = omega (arith, c.loop-left-test.true) in (
       omega (arith, c.loop-left-test.true, c.loop-left.invariant.0),
       put-more c.args.question.now c.args.names.now c.args.choices.now (c.loop-left.left - 1) choice c.loop-left.versions c.put.new.versions within (get_or-any c.args.choices.now (c.loop-left.left - 1) (record { name = 0; place = 0 }) choice within)
-          (subst (λ n. (name : List ℕ) → version_in c.loop-left.versions.entries name ≡ chosen c.args.question.now c.args.names.now (drop n c.args.choices.now) name) next c.loop-left.invariant.1) c.in_ok-put.ensures,
+          (subst (λ n. (name : List ℕ) → version_for c.loop-left.versions.entries name ≡ chosen c.args.question.now c.args.names.now (drop n c.args.choices.now) name) next c.loop-left.invariant.1) c.in_ok-put.ensures,
     )

@@ -4,12 +4,12 @@ use Rattle.search.specs.declared.conflict.NodeChoice.{NodeChoice}
 use Rattle.search.specs.declared.parts.Requirement.{Requirement}
 use Rattle.search.specs.Gathering.{choice_at, decision}
 use Rattle.search.specs.Learned.{IsFree}
-use Rattle.search.specs.Table.{nodes_of}
+use Rattle.search.specs.Table.{asked_nodes}
 use Rattle.search.proofs.agenda.first_free_of.Goals as goal
 
 pub returns-then-not-is_chosen : goal.returns-then-not-is_chosen
 returns-then-not-is_chosen c = (
-  subst (λ (r : Requirement). Contains (nodes_of r) c.requirement-asked.result.now.node) c.requirement-asked.ensures.requirement (Contains-here c.requirement-asked.result.now.node c.requirement-asked.result.now.more),
+  subst (λ (r : Requirement). Contains (asked_nodes r) c.requirement-asked.result.now.node) c.requirement-asked.ensures.requirement (Contains-here c.requirement-asked.result.now.node c.requirement-asked.result.now.more),
   c.is_chosen.ensures.free c.if-not-is_chosen.true,
 )
 
@@ -24,5 +24,5 @@ first-or-more chosen node more xs e h None k = λ n i. elim (Contains-cons_cases
 first-or-more chosen node more xs e h (Some n) k = (Contains-there node more n (subst (λ ys. Contains ys n) e k.0), k.1)
 
 pub returns : goal.returns
-returns c = subst (λ (r : Requirement). MatchOption c.first_free.result ((n : ℕ) → Contains (nodes_of r) n → Chosen (map choice_at c.args.choices.now.entries) n) (λ n. Contains (nodes_of r) n × IsFree (map choice_at c.args.choices.now.entries) n)) c.requirement-asked.ensures.requirement
+returns c = subst (λ (r : Requirement). MatchOption c.first_free.result ((n : ℕ) → Contains (asked_nodes r) n → Chosen (map choice_at c.args.choices.now.entries) n) (λ n. Contains (asked_nodes r) n × IsFree (map choice_at c.args.choices.now.entries) n)) c.requirement-asked.ensures.requirement
     (first-or-more (map choice_at c.args.choices.now.entries) c.requirement-asked.result.now.node c.requirement-asked.result.now.more c.as_slice.result.now c.as_slice.ensures (c.is_chosen.ensures.chosen c.if-not-is_chosen.false) c.first_free.result c.first_free.ensures)

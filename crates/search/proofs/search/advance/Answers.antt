@@ -9,21 +9,21 @@ use Rattle.search.specs.declared.parts.Frame.{Frame}
 use Rattle.search.specs.declared.parts.Step.TheVariants.{Complete, Entered, Refuted}
 use Rattle.search.specs.Front.{IsFrontOf}
 use Rattle.search.specs.Search.{pins_of, AreNeeded, AreAsked, NoneFree, IsLeastFree, clash_in, taken_at}
-use Rattle.search.specs.Solutions.{version_in}
+use Rattle.search.specs.Solutions.{version_pinned}
 use Rattle.search.specs.Table.{TableParts, rules_of}
 use Rattle.search.proofs.search.advance.Goals as goal
 
 -- the facts of a front, at the map of the frames
-map-same : (t : TableParts) (fs : List Frame) (front : Front) → IsFrontOf t fs front → taken_at front.taken.items ≡ version_in nat_cmp (pins_of fs)
+map-same : (t : TableParts) (fs : List Frame) (front : Front) → IsFrontOf t fs front → taken_at front.taken.items ≡ version_pinned nat_cmp (pins_of fs)
 map-same t fs front h = λ i n. h.same n i
 
-needed : (t : TableParts) (fs : List Frame) (front : Front) → IsFrontOf t fs front → AreNeeded (rules_of t) (version_in nat_cmp (pins_of fs)) front.needed.members
+needed : (t : TableParts) (fs : List Frame) (front : Front) → IsFrontOf t fs front → AreNeeded (rules_of t) (version_pinned nat_cmp (pins_of fs)) front.needed.members
 needed t fs front h = subst (λ (s : ℕ → Option ℕ). AreNeeded (rules_of t) s front.needed.members) (map-same t fs front h) h.stands.needed
 
-asked : (t : TableParts) (fs : List Frame) (front : Front) → IsFrontOf t fs front → AreAsked (rules_of t) (version_in nat_cmp (pins_of fs)) front.asked.members
+asked : (t : TableParts) (fs : List Frame) (front : Front) → IsFrontOf t fs front → AreAsked (rules_of t) (version_pinned nat_cmp (pins_of fs)) front.asked.members
 asked t fs front h = subst (λ (s : ℕ → Option ℕ). AreAsked (rules_of t) s front.asked.members) (map-same t fs front h) h.stands.asked
 
-clash : (t : TableParts) (fs : List Frame) (front : Front) (h : IsFrontOf t fs front) (b : Bool) → front.clashes ≡ b → list_any (clash_in (rules_of t) (version_in nat_cmp (pins_of fs))) front.asked.members ≡ b
+clash : (t : TableParts) (fs : List Frame) (front : Front) (h : IsFrontOf t fs front) (b : Bool) → front.clashes ≡ b → list_any (clash_in (rules_of t) (version_pinned nat_cmp (pins_of fs))) front.asked.members ≡ b
 clash t fs front h b e = subst (λ (s : ℕ → Option ℕ). list_any (clash_in (rules_of t) s) front.asked.members ≡ b) (map-same t fs front h) (sym h.stands.clashes ∙ e)
 
 pub returns-then-clashes-clause-step : goal.returns-then-clashes-clause-step
@@ -49,7 +49,7 @@ enter-requires-clause-next c =
 pub returns-in-None-clause-step : goal.returns-in-None-clause-step
 returns-in-None-clause-step c =
     let t : TableParts = c.args.table.now in let fs : List Frame = c.args.frames.now.items in let front : Front = c.args.front.now in
-    let map : ℕ → Option ℕ = version_in nat_cmp (pins_of fs) in (
+    let map : ℕ → Option ℕ = version_pinned nat_cmp (pins_of fs) in (
       refl,
       fits-complete (rules_of t) (table-lawful t c.requires.known) map front.needed.members (needed t fs front c.requires.stands)
           (asked-fits (rules_of t) map front.asked.members (asked t fs front c.requires.stands) (clash t fs front c.requires.stands false (sym c.clashes.ensures ∙ c.if-clashes.false)))

@@ -6,7 +6,7 @@ use Rattle.search.proofs.Work.{work_of, work-push, work-forward, frames-known, t
 use Rattle.search.specs.declared.parts.Frame.{Frame}
 use Rattle.search.specs.declared.parts.Step.TheVariants.{Complete, Entered, Refuted}
 use Rattle.search.specs.Table.{rules_of, place_in}
-use Rattle.search.specs.Solutions.{IsBest, version_in}
+use Rattle.search.specs.Solutions.{IsBest, version_pinned}
 use Rattle.search.specs.Search.{pins_of, IsSearch, IsRefuted}
 use Rattle.search.specs.Steps.{IsStep, AreKnown}
 use Rattle.search.proofs.search.best.Goals as goal
@@ -21,9 +21,9 @@ pub returns-in-Complete-clause-best : goal.returns-in-Complete-clause-best
 returns-in-Complete-clause-best c =
     let t = c.args.table.now in let old = c.search.frames.items in let new = c.advance.new.frames.items in
     let step : IsStep t old new Complete = subst (λ s. IsStep t old new s) c.in-Complete.is c.in_ok-advance.ensures.step in
-    let same : (n : ℕ) → place_in c.in_ok-choices-in-Complete.choices n ≡ version_in nat_cmp (pins_of old) n =
-    subst (λ (fs : List Frame). (n : ℕ) → place_in c.in_ok-choices-in-Complete.choices n ≡ version_in nat_cmp (pins_of fs) n) (c.as_slice-in-Complete.ensures.value ∙ step.0) c.in_ok-choices-in-Complete.ensures.same in
-    let path : version_in nat_cmp (pins_of old) ≡ place_in c.in_ok-choices-in-Complete.choices = λ i n. sym (same n) i in
+    let same : (n : ℕ) → place_in c.in_ok-choices-in-Complete.choices n ≡ version_pinned nat_cmp (pins_of old) n =
+    subst (λ (fs : List Frame). (n : ℕ) → place_in c.in_ok-choices-in-Complete.choices n ≡ version_pinned nat_cmp (pins_of fs) n) (c.as_slice-in-Complete.ensures.value ∙ step.0) c.in_ok-choices-in-Complete.ensures.same in
+    let path : version_pinned nat_cmp (pins_of old) ≡ place_in c.in_ok-choices-in-Complete.choices = λ i n. sym (same n) i in
     subst (λ (s : ℕ → Option ℕ). IsBest (rules_of t) s) path (search-best (rules_of t) (table-lawful t c.name_count.ensures.known) old c.search.invariant.search step.1)
 
 pub search-smaller-in-Entered : goal.search-smaller-in-Entered
@@ -49,7 +49,7 @@ search-init c = record {
   search = subst (λ (xs : List Frame). IsSearch (rules_of c.args.table.now) [] xs) (sym c.in_ok-frames.ensures.items) tt;
   stands = record {
     stands = c.in_ok-front.ensures.front;
-    same = λ n. c.in_ok-front.ensures.same n ∙ ap (λ (fs : List Frame). version_in nat_cmp (pins_of fs) n) c.as_slice.ensures.value;
+    same = λ n. c.in_ok-front.ensures.same n ∙ ap (λ (fs : List Frame). version_pinned nat_cmp (pins_of fs) n) c.as_slice.ensures.value;
   };
 }
 
@@ -81,6 +81,6 @@ search-preserved c = record {
   search = c.in_ok-retreat-in-Refuted.ensures.search c.if-not-branch.false;
   stands = record {
     stands = c.in_ok-front-in-Refuted.ensures.front;
-    same = λ n. c.in_ok-front-in-Refuted.ensures.same n ∙ ap (λ (fs : List Frame). version_in nat_cmp (pins_of fs) n) c.as_slice-in-Refuted.ensures.value;
+    same = λ n. c.in_ok-front-in-Refuted.ensures.same n ∙ ap (λ (fs : List Frame). version_pinned nat_cmp (pins_of fs) n) c.as_slice-in-Refuted.ensures.value;
   };
 }

@@ -6,7 +6,7 @@ use Rattle.search.proofs.Work.{candidates-named}
 use Rattle.search.specs.declared.parts.Frame.{Frame}
 use Rattle.search.specs.declared.parts.Step.TheVariants.{Entered, Refuted}
 use Rattle.search.specs.Search.{pins_of}
-use Rattle.search.specs.Solutions.{version_in}
+use Rattle.search.specs.Solutions.{version_pinned}
 use Rattle.search.specs.Steps.{IsTried}
 use Rattle.search.specs.Table.{TableParts}
 use Rattle.search.proofs.search.enter.Goals as goal
@@ -51,5 +51,5 @@ returns-clause-stands c = λ _.
     record {
       stands = c.in_ok-enter.ensures.front;
       same = λ n. same-push c.args.front.now.taken.items c.enter.new.self.taken.items fs c.last_of.result c.in_ok-enter.ensures.taken c.requires.stands.same n
-          ∙ ap (λ (xs : List Frame). version_in nat_cmp (pins_of xs) n) (ap (λ (f : Frame). fs ++ f ∷ []) p ∙ sym tried.2);
+          ∙ ap (λ (xs : List Frame). version_pinned nat_cmp (pins_of xs) n) (ap (λ (f : Frame). fs ++ f ∷ []) p ∙ sym tried.2);
     }

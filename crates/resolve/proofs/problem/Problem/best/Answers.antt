@@ -4,7 +4,7 @@ use Rattle.search.specs.Table.{IsAscending, place_in, rules_of as rules_of_table
 use Rattle.search.specs.declared.parts.Choice.{Choice}
 use Rattle.resolve.specs.Problem.{ProblemParts}
 use Rattle.resolve.specs.Pictured.{AreKnown, chosen, picture_of}
-use Rattle.resolve.specs.Resolves.{version_in}
+use Rattle.resolve.specs.Resolves.{version_for}
 use Rattle.resolve.specs.Rules.{rules_of}
 use Rattle.resolve.proofs.PictureOf.{bytes-order}
 use Rattle.resolve.proofs.Solving.{best-known, best-same}
@@ -33,8 +33,8 @@ returns-in_ok-versions-in-Some c =
     let names = c.self.inside.tabled.names in
     let table = c.self.inside.tabled.table in
     let best : IsBest (rules_of_table table) (place_in c.in-Some.choices) = rw c.in-Some.is at c.in_ok-best.ensures.best in
-    let same = subst (λ (ns : List (List ℕ)). (name : List ℕ) → version_in c.in_ok-versions-in-Some.versions.entries name ≡ chosen given ns c.in-Some.choices name) c.as_slice-names.ensures
-    (subst (λ (choices : List Choice). (name : List ℕ) → version_in c.in_ok-versions-in-Some.versions.entries name ≡ chosen given c.as_slice-names.result.now choices name) c.as_slice.ensures c.in_ok-versions-in-Some.ensures) in
-    subst (λ (g : ProblemParts). IsBest (rules_of g) (version_in c.in_ok-versions-in-Some.versions.entries)) c.self.view_is
+    let same = subst (λ (ns : List (List ℕ)). (name : List ℕ) → version_for c.in_ok-versions-in-Some.versions.entries name ≡ chosen given ns c.in-Some.choices name) c.as_slice-names.ensures
+    (subst (λ (choices : List Choice). (name : List ℕ) → version_for c.in_ok-versions-in-Some.versions.entries name ≡ chosen given c.as_slice-names.result.now choices name) c.as_slice.ensures c.in_ok-versions-in-Some.ensures) in
+    subst (λ (g : ProblemParts). IsBest (rules_of g) (version_for c.in_ok-versions-in-Some.versions.entries)) c.self.view_is
     (best-same given names c.in-Some.choices c.self.inside.tabled.nodes c.self.invariant.asked c.in_ok-versions-in-Some.versions.entries same
     (c.a_picture_keeps_the_best_solution.ensures.best table (picture_of given names c.self.inside.tabled.nodes c.self.invariant.asked) (rules_of given) c.name_count-count.ensures.known bytes-order c.self.invariant.pictured c.in-Some.choices best))

@@ -8,7 +8,7 @@ use Rattle.search.specs.declared.conflict.NodeChoice.{NodeChoice}
 use Rattle.search.specs.Agendas.{IsChosen}
 use Rattle.search.specs.Gathering.{choice_at}
 use Rattle.search.specs.Learned.{IsFree, first_at}
-use Rattle.search.specs.Table.{TableParts, rules_of, nodes_of, requirement_at}
+use Rattle.search.specs.Table.{TableParts, rules_of, asked_nodes, requirement_at}
 use Rattle.search.proofs.agenda.Agenda.put.Goals as goal
 
 not-true : (a b : Bool) → a ≡ not b → b ≡ true → a ≡ false
@@ -48,7 +48,7 @@ returns-else-is_some-clause-watched c =
     let t : TableParts = c.args.table.now in
     let chosen : List (NodeChoice ℕ ℕ) = map choice_at c.args.choices.now.entries in
     let none_free : c.first_free_of.result ≡ None = none-of c.first_free_of.result (sym c.is_some.ensures ∙ c.if-is_some.false) in
-    let all : (node : ℕ) → Contains (nodes_of (requirement_at t c.args.ask.requirement)) node → IsChosen chosen node = subst (λ (o : Option ℕ). MatchOption o ((node : ℕ) → Contains (nodes_of (requirement_at t c.args.ask.requirement)) node → IsChosen chosen node) (λ node. Contains (nodes_of (requirement_at t c.args.ask.requirement)) node × IsFree chosen node)) none_free c.first_free_of.ensures in
+    let all : (node : ℕ) → Contains (asked_nodes (requirement_at t c.args.ask.requirement)) node → IsChosen chosen node = subst (λ (o : Option ℕ). MatchOption o ((node : ℕ) → Contains (asked_nodes (requirement_at t c.args.ask.requirement)) node → IsChosen chosen node) (λ node. Contains (asked_nodes (requirement_at t c.args.ask.requirement)) node × IsFree chosen node)) none_free c.first_free_of.ensures in
     watched-push t c.args.self.now c.list.new.self c.args.ask c.args.taken.now chosen c.requires.watched c.in_ok-list.ensures.asks
     (λ m i. subst (λ f. Contains (keys f) m) (sym c.in_ok-list.ensures.free) i)
     (λ m i. subst (λ v. Contains v.items m) (sym c.in_ok-list.ensures.loose) i)

@@ -12,7 +12,7 @@ use Rattle.search.specs.declared.held.Partial.{Partial}
 use Rattle.search.specs.declared.trial.Held.{Held}
 use Rattle.search.specs.Agendas.{IsWatched}
 use Rattle.search.specs.Gathering.{choice_at}
-use Rattle.search.specs.Learned.{IsPartial, asks_by, asks_of, decision_of, entries_of, entry_of}
+use Rattle.search.specs.Learned.{IsPartial, asks_by, asks_of, decision_of, entries_of, held_entry}
 use Rattle.search.specs.Table.{TableParts, rules_of, name_of, wants_at}
 use Rattle.search.proofs.held.Partial.pop.Goals as goal
 use Rattle.search.proofs.held.Partial.pop.Goals.{then-held+in_ok-insert, else-held+in_ok-push}
@@ -24,7 +24,7 @@ fewer t p hs h xs s held e a i = subst (λ ys. Contains ys a) (sym (s.asks ∙ a
 chosen : (t : TableParts) (p : Partial) (hs : List Held) (h : Held) (es : List (ℕ × ℕ)) → IsPartial t p → p.held.items ≡ hs ++ h ∷ [] → es ≡ entries_of hs → map choice_at p.choices.entries ≡ map choice_at es ++ decision_of h ∷ []
 chosen t p hs h es s held e =
     ap (map choice_at) (s.choices ∙ ap entries_of held ∙ entries-push hs h)
-    ∙ map-append choice_at (entries_of hs) (entry_of h ∷ [])
+    ∙ map-append choice_at (entries_of hs) (held_entry h ∷ [])
     ∙ ap (λ xs. map choice_at xs ++ decision_of h ∷ []) (sym e)
 
 pub returns-clause-partial : goal.returns-clause-partial

@@ -11,7 +11,7 @@ use Rattle.search.specs.declared.held.Partial.{Partial}
 use Rattle.search.specs.declared.trial.Held.{Held}
 use Rattle.search.specs.Agendas.{IsWatched}
 use Rattle.search.specs.Gathering.{choice_at}
-use Rattle.search.specs.Learned.{IsFree, IsPartial, ask_of, asks_by, decision_of, entry_of}
+use Rattle.search.specs.Learned.{IsFree, IsPartial, ask_of, asks_by, decision_of, held_entry}
 use Rattle.search.specs.Table.{TableParts, rules_of, name_of}
 use Rattle.search.proofs.held.Partial.push.Goals as goal
 
@@ -25,13 +25,13 @@ record Leads (t : TableParts) (p : Partial) (h : Held) (taken : List (Option (No
   pub tied : h.trial.leads ≡ false → (taken ≡ p.taken.items) × (loose ≡ p.agenda.loose)
   pub known : h.trial.leads ≡ true → name_of t h.trial.node < length t.candidates
 
-entries : (p : Partial) (h : Held) (es : List (ℕ × ℕ)) → es ≡ p.choices.entries ++ entry_of h ∷ [] → map choice_at es ≡ map choice_at p.choices.entries ++ decision_of h ∷ []
-entries p h es e = ap (map choice_at) e ∙ map-append choice_at p.choices.entries (entry_of h ∷ [])
+entries : (p : Partial) (h : Held) (es : List (ℕ × ℕ)) → es ≡ p.choices.entries ++ held_entry h ∷ [] → map choice_at es ≡ map choice_at p.choices.entries ++ decision_of h ∷ []
+entries p h es e = ap (map choice_at) e ∙ map-append choice_at p.choices.entries (held_entry h ∷ [])
 
 abbrev led : Partial → Vec ℕ → Agenda
 led p loose = record { asks = p.agenda.asks; rows = p.agenda.rows; free = p.agenda.free; loose = loose }
 
-watched : (t : TableParts) (p : Partial) (h : Held) (es : List (ℕ × ℕ)) (taken seen : List (Option (NodeChoice ℕ ℕ))) (loose : Vec ℕ) → IsPartial t p → es ≡ p.choices.entries ++ entry_of h ∷ [] → Leads t p h taken loose → seen ≡ taken → IsWatched t (led p loose) seen (map choice_at es)
+watched : (t : TableParts) (p : Partial) (h : Held) (es : List (ℕ × ℕ)) (taken seen : List (Option (NodeChoice ℕ ℕ))) (loose : Vec ℕ) → IsPartial t p → es ≡ p.choices.entries ++ held_entry h ∷ [] → Leads t p h taken loose → seen ≡ taken → IsWatched t (led p loose) seen (map choice_at es)
 watched t p h es taken seen loose s e k same =
     subst (λ cs. IsWatched t (led p loose) seen cs) (sym (entries p h es e)) (subst (λ xs. IsWatched t (led p loose) xs (map choice_at p.choices.entries ++ decision_of h ∷ [])) (sym same) (elim (bool_cases h.trial.leads) [
       | inl yes_it ↦ subst (λ xs. IsWatched t (led p loose) xs (map choice_at p.choices.entries ++ decision_of h ∷ [])) (sym (k.first yes_it).0)
@@ -60,7 +60,7 @@ returns-clause-partial c =
     let p : Partial = c.args.self.now in
     let q : Partial = record { choices = c.insert.new.self; held = c.push.new.self; taken = c.lead.new.taken; agenda = c.put_all.new.self } in
     let free : IsFree (map choice_at p.choices.entries) c.args.trial.node = subst (λ (cs : List (NodeChoice ℕ ℕ)). IsFree cs c.args.trial.node) (sym (ap (map choice_at) c.requires.partial.choices ∙ entries-decisions p.held.items)) c.requires.free in
-    let made : c.insert.new.self.entries ≡ p.choices.entries ++ entry_of h ∷ [] = c.in_ok-insert.ensures.entries ∙ insert-free p.choices.entries c.args.trial.node c.args.place free in
+    let made : c.insert.new.self.entries ≡ p.choices.entries ++ held_entry h ∷ [] = c.in_ok-insert.ensures.entries ∙ insert-free p.choices.entries c.args.trial.node c.args.place free in
     let asks : c.put_all.new.self.asks.items ≡ p.agenda.asks.items ++ asks_by (rules_of t) h = c.in_ok-put_all.ensures.asks ∙ ap (λ rs. p.agenda.asks.items ++ map (ask_of (Some (decision_of h))) rs) c.wants-wants.ensures.wants in
     let seen : IsWatched t c.put_all.new.self c.lead.new.taken.items (map choice_at c.insert.new.self.entries) = subst (λ xs. IsWatched t c.put_all.new.self xs (map choice_at c.insert.new.self.entries)) c.as_slice.ensures.value c.in_ok-put_all.ensures.watched in
     elim (bool_cases c.args.trial.leads) [
