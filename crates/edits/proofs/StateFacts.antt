@@ -23,7 +23,7 @@ use Rattle.snapshot.specs.Lawful.{IsRelease}
 use Rattle.snapshot.specs.Release.{Release}
 use Rattle.snapshot.specs.Python.{is_blank, python_of, python_with}
 use Rattle.snapshot.specs.declared.python.RequiresPython.{RequiresPython}
-use Rattle.resolve.specs.Admission.{admits, admits_release, fits, is_for_python as runs_with, has_version, meets_python, release_at}
+use Rattle.resolve.specs.Admission.{admits, admits_release, fits, admits_python as runs_with, has_version, meets_python, release_at}
 use Rattle.resolve.specs.Problem.{ProblemParts, releases_on, requirements}
 use Rattle.resolve.specs.Resolves.{version_for}
 use Rattle.resolve.specs.Rules.{bare, nodes_of, rules_of, wants, with_extra}
