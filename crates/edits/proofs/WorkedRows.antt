@@ -22,6 +22,6 @@ unfolding requirement_of wanted_by comment_place has_odd
 comment_row = refl
 
 -- names compare in their normal form, and lines are numbered from 1
-number_row : line_number (codes "b-b") 1 (codes "# web\n" ∷ codes "B_b # pin\n" ∷ []) ≡ Some 2
+number_row : line_number (codes "b-b") (codes "# web\n" ∷ codes "B_b # pin\n" ∷ []) ≡ Some 2
 unfolding requirement_of wanted_by comment_place has_odd asked_in slices_with normal_of
 number_row = refl

@@ -1,6 +1,6 @@
 -- What an added line makes of the lines. All of it is reqlock's own rule.
 use Rattle.std.specs.Prelude.{ℕ, ◌+◌, ◌==◌, List, [], ◌∷◌, ◌++◌, length, Option, Some, None, if◌then◌else◌}
-use Rattle.std.specs.List.{list_any}
+use Rattle.std.specs.List.{list_any, position_from}
 use Rattle.pep508.specs.Parts.{ended, ending_of}
 use Rattle.pep508.specs.Requirement.{RequirementParts}
 use Rattle.edits.specs.Asking.{is_on, wanted_of}
@@ -9,10 +9,9 @@ use Rattle.edits.specs.Asking.{is_on, wanted_of}
 abbrev pub asked_by : List ℕ → Option RequirementParts
 asked_by text = if list_any (λ b. b == 10) text then None else wanted_of text
 
--- the number, counted up from this one, of the first line on the name
-abbrev pub line_number : List ℕ → ℕ → List (List ℕ) → Option ℕ
-line_number name number [] = None
-line_number name number (line ∷ rest) = if is_on name (wanted_of line) then Some number else line_number name (number + 1) rest
+-- the number, from 1, of the first line on the name
+abbrev pub line_number : List ℕ → List (List ℕ) → Option ℕ
+line_number name lines = position_from (λ line. is_on name (wanted_of line)) 1 lines
 
 -- the ending of the first line that has one, else LF
 abbrev pub usual_ending : List (List ℕ) → List ℕ

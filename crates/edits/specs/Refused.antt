@@ -16,7 +16,7 @@ use Rattle.edits.specs.declared.refusal.Refusal.TheVariants.{AlreadyPresent, Amb
 -- of an added line, given what it asks for: its name may not be that of a line that is there
 abbrev pub refused_addition : List (List ℕ) → Option RequirementParts → Option Refusal
 refused_addition lines None = Some BadText
-refused_addition lines (Some wanted) = option_map AlreadyPresent (line_number wanted.name 1 lines)
+refused_addition lines (Some wanted) = option_map AlreadyPresent (line_number wanted.name lines)
 
 -- of an edit of the one line on a name, where there are so many
 abbrev pub refused_count : ℕ → Option Refusal

@@ -42,7 +42,7 @@ fn asked_by(alloc: Global, text: &Text) -> Result<Option<Line>, AllocError>
 
 /// The number, from 1, of the first line on the name.
 fn line_number(lines: &[Line], name: &Name) -> Option<usize>
-    ensures { result ≡ line_number name.now 1 lines.now }
+    ensures { result ≡ line_number name.now lines.now }
 {
     for (place, line) in lines.iter().enumerate() {
         if is_on(line, name) {

@@ -13,11 +13,46 @@ use std::alloc::{AllocError, Global};
 use std::collections::BTreeMap;
 use std::marker::Model;
 
-/// A list of nodes, in which the number of a node is its place. The nodes of a name are found by the
-/// name; that a node is what was looked for is seen of the node itself.
+/// Where a name's nodes stand: the one without an extra, and those with one.
+struct Numbers {
+    bare: Option<usize>,
+    by_extra: BTreeMap<Name, usize>,
+}
+
+impl Drop for Numbers {
+    fn drop(self) {
+        let Numbers {
+            bare: _,
+            by_extra: _,
+        } = self;
+    }
+}
+
+impl Numbers {
+    /// The number of the node with this extra or none.
+    fn of(&self, extra: Option<&Name>) -> Option<usize> {
+        match extra {
+            Some(extra) => self.by_extra.get(extra).copied(),
+            None => self.bare,
+        }
+    }
+
+    fn list(&mut self, extra: Option<&Name>, number: usize) -> Result<(), AllocError> {
+        match extra {
+            Some(extra) => {
+                self.by_extra.insert(extra.clone()?, number)?;
+            }
+            None => self.bare = Some(number),
+        }
+        Ok(())
+    }
+}
+
+/// A list of nodes, in which the number of a node is its place. A node is found by its name and then by
+/// its extra; that it is what was looked for is seen of the node itself.
 pub(crate) struct Nodes {
     nodes: Vec<Node>,
-    by_name: BTreeMap<Name, Vec<usize>>,
+    by_name: BTreeMap<Name, Numbers>,
 }
 
 impl Drop for Nodes {
@@ -111,23 +146,31 @@ impl Nodes {
                   extra.entry;
             })) }
     {
-        for number in self.by_name.get(name)? {
-            if self.is_at(*number, name, extra) {
-                return Some(*number);
-            }
+        let number = self.by_name.get(name)?.of(extra)?;
+        if self.is_at(number, name, extra) {
+            return Some(number);
         }
         None
     }
 
-    /// Lets a node be found by its name.
-    fn list_by_name(&mut self, alloc: Global, name: &Name, number: usize) -> Result<(), AllocError>
+    /// Lets a node be found by its name and its extra.
+    fn list_by_name(
+        &mut self,
+        alloc: Global,
+        name: &Name,
+        extra: Option<&Name>,
+        number: usize,
+    ) -> Result<(), AllocError>
         ensures { self.new ≡ self.old }
     {
         match self.by_name.get_mut(name) {
-            Some(numbers) => numbers.push(number)?,
+            Some(numbers) => numbers.list(extra, number)?,
             None => {
-                let mut numbers = Vec::with_capacity(alloc, 1)?;
-                numbers.push_reserved(number);
+                let mut numbers = Numbers {
+                    bare: None,
+                    by_extra: BTreeMap::new(alloc),
+                };
+                numbers.list(extra, number)?;
                 self.by_name.insert(name.clone()?, numbers)?;
             }
         }
@@ -156,7 +199,7 @@ impl Nodes {
             return Ok(number);
         }
         let number = self.nodes.len();
-        self.list_by_name(alloc, name, number)?;
+        self.list_by_name(alloc, name, extra, number)?;
         self.nodes.push(Node {
             name: name.clone()?,
             extra: copied(extra)?,

@@ -7,6 +7,8 @@ mod applied_changes;
 #[cfg(test)]
 mod changes;
 #[cfg(test)]
+mod drawn_problems;
+#[cfg(test)]
 mod edited_files;
 #[cfg(test)]
 mod edited_problems;

@@ -53,7 +53,11 @@ fn refutation_of(alloc: Global, told: &str) -> Result<Refutation, Fail> {
 }
 
 /// What the lines ask over an index.
-fn problem_of<'a>(alloc: Global, index: &'a Snapshot, lines: &str) -> Result<Problem<'a>, Fail> {
+pub fn problem_of<'a>(
+    alloc: Global,
+    index: &'a Snapshot,
+    lines: &str,
+) -> Result<Problem<'a>, Fail> {
     let lines = ReqFile::read(alloc, lines.as_bytes())?;
     let environment = Environment::read(alloc, ENVIRONMENT.as_bytes())?;
     let kept = BTreeMap::new(alloc);
