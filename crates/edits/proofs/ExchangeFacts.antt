@@ -130,7 +130,7 @@ slice-of None slice is = is
 slice-of (Some e) slice is = is
 
 -- before the first change
-IsExchangedTo-start : (left : List EntryChange) (old : List EntryParts) → are_entries old ≡ true → IsExchangedTo [] left old old []
+pub IsExchangedTo-start : (left : List EntryChange) (old : List EntryParts) → are_entries old ≡ true → IsExchangedTo [] left old old []
 IsExchangedTo-start left old rise = record {
   so_far = record {
     changed = λ change there. absurd (Contains-nil change there);
@@ -176,12 +176,12 @@ each-change : (done : List EntryChange) (c : EntryChange) (left : List EntryChan
 each-change [] c left all = all.0
 each-change (x ∷ done) c left all = each-change done c left all.1
 
-joined : (after before at behind : List EntryParts) → after ++ (before ++ at ++ behind) ≡ after ++ before ++ at ++ behind
+pub joined : (after before at behind : List EntryParts) → after ++ (before ++ at ++ behind) ≡ after ++ before ++ at ++ behind
 joined after before at behind =
     sym (append_assoc after (before ++ at) behind) ∙ ap (λ (l : List EntryParts). l ++ behind) (sym (append_assoc after before at))
 
 -- one change more, where its old entry stands there
-IsExchangedTo-next : (done : List EntryChange) (c : EntryChange) (left : List EntryChange) (old rest after before at behind : List EntryParts) → AreEntryChanges (done ++ c ∷ left)
+pub IsExchangedTo-next : (done : List EntryChange) (c : EntryChange) (left : List EntryChange) (old rest after before at behind : List EntryParts) → AreEntryChanges (done ++ c ∷ left)
     → IsCutAt c.name rest before at behind → at ≡ option_to_list c.old → IsExchangedTo done (c ∷ left) old rest after
     → IsExchangedTo (done ++ c ∷ []) left old behind (after ++ before ++ option_to_list c.new)
 IsExchangedTo-next done c left old rest after before at behind are parts same is =
@@ -200,16 +200,22 @@ IsExchangedTo-next done c left old rest after before at behind are parts same is
           ];
     }
 
+-- where the changes lead somewhere, the old entry of the next one stands there
+pub IsExchangedTo-stood : (done : List EntryChange) (c : EntryChange) (left : List EntryChange) (old rest after before at behind new : List EntryParts) → AreEntryChanges (done ++ c ∷ left)
+    → IsCutAt c.name rest before at behind → IsExchangedTo done (c ∷ left) old rest after → ChangesEntries (done ++ c ∷ left) old new → at ≡ option_to_list c.old
+IsExchangedTo-stood done c left old rest after before at behind new are parts is leads =
+    let below : AreBelow after c.name = below-at after c.name (λ e there. is.below e c there (Contains-here c left)) in
+    let here : entry_on rest c.name ≡ entry_on old c.name =
+    sym (past-below after rest c.name below) ∙ is.so_far.others c.name (λ d there. below-other d.name c.name (before-below done c left are.names d there)) in
+    let stood : entry_on old c.name ≡ c.old = (leads.changed c (Contains-append_right done (c ∷ left) c (Contains-here c left))).0 in
+    parts.there ∙ ap option_to_list (here ∙ stood)
+
 -- a change whose old entry doesn't stand there
 IsExchangedTo-stops : (done : List EntryChange) (c : EntryChange) (left : List EntryChange) (old rest after before at behind : List EntryParts) → AreEntryChanges (done ++ c ∷ left)
     → IsCutAt c.name rest before at behind → (at ≡ option_to_list c.old → ⊥) → IsExchangedTo done (c ∷ left) old rest after
     → IsTheOnly (ChangesEntries (done ++ c ∷ left) old) None
 IsExchangedTo-stops done c left old rest after before at behind are parts differs is = λ new leads.
-    let below : AreBelow after c.name = below-at after c.name (λ e there. is.below e c there (Contains-here c left)) in
-    let here : entry_on rest c.name ≡ entry_on old c.name =
-    sym (past-below after rest c.name below) ∙ is.so_far.others c.name (λ d there. below-other d.name c.name (before-below done c left are.names d there)) in
-    let stood : entry_on old c.name ≡ c.old = (leads.changed c (Contains-append_right done (c ∷ left) c (Contains-here c left))).0 in
-    differs (parts.there ∙ ap option_to_list (here ∙ stood))
+    differs (IsExchangedTo-stood done c left old rest after before at behind new are parts is leads)
 
 -- ---- one outcome
 

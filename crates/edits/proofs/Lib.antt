@@ -3,6 +3,7 @@ pub mod Among
 pub mod BackFacts
 pub mod BetweenEntries
 pub mod BetweenLines
+pub mod CarriedFacts
 pub mod ChangeFacts
 pub mod ChangedLines
 pub mod CutFacts

@@ -2,9 +2,10 @@
 use Rattle.std.specs.Prelude.{◌≡◌}
 use Rattle.pylock.specs.Locks.{LockParts}
 use Rattle.resolve.specs.Problem.{ProblemParts}
-use Rattle.edits.specs.Changes.{After, ChangeParts}
+use Rattle.edits.specs.Changes.{After, ChangeParts, IsMinimal}
 use Rattle.edits.specs.Locking.{IsLockOf}
 use Rattle.edits.specs.StateParts.{StateParts}
+use Rattle.edits.specs.Tied.Carried.{carried}
 
 -- two locks of one problem are the same in every part
 abbrev pub TheLockOfAProblemIsOne : Type 0
@@ -13,3 +14,7 @@ TheLockOfAProblemIsOne = (given : ProblemParts) (one another : LockParts) → Is
 -- a change leads from a state to one state at most, whether it is minimal or not
 abbrev pub AChangeLeadsToOneState : Type 0
 AChangeLeadsToOneState = (change : ChangeParts) (old one another : StateParts) → After old change one → After old change another → one ≡ another
+
+-- where a minimal change leads is a function of the state and the change
+abbrev pub AChangeLeadsWhereItCarries : Type 0
+AChangeLeadsWhereItCarries = (change : ChangeParts) (old new : StateParts) → IsMinimal change → After old change new → new ≡ carried old change

@@ -1,5 +1,6 @@
 -- What serves proofs alone.
 pub mod Between
+pub mod Carried
 pub mod Deciding
 pub mod Ends
 pub mod Exchanging

@@ -1,7 +1,8 @@
 // Changes: what differs between two states.
 
-ghost use Rattle.std.specs.Prelude.{◌≡◌, IfOk, MatchOption};
+ghost use Rattle.std.specs.Prelude.{◌≡◌, IfOk, MatchOption, OnErr, OnOk};
 ghost use Rattle.edits.specs.Changes.{ChangeParts, IsMinimal, Leads, LeadsNowhere, inverse};
+ghost use Rattle.edits.specs.StateParts.{StateParts};
 
 mod applying;
 pub(crate) mod between;
@@ -122,6 +123,20 @@ impl Change {
             (Leads state.now self.now)) }
     {
         applied(alloc, self, state)
+    }
+
+    /// Moves a state along the change, which leads from it to another state. Where memory is refused, the
+    /// state is what it was.
+    pub fn carry(&self, alloc: Global, state: &mut State) -> Result<(), AllocError>
+        requires { (next : StateParts) × Leads state.old self.now next }
+        ensures led { OnOk result (Leads state.old self.now state.new) }
+        ensures kept { OnErr result (state.new ≡ state.old) }
+    {
+        let Some(next) = self.apply(alloc, state)? else {
+            unreachable!();
+        };
+        *state = next;
+        Ok(())
     }
 
     /// The change back: it leads from the new state to the old one.

@@ -1,7 +1,7 @@
 //! Laws of locks and of changes, each the contract of a function that does nothing.
 
 ghost use Rattle.edits.specs.Changes.{AChangeCanBeTakenBack, BackAndBackIsTheChange};
-ghost use Rattle.edits.specs.Laws.{AChangeLeadsToOneState, TheLockOfAProblemIsOne};
+ghost use Rattle.edits.specs.Laws.{AChangeLeadsToOneState, AChangeLeadsWhereItCarries, TheLockOfAProblemIsOne};
 
 use pep440::Version;
 use pep508::{Name, Requirement};
@@ -29,4 +29,9 @@ pub fn back_and_back_is_the_change()
 /// A change leads from a state to one state at most: two that it leads to are the same in every part.
 pub fn a_change_leads_to_one_state()
     ensures { AChangeLeadsToOneState }
+{}
+
+/// Where a minimal change leads is a function of the state and the change.
+pub fn a_change_leads_where_it_carries()
+    ensures { AChangeLeadsWhereItCarries }
 {}
