@@ -5,6 +5,7 @@ pub mod Changes
 pub mod Commands
 pub mod Steps
 pub mod Laws
+pub mod Neighbours
 pub mod Format
 pub mod Saving
 pub mod Opening

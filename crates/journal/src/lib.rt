@@ -4,6 +4,7 @@
 //! Each lock in it is the best solution of its lines, by whatever resolver it was found.
 #![tactic(auto)]
 
+mod change_history;
 mod commands;
 mod format;
 mod history;
@@ -14,6 +15,7 @@ mod saving;
 mod session;
 mod whole;
 
+pub use crate::change_history::ChangeHistory;
 pub use crate::commands::{Command, Reply};
 pub use crate::history::History;
 pub use crate::running::{apply, run};

@@ -1,0 +1,136 @@
+// The history that keeps the present state and the change of each step.
+
+ghost use Rattle.std.specs.Prelude.{◌≡◌, ◌⊎◌, ◌↔◌, ◌+◌, ◌-◌, ◌<◌, ◌≤◌, [], length, Some, slice_get, if◌then◌else◌, is_ok, OnOk, OnErr, IfOk, IfErr, IsErrOf, IsSomeAnd};
+ghost use Rattle.std.specs.List.{AllByRecursion};
+ghost use Rattle.edits.specs.State.{IsState};
+ghost use Rattle.journal.specs.Changes.{AreSteps, with_change};
+ghost use Rattle.journal.specs.Past.{starts};
+
+use crate::history::History;
+use edits::{Change, Edited, Refusal, State};
+use std::alloc::{AllocError, Global};
+use std::marker::Model;
+
+/// A history that keeps the present state alone, and the change of each step. In a clause it is its past
+/// and its changes: the other states are those that the changes lead to from the present one.
+pub struct ChangeHistory {
+    state: State,
+    changes: Vec<Change>,
+    cursor: usize,
+}
+
+impl Drop for ChangeHistory {
+    fn drop(self) {
+        let ChangeHistory {
+            state: _,
+            changes: _,
+            cursor: _,
+        } = self;
+    }
+}
+
+impl Model for ChangeHistory {
+    ghost use Rattle.journal.specs.Changes.{Kept};
+    ghost use Rattle.journal.specs.Neighbours.{IsHistory, states_of};
+
+    ghost Value = { Kept };
+
+    ghost view = { λ h. record {
+      past = record { states = states_of h.state h.changes.items h.cursor; cursor = h.cursor };
+      changes = h.changes.items;
+    } };
+
+    ghost invariant = { λ h. IsHistory h.state h.changes.items h.cursor };
+}
+
+/// Cuts the changes behind the cursor and puts one there; the answer is the place behind it. Where memory
+/// is refused, the changes are what they were.
+fn put(changes: &mut Vec<Change>, cursor: usize, change: Change) -> Result<usize, AllocError>
+    requires { cursor ≤ length changes.old.items }
+    ensures place { IfOk result (λ place. place ≡ cursor + 1) }
+    ensures put { OnOk result (changes.new.items ≡ with_change cursor changes.old.items change) }
+    ensures kept { OnErr result (changes.new.items ≡ changes.old.items) }
+{
+    // All that can fail comes before the cut.
+    changes.reserve(1)?;
+    changes.truncate(cursor);
+    changes.push_reserved(change);
+    Ok(changes.len())
+}
+
+impl ChangeHistory {
+    /// The history whose only state is this one. It has no refusal.
+    pub fn new(alloc: Global, state: State) -> ChangeHistory
+        ensures start { result ≡ record { past = starts state; changes = [] } }
+    {
+        state.is_lawful();
+        let changes = Vec::new(alloc);
+        ChangeHistory {
+            state,
+            changes,
+            cursor: 0,
+        }
+    }
+
+    /// How many changes there are: one less than states. They lead from each state to the next, and all
+    /// states are lawful.
+    fn count(&self) -> usize
+        ensures changes { result ≡ length self.now.changes }
+        ensures states { result + 1 ≡ length self.now.past.states }
+        ensures lead { AreSteps self.now.past.states self.now.changes }
+        ensures lawful { AllByRecursion IsState self.now.past.states }
+    {
+        self.changes.len()
+    }
+}
+
+impl History for ChangeHistory {
+    ghost past = { λ h. h.past };
+
+    ghost changes = { λ h. h.changes };
+
+    fn state(&self) -> &State {
+        &self.state
+    }
+
+    fn cursor(&self) -> usize {
+        self.cursor
+    }
+
+    fn steps(&self) -> usize {
+        self.count()
+    }
+
+    fn change(&self, step: usize) -> &Change {
+        &self.changes[step - 1]
+    }
+
+    fn push(&mut self, _alloc: Global, edited: Edited) -> Result<(), AllocError> {
+        let Edited { state, change } = edited;
+        state.is_lawful();
+        let place = put(&mut self.changes, self.cursor, change)?;
+        self.state = state;
+        self.cursor = place;
+        Ok(())
+    }
+
+    fn undo(&mut self, alloc: Global) -> Result<(), Refusal> {
+        if self.cursor == 0 {
+            return Err(Refusal::NothingToUndo);
+        }
+        let place = self.cursor - 1;
+        let back = self.changes[place].inverse(alloc)?;
+        back.carry(alloc, &mut self.state)?;
+        self.cursor = place;
+        Ok(())
+    }
+
+    fn redo(&mut self, alloc: Global) -> Result<(), Refusal> {
+        if self.cursor >= self.count() {
+            return Err(Refusal::NothingToRedo);
+        }
+        self.changes[self.cursor].carry(alloc, &mut self.state)?;
+        self.cursor += 1;
+        Ok(())
+    }
+}
