@@ -12,6 +12,7 @@ pub mod EditFacts
 pub mod EndsFacts
 pub mod EntriesByName
 pub mod EntryFacts
+pub mod EntrySearch
 pub mod ExchangeFacts
 pub mod Gathering
 pub mod LawfulFiles

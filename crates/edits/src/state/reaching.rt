@@ -72,7 +72,8 @@ fn add_lines(
 
 /// The same of the names that the entry of the name at this place depends on.
 fn follow(names: &mut Vec<Name>, entries: &[Entry], place: usize) -> Result<(), AllocError>
-    requires { place < length names.old.items }
+    requires place { place < length names.old.items }
+    requires rising { are_entries entries.now ≡ true }
     ensures { OnOk result (IsGrown names.old.items names.new.items
         (needs_of (entry_on entries.now (slice_index_or names.old.items place [])))) }
 {
