@@ -47,14 +47,14 @@ same-decides one other = decides-onto (is_same one other)
 abbrev IsRefused : ProblemParts → RequirementParts → ChoiceParts → Type 0
 IsRefused given wanted choice = (wanted.name ≡ choice.node.name) × (admits given wanted choice.version ≡ false)
 
-refuses-decides : (given : ProblemParts) (wanted : RequirementParts) (choice : ChoiceParts) → Decides (refuses given wanted choice) (IsRefused given wanted choice)
+pub refuses-decides : (given : ProblemParts) (wanted : RequirementParts) (choice : ChoiceParts) → Decides (refuses given wanted choice) (IsRefused given wanted choice)
 refuses-decides given wanted choice =
     decides-both (bytes_eq wanted.name choice.node.name) (not (admits given wanted choice.version)) (bytes_eq-Decides wanted.name choice.node.name) (decides-not (admits given wanted choice.version))
 
 abbrev AreApart : ChoiceParts → ChoiceParts → Type 0
 AreApart one other = (one.node.name ≡ other.node.name) × (same_version one.version other.version ≡ false)
 
-differ-decides : (one other : ChoiceParts) → Decides (differ one other) (AreApart one other)
+pub differ-decides : (one other : ChoiceParts) → Decides (differ one other) (AreApart one other)
 differ-decides one other =
     decides-both (bytes_eq one.node.name other.node.name) (not (same_version one.version other.version)) (bytes_eq-Decides one.node.name other.node.name) (decides-not (same_version one.version other.version))
 
@@ -84,14 +84,14 @@ versions-decide given conflict = decides-onto _
 
 -- ---- none is left
 
-within-decides : (conflict : List ChoiceParts) (choice member : ChoiceParts)
+pub within-decides : (conflict : List ChoiceParts) (choice member : ChoiceParts)
     → Decides (is_within conflict choice member) (((c : ChoiceParts) × Contains conflict c × IsSameChoice same_version member c) ⊎ IsSameChoice same_version member choice)
 within-decides conflict choice member = decides-onto (is_within conflict choice member)
     (decides-either (list_any (is_same member) conflict) (is_same member choice) (decides-any (is_same member) (IsSameChoice same_version member) conflict (same-decides member)) (same-decides member choice))
     (λ k. elim k [ inl a ↦ inl (a.item, a.there, a.is) | inr b ↦ inr b ])
     (λ k. elim k [ inl a ↦ inl (record { item = a.0; there = a.1; is = a.2 }) | inr b ↦ inr b ])
 
-completes-decides : (earlier : List (List ChoiceParts)) (conflict : List ChoiceParts) (choice : ChoiceParts) → Decides (completes earlier conflict choice) (Completes same_version earlier conflict choice)
+pub completes-decides : (earlier : List (List ChoiceParts)) (conflict : List ChoiceParts) (choice : ChoiceParts) → Decides (completes earlier conflict choice) (Completes same_version earlier conflict choice)
 completes-decides earlier conflict choice = decides-onto (completes earlier conflict choice)
     (decides-any (λ old. list_all (is_within conflict choice) old)
     (λ old. (member : ChoiceParts) → Contains old member → ((c : ChoiceParts) × Contains conflict c × IsSameChoice same_version member c) ⊎ IsSameChoice same_version member choice) earlier
@@ -156,7 +156,7 @@ preferring-all releases (Some v) P alike each release there =
 abbrev IsExhausted : ProblemParts → List (List ChoiceParts) → List ChoiceParts → Node → Type 0
 IsExhausted given earlier conflict node = (v : VersionParts) → Contains (candidates given node.name) v → Completes same_version earlier conflict (record { node = node; version = v })
 
-exhausted-decides : (given : ProblemParts) (earlier : List (List ChoiceParts)) (conflict : List ChoiceParts) (node : Node) → Decides (none_left given earlier conflict node) (IsExhausted given earlier conflict node)
+pub exhausted-decides : (given : ProblemParts) (earlier : List (List ChoiceParts)) (conflict : List ChoiceParts) (node : Node) → Decides (none_left given earlier conflict node) (IsExhausted given earlier conflict node)
 exhausted-decides given earlier conflict node =
     let releases : List Release = releases_on given node.name in
     let with : VersionParts → ChoiceParts = λ v. record { node = node; version = v } in

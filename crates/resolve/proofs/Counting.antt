@@ -12,7 +12,7 @@ use Rattle.resolve.specs.Rules.{counts, wants, wants_of}
 use Rattle.resolve.specs.declared.node.Node.{Node}
 use Rattle.resolve.proofs.Deciding.{any-filtered}
 
-counted : (given : ProblemParts) (node : Node) (found : Option Release)
+pub counted : (given : ProblemParts) (node : Node) (found : Option Release)
     → filter (counts given.environment node.extra) (option_map_or (λ (release : Release). release.dependencies) found []) ≡ option_map_or (wants_of given.environment node.extra) found []
 counted given node None = refl
 counted given node (Some release) = refl

@@ -14,3 +14,4 @@ pub mod Deciding
 pub mod Equals
 pub mod Checked
 pub mod Counting
+pub mod Grounded

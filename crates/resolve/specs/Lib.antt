@@ -11,3 +11,4 @@ pub mod Resolves
 pub mod Laws
 pub mod Refutations
 pub mod Checking
+pub mod Grounds

@@ -14,7 +14,11 @@ use crate::releases::counts;
 use pep508::{Name, Requirement};
 
 /// Whether a requirement refuses one of the choices.
-fn refuses_one(question: &Question<'_>, wanted: &Requirement, conflict: &[Choice]) -> bool
+pub(crate) fn refuses_one(
+    question: &Question<'_>,
+    wanted: &Requirement,
+    conflict: &[Choice],
+) -> bool
     ensures { result ≡ list_any (spec.refuses question.now wanted.now) conflict.now }
 {
     conflict
@@ -39,7 +43,7 @@ fn some_refuses_one(
 }
 
 /// Whether something that a choice wants refuses one of the choices.
-fn clashes(question: &Question<'_>, one: &Choice, conflict: &[Choice]) -> bool
+pub(crate) fn clashes(question: &Question<'_>, one: &Choice, conflict: &[Choice]) -> bool
     ensures { result ≡ list_any
         (λ wanted. list_any (spec.refuses question.now wanted) conflict.now)
         (wants question.now one.now.node one.now.version) }

@@ -19,7 +19,11 @@ pub(crate) fn refuses(question: &Question<'_>, wanted: &Requirement, choice: &Ch
 }
 
 /// Whether one of the lines refuses a choice.
-fn some_line_refuses(question: &Question<'_>, lines: &[Requirement], choice: &Choice) -> bool
+pub(crate) fn some_line_refuses(
+    question: &Question<'_>,
+    lines: &[Requirement],
+    choice: &Choice,
+) -> bool
     ensures { result ≡ list_any (λ line. spec.refuses question.now line choice.now) lines.now }
 {
     lines.iter().any(|line| refuses(question, line, choice))

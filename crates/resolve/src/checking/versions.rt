@@ -11,14 +11,14 @@ ghost use Rattle.resolve.specs.Rules.{rules_of};
 use crate::choice::Choice;
 
 /// Whether two choices are two versions for one name.
-fn differ(one: &Choice, other: &Choice) -> bool
+pub(crate) fn differ(one: &Choice, other: &Choice) -> bool
     ensures { result ≡ spec.differ one.now other.now }
 {
     one.name.normal() == other.name.normal() && !one.version.cmp(&other.version).is_eq()
 }
 
 /// Whether one of the choices is another version for the name of this one.
-fn one_differs(choice: &Choice, conflict: &[Choice]) -> bool
+pub(crate) fn one_differs(choice: &Choice, conflict: &[Choice]) -> bool
     ensures { result ≡ list_any (spec.differ choice.now) conflict.now }
 {
     conflict.iter().any(|other| differ(choice, other))
