@@ -25,7 +25,7 @@ OUT_OF_MEMORY = b"reqlock: out of memory\n"
 # Packages with their releases, each with what it depends on.
 INDEX = {
     "a": {"1": ["b-b"], "2": ["b-b<2"]}, "b-b": {"1": [], "2": []}, "c": {"1": ["b-b>=2"]}, "d": {"1": []},
-    "x": {"1": ["d>=2; extra == 'e'"]},
+    "x": {"1": ["d>=2; extra == 'e'"], "zero": []},
 }
 REQUIREMENTS = b"# web\r\nB.b (>=1) ; os_name=='posix' # keep\r\na"
 COMMANDS = [
@@ -138,10 +138,18 @@ class Program(unittest.TestCase):
         done = subprocess.run(self.words(*words), cwd=self.folder, capture_output=True, check=False)
         self.assertTrue(done.stdout.startswith(reply.encode()), done)
 
+    def ample_run(self, command, data=b""):
+        """A run that meets no refused growth, which tells of no want of memory."""
+        ample = growths.run_once(command, self.library, AMPLE, data=data, folder=self.folder)
+        self.assertIsNone(ample.refused)
+        self.assertGreater(ample.growths, 0)
+        self.assertNotIn(b"memory", ample.output + ample.errors)
+        return ample
+
     def check_single(self, *words, starts):
         """Each growth of a subcommand is refused in turn; with ample memory its reply starts so."""
         before, command = growths.files_in(self.folder), self.words(*words)
-        ample = growths.run_once(command, self.library, AMPLE, folder=self.folder)
+        ample = self.ample_run(command)
         self.assertTrue(ample.output.startswith(starts.encode()), ample)
         for number in numbers(ample):
             run = growths.run_once(command, self.library, number, folder=self.folder)
@@ -151,8 +159,7 @@ class Program(unittest.TestCase):
         command = self.words(subcommand)
 
         def ample_run(commands):
-            data = b"".join(line + b"\n" for line in commands)
-            return growths.run_once(command, self.library, AMPLE, data=data, folder=self.folder)
+            return self.ample_run(command, b"".join(line + b"\n" for line in commands))
 
         @functools.cache
         def without(place):
@@ -175,6 +182,37 @@ class Program(unittest.TestCase):
             (["relock"], "same"), (["undo"], "refused nothing-to-undo"),
         ):
             self.check_single(*words, starts=starts)
+
+    def test_what_only_prints(self):
+        self.prepare("init")
+        self.prepare("add", "d")
+        for words, starts in (
+            (["check"], "ok 1"), (["show"], "name  version"), (["log"], "  0 init"), (["skipped"], "x: release 1"),
+            (["--help"], ""), (["--version"], "reqlock "),
+        ):
+            self.check_single(*words, starts=starts)
+
+    def test_inputs_that_are_refused(self):
+        self.prepare("init")
+        (self.folder / "requirements.txt").write_bytes(b"a\nb ; os_name\n")
+        self.check_refused("check", word=b"requirements.txt: files-disagree")
+        self.check_refused("init", word=b"requirements.txt: line 2: bad-marker")
+        (self.folder / "requirements.txt").write_bytes(REQUIREMENTS)
+        (self.folder / "reqlock.journal").write_bytes((self.folder / "reqlock.journal").read_bytes() + b"x")
+        self.check_refused("show", word=b"reqlock.journal: line 2: journal-broken")
+        (self.folder / "environment.json").write_bytes(b"{}")
+        self.check_refused("init", word=b"environment: bad-environment implementation_name")
+        (self.folder / "index.json").write_bytes(b'{"snapshot":1,"packages":[{"name":"a","releases":[7]}]}')
+        self.check_refused("skipped", word=b"index: shape /packages/0/releases/0")
+
+    def check_refused(self, *words, word):
+        """Each growth is refused in turn of a subcommand that tells this fault with ample memory."""
+        before, command = growths.files_in(self.folder), self.words(*words)
+        ample = self.ample_run(command)
+        self.assertEqual((ample.status, ample.errors), (4, b"reqlock: " + word + b"\n"))
+        for number in numbers(ample):
+            run = growths.run_once(command, self.library, number, folder=self.folder)
+            self.assertTrue(is_lawful(run, ample, before), (words, run))
 
     def test_why(self):
         self.prepare("init")
