@@ -4,9 +4,10 @@ import os
 import subprocess
 import unittest
 
-from test_program import PROGRAM, Program
+from test_program import FILES, PROGRAM, Program
 
 UNWRITTEN = "reqlock: output: write failed\n"
+PAGE = os.sysconf("SC_PAGESIZE")
 
 
 class Faults(Program):
@@ -46,6 +47,26 @@ class Faults(Program):
             self.assertEqual(self.told("add", "c", output=full), (5, UNWRITTEN))
         self.assertEqual(self.call("check"), (0, "ok 1\n"))
         self.assertEqual(len(self.files()), 3)
+
+    def test_an_input_that_cannot_be_read(self):
+        files = self.files()
+        options = "--dir", self.folder, "--index", self.outside / "index.json", "--env", self.outside / "environment.json"
+        for word in "batch", "try":
+            with self.subTest(word=word):
+                folder = os.open(self.folder, os.O_RDONLY)
+                done = subprocess.run([PROGRAM, *options, word], stdin=folder, capture_output=True, check=False)
+                os.close(folder)
+                self.assertEqual((done.returncode, done.stdout, done.stderr), (5, b"", b"reqlock: input: read failed\n"))
+                self.assertEqual(self.files(), files)
+
+    def test_replies_of_a_batch_that_cannot_be_saved(self):
+        files = self.files()
+        beside = self.folder / "pylock.toml.new"
+        beside.mkdir()
+        self.assertEqual(self.call("batch", text="undo\nadd c\n")[0], 5)
+        beside.rmdir()
+        self.assertEqual(self.files(), files)
+        self.assertEqual(self.call("check"), (0, "ok 0\n"))
 
     def test_a_closed_error_stream_changes_no_status(self):
         (self.folder / "pylock.toml").write_bytes(b"")
@@ -119,6 +140,33 @@ class Faults(Program):
         self.assertEqual(self.call("check"), (0, "ok 0\n"))
         self.folder.chmod(mode)
         self.assertEqual(self.files(), files)
+
+    def test_a_disk_that_is_full(self):
+        # each file takes one page: three stand there, and so many more have room beside their places
+        if not self.is_mounted(self.folder):
+            self.skipTest("a file system can't be mounted")
+        self.begin(b"a\n", ("a", "1", []), ("c", "1", []))
+        self.assertEqual(self.call("init"), (0, "ok 0\n"))
+        files = self.files()
+        for room, name in enumerate(FILES):
+            with self.subTest(name=name):
+                subprocess.run(["mount", "-o", f"remount,size={(3 + room) * PAGE}", self.folder], check=True)
+                self.assertEqual(self.call("add", "c"), (5, f"reqlock: {name}: write failed\n"))
+                self.assertEqual(self.files(), files)
+                self.assertEqual(self.call("check"), (0, "ok 0\n"))
+        subprocess.run(["mount", "-o", f"remount,size={6 * PAGE}", self.folder], check=True)
+        self.assertEqual(self.call("add", "c"), (0, "ok 1\n"))
+        self.assertEqual(sorted(self.files()), sorted(FILES))
+
+    def is_mounted(self, folder):
+        """Mounts an empty file system of six pages at the folder until the test ends, where that is allowed."""
+        options = ["-t", "tmpfs", "-o", f"size={6 * PAGE}", "tmpfs", folder]
+        try:
+            subprocess.run(["mount", *options], stdout=subprocess.DEVNULL, stderr=subprocess.DEVNULL, check=True)
+        except (OSError, subprocess.CalledProcessError):
+            return False
+        self.addCleanup(subprocess.run, ["umount", folder], check=True)
+        return True
 
     def test_words_that_are_no_text(self):
         done = subprocess.run([PROGRAM, b"add", b"\xff"], stdout=subprocess.PIPE, stderr=subprocess.PIPE, check=False)
