@@ -4,4 +4,4 @@ use Rattle.edits.specs.Tied.Deciding.{IsGrown}
 use Rattle.edits.proofs.state.reaching.add_lines.Given as goal
 
 abbrev pub invariant-loop-line : goal.invariant-loop-line
-invariant-loop-line l = IsGrown l.initial.names.items l.names.items (map (λ wanted. wanted.name) (requirements l.environment (take l.line-index l.lines)))
+invariant-loop-line l = IsGrown l.initial.names l.names (map (λ wanted. wanted.name) (requirements l.environment (take l.line-index l.lines)))

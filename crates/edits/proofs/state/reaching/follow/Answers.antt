@@ -7,6 +7,6 @@ use Rattle.edits.proofs.state.reaching.follow.Goals as goal
 
 pub returns-in-Some : goal.returns-in-Some
 returns-in-Some c =
-    let here : get_or c.args.names.now.items c.args.place [] ≡ c.index.result.now = item-within c.args.names.now.items c.args.place [] c.index.result.now c.requires.place ∙ sym c.index.ensures in
+    let here : get_or c.args.names.now c.args.place [] ≡ c.index-as_slice-place.result = item-within c.args.names.now c.args.place [] c.index-as_slice-place.result c.requires.place ∙ sym (rw c.as_slice.ensures at c.index-as_slice-place.is) in
     let needs = ap needs_of (ap (entry_on c.args.entries.now) here ∙ sym c.in-Some.ensures) ∙ sym c.dependencies.ensures in
-    subst (λ (asked : List (List ℕ)). OnOk c.add_all.result (IsGrown c.args.names.now.items c.add_all.new.names.items asked)) (sym needs) c.add_all.ensures
+    subst (λ (asked : List (List ℕ)). OnOk c.add_all.result (IsGrown c.args.names.now c.add_all.new.names asked)) (sym needs) c.add_all.ensures

@@ -5,8 +5,8 @@ use Rattle.edits.proofs.EditFacts.{not-so}
 use Rattle.edits.proofs.PartFacts.{AllByRecursion-at}
 use Rattle.edits.proofs.state.reaching.have_names.Goals as goal
 
-pub returns-then-not-is_among : goal.returns-then-not-is_among
-returns-then-not-is_among c =
+pub returns-then-not-has : goal.returns-then-not-has
+returns-then-not-has c =
     let here = λ (all : AllByRecursion (λ (e : EntryParts). Contains c.args.names.now e.name) c.args.entries.now). subst (λ (e : EntryParts). Contains c.args.names.now e.name) (sym c.entry-item.is)
     (AllByRecursion-at (λ (e : EntryParts). Contains c.args.names.now e.name) c.args.entries.now c.loop-entry.entry-index c.entry-item.result c.loop-entry-test.true all) in
-    (λ h. absurd (not-so h), λ all. (rw c.name.ensures at c.if-not-is_among.ensures).1 (here all))
+    (λ h. absurd (not-so h), λ all. (rw c.name.ensures at c.if-not-has.ensures).1 (here all))

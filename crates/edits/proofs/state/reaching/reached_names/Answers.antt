@@ -1,18 +1,18 @@
-use Rattle.std.proofs.Common.{arith}
+use Rattle.std.proofs.Common.{ap, arith, length}
 use Rattle.resolve.specs.Problem.{requirements}
 use Rattle.edits.proofs.ReachFacts.{AreReached-from, IsFollowed-next, IsFollowed-start}
 use Rattle.edits.proofs.state.reaching.reached_names.Goals as goal
 
 pub loop-followed-init : goal.loop-followed-init
 loop-followed-init c =
-    let grown = rw c.new-names.ensures.items at c.in_ok-add_lines.ensures in
-    IsFollowed-start (requirements c.args.environment.now c.args.lines.now) c.args.entries.now c.add_lines.new.names.items grown
+    let grown = rw c.new-names.ensures at c.in_ok-add_lines.ensures in
+    IsFollowed-start (requirements c.args.environment.now c.args.lines.now) c.args.entries.now c.add_lines.new.names grown
 
 pub loop-followed-preserved : goal.loop-followed-preserved
 loop-followed-preserved c =
-    IsFollowed-next (requirements c.args.environment.now c.args.lines.now) c.args.entries.now c.loop-followed.names.items c.follow.new.names.items c.loop-followed.followed
-    (omega arith) c.loop-followed.invariant c.in_ok-follow.ensures
+    IsFollowed-next (requirements c.args.environment.now c.args.lines.now) c.args.entries.now c.loop-followed.names c.follow.new.names c.loop-followed.followed
+    (omega (arith, ap length c.as_slice.ensures)) c.loop-followed.invariant c.in_ok-follow.ensures
 
 pub returns : goal.returns
-returns c = rw c.from_vec.ensures
-    (AreReached-from (requirements c.args.environment.now c.args.lines.now) c.args.entries.now c.loop-followed.names.items c.loop-followed.followed c.requires (omega arith) c.loop-followed.invariant)
+returns c =
+    (AreReached-from (requirements c.args.environment.now c.args.lines.now) c.args.entries.now c.loop-followed.names c.loop-followed.followed c.requires (omega (arith, ap length c.as_slice.ensures)) c.loop-followed.invariant)

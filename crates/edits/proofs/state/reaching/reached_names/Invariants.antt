@@ -4,7 +4,7 @@ use Rattle.edits.proofs.ReachFacts.{IsFollowed}
 use Rattle.edits.proofs.state.reaching.reached_names.Given as goal
 
 abbrev pub invariant-loop-followed : goal.invariant-loop-followed
-invariant-loop-followed l = IsFollowed (requirements l.environment l.lines) l.entries l.names.items l.followed
+invariant-loop-followed l = IsFollowed (requirements l.environment l.lines) l.entries l.names l.followed
 
 abbrev pub decreases-loop-followed : goal.decreases-loop-followed
 decreases-loop-followed l = 2 ^ 64 - l.followed
