@@ -1,5 +1,6 @@
 // Environments: texts from the standard, and each call that allocates once.
 
+use crate::marker_texts::many;
 use markers::{Cause, Environment, Fault, Variable};
 use std::alloc::{AllocError, Global};
 use std::test::Fail;
@@ -124,6 +125,21 @@ fn texts_are_kept(rt: HostRuntime) -> Result<(), Fail> {
         let text = text_with(rt.alloc(), changed, json, *variable)?;
         assert_eq!(rt; text.as_str(), *kept);
     }
+    Ok(())
+}
+
+#[test]
+fn a_long_value_is_kept(rt: HostRuntime) -> Result<(), Fail> {
+    let alloc = rt.alloc();
+    let value = many(alloc, "abcd", 500)?;
+    let json = format!(in alloc; "\"{value}\"")?;
+    let environment = read_with(alloc, "os_name", json.as_str())?.clone()?;
+    assert_eq!(rt; environment.text(Variable::OsName), value.as_str());
+    let marker = environment.marker_text(alloc)?;
+    let wanted = EXAMPLE_MARKER.replace(alloc, "posix", value.as_str())?;
+    assert_eq!(rt; marker.as_str(), wanted.as_str());
+    let json = format!(in alloc; "\"{value}\\n\"")?;
+    assert!(rt; is_refused(alloc, "os_name", json.as_str(), Variable::OsName));
     Ok(())
 }
 

@@ -5,6 +5,10 @@
 #[cfg(test)]
 mod environments;
 #[cfg(test)]
+mod long_lines;
+#[cfg(test)]
+mod long_texts;
+#[cfg(test)]
 mod marker_texts;
 #[cfg(test)]
 mod names;

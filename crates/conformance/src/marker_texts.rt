@@ -140,7 +140,7 @@ const PRINTED: &[(Cause, &str)] = &[
 ];
 
 /// A text many times.
-fn many(alloc: Global, text: &str, count: usize) -> Result<String, AllocError> {
+pub(crate) fn many(alloc: Global, text: &str, count: usize) -> Result<String, AllocError> {
     let mut all = String::new(alloc);
     for _ in 0..count {
         all.push_str(text)?;
@@ -157,14 +157,14 @@ fn nested(alloc: Global, depth: usize) -> Result<String, AllocError> {
 }
 
 /// Whether a copy of the marker that a text is holds under the example, with an extra or none.
-fn held(alloc: Global, text: &str, extra: Option<&Name>) -> Result<bool, Fail> {
+pub(crate) fn held(alloc: Global, text: &str, extra: Option<&Name>) -> Result<bool, Fail> {
     let environment = Environment::read(alloc, ENVIRONMENT.as_bytes())?;
     let marker = Marker::parse(alloc, text)?.clone()?;
     Ok(marker.holds(&environment, extra))
 }
 
 /// Why a text is no marker.
-fn refusal(alloc: Global, text: &str) -> Option<Cause> {
+pub(crate) fn refusal(alloc: Global, text: &str) -> Option<Cause> {
     match Marker::read(alloc, text) {
         Ok(_) => None,
         Err(cause) => Some(cause),
@@ -241,7 +241,7 @@ fn parentheses_in_quotes_do_not_count(rt: HostRuntime) -> Result<(), Fail> {
 }
 
 /// So many atoms that hold, and a last one that doesn't, with a word between each two.
-fn joined(alloc: Global, word: &str, count: usize) -> Result<String, AllocError> {
+pub(crate) fn joined(alloc: Global, word: &str, count: usize) -> Result<String, AllocError> {
     let more = format!(in alloc; "os_name == \"posix\" {word} ")?;
     let mut text = many(alloc, more.as_str(), count)?;
     text.push_str("python_version >= \"4\"")?;

@@ -7,7 +7,7 @@ use std::alloc::{AllocError, Global};
 use std::test::Fail;
 
 /// The cause for which a line is refused.
-fn line_cause(alloc: Global, line: &str) -> Option<Cause> {
+pub(crate) fn line_cause(alloc: Global, line: &str) -> Option<Cause> {
     match ReqLine::read(alloc, line) {
         Ok(_) => None,
         Err(fault) => Some(fault.cause),
@@ -15,7 +15,7 @@ fn line_cause(alloc: Global, line: &str) -> Option<Cause> {
 }
 
 /// The fault of a text that is no requirement.
-fn requirement_fault(alloc: Global, text: &str) -> Option<Fault> {
+pub(crate) fn requirement_fault(alloc: Global, text: &str) -> Option<Fault> {
     match Requirement::parse(alloc, text) {
         Ok(_) => None,
         Err(fault) => Some(fault),
@@ -71,7 +71,7 @@ fn lines_get_an_ending_once(rt: HostRuntime) -> Result<(), Fail> {
 }
 
 /// The fault of bytes that are no file.
-fn file_fault(alloc: Global, bytes: &[u8]) -> Option<Fault> {
+pub(crate) fn file_fault(alloc: Global, bytes: &[u8]) -> Option<Fault> {
     match ReqFile::read(alloc, bytes) {
         Ok(_) => None,
         Err(fault) => Some(fault),

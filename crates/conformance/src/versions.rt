@@ -22,11 +22,11 @@ pub(crate) fn fault_of(rt: &HostRuntime, text: &str) -> Option<Fault> {
     Version::parse(rt.alloc(), text).err()
 }
 
-fn set_fault(rt: &HostRuntime, text: &str) -> Option<Fault> {
+pub(crate) fn set_fault(rt: &HostRuntime, text: &str) -> Option<Fault> {
     SpecifierSet::parse(rt.alloc(), text).err()
 }
 
-fn is_match(rt: &HostRuntime, set: &str, candidate: &str) -> Result<bool, Fault> {
+pub(crate) fn is_match(rt: &HostRuntime, set: &str, candidate: &str) -> Result<bool, Fault> {
     let set = SpecifierSet::parse(rt.alloc(), set)?;
     let candidate = Version::parse(rt.alloc(), candidate)?;
     Ok(set.matches(&candidate))
