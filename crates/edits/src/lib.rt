@@ -25,6 +25,7 @@ pub use crate::state::State;
 pub use pep508::{Cause, Environment, Fault, Line, Name, ReqFile, Requirement};
 pub use pylock::{Entry, FileEntry, Lock};
 pub use resolve::{
-    Choice, Ground, Learning, Need, Plain, Problem, Refutation, Resolver, check, completed, ground_of,
+    Choice, Ground, Learning, Need, Plain, Problem, Refutation, Resolver, check, completed,
+    ground_of,
 };
 pub use snapshot::{Release, Snapshot};
