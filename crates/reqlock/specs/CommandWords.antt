@@ -3,10 +3,15 @@ use Rattle.std.specs.Prelude.{true, List, [], ◌∷◌, Some, codes}
 use Rattle.clap.specs.Lexer.{usize_max}
 use Rattle.clap.specs.Simple.{Shape, new_shape}
 use Rattle.clap.specs.Words.{App, Rule, Text, new_rule, with_subcommand}
+use Rattle.clap.specs.declared.builder.action.ArgAction.TheVariants.{SetTrue}
 
 -- an option with one value, as --dir DIR
 abbrev pub option_rule : Text → Rule
 option_rule name = record (new_rule name) { long = Some name; value_names = 1 }
+
+-- an option without a value, as --explain
+abbrev pub flag_rule : Text → Rule
+flag_rule name = record (new_rule name) { long = Some name; action = Some SetTrue }
 
 -- a text that a subcommand may take, as [SPEC]
 abbrev pub text_rule : Text → Rule
@@ -57,7 +62,7 @@ other_shapes =
     ∷ new_shape (codes "log")
     ∷ new_shape (codes "check")
     ∷ new_shape (codes "skipped")
-    ∷ shape_with (codes "why") (text_rule (codes "text") ∷ [])
+    ∷ shape_with (codes "why") (flag_rule (codes "explain") ∷ text_rule (codes "text") ∷ [])
     ∷ []
 
 -- an app with these subcommands behind its own

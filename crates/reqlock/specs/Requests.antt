@@ -1,9 +1,9 @@
 -- What the words of a command line ask for, as clap reads them. All of it is reqlock's own rule.
-use Rattle.std.specs.Prelude.{◌≡◌, ◌≢◌, ◌⊎◌, List, [], ◌∷◌, Option, None, Some, codes, map, unwrap_or, option_map, if◌then◌else◌, IsSome, IsSomeAnd}
+use Rattle.std.specs.Prelude.{◌≡◌, ◌≢◌, ◌⊎◌, Bool, true, false, List, [], ◌∷◌, Option, None, Some, codes, map, unwrap_or, option_map, if◌then◌else◌, IsSome, IsSomeAnd}
 use Rattle.std.specs.Borrow.{Bor}
 use Rattle.std.specs.List.{All}
 use Rattle.std.specs.Str.{bytes_eq}
-use Rattle.clap.specs.Words.{Row, Text, IsAmong, all_of, fault_of, first_of, kind_of, matches_of, subcommand_of}
+use Rattle.clap.specs.Words.{Row, Text, IsAmong, all_of, fault_of, first_of, kind_of, matches_of, one_of, subcommand_of}
 use Rattle.clap.specs.declared.error.Error.{Error}
 use Rattle.clap.specs.declared.error.kind.ErrorKind.{ErrorKind}
 use Rattle.clap.specs.declared.error.kind.ErrorKind.TheVariants as kinds
@@ -48,6 +48,10 @@ edit_of name rows =
 abbrev pub questioned : List Row → EditValue
 questioned rows = unwrap_or (option_map Add (first_of (codes "text") rows)) Relock
 
+-- a flag's value as clap tells it: `true` where the flag was given, and else `false`
+abbrev pub IsFlag : Option Text → Bool → Type 0
+IsFlag told value = (told ≡ Some (codes "true") → value ≡ true) × (told ≡ Some (codes "false") → value ≡ false) × (told ≡ None → value ≡ false)
+
 -- the index and the environment that were given
 abbrev pub HasInputs : Option Text → Option Text → Inputs → Type 0
 HasInputs index environment inputs = (index ≡ Some inputs.index.now) × (environment ≡ Some inputs.environment.now)
@@ -64,7 +68,7 @@ IsAsked index environment name rows Show = name ≡ codes "show"
 IsAsked index environment name rows Log = name ≡ codes "log"
 IsAsked index environment name rows Check = name ≡ codes "check"
 IsAsked index environment name rows (Skipped over) = (name ≡ codes "skipped") × (index ≡ Some over.now)
-IsAsked index environment name rows (Why edit over) = (name ≡ codes "why") × (edit ≡ questioned rows) × (index ≡ Some over.now)
+IsAsked index environment name rows (Why edit over explains) = (name ≡ codes "why") × (edit ≡ questioned rows) × (index ≡ Some over.now) × IsFlag (one_of (codes "explain") rows) explains
 
 -- clap reads the words, and the request has what it finds in them
 pub record IsRequest (words : List Text) (request : Invocation) : Type 0 where

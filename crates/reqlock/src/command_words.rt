@@ -3,9 +3,9 @@
 ghost use Rattle.std.specs.Prelude.{◌≡◌, [], ◌∷◌, codes, false, IfOk};
 ghost use Rattle.clap.specs.Words.{app_of, rule_of, with_subcommand};
 ghost use Rattle.clap.specs.Simple.{new_shape};
-ghost use Rattle.reqlock.specs.CommandWords.{edit_shapes, needed_rule, option_rule, options_app, other_shapes, reqlock_app, shape_with, text_rule, with_subcommands};
+ghost use Rattle.reqlock.specs.CommandWords.{edit_shapes, flag_rule, needed_rule, option_rule, options_app, other_shapes, reqlock_app, shape_with, text_rule, with_subcommands};
 
-use clap::{Arg, Command};
+use clap::{Arg, ArgAction, Command};
 use std::alloc::{AllocError, Global};
 
 /// The program's version.
@@ -69,7 +69,29 @@ fn with_others<'a>(alloc: Global, command: Command<'a>) -> Result<Command<'a>, A
     let skipped = plain(alloc, check, "skipped", about)?;
     let about = "Print a proof that nothing can be locked with this line, where that is so";
     let line = text(alloc, "text", "TEXT").help("The line; without it, the file as it stands");
-    taking(alloc, skipped, "why", about, line)
+    asking(alloc, skipped, about, line)
+}
+
+// The command with `why`.
+fn asking<'a>(
+    alloc: Global,
+    command: Command<'a>,
+    about: &'a str,
+    line: Arg<'a>,
+) -> Result<Command<'a>, AllocError>
+    requires local { line.global ≡ false }
+    ensures app { IfOk result (λ c. app_of c ≡ with_subcommand (app_of command.entry)
+        (shape_with (codes "why") (flag_rule (codes "explain") ∷ rule_of line.entry ∷ []))) }
+{
+    let explain = Arg::new(alloc, "explain")
+        .long("explain")
+        .action(ArgAction::SetTrue)
+        .help("Tell it in sentences");
+    let why = Command::new(alloc, "why")
+        .about(about)
+        .arg(explain)?
+        .arg(line)?;
+    command.subcommand(why)
 }
 
 // The command with `constrain`.

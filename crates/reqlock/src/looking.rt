@@ -6,6 +6,7 @@ ghost use Rattle.resolve.specs.Refutations.{same_version};
 ghost use Rattle.resolve.specs.Resolves.{HasSolution};
 ghost use Rattle.resolve.specs.Rules.{rules_of};
 
+use crate::explaining::{Told, explanation};
 use crate::folder_lock::{LockFile, lock_to_read};
 use crate::history_text::history_text;
 use crate::input_files::{InputFile, read_bytes, read_index};
@@ -81,12 +82,14 @@ where
 }
 
 /// Prints why an edit of the saved state has no solution over an index: a refutation that `check`
-/// accepts. Where it has one, that is printed. All files are read before a fault in one is told.
+/// accepts. Where it has one, that is printed.
+/// It is told in sentences where that is asked for. All files are read before a fault in one is told.
 pub fn print_why<R: Files + AllocGlobal, O: Write>(
     rt: &R,
     dir: &str,
     edit: &Edit,
     index: &str,
+    explains: bool,
     output: &mut O,
 ) -> Result<(), Stop>
 where
@@ -99,6 +102,15 @@ where
     let snapshot = in_file(InputFile::Index, read_index(alloc, bytes.as_slice()))?;
     let problem = problem_after(alloc, session.state(), edit, &snapshot)?;
     match refuted(alloc, &problem)? {
+        Some(refutation) if explains => {
+            let told = Told {
+                problem: &problem,
+                state: session.state(),
+                edit,
+                snapshot: &snapshot,
+            };
+            Err(Stop::Refuted(explanation(alloc, told, &refutation)?))
+        }
         Some(refutation) => Err(Stop::Refuted(refutation_text(alloc, &refutation)?)),
         None => Ok(print(output, b"solvable\n".as_slice())?),
     }

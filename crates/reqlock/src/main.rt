@@ -6,6 +6,7 @@ mod command_line;
 mod command_words;
 mod counted;
 mod editing;
+mod explaining;
 #[cfg(test)]
 mod fault_tests;
 mod folder_lock;
@@ -23,6 +24,7 @@ mod replacing;
 mod replacing_tests;
 mod reply_text;
 mod request;
+mod requirement_text;
 #[cfg(test)]
 mod resolving_tests;
 mod saved_files;

@@ -49,7 +49,9 @@ where
         Subcommand::Log => print_history(rt, dir, output),
         Subcommand::Check => print_check(rt, dir, output),
         Subcommand::Skipped(index) => print_skipped(rt, index, output),
-        Subcommand::Why(edit, index) => print_why(rt, dir, &edit, index, output),
+        Subcommand::Why(edit, index, explains) => {
+            print_why(rt, dir, &edit, index, explains, output)
+        },
     }
 }
 
@@ -73,6 +75,6 @@ where
         | Subcommand::Log
         | Subcommand::Check
         | Subcommand::Skipped(_)
-        | Subcommand::Why(_, _) => Ok(None),
+        | Subcommand::Why(_, _, _) => Ok(None),
     }
 }

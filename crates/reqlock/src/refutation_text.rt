@@ -15,7 +15,11 @@ pub fn refutation_text(alloc: Global, refutation: &Refutation) -> Result<String,
     Ok(text)
 }
 
-fn add_conflict(alloc: Global, text: &mut String, conflict: &[Choice]) -> Result<(), AllocError> {
+pub fn add_conflict(
+    alloc: Global,
+    text: &mut String,
+    conflict: &[Choice],
+) -> Result<(), AllocError> {
     if conflict.is_empty() {
         return text.push_str("-");
     }
@@ -39,8 +43,8 @@ fn sorted_texts(alloc: Global, conflict: &[Choice]) -> Result<BTreeSet<String>, 
     Ok(texts)
 }
 
-// `name==version`, or `name[extra]==version` at the node of an extra.
-fn choice_text(alloc: Global, choice: &Choice) -> Result<String, AllocError> {
+/// `name==version`, or `name[extra]==version` at the node of an extra.
+pub fn choice_text(alloc: Global, choice: &Choice) -> Result<String, AllocError> {
     let name = choice.name.normal();
     let version = &choice.version;
     match &choice.extra {

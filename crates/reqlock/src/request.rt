@@ -1,9 +1,9 @@
 // What the words of the command line ask for.
 
-ghost use Rattle.std.specs.Prelude.{◌≡◌, [], map, option_map, unwrap_or, Some, None, IfOk, IfErr};
-ghost use Rattle.clap.specs.Words.{fault_of, found_of, kind_of, matches_of, rows_of, subcommand_of, subcommand_rows_of};
+ghost use Rattle.std.specs.Prelude.{◌≡◌, [], codes, map, option_map, unwrap_or, Some, None, IfOk, IfErr};
+ghost use Rattle.clap.specs.Words.{fault_of, found_of, kind_of, matches_of, one_of, rows_of, subcommand_of, subcommand_rows_of};
 ghost use Rattle.reqlock.specs.CommandWords.{reqlock_app};
-ghost use Rattle.reqlock.specs.Requests.{FaultOf, FaultWith, HasInputs, IsAsked, IsFault, IsLacking, IsRequest, LacksInput, edit_of, questioned, text_of, texts_of, upgrade_with};
+ghost use Rattle.reqlock.specs.Requests.{FaultOf, FaultWith, HasInputs, IsAsked, IsFault, IsFlag, IsLacking, IsRequest, LacksInput, edit_of, questioned, text_of, texts_of, upgrade_with};
 ghost use Rattle.edits.specs.declared.request.Edit.TheVariants.{Add, Constrain, Remove};
 ghost use Rattle.reqlock.specs.declared.request.RequestFault.TheVariants.{OutOfMemory};
 
@@ -44,8 +44,8 @@ pub enum Subcommand<'a> {
     Check,
     /// Prints what was left out of this index.
     Skipped(&'a str),
-    /// Prints why this edit has no solution over this index, where it has none.
-    Why(Edit, &'a str),
+    /// Prints why this edit has no solution over this index, where it has none; in sentences or not.
+    Why(Edit, &'a str, bool),
 }
 
 /// The files that a new history begins with, beside the requirements file.
@@ -149,7 +149,8 @@ fn read_subcommand<'a>(
     }
     if name == "why" {
         let edit = read_question(alloc, given)?;
-        return Ok(Subcommand::Why(edit, needed_index(options)?));
+        let index = needed_index(options)?;
+        return Ok(Subcommand::Why(edit, index, is_explained(given)));
     }
     match name {
         "undo" => Ok(Subcommand::Undo),
@@ -193,6 +194,13 @@ fn read_question(alloc: Global, given: &ArgMatches<'_>) -> Result<Edit, AllocErr
 {
     let addition = read_addition(alloc, given.get_str("text"))?;
     Ok(addition.unwrap_or(Edit::Relock))
+}
+
+// Whether it is to be told in sentences.
+fn is_explained(given: &ArgMatches<'_>) -> bool
+    ensures flag { IsFlag (one_of (codes "explain") (rows_of (found_of given.now))) result }
+{
+    given.get_flag("explain")
 }
 
 fn read_removal(alloc: Global, name: Option<&str>) -> Result<Option<Edit>, AllocError>

@@ -1,7 +1,7 @@
 // What was left out of an index, for people.
 
 use crate::input_files::cause_word;
-use pep508::Cause;
+use pep508::{Cause, Name};
 use snapshot::{SkipCause, Skipped};
 use std::alloc::{AllocError, Global};
 
@@ -10,13 +10,27 @@ use std::alloc::{AllocError, Global};
 pub fn skipped_text(alloc: Global, skipped: &[Skipped]) -> Result<String, AllocError> {
     let mut text = String::new(alloc);
     for release in skipped {
-        let package = release.package().normal();
-        let place = release.place();
-        write!(text, "{package}: release {place}: ")?;
-        add_cause(&mut text, release.cause())?;
-        text.push_str("\n")?;
+        add_release(&mut text, release)?;
     }
     Ok(text)
+}
+
+/// The same lines of the releases of one name.
+pub fn add_skipped(text: &mut String, skipped: &[Skipped], name: &Name) -> Result<(), AllocError> {
+    for release in skipped {
+        if release.package().normal() == name.normal() {
+            add_release(text, release)?;
+        }
+    }
+    Ok(())
+}
+
+fn add_release(text: &mut String, release: &Skipped) -> Result<(), AllocError> {
+    let package = release.package().normal();
+    let place = release.place();
+    write!(text, "{package}: release {place}: ")?;
+    add_cause(text, release.cause())?;
+    text.push_str("\n")
 }
 
 fn add_cause(text: &mut String, cause: SkipCause) -> Result<(), AllocError> {

@@ -196,9 +196,10 @@ fn request_text(alloc: Global, words: &[&str]) -> Result<String, AllocError> {
         Subcommand::Log => format!(in alloc; "{dir} log"),
         Subcommand::Check => format!(in alloc; "{dir} check"),
         Subcommand::Skipped(index) => format!(in alloc; "{dir} skipped {index}"),
-        Subcommand::Why(edit, index) => {
+        Subcommand::Why(edit, index, explains) => {
             let text = asked(alloc, &Some(Item::Edit(edit)))?;
-            format!(in alloc; "{dir} why {text} {index}")
+            let how = if explains { " in sentences" } else { "" };
+            format!(in alloc; "{dir} why {text} {index}{how}")
         }
     }
 }
@@ -220,7 +221,16 @@ fn reads_requests(rt: HostRuntime) -> Result<(), Fail> {
         (["--index", "i", "skipped"].as_slice(), ". skipped i"),
         (["--index", "i", "why"].as_slice(), ". why (relock) i"),
         (["--index", "i", "why", "a >=1"].as_slice(), ". why a >=1 i"),
+        (
+            ["--index", "i", "why", "--explain"].as_slice(),
+            ". why (relock) i in sentences",
+        ),
+        (
+            ["--index", "i", "why", "a", "--explain"].as_slice(),
+            ". why a i in sentences",
+        ),
         (["why"].as_slice(), "needs index"),
+        (["undo", "--explain"].as_slice(), "usage"),
         (["--index", "i", "relock"].as_slice(), ". (relock) i"),
         (
             ["--index", "i", "add", "a >=1 # x "].as_slice(),

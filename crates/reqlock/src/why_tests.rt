@@ -86,3 +86,59 @@ fn conflicts_are_printed_a_line_each(rt: HostRuntime) -> Result<(), Fail> {
     }
     Ok(())
 }
+
+#[test]
+fn conflicts_are_told_in_sentences(rt: HostRuntime) -> Result<(), Fail> {
+    for (index, file, words, told) in SENTENCES {
+        let dir = place(&rt, "why-sentences", file.as_bytes(), index)?;
+        let dir = dir.as_str();
+        plays(&rt, dir, &[(&["init"], "0 ok 0\n")])?;
+        plays(&rt, dir, &[(*words, *told)])?;
+        fs::remove_dir_all(&rt, dir)?;
+    }
+    Ok(())
+}
+
+const SENTENCES: &[(&[Told], &str, &[&str], &str)] = &[
+    (
+        ONE_OF_A,
+        "# web\na==1\n",
+        &["why", "--explain", "z"],
+        "3 1. -: the new line (z) needs z, and the index has no release of z\n",
+    ),
+    (
+        SHARED,
+        "a==2\n",
+        &["why", "--explain", "c"],
+        "3 1. b==1 c==1: c==1 needs b>=2, which doesn't admit b==1\n\
+         2. b==1: the new line (c) needs c, and no release of c is left: 1 by 1\n\
+         3. a==2 b==2: a==2 needs b<2, which doesn't admit b==2\n\
+         4. a==2: a==2 needs b<2, and no release of b is left: 2 by 3, 1 by 2\n\
+         5. a==1: line 1 (a==2) doesn't admit a==1\n\
+         6. -: line 1 (a==2) needs a, and no release of a is left: 2 by 4, 1 by 5\n",
+    ),
+    (
+        UNMET_EXTRA,
+        "",
+        &["why", "--explain", "x[e]"],
+        "3 1. x[e]==1 y==1: x[e]==1 needs y>=2, which doesn't admit y==1\n\
+         2. x[e]==1: x[e]==1 needs y>=2, and no release of y is left: 1 by 1\n\
+         3. -: the new line (x[e]) needs x[e], and no release of x[e] is left: 1 by 2\n",
+    ),
+    (
+        SKIPPED,
+        "",
+        &["why", "--explain", "b"],
+        "3 1. b==1 c==1: b==1 needs c>1, which doesn't admit c==1\n\
+         2. b==1: b==1 needs c>1, and no release of c is left: 1 by 1\n\
+         3. -: the new line (b) needs b, and no release of b is left: 1 by 2\n\
+         b: release 1: requirement 0 url-requirement\n",
+    ),
+];
+
+// A release that is left out, since it asks for what can't be read.
+const SKIPPED: &[Told] = &[
+    ("b", "1", r#""requires_dist":["c>1"],"#),
+    ("b", "2", r#""requires_dist":["c @ https://c.example"],"#),
+    ("c", "1", ""),
+];

@@ -2,7 +2,7 @@ use Rattle.std.proofs.Common.{◌≡◌, ◌∙◌, [], ◌∷◌, ap, ap₂, co
 use Rattle.std.proofs.lemmas.Result.{IfOk-weaker}
 use Rattle.clap.specs.Words.{App, Rule, Text, rule_of, with_subcommand}
 use Rattle.clap.specs.Simple.{new_shape}
-use Rattle.reqlock.specs.CommandWords.{shape_with, text_rule}
+use Rattle.reqlock.specs.CommandWords.{flag_rule, shape_with, text_rule}
 use Rattle.reqlock.proofs.command_words.with_others.Goals as goal
 
 -- one subcommand more
@@ -20,4 +20,4 @@ returns c =
     let check = more (codes "check") _ _ _ c.in_ok-check.ensures.app log in
     let skipped = more (codes "skipped") _ _ _ c.in_ok-skipped.ensures.app check in
     let line_is : rule_of c.help-line.result ≡ text_rule (codes "text") = ap rule_of c.help-line.ensures ∙ c.text.ensures.rule in
-    record { app = IfOk-weaker c.taking.result _ _ (λ made is. is ∙ ap₂ (λ (a : App) (r : Rule). with_subcommand a (shape_with (codes "why") (r ∷ []))) skipped line_is) c.taking.ensures.app }
+    record { app = IfOk-weaker c.asking.result _ _ (λ made is. is ∙ ap₂ (λ (a : App) (r : Rule). with_subcommand a (shape_with (codes "why") (flag_rule (codes "explain") ∷ r ∷ []))) skipped line_is) c.asking.ensures.app }
