@@ -23,14 +23,6 @@ mod locked_files;
 #[cfg(test)]
 mod locks;
 #[cfg(test)]
-mod long_files;
-#[cfg(test)]
-mod long_histories;
-#[cfg(test)]
-mod long_indexes;
-#[cfg(test)]
-mod long_locks;
-#[cfg(test)]
 mod refutations;
 #[cfg(test)]
 mod searches;

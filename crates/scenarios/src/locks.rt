@@ -10,7 +10,7 @@ use toml::{Table, Value};
 
 const DIGEST: &str = "0000000000000000000000000000000000000000000000000000000000000000";
 
-pub(crate) fn file(alloc: Global, name: &str) -> Option<FileEntry> {
+fn file(alloc: Global, name: &str) -> Option<FileEntry> {
     Some(FileEntry {
         name: Text::copy_of(alloc, name).ok()?,
         url: Text::copy_of(alloc, "https://files.example/f").ok()?,
@@ -28,13 +28,7 @@ fn names(alloc: Global, name: &str) -> Option<Seq<Name>> {
     Some(names)
 }
 
-pub(crate) fn entry(
-    alloc: Global,
-    name: &str,
-    version: &str,
-    dependency: &str,
-    wheel: &str,
-) -> Option<Entry> {
+fn entry(alloc: Global, name: &str, version: &str, dependency: &str, wheel: &str) -> Option<Entry> {
     let name = Name::parse(alloc, name).ok()?;
     let version = Version::parse(alloc, version).ok()?;
     let dependencies = names(alloc, dependency)?;
