@@ -7,6 +7,7 @@ pub mod Nodes
 pub mod Clashes
 pub mod Least
 pub mod Stack
+pub mod FirstWalks
 pub mod Work
 pub mod Steps
 pub mod TakenFacts

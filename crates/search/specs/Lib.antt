@@ -10,6 +10,7 @@ pub mod Found
 pub mod Conflicts
 pub mod Table
 pub mod Search
+pub mod FirstWalk
 pub mod Ranges
 pub mod Nodes
 pub mod Steps

@@ -2,12 +2,14 @@
 
 ghost use Rattle.std.specs.Prelude.{ℕ, ◌≡◌, List, [], Option, Bool, true};
 ghost use Rattle.std.specs.List.{Contains};
+ghost use Rattle.search.specs.FirstWalk.{IsFirstWalk};
 ghost use Rattle.search.specs.Conflicts.{IsVersionEquality, LiesInNone, Follows, EachFollows, IsRefutation};
 ghost use Rattle.search.specs.Gathering.{places_eq};
 ghost use Rattle.search.specs.Known.{AreKnown, AreApart, conflicts_pictured};
 ghost use Rattle.search.specs.Picture.{Picture, IsPicture, pictured};
 ghost use Rattle.search.specs.Rules.{Rules, IsOrder, IsLawful};
-ghost use Rattle.search.specs.Solutions.{Solution, IsBest, IsBetter, HasNoSolution, version_pinned};
+ghost use Rattle.search.specs.Search.{IsComplete};
+ghost use Rattle.search.specs.Solutions.{Pin, Solution, IsBest, IsBetter, HasNoSolution, version_pinned};
 ghost use Rattle.search.specs.Table.{TableParts, in_range, place_in, rules_of};
 ghost use Rattle.search.specs.declared.conflict.NodeChoice.{NodeChoice};
 ghost use Rattle.search.specs.declared.parts.Choice.{Choice};
@@ -18,6 +20,14 @@ pub fn the_best_solution_is_unique<N, X, V, R>()
         → IsBest rules s → IsBest rules t → (n : N) → t n ≡ s n }
     ensures unbeaten { (rules : Rules N X V R) → IsOrder rules.compare → (s t : N → Option V)
         → IsBest rules s → Solution rules t → IsBetter rules t s → ⊥ }
+{}
+
+/// Where each pin of a walk has the first candidate of its name that nothing asked for so far
+/// refuses, and the pins meet all that is asked for in the end, they are the best solution.
+pub fn a_first_walk_finds_the_best_solution<N, X, V, R>()
+    ensures { (rules : Rules N X V R) → IsLawful rules → (pins : List (Pin N V))
+        → IsFirstWalk rules [] pins → IsComplete rules (version_pinned rules.compare pins)
+        → IsBest rules (version_pinned rules.compare pins) }
 {}
 
 /// Where a table pictures other rules, a best solution of the table stands for the best solution

@@ -1,0 +1,29 @@
+-- A walk that takes at each name the first candidate that nothing asked for refuses, and never goes back.
+-- Tied to `IsBest` by the law `a_first_walk_finds_the_best_solution`; need not be read.
+use Rattle.std.specs.Prelude.{List, [], ◌∷◌, ◌++◌, Option, Some, ◌≡◌, ◌⊎◌, false}
+use Rattle.std.specs.List.{Contains}
+use Rattle.search.specs.Rules.{Rules}
+use Rattle.search.specs.Solutions.{Needed, IsNext, Pin, version_pinned}
+
+-- r is asked for by a line, or counts at a needed node
+abbrev pub IsAskedFor : {N X V R : Type 0} → Rules N X V R → (N → Option V) → R → Type 0
+IsAskedFor {N} {X} {V} rules chosen r = Contains rules.lines r ⊎ ((node : X) × (v : V) × Needed rules chosen node × (chosen (rules.on node) ≡ Some v) × Contains (rules.wants node v) r)
+
+-- something that is asked for on the name doesn't admit the version
+abbrev pub IsRefused : {N X V R : Type 0} → Rules N X V R → (N → Option V) → N → V → Type 0
+IsRefused {N} {X} {V} {R} rules chosen n w = (r : R) × IsAskedFor rules chosen r × (rules.name r ≡ n) × (rules.admits r w ≡ false)
+
+-- the version stands once among the name's candidates, and each candidate in front of it is refused
+pub record IsFirst {N X V R : Type 0} (rules : Rules N X V R) (refused : V → Type 0) (n : N) (v : V) : Type 0 where
+  pub front : List V
+  pub back : List V
+  pub listed : rules.candidates n ≡ front ++ v ∷ back
+  pub once : Contains back v → ⊥
+  pub before : (w : V) → Contains front w → refused w
+
+-- behind the pins before, each further pin is on the next name, with the first candidate that isn't refused
+abbrev pub IsFirstWalk : {N X V R : Type 0} → Rules N X V R → List (Pin N V) → List (Pin N V) → Type 0
+IsFirstWalk rules before [] = Unit {0}
+IsFirstWalk rules before (p ∷ ps) =
+    (IsNext rules before p.name × IsFirst rules (IsRefused rules (version_pinned rules.compare before) p.name) p.name p.version)
+    × IsFirstWalk rules (before ++ p ∷ []) ps
