@@ -11,7 +11,7 @@ use Rattle.resolve.specs.declared.node.Node.{Node}
 use Rattle.lists.proofs.Members.{Contains-cons_cases, Contains-here, Contains-nil, Contains-there}
 
 -- what stands at a place is there
-Contains-standing : (nodes : List Node) (place : ℕ) (node : Node) → Stands nodes place node → Contains nodes node
+pub Contains-standing : (nodes : List Node) (place : ℕ) (node : Node) → Stands nodes place node → Contains nodes node
 Contains-standing [] place node stands = absurd cc
 Contains-standing (x ∷ nodes) zero node stands = let e : x ≡ node = cc in subst (λ y. Contains (x ∷ nodes) y) e (Contains-here x nodes)
 Contains-standing (x ∷ nodes) (suc place) node stands = Contains-there x nodes node (Contains-standing nodes place node stands)
@@ -67,7 +67,7 @@ Grows-more_map f old mid new xs place x within is g h =
     ap (map f) (take_more xs place x within) ∙ map-append f (take place xs) (get_or xs place x ∷ []) ∙ ap (λ y. map f (take place xs) ++ f y ∷ []) (sym is) in
     subst (Grows old new) (sym next) (Grows-then old mid new (map f (take place xs)) (f x ∷ []) g h)
 
-filter-next : {A : Type 0} (test : A → Bool) (xs : List A) (place : ℕ) (x : A) → place < length xs → x ≡ get_or xs place x → filter test (take (place + 1) xs) ≡ filter test (take place xs) ++ filter test (x ∷ [])
+pub filter-next : {A : Type 0} (test : A → Bool) (xs : List A) (place : ℕ) (x : A) → place < length xs → x ≡ get_or xs place x → filter test (take (place + 1) xs) ≡ filter test (take place xs) ++ filter test (x ∷ [])
 filter-next test xs place x within is = ap (filter test) (take_more xs place x within) ∙ filter-append test (take place xs) (get_or xs place x ∷ []) ∙ ap (λ y. filter test (take place xs) ++ filter test (y ∷ [])) (sym is)
 
 -- one more element, which passes a test

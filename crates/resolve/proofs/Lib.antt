@@ -10,6 +10,10 @@ pub mod PictureOf
 pub mod InRange
 pub mod TableOf
 pub mod Solving
+pub mod Walked
+pub mod FirstAdmitted
+pub mod Asking
+pub mod OnWay
 pub mod Deciding
 pub mod Equals
 pub mod Checked

@@ -45,7 +45,7 @@ put-as given names choice name key rs release v old new known named listed place
     let version : version_at (releases_on given (name_at names choice.name)) choice.place ≡ v = ap (λ l. version_at l choice.place) own ∙ version_at-get rs choice.place release (slice_get_read rs (length rs) choice.place release refl inside placed) ∙ sym versioned in
     subst (λ w. Updates (slice_cmp nat_cmp) old new (name_at names choice.name) (Some w)) (sym version) (subst (λ k. Updates (slice_cmp nat_cmp) old new k (Some v)) (keyed ∙ sym is) updates)
 
-drop-at : {A : Type 0} (xs : List A) (n : ℕ) (x : A) → n < length xs → x ≡ get_or xs n x → drop n xs ≡ x ∷ drop (suc n) xs
+pub drop-at : {A : Type 0} (xs : List A) (n : ℕ) (x : A) → n < length xs → x ≡ get_or xs n x → drop n xs ≡ x ∷ drop (suc n) xs
 drop-at [] n x within is = absurd (omega arith)
 drop-at (y ∷ ys) zero x within is = ap (λ z. z ∷ ys) (sym is)
 drop-at (y ∷ ys) (suc n) x within is = drop-at ys n x (omega arith) is

@@ -8,6 +8,8 @@ pub mod Growing
 pub mod Building
 pub mod Pictured
 pub mod Resolves
+pub mod Choosing
+pub mod Walking
 pub mod Laws
 pub mod Refutations
 pub mod Checking

@@ -3,10 +3,13 @@
 
 mod admission;
 mod answer;
+mod asks;
 mod candidates;
 mod checking;
 mod choice;
+mod choosing;
 mod cutting;
+mod following;
 mod gathering;
 mod ground;
 mod grounds;
@@ -22,8 +25,10 @@ mod refutation;
 mod refuting;
 mod releases;
 mod resolver;
+mod searching;
 mod solution;
 mod tabling;
+mod walking;
 
 pub use crate::answer::Answer;
 pub use crate::checking::check;

@@ -10,7 +10,10 @@ use crate::answer::Answer;
 use crate::cutting::cut;
 use crate::method::Method;
 use crate::problem::Problem;
+use crate::question::Question;
 use crate::refutation::Refutation;
+use crate::searching::{best, refuted};
+use crate::walking::first_walk;
 use std::alloc::{AllocError, Global};
 
 /// What finds the best solution of each problem, or tells that it has none.
@@ -26,17 +29,28 @@ pub struct Plain;
 
 impl Resolver for Plain {
     fn resolve(&self, alloc: Global, problem: &Problem<'_>) -> Result<Answer, AllocError> {
-        problem.best(alloc, Method::Plain)
+        best(alloc, problem.question(), Method::Plain)
     }
 }
 
-/// A search that learns from its conflicts.
+/// What the first walk finds, or where it gives up, a search that learns from its conflicts.
+fn walked_or_learned(alloc: Global, question: &Question<'_>) -> Result<Answer, AllocError>
+    ensures { IfOk result (Resolves question.now) }
+{
+    match first_walk(alloc, question)? {
+        Some(versions) => Ok(Answer::Solution(versions)),
+        None => best(alloc, question, Method::Learning),
+    }
+}
+
+/// A walk that takes the first candidate of each name, and where that gives up, a search that learns
+/// from its conflicts.
 #[derive(Debug, Drop)]
 pub struct Learning;
 
 impl Resolver for Learning {
     fn resolve(&self, alloc: Global, problem: &Problem<'_>) -> Result<Answer, AllocError> {
-        problem.best(alloc, Method::Learning)
+        walked_or_learned(alloc, problem.question())
     }
 }
 
@@ -52,7 +66,7 @@ impl Learning {
             (λ found. MatchOption found (HasSolution problem.now)
             (IsRefutation (rules_of problem.now) same_version)) }
     {
-        match problem.refuted(alloc)? {
+        match refuted(alloc, problem.question())? {
             None => Ok(None),
             Some(refutation) => Ok(Some(cut(alloc, problem, refutation)?)),
         }

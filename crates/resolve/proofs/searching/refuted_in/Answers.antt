@@ -12,32 +12,30 @@ use Rattle.resolve.specs.Resolves.{HasSolution}
 use Rattle.resolve.specs.Rules.{rules_of}
 use Rattle.resolve.proofs.PictureOf.{bytes-order}
 use Rattle.resolve.proofs.Solving.{best-solves}
-use Rattle.resolve.proofs.problem.Problem.refuted.Goals as goal
+use Rattle.resolve.proofs.searching.refuted_in.Goals as goal
 
 pub returns-in-Best : goal.returns-in-Best
 returns-in-Best c =
-    let given = c.self.inside.question in
-    let tabled = c.self.inside.tabled in
+    let given = c.args.question.now in
+    let tabled = c.args.tabled.now in
     let best : IsBest (rules_of_table tabled.table) (place_in c.in-Best.field-0) = rw c.in-Best.is at c.in_ok-learned_or_refuted.ensures.best in
-    subst HasSolution c.self.view_is
-    (best-solves given _
-    (c.a_picture_keeps_the_best_solution.ensures.best tabled.table (picture_of given tabled.names tabled.nodes c.self.invariant.asked) (rules_of given) c.name_count-count.ensures.known bytes-order c.self.invariant.pictured c.in-Best.field-0 best))
+    best-solves given _
+    (c.a_picture_keeps_the_best_solution.ensures.best tabled.table (picture_of given tabled.names tabled.nodes c.requires.asked) (rules_of given) c.name_count-count.ensures.known bytes-order c.requires.pictured c.in-Best.field-0 best)
 
 pub refutation_of-requires-clause-known : goal.refutation_of-requires-clause-known
 refutation_of-requires-clause-known c =
-    let table = c.self.inside.tabled.table in
+    let table = c.args.tabled.now.table in
     let known : AreKnown table c.in-Refuted.conflicts = rw c.in-Refuted.is at c.in_ok-learned_or_refuted.ensures.known in
     subst (λ (conflicts : List (List (NodeChoice ℕ ℕ))). AreKnown table conflicts) (sym c.as_slice-conflicts.ensures) known
 
 pub returns : goal.returns
 returns c =
-    let given = c.self.inside.question in
-    let tabled = c.self.inside.tabled in
+    let given = c.args.question.now in
+    let tabled = c.args.tabled.now in
     let conflicts = c.in-Refuted.conflicts in
     let known : AreKnown tabled.table conflicts = rw c.in-Refuted.is at c.in_ok-learned_or_refuted.ensures.known in
     let refuted : IsRefutation (rules_of_table tabled.table) places_eq conflicts = rw c.in-Refuted.is at c.in_ok-learned_or_refuted.ensures.refutation in
     let made = c.in_ok-refutation-in-Refuted.ensures ∙ ap (map (map (choice_at given tabled.names tabled.nodes tabled.table))) c.as_slice-conflicts.ensures in
-    subst (λ (g : ProblemParts). IsRefutation (rules_of g) same_version c.in_ok-refutation-in-Refuted.refutation) c.self.view_is
-    (subst (λ (cs : List (List ChoiceParts)). IsRefutation (rules_of given) same_version cs) (sym made)
-    (c.a_picture_keeps_refutations.ensures.refutation tabled.table (picture_of given tabled.names tabled.nodes c.self.invariant.asked) (rules_of given) same_version c.name_count-count.ensures.known c.self.invariant.pictured
-    c.self.invariant.apart conflicts known refuted))
+    subst (λ (cs : List (List ChoiceParts)). IsRefutation (rules_of given) same_version cs) (sym made)
+    (c.a_picture_keeps_refutations.ensures.refutation tabled.table (picture_of given tabled.names tabled.nodes c.requires.asked) (rules_of given) same_version c.name_count-count.ensures.known c.requires.pictured
+    c.requires.apart conflicts known refuted)

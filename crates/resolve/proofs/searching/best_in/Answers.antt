@@ -8,33 +8,31 @@ use Rattle.resolve.specs.Resolves.{version_for}
 use Rattle.resolve.specs.Rules.{rules_of}
 use Rattle.resolve.proofs.PictureOf.{bytes-order}
 use Rattle.resolve.proofs.Solving.{best-known, best-same}
-use Rattle.resolve.proofs.problem.Problem.best.Goals as goal
+use Rattle.resolve.proofs.searching.best_in.Goals as goal
 
 pub versions_of-requires : goal.versions_of-requires
 versions_of-requires c =
-    let rules = rules_of_table c.self.inside.tabled.table in
+    let rules = rules_of_table c.args.tabled.now.table in
     let best : IsBest rules (place_in c.in-Some.choices) = rw c.in-Some.is at c.in_ok-best.ensures.best in
     let ascending : IsAscending c.in-Some.choices = rw c.in-Some.is at c.in_ok-best.ensures.ascending in
-    subst (λ (names : List (List ℕ)). AreKnown c.self.inside.question names c.as_slice.result.now) (sym c.as_slice-names.ensures)
-    (subst (λ (choices : List Choice). AreKnown c.self.inside.question c.self.inside.tabled.names choices) (sym c.as_slice.ensures)
-    (best-known c.self.inside.question c.self.inside.tabled.names c.self.inside.tabled.nodes c.self.inside.tabled.table c.in-Some.choices c.self.invariant best ascending))
+    subst (λ (names : List (List ℕ)). AreKnown c.args.question.now names c.as_slice.result.now) (sym c.as_slice-names.ensures)
+    (subst (λ (choices : List Choice). AreKnown c.args.question.now c.args.tabled.now.names choices) (sym c.as_slice.ensures)
+    (best-known c.args.question.now c.args.tabled.now.names c.args.tabled.now.nodes c.args.tabled.now.table c.in-Some.choices c.requires best ascending))
 
 pub returns-in-None : goal.returns-in-None
 returns-in-None c =
-    let table = c.self.inside.tabled.table in
+    let table = c.args.tabled.now.table in
     let none : HasNoSolution (rules_of_table table) = rw c.in-None.is at c.in_ok-best.ensures.best in
-    subst (λ (given : ProblemParts). HasNoSolution (rules_of given)) c.self.view_is
-    (c.a_picture_keeps_the_best_solution.ensures.none table (picture_of c.self.inside.question c.self.inside.tabled.names c.self.inside.tabled.nodes c.self.invariant.asked) (rules_of c.self.inside.question)
-    c.name_count-count.ensures.known bytes-order c.self.invariant.pictured none)
+    c.a_picture_keeps_the_best_solution.ensures.none table (picture_of c.args.question.now c.args.tabled.now.names c.args.tabled.now.nodes c.requires.asked) (rules_of c.args.question.now)
+    c.name_count-count.ensures.known bytes-order c.requires.pictured none
 
 pub returns-in_ok-versions-in-Some : goal.returns-in_ok-versions-in-Some
 returns-in_ok-versions-in-Some c =
-    let given = c.self.inside.question in
-    let names = c.self.inside.tabled.names in
-    let table = c.self.inside.tabled.table in
+    let given = c.args.question.now in
+    let names = c.args.tabled.now.names in
+    let table = c.args.tabled.now.table in
     let best : IsBest (rules_of_table table) (place_in c.in-Some.choices) = rw c.in-Some.is at c.in_ok-best.ensures.best in
     let same = subst (λ (ns : List (List ℕ)). (name : List ℕ) → version_for c.in_ok-versions-in-Some.versions.entries name ≡ chosen given ns c.in-Some.choices name) c.as_slice-names.ensures
     (subst (λ (choices : List Choice). (name : List ℕ) → version_for c.in_ok-versions-in-Some.versions.entries name ≡ chosen given c.as_slice-names.result.now choices name) c.as_slice.ensures c.in_ok-versions-in-Some.ensures) in
-    subst (λ (g : ProblemParts). IsBest (rules_of g) (version_for c.in_ok-versions-in-Some.versions.entries)) c.self.view_is
-    (best-same given names c.in-Some.choices c.self.inside.tabled.nodes c.self.invariant.asked c.in_ok-versions-in-Some.versions.entries same
-    (c.a_picture_keeps_the_best_solution.ensures.best table (picture_of given names c.self.inside.tabled.nodes c.self.invariant.asked) (rules_of given) c.name_count-count.ensures.known bytes-order c.self.invariant.pictured c.in-Some.choices best))
+    best-same given names c.in-Some.choices c.args.tabled.now.nodes c.requires.asked c.in_ok-versions-in-Some.versions.entries same
+    (c.a_picture_keeps_the_best_solution.ensures.best table (picture_of given names c.args.tabled.now.nodes c.requires.asked) (rules_of given) c.name_count-count.ensures.known bytes-order c.requires.pictured c.in-Some.choices best)

@@ -1,0 +1,191 @@
+-- The first walk of a problem, over the entries of maps.
+use Rattle.std.proofs.Common.{◌≡◌, ◌≢◌, ◌⊎◌, inl, inr, ◌∙◌, ℕ, suc, ◌+◌, ◌<◌, ◌≤◌, Bool, true, false, cond, List, [], ◌∷◌, ◌++◌, Option, Some, None, Result, Ok, Err, IfOk, is_some, Contains, Ordering, drop, filter, get_or, length, length-append, map, take, arith, refl, sym, ap, subst, append_assoc, append-nil}
+use Rattle.std.specs.BTreeMap.{BTreeMap, IsLowerBound, Updates, is_at}
+use Rattle.std.specs.Cmp.Lexicographic.{slice_cmp}
+use Rattle.std.specs.Option.{option_map_or}
+use Rattle.std.specs.Ordering.{is_gt, nat_cmp}
+use Rattle.std.specs.declared.cmp.Ordering.TheVariants.{Greater}
+use Rattle.std.proofs.lemmas.Bool.{cases_Bool}
+use Rattle.std.proofs.lemmas.List.{drop-append-le, drop_all}
+use Rattle.pep440.specs.Version.{VersionParts}
+use Rattle.pep508.specs.Requirement.{RequirementParts}
+use Rattle.search.specs.FirstWalk.{IsFirst, IsFirstWalk}
+use Rattle.search.specs.Search.{IsComplete}
+use Rattle.search.specs.Solutions.{IsBest, Pin, version_pinned}
+use Rattle.snapshot.specs.Release.{Release}
+use Rattle.resolve.specs.Admission.{admits, release_at}
+use Rattle.resolve.specs.Checking.{dependencies_at}
+use Rattle.resolve.specs.Choosing.{IsRefusedBy}
+use Rattle.resolve.specs.Problem.{ProblemParts}
+use Rattle.resolve.specs.Resolves.{version_for}
+use Rattle.resolve.specs.Rules.{counts, nodes_of, rules_of, wants, wants_of}
+use Rattle.resolve.specs.Standing.{IsWith, Stands}
+use Rattle.resolve.specs.Walking.{Follow, IsOnWay, IsPlaced, IsTurn, IsWaiting, value_at}
+use Rattle.resolve.specs.declared.node.Node.{Node}
+use Rattle.resolve.proofs.Asking.{map-more}
+use Rattle.resolve.proofs.Equals.{lawful-rules}
+use Rattle.resolve.proofs.Growing.{Contains-standing}
+use Rattle.resolve.proofs.Preferring.{lookup-get}
+use Rattle.resolve.proofs.Solving.{drop-at}
+use Rattle.resolve.proofs.Walked.{followed-none, followed-then, followed-known, followed-new, walked-complete, walked-meet, walked-start, walked-take, walked-wait}
+
+-- ---- nodes that are followed
+
+-- the dependencies that count at a node are what is wanted there
+pub wants-counted : (given : ProblemParts) (node : Node) (version : VersionParts) → filter (counts given.environment node.extra) (dependencies_at given node.name version) ≡ wants given node version
+wants-counted given node version = counted (release_at given node.name version)
+  where
+    counted : (o : Option Release) → filter (counts given.environment node.extra) (option_map_or (λ release. release.dependencies) o []) ≡ option_map_or (wants_of given.environment node.extra) o []
+    counted None = refl
+    counted (Some release) = refl
+
+pub follow-none : (given : ProblemParts) (version : VersionParts) (followed : List Node) (asks : List RequirementParts) → Follow given version [] followed followed asks asks
+follow-none given version followed asks = ([], sym (append-nil asks), followed-none (λ node. wants given node version) followed)
+
+pub follow-then : (given : ProblemParts) (version : VersionParts) (first second old mid new : List Node) (asks asks_mid asks_new : List RequirementParts) → Follow given version first old mid asks asks_mid → Follow given version second mid new asks_mid asks_new
+    → Follow given version (first ++ second) old new asks asks_new
+follow-then given version first second old mid new asks asks_mid asks_new f g = (
+  f.0 ++ g.0,
+  g.1 ∙ ap (λ xs. xs ++ g.0) f.1 ∙ append_assoc asks f.0 g.0,
+  followed-then (λ node. wants given node version) first second old mid new f.0 g.0 f.2 g.2,
+)
+
+pub follow-known : (given : ProblemParts) (version : VersionParts) (node : Node) (followed : List Node) (asks : List RequirementParts) → Contains followed node → Follow given version (node ∷ []) followed followed asks asks
+follow-known given version node followed asks known = ([], sym (append-nil asks), followed-known (λ n. wants given n version) node followed known)
+
+pub follow-new : (given : ProblemParts) (version : VersionParts) (node : Node) (followed : List Node) (asks asks_new : List RequirementParts) → asks_new ≡ asks ++ filter (counts given.environment node.extra) (dependencies_at given node.name version)
+    → Follow given version (node ∷ []) followed (followed ++ node ∷ []) asks asks_new
+follow-new given version node followed asks asks_new e = (wants given node version, e ∙ ap (λ xs. asks ++ xs) (wants-counted given node version), followed-new (λ n. wants given n version) node followed)
+
+-- the node was put behind the others
+pub follow-grown : (given : ProblemParts) (version : VersionParts) (node : Node) (old new : List Node) (asks asks_new : List RequirementParts) → IsWith node old new → length old < length new
+    → asks_new ≡ asks ++ filter (counts given.environment node.extra) (dependencies_at given node.name version) → Follow given version (node ∷ []) old new asks asks_new
+follow-grown given version node old new asks asks_new (inl same) longer e = absurd (let k : length new ≡ length old = ap length same in omega arith)
+follow-grown given version node old new asks asks_new (inr more) longer e = subst (λ nodes. Follow given version (node ∷ []) old nodes asks asks_new) (sym more) (follow-new given version node old asks asks_new e)
+
+-- the node was there
+pub follow-stayed : (given : ProblemParts) (version : VersionParts) (node : Node) (old new : List Node) (number : ℕ) (asks : List RequirementParts) → IsWith node old new → Stands new number node → length new ≤ length old → Follow given version (node ∷ []) old new asks asks
+follow-stayed given version node old new number asks (inl same) stands short = subst (λ nodes. Follow given version (node ∷ []) old nodes asks asks) (sym same)
+    (follow-known given version node old asks (Contains-standing old number node (subst (λ nodes. Stands nodes number node) same stands)))
+follow-stayed given version node old new number asks (inr more) stands short = absurd (let k : length new ≡ length old + 1 = ap length more ∙ length-append old (node ∷ []) in omega arith)
+
+-- one more of the nodes is followed
+pub follow-more : {A : Type 0} (given : ProblemParts) (version : VersionParts) (f : A → Node) (old mid new : List Node) (asks asks_mid asks_new : List RequirementParts) (xs : List A) (place : ℕ) (x : A) → place < length xs → x ≡ get_or xs place x
+    → Follow given version (map f (take place xs)) old mid asks asks_mid → Follow given version (f x ∷ []) mid new asks_mid asks_new → Follow given version (map f (take (place + 1) xs)) old new asks asks_new
+follow-more given version f old mid new asks asks_mid asks_new xs place x within is g h =
+    subst (λ nodes. Follow given version nodes old new asks asks_new) (sym (map-more f xs place x within is)) (follow-then given version (map f (take place xs)) (f x ∷ []) old mid new asks asks_mid asks_new g h)
+
+-- ---- what waits
+
+-- a row that is taken out, put behind by one, and put back
+pub waiting-put : (old mid new : BTreeMap (List ℕ) (List RequirementParts)) (wanted : RequirementParts) (before : List RequirementParts) → (value_at old.entries wanted.name ≡ Some before) ⊎ ((value_at old.entries wanted.name ≡ None) × (before ≡ []))
+    → Updates (slice_cmp nat_cmp) old mid wanted.name None → Updates (slice_cmp nat_cmp) mid new wanted.name (Some (before ++ wanted ∷ [])) → IsWaiting old.entries new.entries wanted
+waiting-put old mid new wanted before row out back = record {
+  before = before;
+  row = row;
+  updates = λ name. back.0 name ∙ elim (cases_Bool (is_at (slice_cmp nat_cmp wanted.name) name)) [
+    | inl one ↦ rw one refl
+    | inr other ↦ rw other (out.0 name ∙ rw other refl)
+  ];
+}
+
+row-known : (old : Option (List RequirementParts)) (before : List RequirementParts) → (old ≡ Some before) ⊎ ((old ≡ None) × (before ≡ [])) → (old ≡ Some before) ⊎ (before ≡ [])
+row-known old before (inl some) = inl some
+row-known old before (inr none) = inr none.1
+
+row-same : (old : Option (List RequirementParts)) (before rs : List RequirementParts) → (old ≡ Some before) ⊎ ((old ≡ None) × (before ≡ [])) → old ≡ Some rs → rs ≡ before
+row-same old before rs (inl some) e = let k : Some rs ≡ Some before = sym e ∙ some in cc
+row-same old before rs (inr none) e = absurd (let k : Some rs ≡ None = sym e ∙ none.0 in cc)
+
+-- ---- requirements that are placed
+
+pub placed-waiting : (given : ProblemParts) (taken : List (List ℕ × VersionParts)) (waiting waiting_new : List (List ℕ × List RequirementParts)) (followed : List Node) (wanted : RequirementParts) (asks : List RequirementParts) → value_at taken wanted.name ≡ None
+    → IsWaiting waiting waiting_new wanted → IsPlaced given taken waiting waiting_new followed followed wanted asks asks
+placed-waiting given taken waiting waiting_new followed wanted asks none w = (
+  [],
+  sym (append-nil asks),
+  λ left way. subst (IsOnWay given taken waiting_new followed) (sym (append-nil left))
+      (walked-wait (rules_of given) (lawful-rules given) (value_at taken) (value_at waiting) (value_at waiting_new) followed wanted left w.before way none (row-known (value_at waiting wanted.name) w.before w.row) w.updates
+      (λ rs e. row-same (value_at waiting wanted.name) w.before rs w.row e)),
+)
+
+pub placed-followed : (given : ProblemParts) (taken : List (List ℕ × VersionParts)) (waiting : List (List ℕ × List RequirementParts)) (followed followed_new : List Node) (wanted : RequirementParts) (version : VersionParts) (asks asks_new : List RequirementParts)
+    → value_at taken wanted.name ≡ Some version → admits given wanted version ≡ true → Follow given version (nodes_of wanted) followed followed_new asks asks_new → IsPlaced given taken waiting waiting followed followed_new wanted asks asks_new
+placed-followed given taken waiting followed followed_new wanted version asks asks_new some admitted f = (
+  f.0,
+  f.1,
+  λ left way. walked-meet (rules_of given) (lawful-rules given) (value_at taken) (value_at waiting) followed followed_new wanted version left f.0 way some admitted f.2,
+)
+
+-- one of those that are left is placed
+pub settle-more : (given : ProblemParts) (taken : List (List ℕ × VersionParts)) (waiting waiting_new : List (List ℕ × List RequirementParts)) (followed followed_new : List Node) (wanted : RequirementParts) (asks asks_new : List RequirementParts) (at : ℕ) → at < length asks
+    → wanted ≡ get_or asks at wanted → IsOnWay given taken waiting followed (drop at asks) → IsPlaced given taken waiting waiting_new followed followed_new wanted asks asks_new → IsOnWay given taken waiting_new followed_new (drop (at + 1) asks_new)
+settle-more given taken waiting waiting_new followed followed_new wanted asks asks_new at within is way placed =
+    let after : at + 1 ≡ suc at = omega arith in
+    let front : drop at asks ≡ wanted ∷ drop (at + 1) asks = drop-at asks at wanted within is ∙ ap (λ n. wanted ∷ drop n asks) (sym after) in
+    let next : drop (at + 1) asks_new ≡ drop (at + 1) asks ++ placed.0 = ap (drop (at + 1)) placed.1 ∙ drop-append-le (at + 1) asks placed.0 (omega arith) in
+    subst (IsOnWay given taken waiting_new followed_new) (sym next) (placed.2 (drop (at + 1) asks) (subst (IsOnWay given taken waiting followed) front way))
+
+-- all have been placed
+pub settle-end : (given : ProblemParts) (taken : List (List ℕ × VersionParts)) (waiting : List (List ℕ × List RequirementParts)) (followed : List Node) (asks : List RequirementParts) (at : ℕ) → length asks ≤ at → IsOnWay given taken waiting followed (drop at asks)
+    → IsOnWay given taken waiting followed []
+settle-end given taken waiting followed asks at past way = subst (IsOnWay given taken waiting followed) (drop_all at asks past) way
+
+-- ---- the turns
+
+not-greater : (o : Ordering) → is_gt o ≡ false → o ≢ Greater
+not-greater o h e = absurd (let k : is_gt o ≡ true = rw e refl in cc)
+
+-- the first entry goes out of those that wait
+pub turn-of : (given : ProblemParts) (taken : List (List ℕ × VersionParts)) (old new : BTreeMap (List ℕ) (List RequirementParts)) (followed : List Node) (name : List ℕ) (asks : List RequirementParts) → IsOnWay given taken old.entries followed []
+    → value_at old.entries name ≡ Some asks → IsLowerBound (slice_cmp nat_cmp) old name → Updates (slice_cmp nat_cmp) old new name None → IsTurn given taken new.entries followed name asks
+turn-of given taken old new followed name asks way row least out = record {
+  before = old.entries;
+  way = way;
+  row = row;
+  least = λ other others e. not-greater (slice_cmp nat_cmp name other) (least other (rw e refl));
+  leaves = out.0;
+}
+
+pub turn-taken : (given : ProblemParts) (old new : BTreeMap (List ℕ) VersionParts) (waiting : List (List ℕ × List RequirementParts)) (followed : List Node) (name : List ℕ) (asks : List RequirementParts) (version : VersionParts) → IsTurn given old.entries waiting followed name asks
+    → IsFirst (rules_of given) (IsRefusedBy given asks) name version → Updates (slice_cmp nat_cmp) old new name (Some version) → IsOnWay given new.entries waiting followed asks
+turn-taken given old new waiting followed name asks version t first updates =
+    walked-take (rules_of given) (lawful-rules given) (value_at old.entries) (value_at new.entries) (value_at t.before) (value_at waiting) followed name version asks t.way t.row t.least first updates.0 t.leaves
+
+-- its name had no version
+pub turn-free : (given : ProblemParts) (taken : List (List ℕ × VersionParts)) (waiting : List (List ℕ × List RequirementParts)) (followed : List Node) (name : List ℕ) (asks : List RequirementParts) → IsTurn given taken waiting followed name asks → value_at taken name ≡ None
+turn-free given taken waiting followed name asks t = t.way.free name asks t.row
+
+-- so there is one more
+pub longer-by_one : {V : Type 0} (o : Option V) (old new : ℕ) → new ≡ old + cond (is_some o) 0 1 → o ≡ None → new ≡ old + 1
+longer-by_one None old new e none = e
+longer-by_one (Some v) old new e none = absurd cc
+
+pub ok-settled : {E : Type 0} (P : Type 0) (r : Result Bool E) → P → IfOk r (λ settled. settled ≡ true → P)
+ok-settled P (Ok settled) p = λ e. p
+ok-settled P (Err e) p = tt
+
+-- ---- the beginning and the end
+
+pub empty-list : {A : Type 0} (xs : List A) → (0 < length xs → false ≡ true) → xs ≡ []
+empty-list [] h = refl
+empty-list (x ∷ xs) h = absurd (let k : false ≡ true = h (omega arith) in cc)
+
+pub way-start : (given : ProblemParts) (taken : List (List ℕ × VersionParts)) (waiting : List (List ℕ × List RequirementParts)) (followed : List Node) (lines : List RequirementParts) → taken ≡ [] → waiting ≡ [] → followed ≡ [] → lines ≡ given.active
+    → IsOnWay given taken waiting followed lines
+way-start given taken waiting followed lines no_versions none nowhere is =
+    subst (λ left. IsOnWay given taken waiting followed left) (sym is) (subst (λ nodes. IsOnWay given taken waiting nodes given.active) (sym nowhere)
+    (walked-start (rules_of given) (value_at taken) (value_at waiting) (λ name. ap (λ (entries : List (List ℕ × VersionParts)). value_at entries name) no_versions)
+    (λ name. ap (λ (entries : List (List ℕ × List RequirementParts)). value_at entries name) none)))
+
+-- the law of a first walk, over the rules of a problem
+abbrev pub WalkLaw : ProblemParts → Type 0
+WalkLaw given = (pins : List (Pin (List ℕ) VersionParts)) → IsFirstWalk (rules_of given) [] pins → IsComplete (rules_of given) (version_pinned (slice_cmp nat_cmp) pins) → IsBest (rules_of given) (version_pinned (slice_cmp nat_cmp) pins)
+
+pub way-end : (given : ProblemParts) (taken : List (List ℕ × VersionParts)) (waiting : List (List ℕ × List RequirementParts)) (followed : List Node) → WalkLaw given → IsOnWay given taken waiting followed [] → waiting ≡ [] → IsBest (rules_of given) (version_for taken)
+way-end given taken waiting followed law way none =
+    let nothing : (name : List ℕ) → value_at waiting name ≡ None = λ name. ap (λ (entries : List (List ℕ × List RequirementParts)). value_at entries name) none in
+    let complete : IsComplete (rules_of given) (value_at taken) = walked-complete (rules_of given) (lawful-rules given) (value_at taken) (value_at waiting) followed way nothing in
+    let along : value_at taken ≡ version_pinned (slice_cmp nat_cmp) way.pins = λ i name. way.same name i in
+    let found : version_pinned (slice_cmp nat_cmp) way.pins ≡ version_for taken = λ i name. (sym (way.same name) ∙ sym (lookup-get name taken)) i in
+    subst (λ s. IsBest (rules_of given) s) found (law way.pins way.walk (subst (λ s. IsComplete (rules_of given) s) along complete))

@@ -1,0 +1,7 @@
+use Rattle.std.proofs.Common.{map, take}
+use Rattle.resolve.specs.Rules.{with_extra}
+use Rattle.resolve.specs.Walking.{Follow}
+use Rattle.resolve.proofs.following.follow_extras.Given as goal
+
+abbrev pub invariant-loop-extra : goal.invariant-loop-extra
+invariant-loop-extra l = Follow l.question l.version (map (with_extra l.name) (take l.extra-index l.extras)) l.fn.followed l.followed l.fn.asks l.asks

@@ -1,0 +1,16 @@
+use Rattle.std.proofs.Common.{◌∙◌, ap}
+use Rattle.resolve.specs.Problem.{ProblemParts}
+use Rattle.resolve.specs.Rules.{rules_of}
+use Rattle.resolve.proofs.Equals.{lawful-rules}
+use Rattle.resolve.proofs.OnWay.{empty-list, way-end, way-start}
+use Rattle.resolve.proofs.walking.first_walk.Goals as goal
+
+pub settle-requires : goal.settle-requires
+settle-requires c =
+    let lines = c.in_ok-lines.ensures ∙ c.as_slice.ensures ∙ ap (λ (given : ProblemParts). given.active) c.question.view_is in
+    way-start c.args.question.now c.new-taken.result.entries c.new-waiting.result.entries c.new-followed.result c.in_ok-lines.lines c.new-taken.ensures.empty c.new-waiting.ensures.empty c.new-followed.ensures lines
+
+pub returns : goal.returns
+returns c =
+    way-end c.args.question.now c.turns.taken.entries c.turns.waiting.entries c.turns.followed (λ pins. c.a_first_walk_finds_the_best_solution.ensures (rules_of c.args.question.now) (lawful-rules c.args.question.now) pins) c.turns.invariant
+    (empty-list c.turns.waiting.entries c.in_default.ensures.variant.1)

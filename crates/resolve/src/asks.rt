@@ -1,0 +1,112 @@
+// Requirements that are asked for.
+
+ghost use Rattle.std.specs.Prelude.{◌≡◌, ◌<◌, ◌++◌, ◌∷◌, [], IfOk, OnOk, get_or, length};
+ghost use Rattle.std.specs.List.{filter, list_all};
+ghost use Rattle.std.specs.Option.{option_copied};
+ghost use Rattle.resolve.specs.Admission.{admits};
+ghost use Rattle.resolve.specs.Rules.{counts};
+
+use crate::admission::admits;
+use crate::question::Question;
+use crate::releases::counts;
+use pep440::Version;
+use pep508::{Environment, Name, Requirement};
+use std::alloc::{AllocError, Global};
+use std::marker::Model;
+
+/// What lines and dependencies ask for, in the order in which it was met.
+pub(crate) struct Asks<'q> {
+    wanted: Vec<&'q Requirement>,
+}
+
+impl<'q> Drop for Asks<'q> {
+    fn drop(self) {
+        let Asks { wanted: _ } = self;
+    }
+}
+
+impl<'q> Model for Asks<'q> {
+    ghost use Rattle.std.specs.Coded.{codes};
+    ghost use Rattle.std.specs.Prelude.{List, map};
+    ghost use Rattle.markers.specs.Tied.MarkerCode.{tree_code};
+    ghost use Rattle.pep508.specs.Requirement.{RequirementParts};
+
+    ghost Value = { List RequirementParts };
+
+    ghost coded = { Prim.hlevel (codes, tree_code) };
+
+    ghost view = { λ a. map (λ wanted. wanted.now) a.wanted.items };
+}
+
+impl<'q> Asks<'q> {
+    pub(crate) fn new(alloc: Global) -> Asks<'q>
+        ensures { result ≡ [] }
+    {
+        Asks {
+            wanted: Vec::new(alloc),
+        }
+    }
+
+    pub(crate) fn push(&mut self, wanted: &'q Requirement) -> Result<(), AllocError>
+        ensures { OnOk result (self.new ≡ self.old ++ wanted.now ∷ []) }
+    {
+        self.wanted.push(wanted)?;
+        Ok(())
+    }
+
+    /// All that the lines ask for.
+    pub(crate) fn of(alloc: Global, lines: &'q [Requirement]) -> Result<Asks<'q>, AllocError>
+        ensures { IfOk result (λ asks. asks ≡ lines.now) }
+    {
+        let mut asks = Asks::new(alloc);
+        for wanted in lines {
+            asks.push(wanted)?;
+        }
+        Ok(asks)
+    }
+
+    /// Puts the dependencies behind that count with an extra or none.
+    pub(crate) fn push_counted(
+        &mut self,
+        environment: &Environment,
+        extra: Option<&Name>,
+        dependencies: &'q [Requirement],
+    ) -> Result<(), AllocError>
+        ensures { OnOk result
+            (self.new
+            ≡ self.old ++ filter (counts environment.now (option_copied extra.entry))
+            dependencies.now) }
+    {
+        for wanted in dependencies {
+            if counts(environment, extra, wanted) {
+                self.push(wanted)?;
+            }
+        }
+        Ok(())
+    }
+
+    pub(crate) fn len(&self) -> usize
+        ensures { result ≡ length self.now }
+    {
+        self.wanted.len()
+    }
+
+    pub(crate) fn at(&self, place: usize) -> &'q Requirement
+        requires { place < length self.now }
+        ensures { result.now ≡ get_or self.now place result.now }
+    {
+        self.wanted[place]
+    }
+
+    /// Whether all of it admits a version.
+    pub(crate) fn admit(&self, question: &Question<'_>, version: &Version) -> bool
+        ensures { result ≡ list_all (λ wanted. admits question.now wanted version.now) self.now }
+    {
+        for place in 0..self.len() {
+            if !admits(question, self.at(place), version) {
+                return false;
+            }
+        }
+        true
+    }
+}

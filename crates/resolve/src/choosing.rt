@@ -1,0 +1,78 @@
+// The first candidate that is admitted.
+
+ghost use Rattle.std.specs.Prelude.{◌≡◌, IfSome, find};
+ghost use Rattle.std.specs.List.{list_all};
+ghost use Rattle.std.specs.Option.{option_copied, option_map};
+ghost use Rattle.search.specs.FirstWalk.{IsFirst};
+ghost use Rattle.resolve.specs.Admission.{admits};
+ghost use Rattle.resolve.specs.Choosing.{IsNewest, IsRefusedBy};
+ghost use Rattle.resolve.specs.Rules.{kept_version, rules_of};
+
+use crate::asks::Asks;
+use crate::question::Question;
+use pep440::Version;
+use pep508::Name;
+use snapshot::Release;
+
+/// The release that has the version kept for a name.
+fn kept<'q>(question: &'q Question<'_>, name: &Name) -> Option<&'q Release>
+    ensures { option_map (λ release. release.version) (option_copied result)
+        ≡ kept_version question.now name.now }
+{
+    match question.kept.get(name) {
+        None => None,
+        Some(version) => question.release(name, version),
+    }
+}
+
+/// The first of the releases that all admit.
+fn first<'q>(
+    question: &Question<'_>,
+    asks: &Asks<'_>,
+    releases: &'q [Release],
+) -> Option<&'q Release>
+    ensures { option_copied result
+        ≡ find
+        (λ release. list_all (λ wanted. admits question.now wanted release.version) asks.now)
+        releases.now }
+{
+    releases
+        .iter()
+        .find(|release| asks.admit(question, release.version()))
+}
+
+/// The newest version of a name that all admit.
+fn newest_admitted<'q>(
+    question: &'q Question<'_>,
+    name: &Name,
+    asks: &Asks<'_>,
+) -> Option<&'q Version>
+    ensures { IfSome result (λ version. IsNewest question.now name.now asks.now version.now) }
+{
+    match first(question, asks, question.releases(name)) {
+        None => None,
+        Some(release) => Some(release.version()),
+    }
+}
+
+/// The first candidate of a name that all admit.
+pub(crate) fn first_admitted<'q>(
+    question: &'q Question<'_>,
+    name: &Name,
+    asks: &Asks<'_>,
+) -> Option<&'q Version>
+    ensures { IfSome result
+        (λ version. IsFirst (rules_of question.now) (IsRefusedBy question.now asks.now) name.now
+        version.now) }
+{
+    match kept(question, name) {
+        None => newest_admitted(question, name, asks),
+        Some(release) => {
+            if asks.admit(question, release.version()) {
+                Some(release.version())
+            } else {
+                newest_admitted(question, name, asks)
+            }
+        }
+    }
+}

@@ -1,0 +1,96 @@
+// What a search of the table of a problem finds.
+
+ghost use Rattle.std.specs.Prelude.{IfOk, MatchOption};
+ghost use Rattle.search.specs.Conflicts.{IsRefutation};
+ghost use Rattle.resolve.specs.Pictured.{IsPictured};
+ghost use Rattle.resolve.specs.Refutations.{same_version};
+ghost use Rattle.resolve.specs.Resolves.{HasSolution, Resolves};
+ghost use Rattle.resolve.specs.Rules.{rules_of};
+
+use crate::answer::Answer;
+use crate::method::Method;
+use crate::node::Node;
+use crate::question::Question;
+use crate::refutation::Refutation;
+use crate::refuting::refutation_of;
+use crate::solution::versions_of;
+use crate::tabling::{Tabled, table_of};
+use pep440::Version;
+use pep508::{Name, Requirement};
+use search::{Found, laws, learned_or_refuted};
+use std::alloc::{AllocError, Global};
+
+/// The best solution, worked out on a table.
+fn best_in(
+    alloc: Global,
+    question: &Question<'_>,
+    tabled: &Tabled,
+    method: Method,
+) -> Result<Answer, AllocError>
+    requires { IsPictured question.now tabled.now.names tabled.now.nodes tabled.now.table }
+    ensures { IfOk result (Resolves question.now) }
+{
+    laws::a_picture_keeps_the_best_solution::<Name, Node, Version, Requirement>();
+    let table = &tabled.table;
+    let _count = table.name_count();
+    match method.best(alloc, table)? {
+        None => Ok(Answer::NoSolution),
+        Some(choices) => {
+            let names = tabled.names.as_slice();
+            let versions = versions_of(alloc, question, names, choices.as_slice())?;
+            Ok(Answer::Solution(versions))
+        }
+    }
+}
+
+/// The best solution, worked out on the table of the problem.
+pub(crate) fn best(
+    alloc: Global,
+    question: &Question<'_>,
+    method: Method,
+) -> Result<Answer, AllocError>
+    ensures { IfOk result (Resolves question.now) }
+{
+    let tabled = table_of(alloc, question)?;
+    let answer = best_in(alloc, question, &tabled, method)?;
+    Ok(answer)
+}
+
+/// A refutation, or nothing where there is a solution, worked out on a table.
+fn refuted_in(
+    alloc: Global,
+    question: &Question<'_>,
+    tabled: &Tabled,
+) -> Result<Option<Refutation>, AllocError>
+    requires { IsPictured question.now tabled.now.names tabled.now.nodes tabled.now.table }
+    ensures { IfOk result
+        (λ found. MatchOption found (HasSolution question.now)
+        (IsRefutation (rules_of question.now) same_version)) }
+{
+    laws::a_picture_keeps_the_best_solution::<Name, Node, Version, Requirement>();
+    laws::a_picture_keeps_refutations::<Name, Node, Version, Requirement>();
+    let table = &tabled.table;
+    let _count = table.name_count();
+    match learned_or_refuted(alloc, table)? {
+        Found::Best(_) => Ok(None),
+        Found::Refuted(conflicts) => {
+            let conflicts = conflicts.as_slice();
+            let refutation = refutation_of(alloc, question, tabled, conflicts)?;
+            Ok(Some(refutation))
+        }
+    }
+}
+
+/// A refutation, or nothing where there is a solution, worked out on the table of the problem.
+pub(crate) fn refuted(
+    alloc: Global,
+    question: &Question<'_>,
+) -> Result<Option<Refutation>, AllocError>
+    ensures { IfOk result
+        (λ found. MatchOption found (HasSolution question.now)
+        (IsRefutation (rules_of question.now) same_version)) }
+{
+    let tabled = table_of(alloc, question)?;
+    let found = refuted_in(alloc, question, &tabled)?;
+    Ok(found)
+}

@@ -1,0 +1,160 @@
+// A walk that gives each name in turn the first of its candidates that nothing asked for so far refuses,
+// and never goes back. Where it comes to its end, it has found the best solution, and has looked only at
+// what it met.
+
+ghost use Rattle.std.specs.Prelude.{◌≡◌, ◌<◌, ◌+◌, ◌^◌, ℕ, List, ◌∷◌, [], IfOk, IfSome, length, true};
+ghost use Rattle.search.specs.Solutions.{IsBest};
+ghost use Rattle.pep508.specs.Requirement.{RequirementParts};
+ghost use Rattle.resolve.specs.Resolves.{version_for};
+ghost use Rattle.resolve.specs.Rules.{rules_of};
+ghost use Rattle.resolve.specs.Walking.{IsOnWay, IsPlaced, IsTurn, IsWaiting};
+
+use crate::admission::admits;
+use crate::asks::Asks;
+use crate::choosing::first_admitted;
+use crate::following::follow_all;
+use crate::node::Node;
+use crate::nodes::Nodes;
+use crate::question::Question;
+use pep440::Version;
+use pep508::{Name, Requirement};
+use search::laws;
+use std::alloc::{AllocError, Global};
+use std::collections::BTreeMap;
+
+/// Lets a requirement wait with its name.
+fn wait<'q>(
+    alloc: Global,
+    waiting: &mut BTreeMap<Name, Asks<'q>>,
+    wanted: &'q Requirement,
+) -> Result<(), AllocError>
+    ensures { IfOk result (λ _. IsWaiting waiting.old.entries waiting.new.entries wanted.now) }
+{
+    let name = wanted.name();
+    let mut asks = match waiting.remove(name) {
+        Some(asks) => asks,
+        None => Asks::new(alloc),
+    };
+    asks.push(wanted)?;
+    waiting.insert(name.clone()?, asks)?;
+    Ok(())
+}
+
+/// Places a requirement: it waits where its name has no version yet, and is followed where the version
+/// is one that it admits. Whether it could be placed.
+fn place<'q>(
+    alloc: Global,
+    question: &'q Question<'_>,
+    taken: &BTreeMap<Name, Version>,
+    waiting: &mut BTreeMap<Name, Asks<'q>>,
+    followed: &mut Nodes,
+    wanted: &'q Requirement,
+    asks: &mut Asks<'q>,
+) -> Result<bool, AllocError>
+    ensures { IfOk result
+        (λ placed. placed ≡ true
+        → IsPlaced question.now taken.now.entries waiting.old.entries waiting.new.entries
+        followed.old followed.new wanted.now asks.old asks.new) }
+{
+    match taken.get(wanted.name()) {
+        None => {
+            wait(alloc, waiting, wanted)?;
+            Ok(true)
+        }
+        Some(version) => {
+            if !admits(question, wanted, version) {
+                return Ok(false);
+            }
+            follow_all(alloc, question, version, wanted, followed, asks)?;
+            Ok(true)
+        }
+    }
+}
+
+/// Places requirements, and what comes to them. Whether all could be placed.
+fn settle<'q>(
+    alloc: Global,
+    question: &'q Question<'_>,
+    taken: &BTreeMap<Name, Version>,
+    waiting: &mut BTreeMap<Name, Asks<'q>>,
+    followed: &mut Nodes,
+    asks: Asks<'q>,
+) -> Result<bool, AllocError>
+    requires { IsOnWay question.now taken.now.entries waiting.old.entries followed.old asks }
+    ensures { IfOk result
+        (λ settled. settled ≡ true
+        → IsOnWay question.now taken.now.entries waiting.new.entries followed.new []) }
+{
+    let mut asks = asks;
+    let mut at = 0;
+    while at < asks.len() {
+        let wanted = asks.at(at);
+        if !place(alloc, question, taken, waiting, followed, wanted, &mut asks)? {
+            return Ok(false);
+        }
+        at += 1;
+    }
+    Ok(true)
+}
+
+/// Gives a name the first candidate that is admitted, and places what waited with it. Whether there was
+/// such a candidate, and all could be placed.
+fn take<'q>(
+    alloc: Global,
+    question: &'q Question<'_>,
+    taken: &mut BTreeMap<Name, Version>,
+    waiting: &mut BTreeMap<Name, Asks<'q>>,
+    followed: &mut Nodes,
+    name: Name,
+    asks: Asks<'q>,
+) -> Result<bool, AllocError>
+    requires { IsTurn question.now taken.old.entries waiting.old.entries followed.old name asks }
+    ensures way { IfOk result
+        (λ settled. settled ≡ true
+        → IsOnWay question.now taken.new.entries waiting.new.entries followed.new []) }
+    ensures longer { IfOk result
+        (λ settled. settled ≡ true
+        → length taken.new.entries ≡ length taken.old.entries + 1) }
+    ensures small { length taken.old.entries < 2 ^ 63 }
+{
+    let _count = taken.len();
+    let Some(version) = first_admitted(question, &name, &asks) else {
+        return Ok(false);
+    };
+    let version = version.clone()?;
+    taken.insert(name, version)?;
+    settle(alloc, question, taken, waiting, followed, asks)
+}
+
+/// The best solution where the first walk finds it. Where it gives up, nothing is known.
+pub(crate) fn first_walk(
+    alloc: Global,
+    question: &Question<'_>,
+) -> Result<Option<BTreeMap<Name, Version>>, AllocError>
+    ensures { IfOk result
+        (λ found. IfSome found
+        (λ versions. IsBest (rules_of question.now) (version_for versions.entries))) }
+{
+    laws::a_first_walk_finds_the_best_solution::<Name, Node, Version, Requirement>();
+    let mut taken = BTreeMap::new(alloc);
+    let mut waiting = BTreeMap::new(alloc);
+    let mut followed = Nodes::new(alloc);
+    let lines = Asks::of(alloc, question.active.as_slice())?;
+    if !settle(alloc, question, &taken, &mut waiting, &mut followed, lines)? {
+        return Ok(None);
+    }
+    'turns: while let Some((name, asks)) = waiting.pop_first() {
+        if !take(
+            alloc,
+            question,
+            &mut taken,
+            &mut waiting,
+            &mut followed,
+            name,
+            asks,
+        )? {
+            return Ok(None);
+        }
+    }
+    Ok(Some(taken))
+}
