@@ -1,13 +1,18 @@
 -- What holds of the parts of an entry.
-use Rattle.std.proofs.Common.{◌≡◌, ◌^◌, ◌&&◌, true, false, Bool, List, [], ◌∷◌, Option, Some, None, option_to_list, nat_lt, refl, codes, length, map, not, ◌==◌, ◌||◌, is_some}
-use Rattle.std.proofs.lemmas.Bool.{and_parts}
+use Rattle.std.proofs.Common.{◌≡◌, ◌^◌, ◌&&◌, true, false, Bool, List, [], ◌∷◌, Option, Some, None, Result, Ok, Err, ℕ, option_to_list, nat_lt, refl, sym, codes, length, map, not, ◌==◌, ◌||◌, is_ok, is_some}
+use Rattle.std.proofs.lemmas.Bool.{and_from, and_parts}
 use Rattle.std.specs.List.{list_all}
 use Rattle.std.specs.Option.{option_map_or}
 use Rattle.pylock.specs.declared.file.FileEntry.{FileEntry}
 use Rattle.pylock.specs.Files.{has_ending, is_digest, is_file, is_sdist, is_wheel}
 use Rattle.lists.specs.Rising.{rises}
+use Rattle.lists.specs.Spaces.{is_blank}
+use Rattle.pep440.specs.Tied.Sets.{set_of}
+use Rattle.pep440.specs.declared.fault.Fault.{Fault}
+use Rattle.pep440.specs.declared.specifier.Clause.{Clause}
 use Rattle.markers.specs.Names.{is_normal}
-use Rattle.pylock.specs.Packages.{EntryParts, are_dependencies, are_wheels, is_package, is_python}
+use Rattle.pylock.specs.Packages.{EntryParts, are_dependencies, are_wheels, entry_of, is_package, is_python}
+use Rattle.pylock.specs.Python.{present, python_of}
 
 pub all_pass : {X : Type 0} (xs : List X) → list_all (λ _. true) xs ≡ true
 all_pass [] = refl
@@ -59,3 +64,31 @@ optional_fits (Some f) h = rw (sdist_fits f h) refl
 
 pub sdist_fit : (p : EntryParts) → is_package p ≡ true → list_all fits (option_to_list p.sdist) ≡ true
 sdist_fit p h = optional_fits p.sdist (parts p h).sdist
+
+-- ---- an entry that is made
+
+read-ok : (r : Result (List Clause) Fault) (python : Option (List Clause)) → present r ≡ Ok python → is_ok r ≡ true
+read-ok (Ok clauses) python read = refl
+read-ok (Err fault) python read = cc read
+
+python-fits : (asked : Option (List ℕ)) (python : Option (List Clause)) → python_of asked ≡ Ok python → true ≡ option_map_or (λ text. not (is_blank text)) asked true
+    → option_map_or is_python asked true ≡ true
+python-fits None python read filled = refl
+python-fits (Some text) python read filled = and_from (not (is_blank text)) (is_ok (set_of text)) (sym filled) (read-ok (set_of text) python read)
+
+-- the tests of an entry's parts, as they were made
+pub record Passed (p : EntryParts) (python : Option (List Clause)) : Type 0 where
+  pub name : is_normal p.name ≡ true
+  pub read : python_of p.requires_python ≡ Ok python
+  pub filled : true ≡ option_map_or (λ text. not (is_blank text)) p.requires_python true
+  pub dependencies : true ≡ are_dependencies p.name p.dependencies
+  pub sdist : true ≡ option_map_or is_sdist p.sdist true
+  pub wheels : true ≡ are_wheels p.wheels
+  pub file : true ≡ (is_some p.sdist || not (length p.wheels == 0))
+
+pub package-from : (p : EntryParts) (python : Option (List Clause)) → Passed p python → is_package p ≡ true
+package-from p python h =
+    rw (h.name, python-fits p.requires_python python h.read h.filled, ← h.dependencies, ← h.sdist, ← h.wheels, ← h.file) refl
+
+pub entry-from : (p : EntryParts) → is_package p ≡ true → Some p ≡ entry_of p
+entry-from p is = rw is refl

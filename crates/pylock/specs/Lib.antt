@@ -1,5 +1,6 @@
 pub mod Files
 pub mod Packages
+pub mod Python
 pub mod Locks
 pub mod Order
 pub mod Tables

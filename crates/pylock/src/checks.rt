@@ -1,38 +1,38 @@
 // Whether the parts of an entry are lawful.
 
-ghost use Rattle.std.specs.Prelude.{◌≡◌, IfOk, map, true};
+ghost use Rattle.lists.specs.Answers.{Answers};
+ghost use Rattle.lists.specs.Spaces.{is_blank};
+ghost use Rattle.std.specs.Prelude.{◌≡◌, ◌==◌, ◌||◌, is_some, length, map, not, true};
 ghost use Rattle.std.specs.List.{list_all};
 ghost use Rattle.std.specs.Option.{option_map_or};
 ghost use Rattle.pylock.specs.Files.{is_sdist, is_wheel};
-ghost use Rattle.pylock.specs.Packages.{are_dependencies, are_wheels, is_other, is_python};
+ghost use Rattle.pep440.specs.declared.fault.Fault.TheVariants.{OutOfMemory};
+ghost use Rattle.pylock.specs.Packages.{are_dependencies, are_wheels, is_other};
+ghost use Rattle.pylock.specs.Python.{python_of};
 
 use crate::file::{self, FileEntry};
 use lists::{Text, is_blank, rises};
 use pep440::{Fault, SpecifierSet};
 use pep508::Name;
-use std::alloc::{AllocError, Global};
+use std::alloc::Global;
 
-/// Whether the text is a set of specifiers that isn't blank.
-fn is_python(alloc: Global, text: &str) -> Result<bool, AllocError>
-    ensures { IfOk result (λ b. b ≡ is_python text.now) }
+/// The set of specifiers that the text is, where there is a text.
+pub(crate) fn python_of(alloc: Global, text: &Option<Text>) -> Result<Option<SpecifierSet>, Fault>
+    ensures { Answers OutOfMemory (python_of text.now) result }
 {
-    if is_blank(text) {
-        return Ok(false);
-    }
-    match SpecifierSet::parse(alloc, text) {
-        Ok(_) => Ok(true),
-        Err(Fault::OutOfMemory) => Err(AllocError),
-        Err(_) => Ok(false),
+    match text {
+        Some(text) => Ok(Some(SpecifierSet::parse(alloc, text.as_str())?)),
+        None => Ok(None),
     }
 }
 
-/// Whether the text, where there is one, is a set of specifiers that isn't blank.
-pub(crate) fn may_be_python(alloc: Global, text: &Option<Text>) -> Result<bool, AllocError>
-    ensures { IfOk result (λ b. b ≡ option_map_or is_python text.now true) }
+/// Whether the text, where there is one, isn't blank.
+pub(crate) fn may_be_filled(text: &Option<Text>) -> bool
+    ensures { result ≡ option_map_or (λ text. not (is_blank text)) text.now true }
 {
     match text {
-        Some(text) => is_python(alloc, text.as_str()),
-        None => Ok(true),
+        Some(text) => !is_blank(text.as_str()),
+        None => true,
     }
 }
 
@@ -80,4 +80,11 @@ pub(crate) fn are_wheels(files: &[FileEntry]) -> bool
     ensures { result ≡ are_wheels files.now }
 {
     rises(files) && all_wheels(files)
+}
+
+/// Whether there is a file at least.
+pub(crate) fn has_file(sdist: &Option<FileEntry>, wheels: &[FileEntry]) -> bool
+    ensures { result ≡ (is_some sdist.now || not (length wheels.now == 0)) }
+{
+    sdist.is_some() || !wheels.is_empty()
 }

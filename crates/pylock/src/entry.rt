@@ -1,34 +1,38 @@
 // Entries of a lock.
 
-ghost use Rattle.std.specs.Prelude.{◌≡◌, IfOk, option_copied};
+ghost use Rattle.std.specs.Prelude.{◌≡◌, IfOk, Ok, option_copied};
 ghost use Rattle.pylock.specs.Packages.{IsPackage, entry_of};
+ghost use Rattle.pylock.specs.Python.{python_of};
 
 use crate::checks;
 use crate::file::FileEntry;
-use lists::{Faithful, Named, Seq, Text, copied};
-use pep440::Version;
+use lists::{Faithful, Named, Seq, Text};
+use pep440::{Fault, SpecifierSet, Version};
 use pep508::Name;
 use std::alloc::{AllocError, Global};
 use std::marker::Model;
+use std::rc::Rc;
 
-/// A locked package (PEP 751, "packages"): its version, the names of the packages that it needs and
-/// its files. In a clause it is the record of its parts.
-#[derive(Debug)]
-pub struct Entry {
+/// The parts of a locked package, and the set that was read of what it asks of Python.
+#[derive_where(Debug)]
+struct Content {
     name: Name,
     version: Version,
     requires_python: Option<Text>,
+    #[derive_where(skip)]
+    python: Option<SpecifierSet>,
     dependencies: Seq<Name>,
     sdist: Option<FileEntry>,
     wheels: Seq<FileEntry>,
 }
 
-impl Drop for Entry {
+impl Drop for Content {
     fn drop(self) {
-        let Entry {
+        let Content {
             name: _,
             version: _,
             requires_python: _,
+            python: _,
             dependencies: _,
             sdist: _,
             wheels: _,
@@ -36,35 +40,49 @@ impl Drop for Entry {
     }
 }
 
+/// A locked package (PEP 751, "packages"): its version, the names of the packages that it needs and
+/// its files. In a clause it is the record of its parts. Clones of an entry share it.
+#[derive(Debug)]
+pub struct Entry {
+    shared: Rc<Content>,
+}
+
+impl Drop for Entry {
+    fn drop(self) {
+        let Entry { shared: _ } = self;
+    }
+}
+
 impl Model for Entry {
-    ghost use Rattle.pylock.specs.Packages.{IsPackage, EntryParts};
+    ghost use Rattle.pylock.specs.Packages.{EntryParts};
+    ghost use Rattle.pylock.specs.Python.{IsRead};
 
     ghost Value = { EntryParts };
 
     ghost view = { λ e. record {
-      name = e.name;
-      version = e.version;
-      requires_python = e.requires_python;
-      dependencies = e.dependencies;
-      sdist = e.sdist;
-      wheels = e.wheels;
+      name = e.shared.value.name;
+      version = e.shared.value.version;
+      requires_python = e.shared.value.requires_python;
+      dependencies = e.shared.value.dependencies;
+      sdist = e.shared.value.sdist;
+      wheels = e.shared.value.wheels;
     } };
 
-    ghost invariant = { λ e. IsPackage (record {
-      name = e.name;
-      version = e.version;
-      requires_python = e.requires_python;
-      dependencies = e.dependencies;
-      sdist = e.sdist;
-      wheels = e.wheels;
-    }) };
+    ghost invariant = { λ e. IsRead (record {
+      name = e.shared.value.name;
+      version = e.shared.value.version;
+      requires_python = e.shared.value.requires_python;
+      dependencies = e.shared.value.dependencies;
+      sdist = e.shared.value.sdist;
+      wheels = e.shared.value.wheels;
+    }) e.shared.value.python };
 }
 
 impl Named for Entry {
     ghost named = { λ e. e.name };
 
     fn text(&self) -> &str {
-        self.name.normal()
+        self.name().normal()
     }
 }
 
@@ -94,20 +112,28 @@ impl Entry {
     {
         name.is_lawful();
         version.is_lawful();
-        let is_python = checks::may_be_python(alloc, &requires_python)?;
+        let python = match checks::python_of(alloc, &requires_python) {
+            Ok(python) => python,
+            Err(Fault::OutOfMemory) => return Err(AllocError),
+            Err(_) => return Ok(None),
+        };
+        let is_filled = checks::may_be_filled(&requires_python);
         let are_dependencies = checks::are_dependencies(&name, dependencies.as_slice());
         let is_sdist = checks::may_be_sdist(&sdist);
         let are_wheels = checks::are_wheels(wheels.as_slice());
-        let has_file = sdist.is_some() || !wheels.is_empty();
-        if is_python && are_dependencies && is_sdist && are_wheels && has_file {
-            return Ok(Some(Entry {
+        let has_file = checks::has_file(&sdist, wheels.as_slice());
+        if is_filled && are_dependencies && is_sdist && are_wheels && has_file {
+            let content = Content {
                 name,
                 version,
                 requires_python,
+                python,
                 dependencies,
                 sdist,
                 wheels,
-            }));
+            };
+            let shared = Rc::new(alloc, content)?;
+            return Ok(Some(Entry { shared }));
         }
         Ok(None)
     }
@@ -116,13 +142,13 @@ impl Entry {
     pub fn name(&self) -> &Name
         ensures { result.now ≡ self.now.name }
     {
-        &self.name
+        &self.shared.as_ref().name
     }
 
     pub fn version(&self) -> &Version
         ensures { result.now ≡ self.now.version }
     {
-        &self.version
+        &self.shared.as_ref().version
     }
 
     /// The Pythons that the package runs on, as the index tells them (PEP 440, "Version
@@ -130,35 +156,42 @@ impl Entry {
     pub fn requires_python(&self) -> &Option<Text>
         ensures { result.now ≡ self.now.requires_python }
     {
-        &self.requires_python
+        &self.shared.as_ref().requires_python
+    }
+
+    /// The set of specifiers that `requires_python` reads as; none where it isn't there.
+    pub fn python(&self) -> Option<&SpecifierSet>
+        ensures { python_of self.now.requires_python ≡ Ok (option_copied result) }
+    {
+        self.shared.as_ref().python.as_ref()
     }
 
     /// The names of the packages that this one needs, in the order of their bytes.
     pub fn dependencies(&self) -> &[Name]
         ensures { result.now ≡ self.now.dependencies }
     {
-        self.dependencies.as_slice()
+        self.shared.as_ref().dependencies.as_slice()
     }
 
     /// The source distribution.
     pub fn sdist(&self) -> &Option<FileEntry>
         ensures { result.now ≡ self.now.sdist }
     {
-        &self.sdist
+        &self.shared.as_ref().sdist
     }
 
     /// The wheels, in the order of their names.
     pub fn wheels(&self) -> &[FileEntry]
         ensures { result.now ≡ self.now.wheels }
     {
-        self.wheels.as_slice()
+        self.shared.as_ref().wheels.as_slice()
     }
 
     /// What holds of every entry.
     pub fn is_lawful(&self)
         ensures { IsPackage self.now }
     {
-        let _name = &self.name;
+        let _name = &self.shared.as_ref().name;
     }
 }
 
@@ -166,20 +199,8 @@ impl Clone for Entry {
     ghost is_clone = { λ e f. f ≡ e };
 
     fn clone(&self) -> Result<Entry, AllocError> {
-        let name = self.name.clone()?;
-        let version = self.version.clone()?;
-        let requires_python = copied(&self.requires_python)?;
-        let dependencies = self.dependencies.clone()?;
-        let sdist = copied(&self.sdist)?;
-        let wheels = self.wheels.clone()?;
-        Ok(Entry {
-            name,
-            version,
-            requires_python,
-            dependencies,
-            sdist,
-            wheels,
-        })
+        let shared = self.shared.clone()?;
+        Ok(Entry { shared })
     }
 }
 

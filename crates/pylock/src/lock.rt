@@ -73,8 +73,8 @@ impl Lock {
         None
     }
 
-    /// The lock of these parts, of which the entries are in order.
-    pub(crate) fn in_order(environment: Text, snapshot: [u8; 32], entries: Seq<Entry>) -> Lock
+    /// The lock of these parts, of which the entries are in order. It has no refusal.
+    pub fn in_order(environment: Text, snapshot: [u8; 32], entries: Seq<Entry>) -> Lock
         requires { are_entries entries ≡ true }
         ensures { result ≡ record {
           environment = environment;
@@ -88,6 +88,21 @@ impl Lock {
             snapshot,
             entries,
         }
+    }
+
+    /// Puts another digest and other entries, which are in order, into the place of the lock's own. It
+    /// has no refusal.
+    pub fn put(&mut self, snapshot: [u8; 32], entries: Seq<Entry>)
+        requires { are_entries entries ≡ true }
+        ensures { self.new ≡ record {
+          environment = self.old.environment;
+          snapshot = snapshot;
+          entries = entries;
+        } }
+    {
+        are_lawful(entries.as_slice());
+        self.snapshot = snapshot;
+        self.entries = entries;
     }
 
     /// The text of the environment, the digest of the index and the entries, each moved out of the lock.
