@@ -19,9 +19,11 @@ pub mod LawfulFiles
 pub mod LawfulNames
 pub mod LinesOnName
 pub mod LockFacts
+pub mod MovedFacts
 pub mod NamesInOrder
 pub mod NamesRead
 pub mod PartFacts
+pub mod PythonFacts
 pub mod ReachFacts
 pub mod Refusals
 pub mod OneLock
@@ -30,4 +32,5 @@ pub mod Released
 pub mod SplicedFacts
 pub mod StateFacts
 pub mod VersionsFacts
+pub mod WholeLines
 pub mod WorkedRows

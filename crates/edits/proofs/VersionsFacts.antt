@@ -2,12 +2,17 @@
 use Rattle.std.proofs.Common.{◌≡◌, ◌++◌, ◌+◌, ◌<◌, ℕ, zero, suc, List, [], ◌∷◌, Contains, Less, Greater, Ordering, length, take, get_or, map, true, refl, sym, ap, ◌∙◌, subst, inl, inr, arith}
 use Rattle.std.proofs.lemmas.List.{map-append, take_more}
 use Rattle.std.proofs.lemmas.List.Elements.{Contains-get_or}
+use Rattle.std.proofs.lemmas.Bool.{cases_Bool}
 use Rattle.std.specs.BTreeMap.{insert_entry}
 use Rattle.std.specs.Cmp.Lexicographic.{nat_list_cmp_total, slice_cmp}
+use Rattle.std.specs.Option.{option_map}
 use Rattle.std.specs.Ordering.{nat_cmp, ordering_reverse}
+use Rattle.std.specs.Str.{bytes_eq}
 use Rattle.pep440.specs.Version.{VersionParts}
 use Rattle.pylock.specs.Locks.{are_entries}
 use Rattle.pylock.specs.Packages.{EntryParts}
+use Rattle.resolve.specs.Resolves.{version_for}
+use Rattle.edits.specs.Changes.{entry_on}
 use Rattle.edits.specs.Locking.{versions_of}
 use Rattle.edits.proofs.EntryFacts.{rises-above, rises-rest}
 use Rattle.lists.proofs.Members.{Contains-cons_cases, Contains-here, Contains-map_of, Contains-nil, Contains-there}
@@ -38,3 +43,11 @@ versions-more entries place e rise within is =
     subst (λ (z : EntryParts). slice_cmp nat_cmp x.name z.name ≡ Less) (sym is) (below-at entries place e rise within x there) in
     let more : take (place + 1) entries ≡ take place entries ++ e ∷ [] = take_more entries place e within ∙ ap (λ (z : EntryParts). take place entries ++ z ∷ []) (sym is) in
     insert-last (take place entries) e below ∙ sym (map-append (λ (p : EntryParts). (p.name, p.version)) (take place entries) (e ∷ [])) ∙ ap versions_of (sym more)
+
+-- the version of a name is that of its entry
+pub version-at : (entries : List EntryParts) (name : List ℕ) → option_map (λ e. e.version) (entry_on entries name) ≡ version_for (versions_of entries) name
+version-at [] name = refl
+version-at (e ∷ rest) name = elim (cases_Bool (bytes_eq name e.name)) [
+  | inl is ↦ rw is refl
+  | inr other ↦ rw other (version-at rest name)
+]

@@ -15,7 +15,6 @@ use Rattle.pylock.specs.Locks.{IsLock, LockParts}
 use Rattle.pylock.specs.Packages.{EntryParts}
 use Rattle.resolve.specs.Problem.{requirements}
 use Rattle.edits.specs.StateParts.{StateParts}
-use Rattle.edits.specs.Locking.{versions_of}
 
 -- whether a set that was read has a version that was read
 abbrev pub has_version : Result (List Clause) Fault → Option VersionParts → Bool
@@ -61,8 +60,3 @@ pub record IsLockFor (lines : List (List ℕ)) (environment : Texts) (lock : Loc
 pub record IsState (state : StateParts) : Type 0 where
   pub lines : file_of (concat state.lines) ≡ Ok state.lines
   pub lock : IsLockFor state.lines state.environment state.lock
-
--- a state with the versions of its lock, by their names
-pub record IsHeld (state : StateParts) (versions : List (List ℕ × VersionParts)) : Type 0 where
-  pub lawful : IsState state
-  pub kept : versions ≡ versions_of state.lock.entries

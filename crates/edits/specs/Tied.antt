@@ -4,5 +4,7 @@ pub mod Carried
 pub mod Deciding
 pub mod Ends
 pub mod Exchanging
+pub mod Moving
 pub mod Only
 pub mod Splicing
+pub mod Whole

@@ -10,12 +10,14 @@ mod between_entries;
 mod between_lines;
 mod ends;
 mod exchanging;
+mod file;
 mod inverse;
 mod minimal;
+mod moving;
 mod parts;
 mod splicing;
 
-use crate::change::applying::applied;
+use crate::change::applying::{applied, carried};
 use crate::change::inverse::{digests_back, entries_back, splices_back};
 pub use crate::change::parts::{DigestChange, EntryChange, Splice};
 use crate::state::State;
@@ -132,11 +134,7 @@ impl Change {
         ensures led { OnOk result (Leads state.old self.now state.new) }
         ensures kept { OnErr result (state.new ≡ state.old) }
     {
-        let Some(next) = self.apply(alloc, state)? else {
-            unreachable!();
-        };
-        *state = next;
-        Ok(())
+        carried(alloc, self, state)
     }
 
     /// The change back: it leads from the new state to the old one.

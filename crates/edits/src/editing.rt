@@ -56,7 +56,7 @@ fn with_lock<R: Resolver>(
         Answer::Solution(versions) => {
             let lock = lock_of(alloc, &problem, &environment, snapshot, &versions)?;
             lock.is_lawful();
-            Ok(State::from_lawful(lines, environment, lock, versions))
+            Ok(State::from_lawful(lines, environment, lock))
         }
         Answer::NoSolution => Err(Refusal::NoSolution),
     }
@@ -101,7 +101,9 @@ fn kept_pins(alloc: Global, state: &State, edit: &Edit) -> Result<BTreeMap<Name,
     match edit {
         Edit::Upgrade(names) => upgraded(alloc, state, names.as_slice()),
         Edit::UpgradeAll => Ok(BTreeMap::new(alloc)),
-        Edit::Add(_) | Edit::Remove(_) | Edit::Constrain(_, _) | Edit::Relock => Ok(state.kept()?),
+        Edit::Add(_) | Edit::Remove(_) | Edit::Constrain(_, _) | Edit::Relock => {
+            Ok(state.kept(alloc)?)
+        }
     }
 }
 

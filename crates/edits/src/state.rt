@@ -13,10 +13,11 @@ ghost use Rattle.resolve.specs.Resolves.{version_for};
 mod deciding;
 mod reaching;
 
-use crate::state::deciding::is_lock_for;
-use lists::Faithful;
+use crate::state::deciding::{entry_on, is_lock_for};
+use lists::{Faithful, Seq};
 use pep440::Version;
-use pep508::{Environment, Name, ReqFile};
+use pep508::laws::a_file_reads_as_lines;
+use pep508::{Environment, Line, Name, ReqFile};
 use pylock::{Entry, Lock};
 use std::alloc::{AllocError, Global};
 use std::collections::BTreeMap;
@@ -28,7 +29,6 @@ pub struct State {
     lines: ReqFile,
     environment: Environment,
     lock: Lock,
-    versions: BTreeMap<Name, Version>,
 }
 
 impl Drop for State {
@@ -37,20 +37,19 @@ impl Drop for State {
             lines: _,
             environment: _,
             lock: _,
-            versions: _,
         } = self;
     }
 }
 
 impl Model for State {
     ghost use Rattle.edits.specs.StateParts.{StateParts};
-    ghost use Rattle.edits.specs.State.{IsHeld};
+    ghost use Rattle.edits.specs.State.{IsState};
 
     ghost Value = { StateParts };
 
     ghost view = { λ s. record { lines = s.lines; environment = s.environment; lock = s.lock } };
 
-    ghost invariant = { λ s. IsHeld (record { lines = s.lines; environment = s.environment; lock = s.lock }) s.versions.entries };
+    ghost invariant = { λ s. IsState (record { lines = s.lines; environment = s.environment; lock = s.lock }) };
 }
 
 /// Puts the version of the entry to the others, by its name.
@@ -78,26 +77,15 @@ fn versions_of(alloc: Global, lock: &Lock) -> Result<BTreeMap<Name, Version>, Al
 }
 
 impl State {
-    /// The state of these lawful parts. The versions are those of the lock.
-    pub(crate) fn from_lawful(
-        lines: ReqFile,
-        environment: Environment,
-        lock: Lock,
-        versions: BTreeMap<Name, Version>,
-    ) -> State
-        requires lawful { IsState (record {
-          lines = lines;
-          environment = environment;
-          lock = lock;
-        }) }
-        requires versions { versions.entries ≡ versions_of lock.entries }
+    /// The state of these lawful parts.
+    pub(crate) fn from_lawful(lines: ReqFile, environment: Environment, lock: Lock) -> State
+        requires { IsState (record { lines = lines; environment = environment; lock = lock }) }
         ensures { result ≡ record { lines = lines; environment = environment; lock = lock } }
     {
         State {
             lines,
             environment,
             lock,
-            versions,
         }
     }
 
@@ -119,8 +107,7 @@ impl State {
             return Ok(None);
         }
         lines.is_lawful();
-        let versions = versions_of(alloc, &lock)?;
-        Ok(Some(State::from_lawful(lines, environment, lock, versions)))
+        Ok(Some(State::from_lawful(lines, environment, lock)))
     }
 
     /// The lines, the environment and the lock, each moved out of the state.
@@ -133,7 +120,6 @@ impl State {
             lines,
             environment,
             lock,
-            versions: _,
         } = self;
         (lines, environment, lock)
     }
@@ -170,14 +156,45 @@ impl State {
     pub fn locked(&self, name: &Name) -> Option<&Version>
         ensures { option_copied result ≡ version_for (versions_of self.now.lock.entries) name.now }
     {
-        self.versions.get(name)
+        self.lock.is_lawful();
+        let Some(entry) = entry_on(self.lock.entries(), name) else {
+            return None;
+        };
+        Some(entry.version())
     }
 
     /// The locked versions by their names, to be kept by a later lock.
-    pub(crate) fn kept(&self) -> Result<BTreeMap<Name, Version>, AllocError>
+    pub(crate) fn kept(&self, alloc: Global) -> Result<BTreeMap<Name, Version>, AllocError>
         ensures { IfOk result (λ kept. kept.entries ≡ versions_of self.now.lock.entries) }
     {
-        self.versions.clone()
+        versions_of(alloc, &self.lock)
+    }
+
+    /// Puts lines, a digest and entries into the place of the state's own. Where they make a state with
+    /// its environment, it has no refusal.
+    pub(crate) fn put(&mut self, lines: Seq<Line>, digest: [u8; 32], entries: Seq<Entry>)
+        requires { IsState (record {
+          lines = lines;
+          environment = self.old.environment;
+          lock = record {
+            environment = self.old.lock.environment;
+            snapshot = digest;
+            entries = entries;
+          };
+        }) }
+        ensures { self.new ≡ record {
+          lines = lines;
+          environment = self.old.environment;
+          lock = record {
+            environment = self.old.lock.environment;
+            snapshot = digest;
+            entries = entries;
+          };
+        } }
+    {
+        a_file_reads_as_lines();
+        self.lines = ReqFile::from_lines(lines);
+        self.lock.put(digest, entries);
     }
 
     /// What holds of every state.
@@ -195,12 +212,10 @@ impl Clone for State {
         let lines = self.lines.clone()?;
         let environment = self.environment.clone()?;
         let lock = self.lock.clone()?;
-        let versions = self.versions.clone()?;
         Ok(State {
             lines,
             environment,
             lock,
-            versions,
         })
     }
 }

@@ -70,5 +70,5 @@ pub(crate) fn upgraded(
     if let Some(name) = not_locked(state, names.as_slice()) {
         return Err(Refusal::NotLocked(Text::copy_of(alloc, name.normal())?));
     }
-    Ok(without(state.kept()?, names.as_slice()))
+    Ok(without(state.kept(alloc)?, names.as_slice()))
 }

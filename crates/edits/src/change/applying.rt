@@ -1,81 +1,36 @@
 // The state that a change leads to.
 
-ghost use Rattle.std.specs.Prelude.{◌≡◌, ◌≢◌, IfOk, MatchOption, Ok};
-ghost use Rattle.std.specs.List.{concat};
-ghost use Rattle.edits.specs.Changes.{ChangesDigest, ChangesLock, Leads, LeadsNowhere};
+ghost use Rattle.std.specs.Prelude.{◌≡◌, IfOk, MatchOption, OnErr, OnOk, true};
+ghost use Rattle.edits.specs.Changes.{Leads, LeadsNowhere};
 ghost use Rattle.edits.specs.State.{IsState};
 ghost use Rattle.edits.specs.StateParts.{StateParts};
-ghost use Rattle.edits.specs.Tied.Only.{IsTheOnly};
-ghost use Rattle.pep508.specs.Requirement.{file_of};
+ghost use Rattle.pylock.specs.Locks.{are_entries};
 
 use crate::change::Change;
-use crate::change::exchanging::exchanged;
-use crate::change::parts::DigestChange;
-use crate::change::splicing::{are_texts, spliced};
+use crate::change::file::file_of;
+use crate::change::moving::{Outcome, outcome_of};
 use crate::state::State;
-use lists::Text;
-use pep508::{Cause, Fault, ReqFile};
-use pylock::Lock;
+use lists::{Seq, Text};
+use pep508::ReqFile;
+use pylock::{Entry, Lock};
 use std::alloc::{AllocError, Global};
 
-/// The texts, joined.
-fn joined(alloc: Global, texts: &[Text]) -> Result<Text, AllocError>
-    ensures { IfOk result (λ joined. joined ≡ concat texts.now) }
+/// The lock of the state with another digest and other entries.
+fn lock_with(
+    alloc: Global,
+    state: &State,
+    digest: [u8; 32],
+    entries: Seq<Entry>,
+) -> Result<Lock, AllocError>
+    requires { are_entries entries ≡ true }
+    ensures { IfOk result (λ lock. lock ≡ record {
+      environment = state.now.lock.environment;
+      snapshot = digest;
+      entries = entries;
+    }) }
 {
-    let mut joined = Text::new(alloc);
-    for text in texts {
-        joined.push_str(text.as_str())?;
-    }
-    Ok(joined)
-}
-
-/// The file whose lines are these texts; `None` where there is none.
-fn file_of(alloc: Global, texts: &[Text]) -> Result<Option<ReqFile>, AllocError>
-    ensures { IfOk result (λ read. MatchOption read (file_of (concat texts.now) ≢ Ok texts.now)
-        (λ file. file ≡ texts.now)) }
-{
-    let joined = joined(alloc, texts)?;
-    match ReqFile::read(alloc, joined.as_str().as_bytes()) {
-        Ok(file) if are_texts(file.lines(), texts) => Ok(Some(file)),
-        Err(
-            Fault {
-                cause: Cause::OutOfMemory,
-                ..
-            },
-        ) => Err(AllocError),
-        _ => Ok(None),
-    }
-}
-
-/// The digest after the change; `None` where another one stood there.
-fn digest_after(digests: Option<DigestChange>, digest: [u8; 32]) -> Option<[u8; 32]>
-    ensures { IsTheOnly (ChangesDigest digests digest) result }
-{
-    let Some(digests) = digests else {
-        return Some(digest);
-    };
-    let old = digests.old;
-    if old != digest {
-        return None;
-    }
-    let new = digests.new;
-    Some(new)
-}
-
-/// The lock after the change; `None` where an old part doesn't stand in it.
-fn lock_after(alloc: Global, change: &Change, lock: &Lock) -> Result<Option<Lock>, AllocError>
-    ensures { IfOk result (IsTheOnly (ChangesLock change.now lock.now)) }
-{
-    change.is_lawful();
-    lock.is_lawful();
-    let Some(digest) = digest_after(change.digests(), lock.snapshot()) else {
-        return Ok(None);
-    };
-    let Some(entries) = exchanged(alloc, lock.entries(), change.entries())? else {
-        return Ok(None);
-    };
-    let environment = Text::copy_of(alloc, lock.environment())?;
-    Ok(Lock::new(environment, digest, entries))
+    let environment = Text::copy_of(alloc, state.lock().environment())?;
+    Ok(Lock::in_order(environment, digest, entries))
 }
 
 /// The state of these lines and this lock in the environment of another one; `None` where they make
@@ -108,14 +63,36 @@ pub(crate) fn applied(
     ensures { IfOk result (λ applied. MatchOption applied (LeadsNowhere state.now change.now)
         (Leads state.now change.now)) }
 {
-    let Some(texts) = spliced(alloc, state.lines().lines(), change.splices())? else {
+    let Some(made) = outcome_of(alloc, change, state)? else {
         return Ok(None);
     };
-    let Some(lines) = file_of(alloc, texts.as_slice())? else {
+    let Outcome {
+        lines,
+        digest,
+        entries,
+    } = made;
+    let Some(lines) = file_of(lines) else {
         return Ok(None);
     };
-    let Some(lock) = lock_after(alloc, change, state.lock())? else {
-        return Ok(None);
-    };
+    let lock = lock_with(alloc, state, digest, entries)?;
     state_of(alloc, lines, state, lock)
+}
+
+/// Moves the state along the change, which leads from it. What the change doesn't name stays where it
+/// is: no line is read but the new ones, and whether it is a state isn't tested.
+pub(crate) fn carried(alloc: Global, change: &Change, state: &mut State) -> Result<(), AllocError>
+    requires { (next : StateParts) × Leads state.old change.now next }
+    ensures led { OnOk result (Leads state.old change.now state.new) }
+    ensures kept { OnErr result (state.new ≡ state.old) }
+{
+    let Some(made) = outcome_of(alloc, change, state)? else {
+        unreachable!();
+    };
+    let Outcome {
+        lines,
+        digest,
+        entries,
+    } = made;
+    state.put(lines, digest, entries);
+    Ok(())
 }

@@ -23,16 +23,13 @@ fn is_below(entry: &Entry, name: &Name) -> bool
     entry.name().normal().cmp(&name.normal()).is_lt()
 }
 
-/// How many entries stand before the first whose name isn't below this one.
+/// How many entries stand before the first whose name isn't below this one. Names rise, so half of the
+/// entries are left out at each look.
 fn count_below(entries: &[Entry], name: &Name) -> usize
+    requires { are_entries entries.now ≡ true }
     ensures { result ≡ count_below name.now entries.now }
 {
-    for place in 0..entries.len() {
-        if !is_below(&entries[place], name) {
-            return place;
-        }
-    }
-    entries.len()
+    entries.partition_point(|entry| is_below(entry, name))
 }
 
 /// How many entries on the name stand first: one or none.
@@ -62,7 +59,7 @@ fn is_old(entries: &[Entry], change: &EntryChange) -> bool
     are_same(entries, change.old.as_slice())
 }
 
-/// Puts entries behind others.
+/// Puts entries behind others. They are shared, not copied.
 fn keep(after: &mut Vec<Entry>, entries: &[Entry]) -> Result<(), AllocError>
     ensures { OnOk result (after.new.items ≡ after.old.items ++ entries.now) }
 {

@@ -1,11 +1,12 @@
 // Lines, some of them exchanged for others.
 
-ghost use Rattle.std.specs.Prelude.{◌≡◌, ◌↔◌, ◌+◌, ◌≤◌, ◌++◌, length, take, IfOk, IsTrue, OnOk};
-ghost use Rattle.edits.specs.Tied.Splicing.{AreSpliced, StandsAt};
+ghost use Rattle.std.specs.Prelude.{◌≡◌, ◌↔◌, ◌+◌, ◌≤◌, ◌++◌, length, take, IfOk, IsTrue, MatchOption, OnOk};
+ghost use Rattle.std.specs.List.{AllByRecursion};
+ghost use Rattle.edits.specs.Tied.Splicing.{AreSpliced, Reads, StandsAt};
 
 use crate::change::parts::Splice;
 use lists::{Seq, Text};
-use pep508::Line;
+use pep508::{Cause, Line};
 use std::alloc::{AllocError, Global};
 
 /// Whether the line is this text.
@@ -16,7 +17,7 @@ fn is_text(line: &Line, text: &Text) -> bool
 }
 
 /// Whether the lines are these texts, one by one.
-pub(crate) fn are_texts(lines: &[Line], texts: &[Text]) -> bool
+fn are_texts(lines: &[Line], texts: &[Text]) -> bool
     ensures { IsTrue result ↔ (lines.now ≡ texts.now) }
 {
     if lines.len() != texts.len() {
@@ -49,32 +50,50 @@ fn stands_at(lines: &[Line], from: usize, splice: &Splice) -> bool
         && begin_with(&lines[splice.place as usize..], splice.old.as_slice())
 }
 
-/// Puts the texts of lines behind others.
-pub(crate) fn keep(alloc: Global, after: &mut Vec<Text>, lines: &[Line]) -> Result<(), AllocError>
+/// Puts lines behind others. They are shared, not copied.
+fn keep(after: &mut Vec<Line>, lines: &[Line]) -> Result<(), AllocError>
     ensures { OnOk result (after.new.items ≡ after.old.items ++ lines.now) }
 {
     for line in lines {
-        after.push(Text::copy_of(alloc, line.text())?)?;
+        after.push(line.clone()?)?;
     }
     Ok(())
 }
 
-/// Puts texts behind others.
-fn put(after: &mut Vec<Text>, texts: &[Text]) -> Result<(), AllocError>
-    ensures { OnOk result (after.new.items ≡ after.old.items ++ texts.now) }
+/// The line that the text is; `None` where it doesn't read.
+fn line_of(alloc: Global, text: &Text) -> Result<Option<Line>, AllocError>
+    ensures { IfOk result
+        (λ read. MatchOption read (Reads text.now → ⊥) (λ line. line ≡ text.now)) }
 {
-    for text in texts {
-        after.push(text.clone()?)?;
+    match Line::read(alloc, text.as_str()) {
+        Ok(line) => Ok(Some(line)),
+        Err(Cause::OutOfMemory) => Err(AllocError),
+        Err(_) => Ok(None),
     }
-    Ok(())
 }
 
-/// The lines after the splices; `None` where old lines of one don't stand in their place.
+/// The lines that the texts are; `None` where one doesn't read.
+fn lines_of(alloc: Global, texts: &[Text]) -> Result<Option<Vec<Line>>, AllocError>
+    ensures { IfOk result (λ read. MatchOption read (AllByRecursion Reads texts.now → ⊥)
+        (λ lines. lines.items ≡ texts.now)) }
+{
+    let mut lines = Vec::with_capacity(alloc, texts.len())?;
+    for text in texts {
+        let Some(line) = line_of(alloc, text)? else {
+            return Ok(None);
+        };
+        lines.push(line)?;
+    }
+    Ok(Some(lines))
+}
+
+/// The lines after the splices, of which the new ones alone are read; `None` where old lines of one
+/// don't stand in their place, or new ones don't read.
 pub(crate) fn spliced(
     alloc: Global,
     lines: &[Line],
     splices: &[Splice],
-) -> Result<Option<Seq<Text>>, AllocError>
+) -> Result<Option<Seq<Line>>, AllocError>
     ensures { IfOk result (AreSpliced splices.now lines.now) }
 {
     let mut after = Vec::with_capacity(alloc, lines.len())?;
@@ -83,11 +102,14 @@ pub(crate) fn spliced(
         if !stands_at(lines, from, splice) {
             return Ok(None);
         }
+        let Some(mut new) = lines_of(alloc, splice.new.as_slice())? else {
+            return Ok(None);
+        };
         let place = splice.place as usize;
-        keep(alloc, &mut after, &lines[from..place])?;
-        put(&mut after, splice.new.as_slice())?;
+        keep(&mut after, &lines[from..place])?;
+        after.append(&mut new)?;
         from = place + splice.old.len();
     }
-    keep(alloc, &mut after, &lines[from..])?;
+    keep(&mut after, &lines[from..])?;
     Ok(Some(Seq::from_vec(after)))
 }

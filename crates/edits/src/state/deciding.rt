@@ -10,8 +10,6 @@ ghost use Rattle.markers.specs.Environment.{marker_text};
 ghost use Rattle.pylock.specs.Locks.{are_entries};
 
 use crate::state::reaching::are_reached;
-use lists::Text;
-use pep440::SpecifierSet;
 use pep508::{Environment, Line, Name, ReqFile, Requirement};
 use pylock::{Entry, Lock};
 use std::alloc::{AllocError, Global};
@@ -27,98 +25,59 @@ pub(crate) fn entry_on<'a>(entries: &'a [Entry], name: &Name) -> Option<&'a Entr
     }
 }
 
-/// Whether the specifiers that the text is have the full version of the environment's Python.
-fn is_for_python(alloc: Global, environment: &Environment, text: &Text) -> Result<bool, AllocError>
-    ensures { IfOk result (λ has. has ≡ is_for_python environment.now text.now) }
+/// Whether the entry runs on the environment's Python: the set that it asks for has its full version.
+fn runs(environment: &Environment, entry: &Entry) -> bool
+    ensures { result ≡ option_map_or (is_for_python environment.now) entry.now.requires_python true }
 {
-    match SpecifierSet::parse(alloc, text.as_str()) {
-        Ok(set) => Ok(set.matches(environment.full_version())),
-        Err(pep440::Fault::OutOfMemory) => Err(AllocError),
-        Err(_) => Ok(false),
-    }
-}
-
-/// The same of specifiers that may be there.
-fn runs(alloc: Global, environment: &Environment, python: &Option<Text>) -> Result<bool, AllocError>
-    ensures { IfOk result
-        (λ runs. runs ≡ option_map_or (is_for_python environment.now) python.now true) }
-{
-    match python {
-        Some(text) => is_for_python(alloc, environment, text),
-        None => Ok(true),
+    match entry.python() {
+        Some(set) => set.matches(environment.full_version()),
+        None => true,
     }
 }
 
 /// Whether the entry of the requirement's name meets it.
-fn meets(
-    alloc: Global,
-    environment: &Environment,
-    requirement: &Requirement,
-    entry: &Entry,
-) -> Result<bool, AllocError>
+fn meets(environment: &Environment, requirement: &Requirement, entry: &Entry) -> bool
     requires { entry.now.name ≡ requirement.now.name }
-    ensures { IfOk result
-        (λ met. IsTrue met ↔ Meets environment.now requirement.now entry.now) }
+    ensures { IsTrue result ↔ Meets environment.now requirement.now entry.now }
 {
-    if !requirement.specifiers().matches(entry.version()) {
-        return Ok(false);
-    }
-    runs(alloc, environment, entry.requires_python())
+    requirement.specifiers().matches(entry.version()) && runs(environment, entry)
 }
 
 /// Whether an entry meets the requirement.
-fn is_met(
-    alloc: Global,
-    environment: &Environment,
-    entries: &[Entry],
-    requirement: &Requirement,
-) -> Result<bool, AllocError>
+fn is_met(environment: &Environment, entries: &[Entry], requirement: &Requirement) -> bool
     requires { are_entries entries.now ≡ true }
-    ensures { IfOk result
-        (λ met. IsTrue met ↔ IsMet environment.now entries.now requirement.now) }
+    ensures { IsTrue result ↔ IsMet environment.now entries.now requirement.now }
 {
     match entry_on(entries, requirement.name()) {
-        Some(entry) => meets(alloc, environment, requirement, entry),
-        None => Ok(false),
+        Some(entry) => meets(environment, requirement, entry),
+        None => false,
     }
 }
 
 /// Whether an entry meets what the line asks for, where it is active.
-fn is_line_met(
-    alloc: Global,
-    environment: &Environment,
-    entries: &[Entry],
-    line: &Line,
-) -> Result<bool, AllocError>
+fn is_line_met(environment: &Environment, entries: &[Entry], line: &Line) -> bool
     requires { are_entries entries.now ≡ true }
-    ensures { IfOk result
-        (λ met. IsTrue met ↔ IsLineMet environment.now entries.now line.now) }
+    ensures { IsTrue result ↔ IsLineMet environment.now entries.now line.now }
 {
     match line.requirement() {
         Some(requirement) if requirement.is_active(environment) => {
-            is_met(alloc, environment, entries, requirement)
+            is_met(environment, entries, requirement)
         }
-        _ => Ok(true),
+        _ => true,
     }
 }
 
 /// Whether entries meet what the active ones of the lines ask for.
-fn are_lines_met(
-    alloc: Global,
-    environment: &Environment,
-    entries: &[Entry],
-    lines: &[Line],
-) -> Result<bool, AllocError>
+fn are_lines_met(environment: &Environment, entries: &[Entry], lines: &[Line]) -> bool
     requires { are_entries entries.now ≡ true }
-    ensures { IfOk result
-        (λ met. IsTrue met ↔ AllByRecursion (IsLineMet environment.now entries.now) lines.now) }
+    ensures { IsTrue result ↔ AllByRecursion (IsLineMet environment.now entries.now) lines.now }
 {
     for line in lines {
-        if !is_line_met(alloc, environment, entries, line)? {
-            return Ok(false);
+        if !is_line_met(environment, entries, line) {
+            return false;
         }
     }
-    Ok(true)
+    true
 }
 
 /// Whether there is an entry of the name.
@@ -184,7 +143,7 @@ pub(crate) fn is_lock_for(
     if !are_closed(entries, entries) {
         return Ok(false);
     }
-    if !are_lines_met(alloc, environment, entries, lines.lines())? {
+    if !are_lines_met(environment, entries, lines.lines()) {
         return Ok(false);
     }
     are_reached(alloc, environment, lines.lines(), entries)

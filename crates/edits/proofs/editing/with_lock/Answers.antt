@@ -4,8 +4,8 @@ use Rattle.edits.proofs.LockFacts.{IsLocked-from, IsNew-none}
 use Rattle.edits.proofs.StateFacts.{IsState-from}
 use Rattle.edits.proofs.editing.with_lock.Goals as goal
 
-pub from_lawful-requires-clause-lawful : goal.from_lawful-requires-clause-lawful
-from_lawful-requires-clause-lawful g c =
+pub from_lawful-requires : goal.from_lawful-requires
+from_lawful-requires g c =
     let given = given_of c.args.lines c.args.environment c.args.snapshot.now c.args.kept.entries in
     let problem = c.in_ok-problem.ensures in
     let best = rw problem at (rw c.in-Solution.is at c.in_ok-versions.ensures) in

@@ -1,9 +1,15 @@
-use Rattle.std.proofs.Common.{◌∙◌, ap, sym}
-use Rattle.std.specs.Map.{lookup}
-use Rattle.std.specs.Str.{bytes_eq}
-use Rattle.edits.proofs.Gathering.{lookup-get}
+use Rattle.std.proofs.Common.{◌∙◌, ap}
+use Rattle.std.specs.Option.{option_map}
+use Rattle.pylock.specs.Packages.{EntryParts}
+use Rattle.edits.proofs.VersionsFacts.{version-at}
 use Rattle.edits.proofs.state.State.locked.Goals as goal
 
+pub returns-in_default : goal.returns-in_default
+returns-in_default c =
+    let none = rw c.entries.ensures at c.in_default.ensures in
+    rw (← c.self.view_is) (ap (option_map (λ (e : EntryParts). e.version)) none ∙ version-at c.self.inside.lock.entries c.args.name.now)
+
 pub returns : goal.returns
-returns c = rw (← c.self.view_is)
-    (c.get.ensures.value ∙ sym (lookup-get c.args.name.now c.self.inside.versions.entries) ∙ ap (lookup (bytes_eq c.args.name.now)) c.self.invariant.kept)
+returns c =
+    let found = rw c.entries.ensures at c.in-Some.ensures in
+    rw (← c.self.view_is, c.version.ensures) (ap (option_map (λ (e : EntryParts). e.version)) found ∙ version-at c.self.inside.lock.entries c.args.name.now)

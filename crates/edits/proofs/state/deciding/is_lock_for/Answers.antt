@@ -1,4 +1,4 @@
-use Rattle.std.proofs.Common.{◌∙◌, refl, sym}
+use Rattle.std.proofs.Common.{refl}
 use Rattle.std.specs.List.{AllByRecursion}
 use Rattle.std.specs.Prelude.{◌↔◌, IsTrue}
 use Rattle.resolve.specs.Problem.{requirements}
@@ -14,10 +14,10 @@ returns-then-not-are_closed c =
     let closed = rw c.entries-entries.ensures at c.if-not-are_closed.ensures in
     (λ h. absurd (not-so h), λ is. closed.1 (closed-of c.args.lines.now c.args.environment.now c.args.lock.now is))
 
-pub returns-then-not-branch-2 : goal.returns-then-not-branch-2
-returns-then-not-branch-2 c =
-    let met = rw (c.lines.ensures, c.entries-entries.ensures) at c.in_ok-are_lines_met.ensures in
-    (λ h. absurd (not-so h), λ is. sym c.if-not-branch-2.true ∙ met.1 (met-of c.args.lines.now c.args.environment.now c.args.lock.now is))
+pub returns-then-not-are_lines_met : goal.returns-then-not-are_lines_met
+returns-then-not-are_lines_met c =
+    let met = rw (c.lines.ensures, c.entries-entries.ensures) at c.if-not-are_lines_met.ensures in
+    (λ h. absurd (not-so h), λ is. met.1 (met-of c.args.lines.now c.args.environment.now c.args.lock.now is))
 
 pub returns : goal.returns
 returns c =
@@ -25,11 +25,11 @@ returns c =
     let environment = c.args.environment.now in
     let lock = c.args.lock.now in
     let closed = rw c.entries-entries.ensures at c.if-not-are_closed.ensures in
-    let met = rw (c.lines.ensures, c.entries-entries.ensures) at c.in_ok-are_lines_met.ensures in
+    let met = rw (c.lines.ensures, c.entries-entries.ensures) at c.if-not-are_lines_met.ensures in
     let reached = rw (c.lines-2.ensures, c.entries-entries.ensures) at c.are_reached.ensures in
     IfOk-onto (λ b. IsTrue b ↔ AllByRecursion (λ (e : EntryParts). Reached (requirements environment lines) lock.entries e.name) lock.entries) (λ b. IsTrue b ↔ IsLockFor lines environment lock) c.are_reached.result
     (λ b k. (
-      (λ h. IsLockFor-from lines environment lock c.is_lawful.ensures (c.in_ok-is_named.ensures.0 c.if-not-branch.false) (closed.0 refl) (met.0 c.if-not-branch-2.false) (k.0 h)),
+      (λ h. IsLockFor-from lines environment lock c.is_lawful.ensures (c.in_ok-is_named.ensures.0 c.if-not-branch.false) (closed.0 refl) (met.0 refl) (k.0 h)),
       (λ is. k.1 (reached-of lines environment lock is)),
     ))
     reached

@@ -1,10 +1,7 @@
-use Rattle.std.proofs.Common.{◌∙◌, sym}
-use Rattle.std.specs.Prelude.{◌↔◌, IsTrue}
-use Rattle.edits.specs.State.{IsMet, Meets}
+use Rattle.std.proofs.Common.{sym}
 use Rattle.edits.proofs.DecideFacts.{met-found, met-none}
 use Rattle.edits.proofs.EditFacts.{not-so}
 use Rattle.edits.proofs.EntryFacts.{entry-from}
-use Rattle.edits.proofs.PartFacts.{IfOk-onto}
 use Rattle.edits.proofs.state.deciding.is_met.Goals as goal
 
 pub meets-requires : goal.meets-requires
@@ -16,8 +13,7 @@ pub returns-in-Some : goal.returns-in-Some
 returns-in-Some c =
     let found = sym (rw c.name.ensures at c.in-Some.ensures) in
     let k = met-found c.args.environment.now c.args.entries.now c.args.requirement.now c.in-Some.entry.now c.requires found in
-    IfOk-onto (λ met. IsTrue met ↔ Meets c.args.environment.now c.args.requirement.now c.in-Some.entry.now) (λ met. IsTrue met ↔ IsMet c.args.environment.now c.args.entries.now c.args.requirement.now)
-    c.meets.result (λ met is. ((λ h. k.0 (is.0 h)), (λ h. is.1 (k.1 h)))) c.meets.ensures
+    ((λ h. k.0 (c.meets.ensures.0 h)), (λ h. c.meets.ensures.1 (k.1 h)))
 
 pub returns-in-None : goal.returns-in-None
 returns-in-None c =
