@@ -47,9 +47,17 @@ impl Model for State {
 
     ghost Value = { StateParts };
 
-    ghost view = { λ s. record { lines = s.lines; environment = s.environment; lock = s.lock } };
+    ghost view = { λ s. record {
+      lines = s.lines;
+      environment = s.environment;
+      lock = s.lock;
+    } };
 
-    ghost invariant = { λ s. IsState (record { lines = s.lines; environment = s.environment; lock = s.lock }) };
+    ghost invariant = { λ s. IsState (record {
+      lines = s.lines;
+      environment = s.environment;
+      lock = s.lock;
+    }) };
 }
 
 /// Puts the version of the entry to the others, by its name.

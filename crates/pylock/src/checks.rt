@@ -2,7 +2,7 @@
 
 ghost use Rattle.lists.specs.Answers.{Answers};
 ghost use Rattle.lists.specs.Spaces.{is_blank};
-ghost use Rattle.std.specs.Prelude.{◌≡◌, ◌==◌, ◌||◌, is_some, length, map, not, true};
+ghost use Rattle.std.specs.Prelude.{◌≡◌, ◌==◌, ◌||◌, is_some, length, not, true};
 ghost use Rattle.std.specs.List.{list_all};
 ghost use Rattle.std.specs.Option.{option_map_or};
 ghost use Rattle.pylock.specs.Files.{is_sdist, is_wheel};

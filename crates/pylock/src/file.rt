@@ -1,6 +1,6 @@
 // The files of a package.
 
-ghost use Rattle.std.specs.Prelude.{◌≡◌, ◌==◌, IfOk, codes, nat_eq};
+ghost use Rattle.std.specs.Prelude.{◌≡◌, ◌==◌};
 ghost use Rattle.std.specs.List.{ends_with, list_all};
 ghost use Rattle.pylock.specs.Files.{has_ending, is_digest, is_digest_byte, is_file, is_sdist, is_wheel};
 

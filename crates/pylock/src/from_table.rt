@@ -3,7 +3,7 @@
 ghost use Rattle.std.specs.Prelude.{◌≡◌, ◌⊎◌, IfOk, codes, option_and_then, option_map, true};
 ghost use Rattle.lists.specs.Answers.{Answers};
 ghost use Rattle.toml.specs.Data.{as_array, as_str, get_member};
-ghost use Rattle.toml.specs.View.{items_view, table_view, view};
+ghost use Rattle.toml.specs.View.{items_view, table_view};
 ghost use Rattle.pylock.specs.Forms.{found, unknown_in};
 ghost use Rattle.pylock.specs.Tied.Views.{Gives};
 ghost use Rattle.pylock.specs.Locks.{are_entries};

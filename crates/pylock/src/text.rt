@@ -5,7 +5,7 @@ ghost use Rattle.std.specs.Str.{is_utf8};
 ghost use Rattle.lists.specs.Answers.{Answers};
 ghost use Rattle.toml.specs.Parse.{parse_document};
 ghost use Rattle.toml.specs.View.{table_view};
-ghost use Rattle.pylock.specs.Reading.{lock_in, lock_in_text, toml_of};
+ghost use Rattle.pylock.specs.Reading.{lock_in_text, toml_of};
 ghost use Rattle.pylock.specs.Tables.{table_of};
 ghost use Rattle.pylock.specs.declared.fault.Fault.TheVariants as faults;
 

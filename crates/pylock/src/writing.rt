@@ -3,7 +3,7 @@
 ghost use Rattle.std.specs.Prelude.{◌≡◌, Bool, IfOk, OnOk, option_to_list, true};
 ghost use Rattle.std.specs.List.{list_all};
 ghost use Rattle.std.specs.Option.{option_map};
-ghost use Rattle.toml.specs.Data.{Data, no_members, string, table};
+ghost use Rattle.toml.specs.Data.{Data, string, table};
 ghost use Rattle.toml.specs.View.{table_view, view};
 ghost use Rattle.pylock.specs.Tables.{array_of, only_key, some_array};
 ghost use Rattle.pylock.specs.Tied.Writing.{with_member, with_optional};

@@ -1,4 +1,4 @@
-// Whether a list of conflicts is a refutation of a problem. None of it takes memory.
+// Whether a list of conflicts is a refutation of a problem. None of it has a refusal.
 
 ghost use Rattle.std.specs.Prelude.{◌≡◌, ◌↔◌, ◌++◌, ◌∷◌, [], IsTrue, List};
 ghost use Rattle.search.specs.Conflicts.{EachFollows, Follows, IsRefutation};

@@ -6,7 +6,7 @@ ghost use Rattle.search.specs.Conflicts.{IsSameChoice};
 ghost use Rattle.resolve.specs.Checking.{is_same};
 ghost use Rattle.resolve.specs.Refutations.{same_version};
 
-use crate::nodes::{copied, is_asked};
+use crate::nodes::{copy_of, is_asked};
 use lists::Faithful;
 use pep440::Version;
 use pep508::Name;
@@ -47,7 +47,7 @@ impl Clone for Choice {
 
     fn clone(&self) -> Result<Choice, AllocError> {
         let name = self.name.clone()?;
-        let extra = copied(self.extra.as_ref())?;
+        let extra = copy_of(self.extra.as_ref())?;
         let version = self.version.clone()?;
         Ok(Choice {
             name,

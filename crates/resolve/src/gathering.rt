@@ -46,7 +46,11 @@ impl<'q> Model for Gathering<'q> {
 
     ghost coded = { Prim.hlevel (codes, tree_code) };
 
-    ghost view = { λ g. record { nodes = g.nodes; asked = map (λ wanted. wanted.now) g.asked.items; entries = g.entries.items } };
+    ghost view = { λ g. record {
+      nodes = g.nodes;
+      asked = map (λ wanted. wanted.now) g.asked.items;
+      entries = g.entries.items;
+    } };
 }
 
 /// The numbers of the nodes of a requirement's extras.

@@ -1,4 +1,4 @@
-// The ground of a conflict. None of it takes memory.
+// The ground of a conflict. None of it has a refusal.
 
 ghost use Rattle.std.specs.Prelude.{◌≡◌, ◌∷◌, [], List, MatchOption, Some};
 ghost use Rattle.std.specs.List.{slice_get};

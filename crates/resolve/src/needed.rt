@@ -1,6 +1,6 @@
 // The nodes that are needed under what is chosen.
 
-ghost use Rattle.std.specs.Prelude.{◌≡◌, IfOk, map};
+ghost use Rattle.std.specs.Prelude.{IfOk, map};
 ghost use Rattle.std.specs.List.{filter};
 ghost use Rattle.std.specs.Option.{option_copied};
 ghost use Rattle.resolve.specs.Growing.{Grows, nodes_asked, nodes_linked};

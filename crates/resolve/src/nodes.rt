@@ -92,7 +92,7 @@ fn is_node(node: &Node, name: &Name, extra: Option<&Name>) -> bool
 }
 
 /// A copy of a name that may be there.
-pub(crate) fn copied(name: Option<&Name>) -> Result<Option<Name>, AllocError>
+pub(crate) fn copy_of(name: Option<&Name>) -> Result<Option<Name>, AllocError>
     ensures { IfOk result (λ copy. copy ≡ option_copied name.entry) }
 {
     match name {
@@ -202,7 +202,7 @@ impl Nodes {
         self.list_by_name(alloc, name, extra, number)?;
         self.nodes.push(Node {
             name: name.clone()?,
-            extra: copied(extra)?,
+            extra: copy_of(extra)?,
         })?;
         Ok(number)
     }

@@ -47,7 +47,12 @@ impl<'a> Model for Question<'a> {
 
     ghost coded = { Prim.hlevel (codes, tree_code) };
 
-    ghost view = { λ q. record { active = q.active; environment = q.environment; index = q.snapshot.now; kept = q.kept.entries } };
+    ghost view = { λ q. record {
+      active = q.active;
+      environment = q.environment;
+      index = q.snapshot.now;
+      kept = q.kept.entries;
+    } };
 }
 
 /// What a line asks for, where it counts in the environment.

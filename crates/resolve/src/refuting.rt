@@ -9,7 +9,7 @@ ghost use Rattle.resolve.specs.Places.{version_at};
 ghost use Rattle.resolve.specs.Problem.{releases_on};
 
 use crate::choice::Choice;
-use crate::nodes::copied;
+use crate::nodes::copy_of;
 use crate::question::Question;
 use crate::refutation::Refutation;
 use crate::tabling::Tabled;
@@ -47,7 +47,7 @@ fn choice_of(
     let node = &tabled.nodes.as_slice()[decision.node];
     Ok(Choice {
         name: node.name.clone()?,
-        extra: copied(node.extra.as_ref())?,
+        extra: copy_of(node.extra.as_ref())?,
         version,
     })
 }

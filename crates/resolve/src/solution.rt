@@ -4,7 +4,6 @@ ghost use Rattle.std.specs.Prelude.{◌≡◌, ℕ, List, Some, IfOk, OnOk};
 ghost use Rattle.std.specs.BTreeMap.{Updates};
 ghost use Rattle.std.specs.Cmp.Lexicographic.{slice_cmp};
 ghost use Rattle.std.specs.Ordering.{nat_cmp};
-ghost use Rattle.search.specs.Solutions.{version_pinned};
 ghost use Rattle.resolve.specs.Problem.{releases_on};
 ghost use Rattle.resolve.specs.Pictured.{AreKnown, IsKnown, chosen, name_at};
 ghost use Rattle.resolve.specs.Places.{version_at};

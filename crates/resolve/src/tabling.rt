@@ -1,9 +1,6 @@
 // The table of a problem.
 
-ghost use Rattle.std.specs.Prelude.{◌≡◌, IfOk};
-ghost use Rattle.std.specs.List.Sorted.{IsStrictlySortedBy};
-ghost use Rattle.snapshot.specs.Releases.{newer_cmp};
-ghost use Rattle.resolve.specs.Problem.{releases_on};
+ghost use Rattle.std.specs.Prelude.{IfOk};
 ghost use Rattle.resolve.specs.Pictured.{AreListed, IsListed, IsPictured};
 
 use crate::candidates::candidates;

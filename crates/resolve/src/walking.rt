@@ -2,9 +2,8 @@
 // and never goes back. Where it comes to its end, it has found the best solution, and has looked only at
 // what it met.
 
-ghost use Rattle.std.specs.Prelude.{◌≡◌, ◌<◌, ◌+◌, ◌^◌, ℕ, List, ◌∷◌, [], IfOk, IfSome, length, true};
+ghost use Rattle.std.specs.Prelude.{◌≡◌, ◌<◌, ◌+◌, ◌^◌, [], IfOk, IfSome, length, true};
 ghost use Rattle.search.specs.Solutions.{IsBest};
-ghost use Rattle.pep508.specs.Requirement.{RequirementParts};
 ghost use Rattle.resolve.specs.Resolves.{version_for};
 ghost use Rattle.resolve.specs.Rules.{rules_of};
 ghost use Rattle.resolve.specs.Walking.{IsOnWay, IsPlaced, IsTurn, IsWaiting};

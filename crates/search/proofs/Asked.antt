@@ -7,7 +7,7 @@ use Rattle.search.proofs.Entries.{off-of}
 use Rattle.search.proofs.LearnedSearch.{Lies, held-lie}
 use Rattle.search.proofs.Least.{nat-order}
 use Rattle.lists.proofs.Members.{Contains-here, Contains-there, Contains-cons_cases, Contains-nil, Contains-map, Contains-map_of, Contains-take_suc, take-whole, nat_cases}
-use Rattle.search.proofs.Theory.{version_pinned-cons_cases}
+use Rattle.search.proofs.PinnedMaps.{version_pinned-cons_cases}
 use Rattle.search.specs.declared.conflict.NodeChoice.{NodeChoice}
 use Rattle.search.specs.declared.agenda.Ask.{Ask}
 use Rattle.search.specs.declared.parts.Frame.{Frame}

@@ -2,7 +2,7 @@
 use Rattle.std.proofs.Common.{ℕ, zero, suc, ◌<◌, ◌≤◌, ◌+◌, length, take, get_or, arith, add-one, List, [], ◌∷◌, ◌≡◌, ◌⊎◌, inl, inr, Contains, refl, sym, ◌∙◌, ap, subst, Some, None, Option, Bool, true, false, not, ◌||◌}
 use Rattle.std.specs.List.{list_any}
 use Rattle.lists.proofs.Members.{Contains-here, Contains-there, Contains-cons_cases, Contains-nil, take-whole}
-use Rattle.search.proofs.Theory.{clash-line, clash-dependency}
+use Rattle.search.proofs.PinnedMaps.{clash-line, clash-dependency}
 use Rattle.search.specs.Rules.{Rules, IsLawful}
 use Rattle.search.specs.Solutions.{Needed, by_line, by_dependency, version_pinned, Pin}
 use Rattle.search.specs.Search.{IsRefuted, IsComplete, AllFit, AreNeeded, AreAsked, NoneFree, clash_at, clash_in}

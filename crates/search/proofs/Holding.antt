@@ -6,7 +6,7 @@ use Rattle.search.proofs.Least.{nat-order}
 use Rattle.lists.proofs.Members.{nat_cases, take-whole}
 use Rattle.search.proofs.Marks.{set-same, set-other, set-length}
 use Rattle.search.proofs.Nodes.{take-front}
-use Rattle.search.proofs.Theory.{option_cases, is_eq-same, version_pinned-append_some, version_pinned-append_none, version_pinned-last}
+use Rattle.search.proofs.PinnedMaps.{option_cases, is_eq-same, version_pinned-append_some, version_pinned-append_none, version_pinned-last}
 use Rattle.search.specs.declared.conflict.NodeChoice.{NodeChoice}
 use Rattle.search.specs.declared.held.Partial.{Partial}
 use Rattle.search.specs.declared.trial.Held.{Held}

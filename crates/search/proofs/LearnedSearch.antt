@@ -6,7 +6,7 @@ use Rattle.search.proofs.Entries.{eq-itself}
 use Rattle.lists.proofs.Members.{Contains-cons_cases, Contains-nil}
 use Rattle.search.proofs.Refutations.{list-excluded}
 use Rattle.search.proofs.Stack.{search-best}
-use Rattle.search.proofs.Theory.{some-inj, Needed-more, version_pinned-last, Has-front}
+use Rattle.search.proofs.PinnedMaps.{some-inj, Needed-more, version_pinned-last, Has-front}
 use Rattle.search.specs.declared.conflict.NodeChoice.{NodeChoice}
 use Rattle.search.specs.declared.parts.Frame.{Frame}
 use Rattle.search.specs.declared.trial.Held.{Held}

@@ -1,4 +1,4 @@
-pub mod Theory
+pub mod PinnedMaps
 pub mod Unique
 pub mod Ranges
 pub mod Counts
@@ -8,7 +8,7 @@ pub mod Clashes
 pub mod Least
 pub mod Stack
 pub mod FirstWalks
-pub mod Work
+pub mod WhatIsLeft
 pub mod Steps
 pub mod TakenFacts
 pub mod Walks
@@ -25,5 +25,5 @@ pub mod Rows
 pub mod Watching
 pub mod Needs
 pub mod Learns
-pub mod LearnedWork
+pub mod WhatIsLeftToLearn
 pub mod PicturedConflicts

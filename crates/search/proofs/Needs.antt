@@ -5,7 +5,7 @@ use Rattle.search.proofs.Asked.{AreFirst, IsAskedBy, asks-sound, asks-whole, fir
 use Rattle.search.proofs.LearnedSearch.{AllHeld, Lies, held-lie}
 use Rattle.search.proofs.Least.{not_greater}
 use Rattle.lists.proofs.Members.{Contains-here, Contains-cons_cases, Contains-nil, Contains-take_suc, Contains-take_zero, take-whole}
-use Rattle.search.proofs.Theory.{option_cases, some-inj}
+use Rattle.search.proofs.PinnedMaps.{option_cases, some-inj}
 use Rattle.search.specs.declared.conflict.NodeChoice.{NodeChoice}
 use Rattle.search.specs.declared.agenda.Ask.{Ask}
 use Rattle.search.specs.declared.next.Need.{Need}

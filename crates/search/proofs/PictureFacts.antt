@@ -4,8 +4,8 @@ use Rattle.std.proofs.lemmas.Cmp.{tied_itself}
 use Rattle.search.proofs.Least.{nat-order}
 use Rattle.lists.proofs.Members.{Contains-here, Contains-map, Contains-map_of}
 use Rattle.search.proofs.Ranges.{lines-known, wants-known, nodes-known, name-known}
-use Rattle.search.proofs.Theory.{some-inj}
-use Rattle.search.proofs.Work.{candidates-named}
+use Rattle.search.proofs.PinnedMaps.{some-inj}
+use Rattle.search.proofs.WhatIsLeft.{candidates-named}
 use Rattle.search.specs.Picture.{Picture, IsPicture, name_asked}
 use Rattle.search.specs.Rules.{Rules, IsOrder}
 use Rattle.search.specs.Solutions.{Needed, by_line, by_dependency, IsNeededName, IsMet, Solution}

@@ -7,7 +7,7 @@ use Rattle.lists.proofs.Members.{map-append, Contains-here, Contains-there, Cont
 use Rattle.search.proofs.PictureFacts.{image, image-some, image-none, IsAlike, AreNamed, IsStoodFor, candidate-known, needed-up, needed-down, solution-up, solution-down}
 use Rattle.search.proofs.Ranges.{name-known}
 use Rattle.search.proofs.TakenFacts.{IsListed, listed, listed-all, split-nat}
-use Rattle.search.proofs.Theory.{pin-member, option_cases, some-inj, is_eq-same, is_eq-self, Has-front}
+use Rattle.search.proofs.PinnedMaps.{pin-member, option_cases, some-inj, is_eq-same, is_eq-self, Has-front}
 use Rattle.search.specs.declared.parts.Choice.{Choice}
 use Rattle.search.specs.Picture.{Picture, IsPicture, pin_pictured, pictured}
 use Rattle.search.specs.Rules.{Rules, IsOrder}

@@ -2,7 +2,7 @@
 use Rattle.std.proofs.Common.{List, [], ◌∷◌, ◌++◌, ◌≡◌, inl, inr, Contains, sym, ◌∙◌, ap, subst, Some, Option, Bool, true, false, append_assoc, append-nil}
 use Rattle.std.proofs.lemmas.List.Elements.{Contains-push_cases, Contains-append_right}
 use Rattle.lists.proofs.Members.{Contains-here, Contains-nil}
-use Rattle.search.proofs.Theory.{Needed-in_solution, some-inj}
+use Rattle.search.proofs.PinnedMaps.{Needed-in_solution, some-inj}
 use Rattle.search.specs.declared.conflict.NodeChoice.{NodeChoice}
 use Rattle.search.specs.Rules.{Rules, IsLawful}
 use Rattle.search.specs.Solutions.{Needed, by_line, by_dependency, IsMet, Solution, HasNoSolution}

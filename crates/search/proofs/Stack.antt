@@ -1,7 +1,7 @@
 -- What a search learns of solutions, as its frames come and go.
 use Rattle.std.proofs.Common.{ℕ, suc, List, [], ◌∷◌, ◌++◌, ◌≡◌, ◌≢◌, ◌≤◌, ◌⊎◌, inl, inr, Contains, length, take, drop, refl, sym, ◌∙◌, ap, subst, Some, None, Option, append_assoc, append-nil}
 use Rattle.lists.proofs.Members.{Contains-take_suc, take-whole, nat_cases, split_at, get_or-any}
-use Rattle.search.proofs.Theory.{version_pinned-cons_cases, version_pinned-last, Has-front, Has-push, Needed-more, next-in_solution, complete-same}
+use Rattle.search.proofs.PinnedMaps.{version_pinned-cons_cases, version_pinned-last, Has-front, Has-push, Needed-more, next-in_solution, complete-same}
 use Rattle.search.specs.declared.parts.Frame.{Frame}
 use Rattle.search.specs.Rules.{Rules, IsLawful}
 use Rattle.search.specs.Solutions.{Pin, IsNeededName, Solution, version_pinned, IsNext, IsWalk, Has, ComesFirst, IsBetter, IsBest}

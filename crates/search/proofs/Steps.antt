@@ -2,7 +2,7 @@
 use Rattle.std.proofs.Common.{ℕ, List, [], ◌∷◌, ◌++◌, ◌≡◌, ◌<◌, ◌+◌, length, get_or, sym, ◌∙◌, subst, subst₂, Some, None, true, false, append_assoc, add-one}
 use Rattle.lists.proofs.Members.{Contains-take_zero}
 use Rattle.search.proofs.Stack.{Refutes-more, IsRefuted-exhausted, IsSearch-push, IsSearch-pop, pins_of-push}
-use Rattle.search.proofs.Work.{table-lawful}
+use Rattle.search.proofs.WhatIsLeft.{table-lawful}
 use Rattle.search.specs.declared.parts.Frame.{Frame}
 use Rattle.search.specs.Search.{pins_of, IsFrame, IsSearch, IsRefuted, Refutes}
 use Rattle.search.specs.Solutions.{Pin, IsNext, HasNoSolution}

@@ -8,7 +8,7 @@ use Rattle.search.proofs.Least.{nat-order}
 use Rattle.lists.proofs.Members.{Contains-map, map-append, Contains-nil, Contains-here, Contains-there, nat_cases}
 use Rattle.search.proofs.Nodes.{take-more}
 use Rattle.search.proofs.Stack.{pins_of-push}
-use Rattle.search.proofs.Theory.{pin-member, is_eq-same, option_cases, version_pinned-append_some, version_pinned-append_none, version_pinned-last}
+use Rattle.search.proofs.PinnedMaps.{pin-member, is_eq-same, option_cases, version_pinned-append_some, version_pinned-append_none, version_pinned-last}
 use Rattle.search.specs.declared.parts.Choice.{Choice}
 use Rattle.search.specs.declared.parts.Frame.{Frame}
 use Rattle.search.specs.Search.{pin_at, pins_of, taken_at}

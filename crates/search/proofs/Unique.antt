@@ -2,7 +2,7 @@
 use Rattle.std.proofs.Common.{List, [], ◌∷◌, ◌++◌, ◌≡◌, ◌≢◌, inl, inr, Contains, refl, sym, ◌∙◌, ap, subst, subst₂, Some, Option, Greater, Less, Equal, Ordering, append_assoc, append-nil, ap₂}
 use Rattle.std.specs.Ordering.{ordering_reverse}
 use Rattle.lists.proofs.Members.{Contains-here, Contains-there}
-use Rattle.search.proofs.Theory.{version_pinned-last, version_pinned-append_some, some-inj}
+use Rattle.search.proofs.PinnedMaps.{version_pinned-last, version_pinned-append_some, some-inj}
 use Rattle.search.specs.Rules.{Rules, IsOrder}
 use Rattle.search.specs.Solutions.{Pin, IsNext, IsWalk, Has, ComesFirst, IsBetter, IsBest, Solution, version_pinned}
 

@@ -3,7 +3,7 @@ use Rattle.std.proofs.Common.{ℕ, zero, suc, List, [], ◌∷◌, ◌++◌, ◌
 use Rattle.std.proofs.lemmas.List.Elements.{Contains-append_left}
 use Rattle.lists.proofs.Members.{Contains-here, Contains-there, Contains-nil, Contains-take_suc, Contains-take_zero, take-whole}
 use Rattle.search.proofs.Nodes.{asked-to, linked-needed, take-front, closing-start, closing-step, closing-end}
-use Rattle.search.proofs.Theory.{Needed-more}
+use Rattle.search.proofs.PinnedMaps.{Needed-more}
 use Rattle.search.specs.declared.parts.Since.{Since}
 use Rattle.search.specs.Front.{IsAsking, IsFollowed}
 use Rattle.search.specs.Nodes.{Extends, Grows, nodes_asked, nodes_linked, wants_linked}

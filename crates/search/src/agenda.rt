@@ -2,7 +2,6 @@
 
 ghost use Rattle.std.specs.Prelude.{◌≡◌, ◌<◌, ◌++◌, ◌∷◌, [], IfOk, IsTrue, IsFalse, MatchOption, length, map, take, true, ◌-◌, ℕ, List};
 ghost use Rattle.std.specs.List.{Contains};
-ghost use Rattle.search.specs.declared.conflict.NodeChoice.{NodeChoice};
 ghost use Rattle.search.specs.Agendas as spec;
 ghost use Rattle.search.specs.Agendas.{AreRowed, IsListed, IsWatched, row_at};
 ghost use Rattle.search.specs.Gathering.{choice_at, decision};

@@ -1,6 +1,6 @@
 // Where to look first among the extras that are asked for on a name.
 
-ghost use Rattle.std.specs.Prelude.{◌≡◌, ◌<◌, ◌∷◌, [], MatchOption, length, map, ℕ};
+ghost use Rattle.std.specs.Prelude.{◌<◌, ◌∷◌, [], MatchOption, length, map};
 ghost use Rattle.std.specs.List.{Contains};
 ghost use Rattle.search.specs.Asking.{AreKnownAsks, IsTied};
 ghost use Rattle.search.specs.Gathering.{choice_at};

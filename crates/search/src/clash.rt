@@ -5,7 +5,7 @@ ghost use Rattle.std.specs.List.{list_any};
 ghost use Rattle.search.specs.Ranges.{EachBelow};
 ghost use Rattle.search.specs.Front.{HaveFit};
 ghost use Rattle.search.specs.Search.{taken_at, clash_in, NoneFree, IsLeastFree};
-ghost use Rattle.search.specs.Table.{rules_of, admits_at};
+ghost use Rattle.search.specs.Table.{rules_of};
 
 use crate::needed::place_of;
 use crate::parts::Since;

@@ -1,10 +1,10 @@
 // The choices that a search holds.
 
-ghost use Rattle.std.specs.Prelude.{◌≡◌, ◌<◌, ◌++◌, ◌∷◌, [], None, Some, false, true, IsTrue, IsFalse, IfOk, MatchOption, length, map, slice_set, ℕ};
+ghost use Rattle.std.specs.Prelude.{◌≡◌, ◌<◌, ◌++◌, ◌∷◌, [], None, Some, false, true, IsTrue, IfOk, MatchOption, length, map, slice_set};
 ghost use Rattle.std.specs.List.{Contains};
 ghost use Rattle.std.specs.Ordering.{nat_cmp};
 ghost use Rattle.search.specs.Gathering.{IsWithin, choice_at, decision};
-ghost use Rattle.search.specs.Learned.{IsFree, IsPartial, LastIsNew, ask_of, decisions_of, leaders_held};
+ghost use Rattle.search.specs.Learned.{IsFree, IsPartial, LastIsNew, decisions_of, leaders_held};
 ghost use Rattle.search.specs.Solutions.{version_pinned};
 ghost use Rattle.search.specs.Table.{rules_of, name_of, in_range};
 

@@ -1,7 +1,6 @@
 // The nodes that are needed under what is taken, and the requirements that count there.
 
 ghost use Rattle.std.specs.Prelude.{◌≡◌, ◌<◌, ◌≤◌, ◌+◌, IfOk, None, length};
-ghost use Rattle.std.specs.List.{slice_index_or};
 ghost use Rattle.search.specs.Front.{IsFollowed};
 ghost use Rattle.search.specs.Nodes.{Extends, IsGrown, nodes_asked, nodes_linked, wants_linked};
 ghost use Rattle.search.specs.Ranges.{EachBelow};

@@ -1,7 +1,7 @@
 // A table of numbers that stands for the rules of a problem.
 
-ghost use Rattle.std.specs.Prelude.{◌≡◌, ◌<◌, Some, None, true, length, if◌then◌else◌, nat_lt};
-ghost use Rattle.std.specs.List.{Contains, list_all};
+ghost use Rattle.std.specs.Prelude.{◌≡◌, ◌<◌, Some, None, true, length, if◌then◌else◌};
+ghost use Rattle.std.specs.List.{list_all};
 ghost use Rattle.search.specs.Table.{TableParts, requirement_at, name_of, asked_nodes, wants_at, candidates_of, all_below, is_on, requirement_in_range, in_range, admits_at};
 ghost use Rattle.search.specs.Ranges.{EachBelow};
 
@@ -26,9 +26,21 @@ impl Model for Table {
 
     ghost Value = { TableParts };
 
-    ghost view = { λ t. record { nodes = t.nodes; requirements = t.requirements; candidates = t.candidates; wants = t.wants; lines = t.lines } };
+    ghost view = { λ t. record {
+      nodes = t.nodes;
+      requirements = t.requirements;
+      candidates = t.candidates;
+      wants = t.wants;
+      lines = t.lines;
+    } };
 
-    ghost invariant = { λ t. in_range (record { nodes = t.nodes; requirements = t.requirements; candidates = t.candidates; wants = t.wants; lines = t.lines }) ≡ true };
+    ghost invariant = { λ t. in_range (record {
+      nodes = t.nodes;
+      requirements = t.requirements;
+      candidates = t.candidates;
+      wants = t.wants;
+      lines = t.lines;
+    }) ≡ true };
 }
 
 impl Drop for Table {
@@ -100,8 +112,8 @@ fn are_wants_in_range(bound: usize, wants: &[Seq<Seq<usize>>]) -> bool
 }
 
 impl Table {
-    /// The table of these parts, or nothing where some number is out of its range. It takes no
-    /// memory.
+    /// The table of these parts, or nothing where some number is out of its range. It has no
+    /// other refusal.
     ///
     /// `nodes` has for each node its name; `candidates` for each name the places of its releases
     /// in the order in which they are preferred; `wants` for each node, and each place of a

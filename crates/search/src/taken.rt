@@ -1,7 +1,6 @@
 // What is taken, as a place or none for each name.
 
 ghost use Rattle.std.specs.Prelude.{◌≡◌, ◌<◌, ℕ, IfOk, length};
-ghost use Rattle.std.specs.List.{Contains};
 ghost use Rattle.std.specs.Ordering.{nat_cmp};
 ghost use Rattle.search.specs.Search.{taken_at, pins_of};
 ghost use Rattle.search.specs.Solutions.{version_pinned};

@@ -1,4 +1,4 @@
-// Whether the parts of a change are minimal. None of it takes memory.
+// Whether the parts of a change are minimal. None of it has a refusal.
 
 ghost use Rattle.std.specs.Prelude.{◌≡◌, ◌≢◌, ◌↔◌, ◌+◌, ◌-◌, ◌^◌, ◌<◌, ◌≤◌, IfSome, IsTrue, length, map, true};
 ghost use Rattle.std.specs.List.{AllByRecursion};

@@ -1,11 +1,10 @@
 // The earlier conflict that a conflict contains with one choice more.
 
-ghost use Rattle.std.specs.Prelude.{◌≡◌, ◌∷◌, [], List, MatchOption, Some, false, true};
+ghost use Rattle.std.specs.Prelude.{◌≡◌, List, MatchOption, Some, false, true};
 ghost use Rattle.std.specs.List.{list_all, slice_get};
 ghost use Rattle.std.specs.Option.{option_copied};
-ghost use Rattle.search.specs.Conflicts.{Completes};
 ghost use Rattle.resolve.specs.Checking as spec;
-ghost use Rattle.resolve.specs.Refutations.{ChoiceParts, same_version};
+ghost use Rattle.resolve.specs.Refutations.{ChoiceParts};
 
 use crate::checking::exhausted::is_within;
 use crate::choice::Choice;

@@ -9,7 +9,6 @@ ghost use Rattle.resolve.specs.Checking as spec;
 ghost use Rattle.resolve.specs.Grounds.{IsGround};
 ghost use Rattle.resolve.specs.Refutations.{same_version};
 ghost use Rattle.resolve.specs.Rules.{counts, nodes_of, rules_of, wants, with_extra};
-ghost use Rattle.resolve.specs.declared.node.Node.{Node};
 
 use crate::checking::exhausted::{none_left_at, none_left_behind, none_left_for};
 use crate::choice::Choice;

@@ -11,4 +11,4 @@ pub returns-in_ok-follow_all-in-Some : goal.returns-in_ok-follow_all-in-Some
 returns-in_ok-follow_all-in-Some c =
     let some = rw (c.in-Some.is, c.name.ensures) at c.get.ensures.value in
     λ _. placed-followed c.args.question.now c.args.taken.now.entries c.args.waiting.now.entries c.args.followed.now c.follow_all.new.followed c.args.wanted.now c.in-Some.version.now c.args.asks.now c.follow_all.new.asks (sym some)
-        (sym c.admits.ensures ∙ c.if-not-admits.false) c.in_ok-follow_all-in-Some.ensures
+    (sym c.admits.ensures ∙ c.if-not-admits.false) c.in_ok-follow_all-in-Some.ensures

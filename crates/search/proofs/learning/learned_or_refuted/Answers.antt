@@ -1,8 +1,8 @@
 use Rattle.std.proofs.Common.{ℕ, Option, List, ◌≡◌, ◌<◌, sym, subst}
 use Rattle.search.proofs.LearnedSearch.{places-equality}
-use Rattle.search.proofs.LearnedWork.{progress_work, work-onward}
+use Rattle.search.proofs.WhatIsLeftToLearn.{progress_work, work-onward}
 use Rattle.search.proofs.Refutations.{refutation-none}
-use Rattle.search.proofs.Work.{table-lawful}
+use Rattle.search.proofs.WhatIsLeft.{table-lawful}
 use Rattle.search.specs.declared.conflict.NodeChoice.{NodeChoice}
 use Rattle.search.specs.declared.held.Partial.{Partial}
 use Rattle.search.specs.declared.learning.Progress.{Progress}

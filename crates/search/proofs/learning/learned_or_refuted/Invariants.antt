@@ -1,4 +1,4 @@
-use Rattle.search.proofs.LearnedWork.{progress_work}
+use Rattle.search.proofs.WhatIsLeftToLearn.{progress_work}
 use Rattle.search.specs.Learning.{StandsAt}
 use Rattle.search.proofs.learning.learned_or_refuted.Given as goal
 

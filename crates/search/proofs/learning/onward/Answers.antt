@@ -1,6 +1,6 @@
 use Rattle.std.proofs.Common.{List, [], sym, ap, subst}
 use Rattle.search.proofs.LearnedSearch.{learned-best}
-use Rattle.search.proofs.Work.{table-lawful}
+use Rattle.search.proofs.WhatIsLeft.{table-lawful}
 use Rattle.search.specs.declared.trial.Held.{Held}
 use Rattle.search.specs.Learned.{IsLearning, IsTrial, chosen_held}
 use Rattle.search.specs.Solutions.{IsBest}

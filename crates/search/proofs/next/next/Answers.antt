@@ -2,7 +2,7 @@ use Rattle.std.proofs.Common.{ℕ, List, Option, Some, None, map, ◌≡◌, ◌
 use Rattle.search.proofs.Asked.{AreFirst}
 use Rattle.search.proofs.Entries.{entries-decisions}
 use Rattle.search.proofs.Needs.{tied-trial, least-trial, none-free}
-use Rattle.search.proofs.Work.{table-lawful}
+use Rattle.search.proofs.WhatIsLeft.{table-lawful}
 use Rattle.search.specs.declared.conflict.NodeChoice.{NodeChoice}
 use Rattle.search.specs.declared.agenda.Ask.{Ask}
 use Rattle.search.specs.declared.held.Partial.{Partial}

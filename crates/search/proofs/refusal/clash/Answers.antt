@@ -1,7 +1,7 @@
 use Rattle.std.proofs.Common.{ℕ, List, Option, MatchOption, Some, None, Contains, ◌≡◌, ◌∙◌, ap, sym, subst, length}
 use Rattle.search.proofs.Asked.{AreFirst, clash-tied, clash-asked, clash-wanted, none-clashes}
 use Rattle.search.proofs.Rows.{row-from, row-to}
-use Rattle.search.proofs.Work.{table-lawful}
+use Rattle.search.proofs.WhatIsLeft.{table-lawful}
 use Rattle.search.specs.declared.held.Partial.{Partial}
 use Rattle.search.specs.Agendas.{row_at}
 use Rattle.search.specs.declared.conflict.NodeChoice.{NodeChoice}

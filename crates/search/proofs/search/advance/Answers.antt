@@ -3,7 +3,7 @@ use Rattle.std.specs.List.{list_any}
 use Rattle.std.specs.Ordering.{nat_cmp}
 use Rattle.search.proofs.Clashes.{asked-refuted, asked-fits, fits-complete}
 use Rattle.search.proofs.Least.{least-next}
-use Rattle.search.proofs.Work.{table-lawful}
+use Rattle.search.proofs.WhatIsLeft.{table-lawful}
 use Rattle.search.specs.declared.front.Front.{Front}
 use Rattle.search.specs.declared.parts.Frame.{Frame}
 use Rattle.search.specs.declared.parts.Step.TheVariants.{Complete, Entered, Refuted}

@@ -2,7 +2,7 @@ use Rattle.std.proofs.Common.{ℕ, Option, List, ◌<◌, ◌≡◌, [], sym, �
 use Rattle.std.specs.Ordering.{nat_cmp}
 use Rattle.lists.proofs.Members.{Contains-nil}
 use Rattle.search.proofs.Stack.{search-best}
-use Rattle.search.proofs.Work.{work_of, work-push, work-forward, frames-known, table-lawful}
+use Rattle.search.proofs.WhatIsLeft.{work_of, work-push, work-forward, frames-known, table-lawful}
 use Rattle.search.specs.declared.parts.Frame.{Frame}
 use Rattle.search.specs.declared.parts.Step.TheVariants.{Complete, Entered, Refuted}
 use Rattle.search.specs.Table.{rules_of, place_in}

@@ -1,5 +1,5 @@
 use Rattle.std.proofs.Common.{[]}
-use Rattle.search.proofs.Work.{work_of}
+use Rattle.search.proofs.WhatIsLeft.{work_of}
 use Rattle.search.specs.Front.{IsFrontOf}
 use Rattle.search.specs.Table.{rules_of}
 use Rattle.search.specs.Search.{IsSearch}

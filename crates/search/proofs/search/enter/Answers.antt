@@ -2,7 +2,7 @@ use Rattle.std.proofs.Common.{List, ◌≡◌, ◌<◌, ◌++◌, ◌∷◌, [],
 use Rattle.std.specs.Ordering.{nat_cmp}
 use Rattle.search.proofs.Fronts.{entered-is, same-push}
 use Rattle.search.proofs.Steps.{tried-first, tried-none}
-use Rattle.search.proofs.Work.{candidates-named}
+use Rattle.search.proofs.WhatIsLeft.{candidates-named}
 use Rattle.search.specs.declared.parts.Frame.{Frame}
 use Rattle.search.specs.declared.parts.Step.TheVariants.{Entered, Refuted}
 use Rattle.search.specs.Search.{pins_of}

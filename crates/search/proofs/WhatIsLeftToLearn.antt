@@ -6,7 +6,7 @@ use Rattle.search.proofs.Counts.{Distinct-push, distinct-below}
 use Rattle.search.proofs.Learns.{trial-known}
 use Rattle.search.proofs.LearnedSearch.{before-more, before-last}
 use Rattle.lists.proofs.Members.{Contains-here, Contains-there, Contains-cons_cases, Contains-nil, map-append}
-use Rattle.search.proofs.Work.{digits_left, digits_left-push, digits_left-more, base_of, candidates-room}
+use Rattle.search.proofs.WhatIsLeft.{digits_left, digits_left-push, digits_left-more, base_of, candidates-room}
 use Rattle.search.specs.declared.conflict.NodeChoice.{NodeChoice}
 use Rattle.search.specs.declared.held.Partial.{Partial}
 use Rattle.search.specs.declared.learning.Progress.{Progress}

@@ -6,7 +6,7 @@ use Rattle.search.proofs.Least.{nat-order}
 use Rattle.lists.proofs.Members.{Contains-here, Contains-cons_cases, Contains-nil, Contains-map_of, map-append}
 use Rattle.search.proofs.Ranges.{nodes-own}
 use Rattle.search.proofs.Stack.{IsSearch-pop}
-use Rattle.search.proofs.Theory.{version_pinned-append_some, version_pinned-last}
+use Rattle.search.proofs.PinnedMaps.{version_pinned-append_some, version_pinned-last}
 use Rattle.search.specs.declared.parts.Frame.{Frame}
 use Rattle.search.specs.Nodes.{Distinct}
 use Rattle.search.specs.Rules.{Rules, IsLawful}
