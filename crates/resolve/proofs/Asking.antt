@@ -1,5 +1,5 @@
 -- Lists of what is asked for.
-use Rattle.std.proofs.Common.{◌≡◌, inl, inr, ◌∙◌, ℕ, zero, suc, ◌+◌, ◌<◌, Bool, true, false, List, [], ◌∷◌, ◌++◌, drop, filter, get_or, length, map, take, arith, refl, ap, sym, append_assoc, append-nil}
+use Rattle.std.proofs.Common.{◌≡◌, ◌∙◌, ℕ, zero, suc, ◌+◌, ◌<◌, Bool, true, false, List, [], ◌∷◌, ◌++◌, filter, get_or, length, map, take, arith, refl, ap, sym, append_assoc, append-nil}
 use Rattle.std.proofs.lemmas.List.{map-append, take_more}
 use Rattle.resolve.proofs.Growing.{filter-next}
 

@@ -1,5 +1,5 @@
 -- The first candidate that some requirements admit.
-use Rattle.std.proofs.Common.{◌≡◌, inl, inr, ◌∙◌, ℕ, Bool, true, false, not, List, [], ◌∷◌, ◌++◌, Option, Some, None, IfSome, Less, Contains, filter, find, map, refl, sym, ap, subst}
+use Rattle.std.proofs.Common.{◌≡◌, inl, inr, ◌∙◌, ℕ, Bool, true, false, not, List, [], ◌∷◌, ◌++◌, Option, Some, None, IfSome, Less, Contains, filter, find, refl, ap, subst}
 use Rattle.std.proofs.lemmas.Bool.{cases_Bool}
 use Rattle.std.proofs.lemmas.List.{map-append}
 use Rattle.std.proofs.lemmas.List.Elements.{filter-append}
@@ -21,7 +21,7 @@ use Rattle.resolve.specs.Admission.{admits, release_at}
 use Rattle.resolve.specs.Choosing.{IsNewest, IsRefusedBy}
 use Rattle.resolve.specs.Problem.{ProblemParts, releases_on}
 use Rattle.resolve.specs.Refutations.{same_version}
-use Rattle.resolve.specs.Rules.{candidates, kept_version, preferring, rules_of, versions_of}
+use Rattle.resolve.specs.Rules.{kept_version, preferring, rules_of, versions_of}
 use Rattle.resolve.proofs.Equals.{equal-versions}
 use Rattle.resolve.proofs.Falling.{same-itself}
 use Rattle.resolve.proofs.Preferring.{lookup-get}

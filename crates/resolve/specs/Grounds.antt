@@ -1,5 +1,5 @@
 -- What a conflict rests on: the case by which it follows, with the members that are named of it.
-use Rattle.std.specs.Prelude.{◌≡◌, List, ℕ, Some, Option}
+use Rattle.std.specs.Prelude.{◌≡◌, List, Some}
 use Rattle.std.specs.List.{Contains, slice_get}
 use Rattle.std.specs.Option.{option_copied}
 use Rattle.search.specs.Conflicts.{ChoicesClash, LineRefuses, NoneLeft, VersionsDiffer}

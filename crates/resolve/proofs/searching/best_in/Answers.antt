@@ -2,7 +2,6 @@ use Rattle.std.proofs.Common.{◌≡◌, List, ℕ, sym, subst}
 use Rattle.search.specs.Solutions.{HasNoSolution, IsBest}
 use Rattle.search.specs.Table.{IsAscending, place_in, rules_of as rules_of_table}
 use Rattle.search.specs.declared.parts.Choice.{Choice}
-use Rattle.resolve.specs.Problem.{ProblemParts}
 use Rattle.resolve.specs.Pictured.{AreKnown, chosen, picture_of}
 use Rattle.resolve.specs.Resolves.{version_for}
 use Rattle.resolve.specs.Rules.{rules_of}

@@ -6,9 +6,7 @@ use Rattle.search.specs.Solutions.{IsBest}
 use Rattle.search.specs.Table.{place_in, rules_of as rules_of_table}
 use Rattle.search.specs.declared.conflict.NodeChoice.{NodeChoice}
 use Rattle.resolve.specs.Pictured.{choice_at, picture_of}
-use Rattle.resolve.specs.Problem.{ProblemParts}
 use Rattle.resolve.specs.Refutations.{ChoiceParts, same_version}
-use Rattle.resolve.specs.Resolves.{HasSolution}
 use Rattle.resolve.specs.Rules.{rules_of}
 use Rattle.resolve.proofs.PictureOf.{bytes-order}
 use Rattle.resolve.proofs.Solving.{best-solves}

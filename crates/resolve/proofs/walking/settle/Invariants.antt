@@ -1,4 +1,4 @@
-use Rattle.std.proofs.Common.{◌-◌, ◌^◌, ◌≤◌, drop, length}
+use Rattle.std.proofs.Common.{◌-◌, ◌^◌, drop}
 use Rattle.resolve.specs.Walking.{IsOnWay}
 use Rattle.resolve.proofs.walking.settle.Given as goal
 
