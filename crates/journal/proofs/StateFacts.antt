@@ -1,25 +1,20 @@
 -- The states that the steps of a journal lead to, one after the other.
-use Rattle.std.proofs.Common.{◌≡◌, ◌⊎◌, ℕ, suc, ◌+◌, ◌-◌, ◌<◌, ◌≤◌, List, [], ◌∷◌, ◌++◌, length, get_or, drop, Result, Ok, Err, refl, sym, ap, subst, ◌∙◌, inl, inr, arith}
+use Rattle.std.proofs.Common.{◌≡◌, ◌⊎◌, ℕ, ◌+◌, ◌<◌, ◌≤◌, List, [], ◌∷◌, ◌++◌, length, get_or, drop, Result, Ok, Err, refl, sym, ap, subst, ◌∙◌, inl, inr, arith}
 use Rattle.std.proofs.lemmas.List.{append-nil, drop_all, drop_more}
 use Rattle.edits.specs.Changes.{ChangeParts, Leads}
 use Rattle.edits.specs.declared.refusal.Refusal.TheVariants.{JournalBroken}
 use Rattle.journal.specs.Values.{State, Refusal, OutOfMemory}
 use Rattle.journal.specs.Opening.{StatesBehind}
-use Rattle.journal.specs.Tied.{last_or}
 use Rattle.journal.proofs.StepFacts.{before, before-more}
+
+-- the last of the states, or else this one
+abbrev pub last_or : State → List State → State
+last_or state [] = state
+last_or state (next ∷ states) = last_or next states
 
 pub last_or-more : (first : State) (states : List State) (next : State) → last_or first (states ++ next ∷ []) ≡ next
 last_or-more first [] next = refl
 last_or-more first (s ∷ states) next = last_or-more s states next
-
--- the last of some states stands in the last place
-pub last_or-at : (first : State) (states : List State) (last : State) → 0 < length states → last ≡ get_or states (length states - 1) last → last ≡ last_or first states
-last_or-at first [] last some is = absurd (omega (arith, some))
-last_or-at first (s ∷ []) last some is = is
-last_or-at first (s ∷ t ∷ states) last some is =
-    let place : length (s ∷ t ∷ states) - 1 ≡ suc (length (t ∷ states) - 1) = omega arith in
-    let here : last ≡ get_or (t ∷ states) (length (t ∷ states) - 1) last = rw place at is in
-    last_or-at s (t ∷ states) last (omega arith) here
 
 -- ---- onwards
 
@@ -31,6 +26,14 @@ a_state : (number : ℕ) (change : ChangeParts) (changes : List ChangeParts) (st
     → StatesBehind (number + 1) changes next rest → StatesBehind number (change ∷ changes) state (before (next ∷ []) rest)
 a_state number change changes state next (Ok xs) leads h = inl (next, leads, (Ok xs, h, refl))
 a_state number change changes state next (Err refusal) leads h = inl (next, leads, (Err refusal, h, refl))
+
+nothing_led : (number : ℕ) (changes : List ChangeParts) (present : State) → LedSoFar number changes present 0 []
+nothing_led number changes present (Ok states) h =
+    let line : number + 0 ≡ number = omega arith in
+    subst (λ n. StatesBehind n changes present (Ok states)) line h
+nothing_led number changes present (Err refusal) h =
+    let line : number + 0 ≡ number = omega arith in
+    subst (λ n. StatesBehind n changes present (Err refusal)) line h
 
 module _ (number : ℕ) (changes : List ChangeParts) (present : State) (place : ℕ) (states : List State) (so_far : LedSoFar number changes present place states) where
   -- the next change leads to a state
@@ -66,3 +69,36 @@ module _ (number : ℕ) (changes : List ChangeParts) (present : State) (place : 
       → (e ≡ OutOfMemory) ⊎ StatesBehind number changes present (Err e)
   refused e change below is (inl memory) = inl memory
   refused e change below is (inr broken) = inr (subst (λ r. StatesBehind number changes present (Err r)) (sym broken.0) (no_state change below is broken.1))
+
+-- ---- one state at a time
+
+-- the changes before a place lead on to this state
+pub record IsLedOn (number : ℕ) (changes : List ChangeParts) (present : State) (place : ℕ) (state : State) : Type 0 where
+  pub states : List State
+  pub led : LedSoFar number changes present place states
+  pub here : last_or present states ≡ state
+
+pub start_on : (number : ℕ) (changes : List ChangeParts) (present state : State) → state ≡ present → IsLedOn number changes present 0 state
+start_on number changes present state same = record { states = []; led = nothing_led number changes present; here = sym same }
+
+module _ (number : ℕ) (changes : List ChangeParts) (present : State) (place : ℕ) (state : State) (is : IsLedOn number changes present place state) (change : ChangeParts)
+    (below : place < length changes) (at_place : change ≡ get_or changes place change) where
+  -- the next change leads on to a state
+  pub turned_on : (next : State) → Leads state change next → IsLedOn number changes present (place + 1) next
+  turned_on next leads = record {
+    states = is.states ++ next ∷ [];
+    led = one_more number changes present place is.states is.led change next below at_place (subst (λ s. Leads s change next) (sym is.here) leads);
+    here = last_or-more present is.states next;
+  }
+
+  -- it leads nowhere, or memory is refused
+  pub stopped_on : (e : Refusal) → (e ≡ OutOfMemory) ⊎ ((e ≡ JournalBroken (number + place)) × ((next : State) → Leads state change next → ⊥))
+      → (e ≡ OutOfMemory) ⊎ StatesBehind number changes present (Err e)
+  stopped_on e none =
+      refused number changes present place is.states is.led e change below at_place
+      (subst (λ s. (e ≡ OutOfMemory) ⊎ ((e ≡ JournalBroken (number + place)) × ((next : State) → Leads s change next → ⊥))) (sym is.here) none)
+
+-- all changes lead on to the last state
+pub walked_on : (number : ℕ) (changes : List ChangeParts) (present : State) (place : ℕ) (state : State) → IsLedOn number changes present place state → length changes ≤ place
+    → (states : List State) × StatesBehind number changes present (Ok states)
+walked_on number changes present place state is past = (is.states, all_led number changes present place is.states is.led past)

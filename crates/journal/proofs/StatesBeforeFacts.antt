@@ -7,8 +7,7 @@ use Rattle.edits.specs.Changes.{ChangeParts, Leads, inverse}
 use Rattle.edits.specs.declared.refusal.Refusal.TheVariants.{JournalBroken}
 use Rattle.journal.specs.Values.{State, Refusal, OutOfMemory}
 use Rattle.journal.specs.Opening.{StatesBefore}
-use Rattle.journal.specs.Tied.{last_or}
-use Rattle.journal.proofs.StateFacts.{last_or-more}
+use Rattle.journal.proofs.StateFacts.{last_or, last_or-more}
 
 -- what earlier changes answer, with the states that were found, the last one first
 abbrev pub behind : List State → Result (List State) Refusal → Result (List State) Refusal
@@ -73,3 +72,36 @@ pub all_back : (changes : List ChangeParts) (present : State) (count : ℕ) (sta
 all_back changes present count states so_far past =
     let within : length (reverse changes) ≤ count = rw length-reverse past in
     so_far (Ok []) (subst (λ cs. StatesBefore cs (last_or present states) (Ok [])) (sym (drop_all count (reverse changes) within)) refl)
+
+-- ---- one state at a time
+
+-- the last changes lead back to this state
+pub record IsLedBack (changes : List ChangeParts) (present : State) (count : ℕ) (state : State) : Type 0 where
+  pub states : List State
+  pub led : LedBack changes present count states
+  pub here : last_or present states ≡ state
+
+pub start_back : (changes : List ChangeParts) (present state : State) → state ≡ present → IsLedBack changes present 0 state
+start_back changes present state same = record { states = []; led = nothing_led changes present; here = sym same }
+
+module _ (changes : List ChangeParts) (present : State) (count place : ℕ) (state : State) (is : IsLedBack changes present count state) (change : ChangeParts)
+    (below : count < length changes) (place_is : place ≡ length changes - 1 - count) (at_place : change ≡ get_or changes place change) where
+  -- the next change leads back to a state
+  pub turned_back : (before : State) → Leads state (inverse change) before → IsLedBack changes present (count + 1) before
+  turned_back before leads = record {
+    states = is.states ++ before ∷ [];
+    led = one_back changes present count place is.states is.led change below place_is at_place before (subst (λ s. Leads s (inverse change) before) (sym is.here) leads);
+    here = last_or-more present is.states before;
+  }
+
+  -- it leads nowhere, or memory is refused
+  pub stopped_back : (e : Refusal) → (e ≡ OutOfMemory) ⊎ ((e ≡ JournalBroken (place + 2)) × ((before : State) → Leads state (inverse change) before → ⊥))
+      → (e ≡ OutOfMemory) ⊎ StatesBefore (reverse changes) present (Err e)
+  stopped_back e refused =
+      none_back changes present count place is.states is.led change below place_is at_place e
+      (subst (λ s. (e ≡ OutOfMemory) ⊎ ((e ≡ JournalBroken (place + 2)) × ((before : State) → Leads s (inverse change) before → ⊥))) (sym is.here) refused)
+
+-- all changes lead back to the first state
+pub walked_back : (changes : List ChangeParts) (present : State) (count : ℕ) (state : State) → IsLedBack changes present count state → length changes ≤ count
+    → (states : List State) × StatesBefore (reverse changes) present (Ok states)
+walked_back changes present count state is past = (reverse is.states, all_back changes present count is.states is.led past)

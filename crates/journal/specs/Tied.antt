@@ -1,5 +1,5 @@
 -- What serves the proofs alone. Tied to `Opens` by the contracts of `Session::open` and `Session::save`; need not be read.
-use Rattle.std.specs.Prelude.{◌≡◌, true, List, [], ◌∷◌, Some}
+use Rattle.std.specs.Prelude.{◌≡◌, ◌⊎◌, true, List, Some, ⊤, Result, Ok, Err}
 use Rattle.std.specs.List.{AllByRecursion}
 use Rattle.std.specs.Str.{is_utf8}
 use Rattle.serde_json.specs.Data.{Data}
@@ -8,12 +8,13 @@ use Rattle.serde_json.specs.Written.{compact_text}
 use Rattle.edits.specs.Changes.{ChangeParts}
 use Rattle.journal.specs.Format.Written.{header_data, step_data}
 use Rattle.journal.specs.declared.format.header.Header.{Header}
-use Rattle.journal.specs.Values.{State}
+use Rattle.journal.specs.Values.{Refusal, OutOfMemory}
 
--- the last of the states, or else this one
-abbrev pub last_or : State → List State → State
-last_or state [] = state
-last_or state (next ∷ states) = last_or next states
+-- what a call answers that walks along what a relation asks for and keeps nothing: that there is such a value; or that there was
+-- no memory; or the relation's refusal
+abbrev pub Walks : {A : Type 0} → (Result A Refusal → Type 0) → Result ⊤ Refusal → Type 0
+Walks {A} Is (Ok u) = (value : A) × Is (Ok value)
+Walks Is (Err refusal) = (refusal ≡ OutOfMemory) ⊎ Is (Err refusal)
 
 -- the compact text of a JSON value is text, and is read as the value
 pub record IsWritten (d : Data) : Type 0 where

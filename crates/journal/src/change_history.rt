@@ -4,6 +4,7 @@ ghost use Rattle.std.specs.Prelude.{◌≡◌, ◌⊎◌, ◌↔◌, ◌+◌, �
 ghost use Rattle.std.specs.List.{AllByRecursion};
 ghost use Rattle.edits.specs.State.{IsState};
 ghost use Rattle.journal.specs.Changes.{AreSteps, with_change};
+ghost use Rattle.journal.specs.Neighbours.{IsHistory, states_of};
 ghost use Rattle.journal.specs.Past.{starts};
 
 use crate::history::History;
@@ -69,6 +70,21 @@ impl ChangeHistory {
             state,
             changes,
             cursor: 0,
+        }
+    }
+
+    /// The history of this present state and these changes, of which so many lead up to it.
+    pub(crate) fn of_changes(state: State, changes: Vec<Change>, cursor: usize) -> ChangeHistory
+        requires history { IsHistory state changes.items cursor }
+        ensures { result ≡ record {
+          past = record { states = states_of state changes.items cursor; cursor = cursor };
+          changes = changes.items;
+        } }
+    {
+        ChangeHistory {
+            state,
+            changes,
+            cursor,
         }
     }
 

@@ -7,10 +7,10 @@ mod present;
 mod states;
 mod steps;
 
+use crate::change_history::ChangeHistory;
 use crate::opening::present::{Begin, begin_of, present_of};
 use crate::opening::states::history_of;
 use crate::opening::steps::steps_of;
-use crate::whole::WholeHistory;
 use edits::Refusal;
 use std::alloc::Global;
 
@@ -20,7 +20,7 @@ pub(crate) fn opened(
     requirements: &[u8],
     lock: &[u8],
     journal: &[u8],
-) -> Result<WholeHistory, Refusal>
+) -> Result<ChangeHistory, Refusal>
     ensures { Tells (Opens requirements.now lock.now journal.now) (result_map_both (λ h. h.past)
         (λ e. e) result) }
 {

@@ -9,19 +9,20 @@ ghost use Rattle.journal.specs.Saving.{IsSaved, OpensAs};
 ghost use Rattle.journal.specs.Commands.{asked_of};
 ghost use Rattle.journal.specs.Steps.{Step, Run, IsStart};
 
+use crate::change_history::ChangeHistory;
 use crate::commands::{Command, Reply};
 use crate::history::History;
 use crate::saving::{self, Saved};
-use crate::whole::WholeHistory;
 use crate::{opening, running};
 use edits::{Change, Environment, Refusal, ReqFile, Resolver, Snapshot, State};
 use lists::Seq;
 use std::alloc::{AllocError, Global};
 use std::marker::Model;
 
-/// A requirements file and its lock, with their history.
+/// A requirements file and its lock, with their history. The present state is kept, and the change of
+/// each step; in a clause it is the whole past.
 pub struct Session {
-    history: WholeHistory,
+    history: ChangeHistory,
 }
 
 impl Drop for Session {
@@ -53,10 +54,8 @@ impl Session {
             ⊎ InitResult lines environment snapshot.now (Err r)) }
     {
         let state = edits::init(alloc, lines, environment, snapshot, resolver)?;
-        match WholeHistory::new(alloc, state) {
-            Ok(history) => Ok(Session { history }),
-            Err(AllocError) => Err(Refusal::OutOfMemory),
-        }
+        let history = ChangeHistory::new(alloc, state);
+        Ok(Session { history })
     }
 
     /// Opens the history that was saved as these three byte strings: a requirements file, a lock and a

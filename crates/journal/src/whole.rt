@@ -65,24 +65,6 @@ impl WholeHistory {
             cursor: 0,
         })
     }
-
-    /// The history of these states, with the changes that lead from each to the next.
-    pub(crate) fn of_steps(states: Vec<State>, changes: Vec<Change>, cursor: usize) -> WholeHistory
-        requires cursor { cursor < length states.items }
-        requires count { length states.items ≡ length changes.items + 1 }
-        requires steps { AreSteps states.items changes.items }
-        requires lawful { AllByRecursion IsState states.items }
-        ensures { result ≡ record {
-          past = record { states = states.items; cursor = cursor };
-          changes = changes.items;
-        } }
-    {
-        WholeHistory {
-            states,
-            changes,
-            cursor,
-        }
-    }
 }
 
 impl History for WholeHistory {

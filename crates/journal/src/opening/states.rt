@@ -1,14 +1,15 @@
-// The states that the steps of a journal lead to from the present one, in both directions.
+// Walks along the steps of a journal from the present state, in both directions.
 
-ghost use Rattle.std.specs.Prelude.{◌≡◌, ◌+◌, ◌^◌, ◌<◌, ◌≤◌, length, reverse};
+ghost use Rattle.std.specs.Prelude.{◌≡◌, ◌+◌, ◌^◌, ◌<◌, ◌≤◌, IfOk, length, reverse};
 ghost use Rattle.std.specs.List.{AllByRecursion};
 ghost use Rattle.std.specs.Result.{result_map_both};
 ghost use Rattle.edits.specs.Changes.{IsMinimal, Leads, inverse};
 ghost use Rattle.edits.specs.declared.refusal.Refusal.TheVariants as refusals;
-ghost use Rattle.journal.specs.Tied.{last_or};
+ghost use Rattle.journal.specs.Neighbours.{IsHistory, states_of};
+ghost use Rattle.journal.specs.Tied.{Walks};
 ghost use Rattle.journal.specs.Opening.{Found, PastOf, StatesBefore, StatesBehind, Tells};
 
-use crate::whole::WholeHistory;
+use crate::change_history::ChangeHistory;
 use edits::{Change, Refusal, State};
 use lists::Seq;
 use std::alloc::Global;
@@ -41,51 +42,30 @@ fn state_before(
     state_behind(alloc, &back, state, number)
 }
 
-/// The last of the states, or else this one.
-fn last_of<'s>(states: &'s [State], first: &'s State) -> &'s State
-    ensures { result.now ≡ last_or first.now states.now }
+/// Walks back from the present state to the first one, along these changes, and keeps no state. Each
+/// change leads back from the state that the one behind it led to.
+fn walk_back(alloc: Global, changes: &[Change], present: &State) -> Result<(), Refusal>
+    ensures { Walks (StatesBefore (reverse changes.now) present.now) result }
 {
-    if states.is_empty() {
-        return first;
-    }
-    &states[states.len() - 1]
-}
-
-/// The states before the present one that the changes lead back to, the first state first.
-fn states_before(alloc: Global, changes: &[Change], present: &State) -> Result<Vec<State>, Refusal>
-    ensures { Tells (StatesBefore (reverse changes.now) present.now) (result_map_both
-        (λ v. v.items) (λ e. e) result) }
-{
-    let mut states = Vec::with_capacity(alloc, changes.len())?;
+    let mut state = present.clone()?;
     for behind in 0..changes.len() {
         let place = changes.len() - 1 - behind;
-        let state = last_of(states.as_slice(), present);
-        let before = state_before(alloc, &changes[place], state, place + 2)?;
-        states.push_reserved(before);
+        state = state_before(alloc, &changes[place], &state, place + 2)?;
     }
-    states.reverse();
-    Ok(states)
+    Ok(())
 }
 
-/// The states behind the present one that the changes lead to. The first change is in the line of
-/// this number.
-fn states_behind(
-    alloc: Global,
-    changes: &[Change],
-    present: &State,
-    number: usize,
-) -> Result<Vec<State>, Refusal>
+/// Walks on from the present state to the last one, along these changes, and keeps no state. The first
+/// change is in the line of this number.
+fn walk_on(alloc: Global, changes: &[Change], present: &State, number: usize) -> Result<(), Refusal>
     requires { number + length changes.now < 2 ^ 64 }
-    ensures { Tells (StatesBehind number changes.now present.now) (result_map_both
-        (λ v. v.items) (λ e. e) result) }
+    ensures { Walks (StatesBehind number changes.now present.now) result }
 {
-    let mut states = Vec::with_capacity(alloc, changes.len())?;
+    let mut state = present.clone()?;
     for place in 0..changes.len() {
-        let state = last_of(states.as_slice(), present);
-        let next = state_behind(alloc, &changes[place], state, number + place)?;
-        states.push_reserved(next);
+        state = state_behind(alloc, &changes[place], &state, number + place)?;
     }
-    Ok(states)
+    Ok(())
 }
 
 /// What holds of the changes: each of them is minimal.
@@ -98,24 +78,35 @@ fn are_lawful(changes: &[Change])
     }
 }
 
-/// The history of the present state, with the states that the changes lead to.
+/// Walks from the present state back to the first one, and then on to the last: so many of the changes
+/// lead up to it.
+fn walk(alloc: Global, changes: &[Change], present: &State, cursor: usize) -> Result<(), Refusal>
+    requires { cursor ≤ length changes.now }
+    ensures history { IfOk result (λ _. IsHistory present.now changes.now cursor) }
+    ensures past { Tells (PastOf cursor changes.now present.now) (result_map_both
+        (λ _. record { states = states_of present.now changes.now cursor; cursor = cursor })
+        (λ e. e) result) }
+{
+    are_lawful(changes);
+    present.is_lawful();
+    walk_back(alloc, &changes[..cursor], present)?;
+    walk_on(alloc, &changes[cursor..], present, cursor + 2)?;
+    Ok(())
+}
+
+/// The history of the present state and the changes, of which so many lead up to it.
 pub(crate) fn history_of(
     alloc: Global,
     changes: Seq<Change>,
     present: State,
     cursor: u64,
-) -> Result<WholeHistory, Refusal>
+) -> Result<ChangeHistory, Refusal>
     requires { cursor ≤ length changes }
     ensures { Tells (PastOf cursor changes present) (result_map_both
         (λ h. h.past) (λ e. e) result) }
 {
     let cursor = cursor as usize;
     let changes = changes.into_vec();
-    are_lawful(changes.as_slice());
-    present.is_lawful();
-    let mut states = states_before(alloc, &changes[..cursor], &present)?;
-    let mut behind = states_behind(alloc, &changes[cursor..], &present, cursor + 2)?;
-    states.push(present)?;
-    states.append(&mut behind)?;
-    Ok(WholeHistory::of_steps(states, changes, cursor))
+    walk(alloc, changes.as_slice(), &present, cursor)?;
+    Ok(ChangeHistory::of_changes(present, changes, cursor))
 }
