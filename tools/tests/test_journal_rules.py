@@ -1,7 +1,8 @@
-"""Tests of journal_rules.py, by worked examples of the rules."""
+"""Tests of journal_rules.py, by worked examples of the rules. Where the program is built, `check` answers each of them alike."""
 
 import unittest
 
+from checked_files import IS_BUILT, checked, told
 from journal_rules import Change, State, after, inverse, is_minimal, is_state, opens, read_step
 from made_journals import ZEROS, altered, compact, entry, header, journal, lock_text, step
 from requirement_rules import Fault
@@ -35,8 +36,11 @@ class Example(unittest.TestCase):
         return journal(self.requirements, self.lock, LINUX, self.cursor, *self.steps)
 
     def check(self, wanted, *, journal=None, lock=None, requirements=None):
-        given = (requirements, self.requirements), (lock, self.lock), (journal, self.journal())
-        self.assertEqual(opens(*(own if other is None else other for other, own in given)), wanted)
+        own = self.requirements, self.lock, self.journal()
+        given = [mine if other is None else other for other, mine in zip((requirements, lock, journal), own)]
+        self.assertEqual(opens(*given), wanted)
+        if IS_BUILT:
+            self.assertEqual(checked(given), told(*wanted))
 
 
 class Opening(Example):
@@ -57,7 +61,7 @@ class Opening(Example):
         self.requirements, self.lock, self.steps, self.cursor = b"", lock_text(LINUX, {}), [], 0
         digest = "e3b0c44298fc1c149afbf4c8996fb92427ae41e4649b934ca495991b7852b855"
         self.assertEqual(self.header()["requirements"], digest)
-        self.assertEqual(opens(b"", self.lock, self.journal()), ("ok", 0, 0))
+        self.check(("ok", 0, 0))
 
     def test_of_cut_journals(self):
         whole = self.journal()

@@ -2,19 +2,15 @@
 is written from the rules and not from the program. Every hundredth alteration is tried, or with LONG_TESTS=1 each."""
 
 import os
-import subprocess
-import tempfile
 import unittest
 from itertools import islice
-from pathlib import Path
 
+from checked_files import IS_BUILT, checked, told
 from journal_rules import opens
 from made_journals import altered, entry, journal, lock_text, step
-from test_readme import PROGRAM
 from test_requirement_rules import LINUX
 
 PACE = 1 if os.environ.get("LONG_TESTS") == "1" else 100
-NAMES = "requirements.txt", "pylock.toml", "reqlock.journal"
 
 # The states: `a` and `b-b`, one with `c` behind them, one without `b-b`, and one with another `a`.
 LINES = ["# web\r\nB_b >=1 # pin\r\na", "# web\r\nB_b >=1 # pin\r\na\r\nc ; os_name=='posix'\r\n", "# web\r\na\r\nc ; os_name=='posix'\r\n"]
@@ -42,48 +38,17 @@ def files(cursor):
     return requirements, lock, journal(requirements, lock, LINUX, cursor, *STEPS)
 
 
-def answer(fault_or_ok, *others):
-    """The status, the standard output and the standard error of `check` for an answer of the rules."""
-    if fault_or_ok == "ok":
-        return 0, f"ok {others[0]}\n", ""
-    if fault_or_ok == "files-disagree":
-        return 4, "", f"reqlock: {others[0]}: files-disagree\n"
-    return 4, "", f"reqlock: reqlock.journal: line {others[0]}: journal-broken\n"
-
-
 class Rules(unittest.TestCase):
     def test_the_files_open_at_each_place(self):
         for cursor in range(4):
             self.assertEqual(opens(*files(cursor)), ("ok", cursor, 3))
 
 
-def knows(subcommand):
-    return PROGRAM.exists() and subprocess.run([PROGRAM, subcommand, "--help"], capture_output=True, check=False).returncode == 0
-
-
-# (`show` opens the files as `check` does, and prints the lock)
-SUBCOMMAND = next(filter(knows, ("check", "show")), None)
-
-
-@unittest.skipIf(SUBCOMMAND is None, "the program isn't built, or knows neither check nor show")
+@unittest.skipUnless(IS_BUILT, "the program isn't built, or doesn't know check")
 class Program(unittest.TestCase):
-    def setUp(self):
-        folder = tempfile.TemporaryDirectory()
-        self.addCleanup(folder.cleanup)
-        self.folder = Path(folder.name)
-
     def check(self, given, text):
         """The program answers of these files what the rules do, and leaves them."""
-        for name, data in zip(NAMES, given):
-            (self.folder / name).write_bytes(data)
-        done = subprocess.run(
-            [PROGRAM, "--dir", self.folder, SUBCOMMAND], capture_output=True, encoding="utf-8", check=False
-        )
-        status, output, errors = answer(*opens(*given))
-        self.assertEqual((done.returncode, done.stderr), (status, errors), text)
-        if SUBCOMMAND == "check" or status != 0:
-            self.assertEqual(done.stdout, output, text)
-        self.assertEqual(tuple((self.folder / name).read_bytes() for name in NAMES), given, text)
+        self.assertEqual(checked(given), told(*opens(*given)), text)
 
     def test_opens_at_each_place(self):
         for cursor in range(4):
