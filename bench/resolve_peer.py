@@ -1,20 +1,30 @@
 #!/usr/bin/env python3
 """Locks a requirements file over an index with the library resolvelib, and a provider made of packaging.
 
-resolve_peer.py resolve INDEX REQUIREMENTS      prints what is locked, a pin a line, and then the microseconds it took
-resolve_peer.py check INDEX REQUIREMENTS <PINS  sees that pins, as printed, are a solution, and prints their number
+resolve_peer.py resolve INDEX REQUIREMENTS [pip]  prints what is locked, a pin a line, and then the microseconds it took
+resolve_peer.py check INDEX REQUIREMENTS <PINS    sees that pins, as printed, are a solution, and prints their number
+resolve_peer.py versions                          prints which libraries it takes: those of python3, else those within pip
 
 Versions and requirements are parsed before the time begins; they are matched within it. There are neither markers nor
-extras. The names are taken in the order of their bytes, as reqlock does.
+extras. The names are taken in the order of their bytes, as reqlock does; or with `pip` as pip 23.2 does: pinned ones before
+others, then those for which the search went back last, the nearest to the file, and those with specifiers. Where it finds no
+solution, it prints `none`.
 """
 import json
+import math
 import sys
 import time
 from collections import namedtuple
 
-from packaging.requirements import Requirement
-from packaging.version import Version
-from resolvelib import AbstractProvider, BaseReporter, Resolver
+try:
+    import packaging
+    import resolvelib
+    from packaging.requirements import Requirement
+    from packaging.version import Version
+except ImportError:
+    from pip._vendor import packaging, resolvelib
+    from pip._vendor.packaging.requirements import Requirement
+    from pip._vendor.packaging.version import Version
 
 Release = namedtuple("Release", "name version dependencies")
 
@@ -61,7 +71,9 @@ def read_requirements(path):
         return [Wanted(line) for line in file]
 
 
-class Provider(AbstractProvider):
+class Provider(resolvelib.AbstractProvider):
+    """Takes the names in the order of their bytes."""
+
     def __init__(self, index):
         self.index = index
 
@@ -87,12 +99,62 @@ class Provider(AbstractProvider):
         return candidate.dependencies
 
 
-def resolve(index, requirements):
-    provider = Provider(index)
+class PipProvider(Provider):
+    """Takes the names in the order of pip 23.2."""
+
+    def __init__(self, index, requirements):
+        super().__init__(index)
+        self.asked = {requirement.name: place for place, requirement in reversed(list(enumerate(requirements)))}
+        self.depths = {}
+
+    def depth(self, identifier, parents):
+        if identifier in self.asked:
+            return 1.0
+        return min((self.depths.get(parent.name, math.inf) if parent else 0.0 for parent in parents), default=math.inf) + 1.0
+
+    def get_preference(self, identifier, resolutions, candidates, information, backtrack_causes):
+        known = list(information[identifier])
+        operators = [clause.operator for one in known for clause in one.requirement.specifier]
+        is_cause = any(identifier in names_of(cause) for cause in backtrack_causes)
+        self.depths[identifier] = self.depth(identifier, [one.parent for one in known])
+        return (
+            not any(operator.startswith("==") for operator in operators),
+            not is_cause,
+            self.depths[identifier],
+            self.asked.get(identifier, math.inf),
+            not operators,
+            identifier,
+        )
+
+
+def names_of(cause):
+    return cause.requirement.name, cause.parent and cause.parent.name
+
+
+def needed(requirements, pins):
+    """The pins that the requirements lead to."""
+    found, names = {}, [requirement.name for requirement in requirements]
+    while names:
+        name = names.pop()
+        if name not in found:
+            found[name] = pins[name]
+            names += [dependency.name for dependency in pins[name].dependencies]
+    return found
+
+
+def resolve(index, requirements, preference):
+    """The library's own last step, which drops the pins that nothing needs, calls itself without end where packages need each
+    other in a circle. So it is done here."""
+    provider = PipProvider(index, requirements) if preference == "pip" else Provider(index)
+    resolution = resolvelib.resolvers.Resolution(provider, resolvelib.BaseReporter())
     start = time.perf_counter()
-    result = Resolver(provider, BaseReporter()).resolve(requirements, max_rounds=10**9)
+    try:
+        pins = needed(requirements, resolution.resolve(requirements, max_rounds=10**9).mapping)
+    except resolvelib.ResolutionImpossible:
+        print("none")
+        return
     seconds = time.perf_counter() - start
-    for name, candidate in sorted(result.mapping.items()):
+    for name, candidate in sorted(pins.items()):
         print(f"{name}=={candidate.version}")
     print(round(seconds * 10**6))
 
@@ -112,9 +174,12 @@ def check(packages, requirements, pins):
 
 
 def main():
+    if sys.argv[1] == "versions":
+        print(f"resolvelib {resolvelib.__version__}, packaging {packaging.__version__}")
+        return
     requirements = read_requirements(sys.argv[3])
     if sys.argv[1] == "resolve":
-        resolve(read_index(sys.argv[2]), requirements)
+        resolve(read_index(sys.argv[2]), requirements, *sys.argv[4:] or ["plain"])
     else:
         pins = [line for line in sys.stdin.read().splitlines() if "==" in line]
         check(read_packages(sys.argv[2]), requirements, pins)

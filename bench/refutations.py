@@ -1,0 +1,98 @@
+#!/usr/bin/env python3
+"""Refutes planted problems to which one line was added, and prints how long the search, the cut and the check took.
+
+refutations.py RESOLVE_PROGRAM FOLDER [SECONDS [COUNT..]]
+
+To each problem of `planted.py` of so many packages (100, 300, 1,000), of three seeds, a line is added that leaves one of its
+names the oldest release alone. Once that is the name of the file's last line with a bound, which the line contradicts by
+itself: it comes last in the search, which has recorded much by then. And once a name is taken for which a line of the file has
+no release left only by what others need (DEEP); of names from the last one on it is the first of that kind, where one was found.
+The conflicts that the search recorded are counted by `learning_model.py`, and those that are left must be as many as the
+program prints. What gives no answer in so many seconds (60) is cut off. Of each time the least of three runs is printed.
+"""
+import os
+import subprocess
+import sys
+
+import learning_model
+
+HERE = os.path.dirname(os.path.abspath(__file__))
+ENVIRONMENT = f"{HERE}/../examples/web/environment.json"
+COUNTS = [100, 300, 1_000]
+SEEDS = [1, 2, 3]
+ROUNDS = 3
+STEPS = ["Problem::new", "Learning::resolve", "Learning::refute", "check"]
+DEEP = {
+    (100, 1): 90,
+    (100, 2): 65,
+    (100, 3): 78,
+    (300, 2): 277,
+    (300, 3): 89,
+}
+
+
+def write_problem(place, count, seed):
+    """Writes the planted problem, and answers its lines."""
+    subprocess.run([sys.executable, f"{HERE}/planted.py", str(seed), str(count), place], check=True)
+    with open(f"{place}/requirements.txt", encoding="ascii") as file:
+        return file.read().splitlines()
+
+
+def oldest(name):
+    return f"{name}==0"
+
+
+def last_contradicted(lines):
+    """The line that contradicts the last one with a bound above the oldest release."""
+    return oldest([line.split(">=")[0] for line in lines if ">=0" not in line][-1])
+
+
+def refute(program, files, seconds):
+    """How many conflicts and choices there are, and the least seconds of each step; nothing where that takes too long."""
+    command = [program, "refute", files[0], ENVIRONMENT, files[1]]
+    sizes, times = None, []
+    for _ in range(ROUNDS):
+        try:
+            done = subprocess.run(command, stdout=subprocess.PIPE, timeout=seconds, check=True, encoding="ascii")
+        except subprocess.TimeoutExpired:
+            return None
+        if done.stdout == "solvable\n":
+            sys.exit(f"refutations: there is a solution of {files[1]}")
+        sizes, steps = ([int(word) for word in line.split()] for line in done.stdout.splitlines())
+        times.append([step / 10**6 for step in steps])
+    return sizes, [min(step) for step in zip(*times)]
+
+
+def compare(program, files, seconds):
+    found = refute(program, files, seconds)
+    if found is None:
+        return f"none in {seconds} s"
+    (conflicts, choices), times = found
+    steps, recorded, kept = learning_model.counts(*files)
+    if kept != conflicts:
+        sys.exit(f"refutations: {kept} conflicts were expected, and came {conflicts}")
+    texts = [f"{step} {time:.4f} s" for step, time in zip(STEPS, times)]
+    sizes = f"{steps:,} steps, {recorded:,} conflicts recorded, {conflicts:,} printed with {choices:,} choices"
+    return f"{sizes}; {', '.join(texts)}"
+
+
+def main():
+    program, folder = sys.argv[1:3]
+    seconds = int(sys.argv[3]) if len(sys.argv) > 3 else 60
+    counts = [int(word) for word in sys.argv[4:]] or COUNTS
+    for count in counts:
+        for seed in SEEDS:
+            place = f"{folder}/refuted-{count}-{seed}"
+            lines = write_problem(place, count, seed)
+            added = [last_contradicted(lines)]
+            if (count, seed) in DEEP:
+                added.append(oldest(f"package-{DEEP[count, seed]:05}"))
+            for line in added:
+                with open(f"{place}/{line}.txt", "w", encoding="ascii") as file:
+                    file.write("".join(f"{one}\n" for one in [*lines, line]))
+                files = f"{place}/index.json", f"{place}/{line}.txt"
+                print(f"{count:,} packages, seed {seed}, {line}: {compare(program, files, seconds)}", flush=True)
+
+
+if __name__ == "__main__":
+    main()
