@@ -141,4 +141,5 @@ def main():
     long_history(program, os.path.abspath(f"{folder}/long/folder"))
 
 
-main()
+if __name__ == "__main__":
+    main()

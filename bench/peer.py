@@ -9,9 +9,7 @@ import json
 import re
 import sys
 
-from packaging.requirements import Requirement
-from packaging.utils import canonicalize_name
-from packaging.version import Version
+from libraries import Requirement, Version, canonicalize_name
 
 
 def read_index(path):

@@ -5,8 +5,8 @@ refutations.py RESOLVE_PROGRAM FOLDER [SECONDS [COUNT..]]
 
 To each problem of `planted.py` of so many packages (100, 300, 1,000), of three seeds, a line is added that leaves one of its
 names the oldest release alone. Once that is the name of the file's last line with a bound, which the line contradicts by
-itself: it comes last in the search, which has recorded much by then. And once a name is taken for which a line of the file has
-no release left only by what others need (DEEP); of names from the last one on it is the first of that kind, where one was found.
+itself: it comes last in the search, which has recorded much by then. And once a name is taken with which
+the file has no solution only because of what other packages need (DEEP); such names were found by trying one after the other.
 The conflicts that the search recorded are counted by `learning_model.py`, and those that are left must be as many as the
 program prints. What gives no answer in so many seconds (60) is cut off. Of each time the least of three runs is printed.
 """
@@ -26,8 +26,11 @@ DEEP = {
     (100, 1): 90,
     (100, 2): 65,
     (100, 3): 78,
+    (300, 1): 200,
     (300, 2): 277,
     (300, 3): 89,
+    (1_000, 1): 236,
+    (1_000, 3): 52,
 }
 
 

@@ -16,15 +16,7 @@ import sys
 import time
 from collections import namedtuple
 
-try:
-    import packaging
-    import resolvelib
-    from packaging.requirements import Requirement
-    from packaging.version import Version
-except ImportError:
-    from pip._vendor import packaging, resolvelib
-    from pip._vendor.packaging.requirements import Requirement
-    from pip._vendor.packaging.version import Version
+from libraries import Requirement, Version, packaging, resolvelib
 
 Release = namedtuple("Release", "name version dependencies")
 

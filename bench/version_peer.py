@@ -5,8 +5,7 @@ Compares each version of standard input with each, or matches each with each set
 """
 import sys
 
-from packaging.specifiers import SpecifierSet
-from packaging.version import Version
+from libraries import SpecifierSet, Version
 
 
 def mixed(total, yes):
