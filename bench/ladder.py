@@ -6,9 +6,11 @@ ladder.py RESOLVE_PROGRAM FOLDER [SECONDS [COUNT..]]
 For each count of packages (100, 300, 1,000, 3,000) and each of three seeds it writes the problem of `planted.py`, and locks it
 with the search that learns and with resolvelib, by both orders of `resolve_peer.py`. Of the first both steps count: making the
 problem and resolving it. What gives no answer in so many seconds (60) is cut off, and said so; of what ends in five seconds the
-best of three runs is printed. The ratio is that of the times to the better of the peer's two; where neither ends, to so many seconds.
+best of three runs is printed. Times are of processor time. The ratio is to the better of the peer's two; where neither ends, to
+so many seconds.
 """
 import os
+import signal
 import subprocess
 import sys
 
@@ -23,11 +25,11 @@ SHORT = 5
 
 def answer(command, seconds):
     """What the command prints but for its last line, and the seconds of its steps, which the last line has; nothing where it
-    is cut off. The time in which it reads its files isn't counted, so a minute is given for that."""
-    try:
-        done = subprocess.run(command, stdout=subprocess.PIPE, timeout=seconds + 60, check=True, encoding="ascii")
-    except subprocess.TimeoutExpired:
+    is cut off."""
+    done = subprocess.run(command, stdout=subprocess.PIPE, encoding="ascii", check=False)
+    if done.returncode == -signal.SIGXCPU:
         return None
+    done.check_returncode()
     *pins, last = done.stdout.splitlines()
     if last == "none":
         sys.exit(f"ladder: no solution by {' '.join(command)}")
@@ -59,8 +61,10 @@ def told(found, files, seconds):
 
 
 def compare(program, files, seconds):
-    ours = best([program, "learning", files[0], ENVIRONMENT, files[1]], seconds)
-    theirs = {order: best([*PEER, "resolve", *files, order], seconds) for order in ("plain", "pip")}
+    limit = seconds + 1
+    limited = ["prlimit", f"--cpu={limit}:{limit + 5}"]
+    ours = best([*limited, program, "learning", files[0], ENVIRONMENT, files[1]], seconds)
+    theirs = {order: best([*PEER, "resolve", *files, order, str(limit)], seconds) for order in ("plain", "pip")}
     texts = [f"reqlock {told(ours, files, seconds)}"]
     texts += [f"resolvelib ({order}) {told(found, files, seconds)}" for order, found in theirs.items()]
     if ours:

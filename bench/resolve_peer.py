@@ -1,17 +1,19 @@
 #!/usr/bin/env python3
 """Locks a requirements file over an index with the library resolvelib, and a provider made of packaging.
 
-resolve_peer.py resolve INDEX REQUIREMENTS [pip]  prints what is locked, a pin a line, and then the microseconds it took
-resolve_peer.py check INDEX REQUIREMENTS <PINS    sees that pins, as printed, are a solution, and prints their number
-resolve_peer.py versions                          prints which libraries it takes: those of python3, else those within pip
+resolve_peer.py resolve INDEX REQUIREMENTS [plain|pip [SECONDS]]
+                                                prints what is locked, a pin a line, and then the microseconds that it took
+resolve_peer.py check INDEX REQUIREMENTS <PINS  sees that pins, as printed, are a solution, and prints their number
+resolve_peer.py versions                        prints which libraries it takes: those of python3, else those within pip
 
-Versions and requirements are parsed before the time begins; they are matched within it. There are neither markers nor
-extras. The names are taken in the order of their bytes, as reqlock does; or with `pip` as pip 23.2 does: pinned ones before
-others, then those for which the search went back last, the nearest to the file, and those with specifiers. Where it finds no
-solution, it prints `none`.
+Versions and requirements are parsed before the time begins; they are matched within it. The time is processor time, and after so
+many seconds of it the process is ended. There are neither markers nor extras. The names are taken in the order of their bytes, as
+reqlock does; or with `pip` as pip 23.2 does: pinned ones before others, then those for which the search went back last, the
+nearest to the file, and those with specifiers. Where it finds no solution, it prints `none`.
 """
 import json
 import math
+import resource
 import sys
 import time
 from collections import namedtuple
@@ -134,18 +136,26 @@ def needed(requirements, pins):
     return found
 
 
-def resolve(index, requirements, preference):
+def end_after(seconds):
+    """Has the system end this process after so many more seconds of processor time."""
+    limit = math.ceil(time.process_time() + int(seconds))
+    resource.setrlimit(resource.RLIMIT_CPU, (limit, limit + 5))
+
+
+def resolve(index, requirements, preference="plain", seconds=None):
     """The library's own last step, which drops the pins that nothing needs, calls itself without end where packages need each
     other in a circle. So it is done here."""
     provider = PipProvider(index, requirements) if preference == "pip" else Provider(index)
     resolution = resolvelib.resolvers.Resolution(provider, resolvelib.BaseReporter())
-    start = time.perf_counter()
+    if seconds:
+        end_after(seconds)
+    start = time.process_time()
     try:
         pins = needed(requirements, resolution.resolve(requirements, max_rounds=10**9).mapping)
     except resolvelib.ResolutionImpossible:
         print("none")
         return
-    seconds = time.perf_counter() - start
+    seconds = time.process_time() - start
     for name, candidate in sorted(pins.items()):
         print(f"{name}=={candidate.version}")
     print(round(seconds * 10**6))
@@ -171,7 +181,7 @@ def main():
         return
     requirements = read_requirements(sys.argv[3])
     if sys.argv[1] == "resolve":
-        resolve(read_index(sys.argv[2]), requirements, *sys.argv[4:] or ["plain"])
+        resolve(read_index(sys.argv[2]), requirements, *sys.argv[4:])
     else:
         pins = [line for line in sys.stdin.read().splitlines() if "==" in line]
         check(read_packages(sys.argv[2]), requirements, pins)
