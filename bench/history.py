@@ -1,11 +1,12 @@
 #!/usr/bin/env python3
 """Times calls of the program over long histories, each a process of its own; `undo` beside git on the same files.
 
-history.py PROGRAM FOLDER
+history.py PROGRAM FOLDER [STEPS]
 
-The first history has 1,000 steps, over a file of 500 lines with a lock of 300 entries. Each step is a commit of the three
-files, and the peer of `undo` is `git checkout HEAD~1 -- .`. The second has 10,000 steps, over a file of ten lines. Of each call
-the best of five times is printed, with its peak memory.
+The first history has 10,000 steps, over a file of ten lines, and the second 1,000, over a file of 500 lines with a lock of 300
+entries; each is made by one batch. The third is the second once more, with as many steps or STEPS, each a process of its own and
+a commit of the three files: there the peer of `undo` is `git checkout HEAD~1 -- .`. Of each call the best of five times is
+printed by the clock, and the best of processor time behind it, with the peak memory.
 """
 import json
 import os
@@ -20,7 +21,7 @@ GIT = ["git", "-c", "user.name=bench", "-c", "user.email=bench@example", "-c", "
 
 
 def run(command, folder, text=""):
-    """What the command prints, the seconds that it took, and its peak memory in MB."""
+    """What the command prints, the seconds that it took by the clock and on a processor, and its peak memory in MB."""
     with open(f"{folder}/../input", "w", encoding="ascii") as file:
         file.write(text)
     with open(f"{folder}/../input", "rb") as source, open(f"{folder}/../output", "wb") as out:
@@ -32,7 +33,7 @@ def run(command, folder, text=""):
     if process.returncode != 0:
         sys.exit(f"bench: status {process.returncode} of {' '.join(command)}")
     with open(f"{folder}/../output", encoding="utf-8") as file:
-        return file.read(), seconds, usage.ru_maxrss * 1024 / 10**6
+        return file.read(), seconds, usage.ru_utime + usage.ru_stime, usage.ru_maxrss * 1024 / 10**6
 
 
 def wanted(answer, found):
@@ -41,8 +42,9 @@ def wanted(answer, found):
 
 
 def best(calls):
-    """The best time of some calls, with the most memory of one."""
-    return f"{min(seconds for _, seconds, _ in calls):.3f} s {max(memory for _, _, memory in calls):.0f} MB"
+    """The best times of some calls, by the clock and on a processor, with the most memory of one."""
+    _, clock, processor, memory = zip(*calls)
+    return f"{min(clock):.3f} s ({min(processor):.3f} s) {max(memory):.0f} MB"
 
 
 def name_of(number):
@@ -95,7 +97,7 @@ def commit(folder, step):
     run([*GIT, "commit", "-q", "-m", f"{step}"], folder)
 
 
-def compare_undo(program, folder, steps=1_000):
+def compare_undo(program, folder, steps):
     """Takes the last step back, by the program and by git."""
     options = begin(program, folder, 300, 200)
     run([*GIT, "init", "-q"], folder)
@@ -114,31 +116,32 @@ def compare_undo(program, folder, steps=1_000):
         run([*GIT, "checkout", "-q", "HEAD", "--", "."], folder)
     size = os.path.getsize(f"{folder}/reqlock.journal") / 10**6
     print(f"{steps:,} steps, 500 lines, 300 entries, a journal of {size:.2f} MB:")
-    ratio = min(undo[1] for undo in undos) / min(checkout[1] for checkout in checkouts)
-    print(f"  undo {best(undos)}, git checkout {best(checkouts)}, ratio {ratio:.1f}")
+    ratio = min(undo[2] for undo in undos) / min(checkout[2] for checkout in checkouts)
+    print(f"  undo {best(undos)}, git checkout {best(checkouts)}, ratio of processor times {ratio:.1f}")
     print(f"  redo {best(redos)}, the last five edits {best(edits[-ROUNDS:])}", flush=True)
 
 
-def long_history(program, folder, steps=10_000):
-    """Opens a long history, and saves it after one more step."""
-    options = begin(program, folder, 8, 2)
-    text = "".join(f"{command}\n" for command in commands_of(steps, 8))
-    answer, seconds, memory = run([*options, "batch"], folder, text)
-    wanted(f"ok {steps}", answer.splitlines()[-1])
-    print(f"{steps:,} steps, ten lines: all in one batch {seconds:.2f} s {memory:.0f} MB")
-    checks = [run([program, "check"], folder) for _ in range(ROUNDS)]
-    undos = []
+def batched(program, folder, steps, packages, blank):
+    """Makes a history by one batch, opens it, and saves it after one more step."""
+    options = begin(program, folder, packages, blank)
+    text = "".join(f"{command}\n" for command in commands_of(steps, packages))
+    batch = run([*options, "batch"], folder, text)
+    wanted(f"ok {steps}", batch[0].splitlines()[-1])
+    print(f"{steps:,} steps, {packages + blank} lines, {packages} entries: all in one batch {best([batch])}")
+    undos, redos, checks = [], [], []
     for _ in range(ROUNDS):
         undos.append(run([program, "undo"], folder))
-        run([program, "redo"], folder)
-    print(f"  check {best(checks)}, undo {best(undos)}", flush=True)
+        redos.append(run([program, "redo"], folder))
+        checks.append(run([program, "check"], folder))
+    print(f"  undo {best(undos)}, redo {best(redos)}, check {best(checks)}", flush=True)
 
 
 def main():
-    program, folder = sys.argv[1:]
-    program = os.path.abspath(program)
-    compare_undo(program, os.path.abspath(f"{folder}/steps/folder"))
-    long_history(program, os.path.abspath(f"{folder}/long/folder"))
+    program, folder = os.path.abspath(sys.argv[1]), os.path.abspath(sys.argv[2])
+    steps = int(sys.argv[3]) if len(sys.argv) > 3 else 1_000
+    batched(program, f"{folder}/long/folder", 10_000, 8, 2)
+    batched(program, f"{folder}/batched/folder", 1_000, 300, 200)
+    compare_undo(program, f"{folder}/steps/folder", steps)
 
 
 if __name__ == "__main__":
