@@ -7,6 +7,8 @@ mod applied_changes;
 #[cfg(test)]
 mod changes;
 #[cfg(test)]
+mod cut_refutations;
+#[cfg(test)]
 mod drawn_problems;
 #[cfg(test)]
 mod edited_files;

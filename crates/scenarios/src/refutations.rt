@@ -41,7 +41,7 @@ fn conflict_of(alloc: Global, told: &str) -> Result<Seq<Choice>, Fail> {
 }
 
 /// The conflicts between slashes; none for the empty text.
-fn refutation_of(alloc: Global, told: &str) -> Result<Refutation, Fail> {
+pub(crate) fn refutation_of(alloc: Global, told: &str) -> Result<Refutation, Fail> {
     let mut conflicts = Vec::new(alloc);
     if told.is_empty() {
         return Ok(Refutation::new(Seq::from_vec(conflicts)));

@@ -159,6 +159,23 @@ fn follows_an_extra_and_a_cycle(rt: HostRuntime) -> Result<(), Fail> {
     Ok(())
 }
 
+// b 1 (a<2, c>=2); a 2, a 1; c 1: the line b
+pub(crate) fn passed_over(alloc: Global) -> Result<Option<Table>, AllocError> {
+    let asked = requirements(
+        alloc,
+        &[
+            (1, &[], &[true]),
+            (0, &[], &[false, true]),
+            (2, &[], &[false]),
+        ],
+    )?;
+    let nodes = numbers(alloc, &[0, 1, 2])?;
+    let candidates = lists(alloc, &[&[0, 1], &[0], &[0]])?;
+    let wants = deep_lists(alloc, &[&[&[], &[]], &[&[1, 2]], &[&[]]])?;
+    let lines = numbers(alloc, &[0])?;
+    Ok(Table::new(nodes, asked, candidates, wants, lines))
+}
+
 // 40 names with two releases each, which nothing ties together, and behind them y and z: y 1 wants
 // z>=2, and there is only z 1. The lines ask for the 40, and for what is given besides. Where
 // `first_wants_y`, so does the newest release of the first name.
