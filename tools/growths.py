@@ -1,13 +1,14 @@
 #!/usr/bin/env python3
 """Run a program again and again, each time with another growth of its memory refused, and show how it ends.
 
-usage: tools/growths.py [--folder FOLDER] [--input FILE] [--mark TEXT] COMMAND..
+usage: tools/growths.py [--folder FOLDER] [--input FILE] [--mark TEXT] [--end TEXT] COMMAND..
 
 In run N the Nth growth is refused (malloc, calloc, realloc to more), and no other, for
 N = 1, 2, .. until a run meets none. Each run is in a fresh copy of FOLDER. What a run
 shows is its status, its standard output and standard error, and the files that it
 leaves; runs in turn that show the same are told together, and the last one is that
-which meets none. The count begins where main does, or behind the write of TEXT.
+which meets none. The count begins where main does, or behind the write of the mark; at
+the write of the end it stops, until the mark is written again.
 
 It needs a C compiler (`cc`, or the one that CC names) and glibc: refuse_growth.c beside
 it is preloaded. The status is 0; or 1 where a run doesn't end in time; or 2 where the
@@ -62,10 +63,11 @@ def files_in(folder):
     return {str(path.relative_to(folder)): path.read_bytes() for path in paths}
 
 
-def run_once(command, library, number, data=b"", mark=None, folder=None, seconds=60):
+def run_once(command, library, number, data=b"", mark=None, end=None, folder=None, seconds=60):
     """Runs a command with one growth refused, in a copy of a folder."""
     variables = {**os.environ, "LD_PRELOAD": str(library), "REFUSE_GROWTH": str(number)}
     variables |= {} if mark is None else {"REFUSE_GROWTH_MARK": mark}
+    variables |= {} if end is None else {"REFUSE_GROWTH_END": end}
     with tempfile.TemporaryDirectory() as scratch, tempfile.TemporaryFile() as report:
         place = Path(scratch) / "run"
         if folder is None:
@@ -139,6 +141,7 @@ def request_of(arguments):
     parser.add_argument("--folder", metavar="FOLDER", help="the folder of which each run gets a copy to run in")
     parser.add_argument("--input", metavar="FILE", help="the file that each run reads as its standard input")
     parser.add_argument("--mark", metavar="TEXT", help="count the growths behind the write of TEXT alone")
+    parser.add_argument("--end", metavar="TEXT", help="and none behind the write of TEXT, until the mark comes again")
     parser.add_argument("command", metavar="COMMAND", nargs=argparse.REMAINDER, help="the program and its words")
     options = parser.parse_args(arguments)
     if not options.command:
@@ -156,7 +159,7 @@ def main(arguments):
     try:
         data = Path(options.input).read_bytes() if options.input else b""
         with tempfile.TemporaryDirectory() as folder:
-            all_runs = runs(command, compiled(folder), data=data, mark=options.mark, folder=options.folder)
+            all_runs = runs(command, compiled(folder), data=data, mark=options.mark, end=options.end, folder=options.folder)
             return 0 if show(all_runs) else 1
     except (OSError, subprocess.CalledProcessError) as fault:
         print(f"growths.py: {fault}", file=sys.stderr)

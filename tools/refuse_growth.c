@@ -5,6 +5,7 @@
    REFUSE_GROWTH_REPORT  the descriptor on which the refusal is told, in one line: "malloc 64"; and where the program ends by
                          exit, the count of all growths, in another: "growths 121"
    REFUSE_GROWTH_MARK    counting begins behind a write whose bytes begin with this text; without it, where main begins
+   REFUSE_GROWTH_END     counting stops at a write whose bytes begin with this text, and goes on behind the next mark
 
    A growth is a malloc, a calloc, a realloc to more than the block holds, or one of their aligned kin. The program finds
    none of these variables, and no process that it starts is counted. Writes by stdio go past `write`, so a program that
@@ -31,7 +32,7 @@ typedef int start_function(main_function *, int, char **, void (*)(void), void (
 static main_function *program;
 static long refused_growth;
 static int report = -1;
-static char mark[256];
+static char mark[256], end[256];
 static atomic_int is_counting;
 static atomic_long growths;
 
@@ -74,10 +75,16 @@ int posix_memalign(void **block, size_t alignment, size_t size) {
     return 0;
 }
 
+static int begins_with(const void *bytes, size_t count, const char *text) {
+    size_t length = strlen(text);
+    return length > 0 && count >= length && memcmp(bytes, text, length) == 0;
+}
+
 ssize_t write(int descriptor, const void *bytes, size_t count) {
+    if (begins_with(bytes, count, end))
+        atomic_store(&is_counting, 0);
     ssize_t written = syscall(SYS_write, descriptor, bytes, count);
-    size_t length = strlen(mark);
-    if (length > 0 && count >= length && memcmp(bytes, mark, length) == 0)
+    if (begins_with(bytes, count, mark))
         atomic_store(&is_counting, 1);
     return written;
 }
@@ -93,11 +100,14 @@ static int counted_main(int count, char **words, char **variables) {
     const char *number = take_variable("REFUSE_GROWTH");
     const char *descriptor = take_variable("REFUSE_GROWTH_REPORT");
     const char *text = take_variable("REFUSE_GROWTH_MARK");
+    const char *last = take_variable("REFUSE_GROWTH_END");
     unsetenv("LD_PRELOAD");
     refused_growth = number == NULL ? 0 : atol(number);
     report = descriptor == NULL ? -1 : atoi(descriptor);
     if (text != NULL)
         snprintf(mark, sizeof mark, "%s", text);
+    if (last != NULL)
+        snprintf(end, sizeof end, "%s", last);
     atomic_store(&is_counting, text == NULL);
     return program(count, words, variables);
 }

@@ -87,6 +87,10 @@ class Growths(unittest.TestCase):
         [only] = growths.runs([self.program], self.library, mark="never")
         self.assertEqual((only.refused, only.output), (None, b"begin\n"))
 
+    def test_stops_counting_at_the_end(self):
+        found = list(growths.runs([self.program], self.library, mark="begin\n", end="calloc\n"))
+        self.assertEqual([run.growths for run in found], [1, 4, 4, 4, 4])
+
     def test_runs_in_a_copy_of_the_folder(self):
         folder = self.folder / "files"
         folder.mkdir()
