@@ -66,6 +66,52 @@ class Program(unittest.TestCase):
         return {path.name: path.read_bytes() for path in sorted(self.folder.iterdir())}
 
 
+class Help(Program):
+    """What the program tells of its own words."""
+
+    SUBCOMMANDS = {
+        "init": "Lock the file and begin a new history",
+        "add": "Put a line behind the others",
+        "remove": "Take the line of a name out",
+        "constrain": "Put other specifiers in the line of a name",
+        "upgrade": "Lock again without the locked versions of these names",
+        "relock": "Lock again over the index at hand; versions stay where they can",
+        "undo": "Go back to the state before the last edit",
+        "redo": "Go on to the state that an undo left",
+        "batch": "Do the commands of standard input, and save at its end",
+        "try": "Do the commands of standard input on a new history; save nothing",
+        "show": "Print the lock as a table, with what asks for each entry",
+        "log": "Print the history, a line for each edit",
+        "check": "Tell whether the three files belong together; change nothing",
+        "skipped": "Print which releases of the index are left out, and why",
+        "why": "Print a proof that nothing can be locked with this line, where that is so",
+    }
+    OPTIONS = {"--dir": "<DIR>", "--index": "<FILE>", "--env": "<FILE>"}
+
+    def test_help_names_each_subcommand_and_each_option(self):
+        status, told = self.call("--help")
+        self.assertEqual(status, 0)
+        lines = [line.split() for line in told.splitlines()]
+        for name, about in self.SUBCOMMANDS.items():
+            with self.subTest(name=name):
+                self.assertIn([name, *about.split()], lines)
+        for option, value in self.OPTIONS.items():
+            with self.subTest(option=option):
+                self.assertIn([option, value], [line[:2] for line in lines])
+
+    def test_a_subcommand_tells_what_it_does(self):
+        for name, about in self.SUBCOMMANDS.items():
+            with self.subTest(name=name):
+                status, told = self.call(name, "--help")
+                self.assertEqual((status, told.splitlines()[0]), (0, about))
+                self.assertIn(f"\nUsage: reqlock {name}", told)
+
+    def test_the_version_stands_behind_the_name(self):
+        status, told = self.call("--version")
+        self.assertEqual(status, 0)
+        self.assertRegex(told, r"\Areqlock [0-9]+\.[0-9]+\.[0-9]+\n\Z")
+
+
 class Day(Program):
     """A day of work: thirty commands, then back to the start and on to the end."""
 
