@@ -19,12 +19,12 @@ use Rattle.journal.specs.Commands.{Asked, Editing, Undoing, Redoing}
 use Rattle.journal.specs.Steps.{Run, Step}
 use Rattle.reqlock.specs.declared.command_line.Item.{Item}
 use Rattle.reqlock.specs.declared.command_line.Item.TheVariants.{Edit, Undo, Redo, BadCommand}
-use Rattle.reqlock.specs.CommandLine.{Line, item_of, ended_item_of, commands_of, ended_commands_of, lines_of, IsUnbroken, IsEdit}
+use Rattle.reqlock.specs.CommandLine.{Line, item_of, ended_item_of, commands_of, ended_commands_of, input_lines_of, IsUnbroken, IsEdit}
 use Rattle.reqlock.specs.Replies.{text_of_reply, reply_text, is_accepted}
 use Rattle.reqlock.specs.declared.batch.BatchFault.{BatchFault}
 use Rattle.reqlock.specs.declared.batch.BatchFault.TheVariants.{Write, OutOfMemory}
 use Rattle.reqlock.specs.Runs.{asked_in, replies_of, Replied, Answered, AnsweredWith, IsCutOff, BreaksOff, EndsAt, EndsInReading, EndsInWriting}
-use Rattle.reqlock.specs.Standings.{Standing, Advances, Answers, ReadsOf, Reads, Breaks}
+use Rattle.reqlock.specs.Standings.{Standing, Advances, AnswersAllBut, ReadsOf, Reads, Breaks}
 use Rattle.reqlock.proofs.Lines.{items_alike, ended_items_alike, items_kept, items_of_line, none_ended, commands_last, unbroken_append}
 
 -- ---- runs
@@ -191,14 +191,14 @@ breaks_append snapshot xs ys old next new after first second =
 -- ---- lines
 
 -- at the start nothing is answered
-pub answers_start : (snapshot : Snapshot) (bytes : List ℕ) (old : Standing) → Answers snapshot bytes bytes old old
+pub answers_start : (snapshot : Snapshot) (bytes : List ℕ) (old : Standing) → AnswersAllBut snapshot bytes bytes old old
 answers_start snapshot bytes old = record { done = []; advances = advances_none snapshot old; left = λ rest. refl; ended = λ rest. refl }
 
 -- a line that its LF ended
 pub answers_line : (snapshot : Snapshot) (bytes pending line behind : List ℕ) (old next new : Standing) → IsUnbroken pending → IsUnbroken line
-    → Answers snapshot bytes (pending ++ (line ++ (10 ∷ behind))) old next
+    → AnswersAllBut snapshot bytes (pending ++ (line ++ (10 ∷ behind))) old next
     → Advances snapshot (option_to_list (item_of (record { bytes = take 65537 (pending ++ line); is_ended = true }))) next new
-    → Answers snapshot bytes behind old new
+    → AnswersAllBut snapshot bytes behind old new
 answers_line snapshot bytes pending line behind old next new first second before advances =
     let item = option_to_list (item_of (record { bytes = take 65537 (pending ++ line); is_ended = true })) in
     record {
@@ -214,7 +214,7 @@ answers_line snapshot bytes pending line behind old next new first second before
 
 -- the same, where its reply was cut off
 pub breaks_in_line : (snapshot : Snapshot) (bytes pending line behind : List ℕ) (old next new : Standing) → IsUnbroken pending → IsUnbroken line
-    → Answers snapshot bytes (pending ++ (line ++ (10 ∷ behind))) old next
+    → AnswersAllBut snapshot bytes (pending ++ (line ++ (10 ∷ behind))) old next
     → BreaksOff snapshot (option_to_list (item_of (record { bytes = take 65537 (pending ++ line); is_ended = true }))) next.past new.past next.written new.written
     → Breaks snapshot bytes old new
 breaks_in_line snapshot bytes pending line behind old next new first second before breaks =
@@ -231,7 +231,7 @@ breaks_in_line snapshot bytes pending line behind old next new first second befo
 
 -- what is left of a piece is pending
 pub answers_kept : (snapshot : Snapshot) (bytes pending line : List ℕ) (old new : Standing) → IsUnbroken pending → IsUnbroken line
-    → Answers snapshot bytes (pending ++ line) old new → Answers snapshot bytes (take 65537 (pending ++ line)) old new
+    → AnswersAllBut snapshot bytes (pending ++ line) old new → AnswersAllBut snapshot bytes (take 65537 (pending ++ line)) old new
 answers_kept snapshot bytes pending line old new first second before =
     let whole = unbroken_append pending line first second in
     record {
@@ -245,16 +245,16 @@ answers_kept snapshot bytes pending line old new first second before =
 
 -- by whatever a line asks for: what was asked for in two pieces
 items_append : (h : Line → Option Item) (read piece pending after rest : List ℕ) (done more : List Item)
-    → ((rest : List ℕ) → filter_map h (lines_of (read ++ rest)) ≡ done ++ filter_map h (lines_of (pending ++ rest)))
-    → filter_map h (lines_of ((pending ++ piece) ++ rest)) ≡ more ++ filter_map h (lines_of (after ++ rest))
-    → filter_map h (lines_of ((read ++ piece) ++ rest)) ≡ (done ++ more) ++ filter_map h (lines_of (after ++ rest))
+    → ((rest : List ℕ) → filter_map h (input_lines_of (read ++ rest)) ≡ done ++ filter_map h (input_lines_of (pending ++ rest)))
+    → filter_map h (input_lines_of ((pending ++ piece) ++ rest)) ≡ more ++ filter_map h (input_lines_of (after ++ rest))
+    → filter_map h (input_lines_of ((read ++ piece) ++ rest)) ≡ (done ++ more) ++ filter_map h (input_lines_of (after ++ rest))
 items_append h read piece pending after rest done more first second =
-    ap (λ bytes. filter_map h (lines_of bytes)) (append_assoc read piece rest) ∙ first (piece ++ rest)
-    ∙ ap (λ bytes. done ++ filter_map h (lines_of bytes)) (sym (append_assoc pending piece rest)) ∙ ap (λ items. done ++ items) second
-    ∙ sym (append_assoc done more (filter_map h (lines_of (after ++ rest))))
+    ap (λ bytes. filter_map h (input_lines_of bytes)) (append_assoc read piece rest) ∙ first (piece ++ rest)
+    ∙ ap (λ bytes. done ++ filter_map h (input_lines_of bytes)) (sym (append_assoc pending piece rest)) ∙ ap (λ items. done ++ items) second
+    ∙ sym (append_assoc done more (filter_map h (input_lines_of (after ++ rest))))
 
 -- one more piece
-answers_piece : (snapshot : Snapshot) (read pending piece after : List ℕ) (old next new : Standing) → Answers snapshot read pending old next → Answers snapshot (pending ++ piece) after next new → Answers snapshot (read ++ piece) after old new
+answers_piece : (snapshot : Snapshot) (read pending piece after : List ℕ) (old next new : Standing) → AnswersAllBut snapshot read pending old next → AnswersAllBut snapshot (pending ++ piece) after next new → AnswersAllBut snapshot (read ++ piece) after old new
 answers_piece snapshot read pending piece after old next new first second =
     record {
       done = first.done ++ second.done;
@@ -265,7 +265,7 @@ answers_piece snapshot read pending piece after old next new first second =
 
 -- the same where the bytes may be unknown
 pub reads_piece : (snapshot : Snapshot) (had now then : Option (List ℕ)) (pending piece after : List ℕ) (old next new : Standing)
-    → Reads snapshot had pending now old next → Consumes now then piece → Answers snapshot (pending ++ piece) after next new → IsUnbroken after → Reads snapshot had after then old new
+    → Reads snapshot had pending now old next → Consumes now then piece → AnswersAllBut snapshot (pending ++ piece) after next new → IsUnbroken after → Reads snapshot had after then old new
 reads_piece snapshot None now then pending piece after old next new first taken second unbroken = tt
 reads_piece snapshot (Some input) None then pending piece after old next new first taken second unbroken = absurd first
 reads_piece snapshot (Some input) (Some rest) None pending piece after old next new first taken second unbroken = absurd taken

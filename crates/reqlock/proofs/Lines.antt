@@ -9,7 +9,7 @@ use Rattle.std.specs.List.{filter_map, cons_option}
 use Rattle.std.specs.Option.{option_to_list}
 use Rattle.reqlock.specs.declared.command_line.Item.{Item}
 use Rattle.reqlock.specs.declared.command_line.Item.TheVariants.{BadCommand}
-use Rattle.reqlock.specs.CommandLine.{Line, with_first, lines_of, longest_line, item_of, ended_item_of, IsUnbroken, commands_of, ended_commands_of}
+use Rattle.reqlock.specs.CommandLine.{Line, with_first, input_lines_of, longest_line, item_of, ended_item_of, IsUnbroken, commands_of, ended_commands_of}
 
 -- what fits behind a line of at most n bytes
 pub take_room : (n : ℕ) (xs ys : List ℕ) → length xs ≤ n → take n (xs ++ ys) ≡ xs ++ take (n - length xs) ys
@@ -35,7 +35,7 @@ abbrev pub with_front : List ℕ → List Line → List Line
 with_front [] lines = lines
 with_front (b ∷ bs) lines = with_first b (with_front bs lines)
 
-pub lines_behind : (line rest : List ℕ) → IsUnbroken line → lines_of (line ++ rest) ≡ with_front line (lines_of rest)
+pub lines_behind : (line rest : List ℕ) → IsUnbroken line → input_lines_of (line ++ rest) ≡ with_front line (input_lines_of rest)
 lines_behind [] rest unbroken = refl
 lines_behind (b ∷ bs) rest unbroken = rw unbroken.0 (ap (with_first b) (lines_behind bs rest unbroken.1))
 
@@ -61,16 +61,16 @@ append_nil [] = refl
 append_nil (x ∷ xs) = ap (λ ys. x ∷ ys) (append_nil xs)
 
 -- a line with its LF, and the rest, by whatever a line asks for
-items_ended : (h : Line → Option Item) (line rest : List ℕ) → IsUnbroken line → filter_map h (lines_of ((line ++ 10 ∷ []) ++ rest)) ≡ option_to_list (h (record { bytes = line; is_ended = true })) ++ filter_map h (lines_of rest)
+items_ended : (h : Line → Option Item) (line rest : List ℕ) → IsUnbroken line → filter_map h (input_lines_of ((line ++ 10 ∷ []) ++ rest)) ≡ option_to_list (h (record { bytes = line; is_ended = true })) ++ filter_map h (input_lines_of rest)
 items_ended h line rest unbroken =
-    let whole : lines_of ((line ++ 10 ∷ []) ++ rest) ≡ record { bytes = line; is_ended = true } ∷ lines_of rest =
-    ap lines_of (append_assoc line (10 ∷ []) rest) ∙ lines_behind line (10 ∷ rest) unbroken ∙ with_front_cons line (record { bytes = []; is_ended = true }) (lines_of rest)
-    ∙ ap (λ bytes. record { bytes = bytes; is_ended = true } ∷ lines_of rest) (append_nil line) in
-    ap (filter_map h) whole ∙ cons_is_append (h (record { bytes = line; is_ended = true })) (filter_map h (lines_of rest))
+    let whole : input_lines_of ((line ++ 10 ∷ []) ++ rest) ≡ record { bytes = line; is_ended = true } ∷ input_lines_of rest =
+    ap input_lines_of (append_assoc line (10 ∷ []) rest) ∙ lines_behind line (10 ∷ rest) unbroken ∙ with_front_cons line (record { bytes = []; is_ended = true }) (input_lines_of rest)
+    ∙ ap (λ bytes. record { bytes = bytes; is_ended = true } ∷ input_lines_of rest) (append_nil line) in
+    ap (filter_map h) whole ∙ cons_is_append (h (record { bytes = line; is_ended = true })) (filter_map h (input_lines_of rest))
 
 -- a text without LF is one line
-one_line : (b : ℕ) (bs : List ℕ) → IsUnbroken (b ∷ bs) → lines_of (b ∷ bs) ≡ record { bytes = b ∷ bs; is_ended = false } ∷ []
-one_line b bs unbroken = ap lines_of (sym (append_nil (b ∷ bs))) ∙ lines_behind (b ∷ bs) [] unbroken ∙ with_front_nil b bs
+one_line : (b : ℕ) (bs : List ℕ) → IsUnbroken (b ∷ bs) → input_lines_of (b ∷ bs) ≡ record { bytes = b ∷ bs; is_ended = false } ∷ []
+one_line b bs unbroken = ap input_lines_of (sym (append_nil (b ∷ bs))) ∙ lines_behind (b ∷ bs) [] unbroken ∙ with_front_nil b bs
 
 -- a last line without LF
 pub commands_last : (line : List ℕ) → IsUnbroken line → 0 < length line → commands_of line ≡ option_to_list (item_of (record { bytes = line; is_ended = false }))
@@ -112,29 +112,29 @@ long_items h (b ∷ bs) (c ∷ cs) (line ∷ lines) same first second =
     ∙ sym (ap (filter_map h) (with_front_cons (c ∷ cs) line lines))
 
 -- of a line that is too long the bytes past the limit don't matter
-pub items_kept : (h : Line → Option Item) (line rest : List ℕ) → AsksAlike h → IsUnbroken line → filter_map h (lines_of (take 65537 line ++ rest)) ≡ filter_map h (lines_of (line ++ rest))
+pub items_kept : (h : Line → Option Item) (line rest : List ℕ) → AsksAlike h → IsUnbroken line → filter_map h (input_lines_of (take 65537 line ++ rest)) ≡ filter_map h (input_lines_of (line ++ rest))
 items_kept h line rest same unbroken =
     elim (cases_Bool (nat_lt 65537 (length line))) [
       | inl is ↦
           let above : 65537 < length line = ltb-true _ _ is in
           let held : longest_line < length (take 65537 line) = rw length-take (omega arith) in
           ap (filter_map h) (lines_behind (take 65537 line) rest (unbroken_take 65537 line unbroken))
-          ∙ long_items h (take 65537 line) line (lines_of rest) same held (omega arith)
+          ∙ long_items h (take 65537 line) line (input_lines_of rest) same held (omega arith)
           ∙ sym (ap (filter_map h) (lines_behind line rest unbroken))
-      | inr is ↦ ap (λ front. filter_map h (lines_of (front ++ rest))) (take_all 65537 line (ltb-false _ _ is))
+      | inr is ↦ ap (λ front. filter_map h (input_lines_of (front ++ rest))) (take_all 65537 line (ltb-false _ _ is))
     ]
 
 -- a pending line that its LF ends is one line more, of which no more than the limit is held
 pub items_of_line : (h : Line → Option Item) (pending line behind rest : List ℕ) → AsksAlike h → IsUnbroken pending → IsUnbroken line
-    → filter_map h (lines_of ((pending ++ (line ++ (10 ∷ behind))) ++ rest)) ≡ option_to_list (h (record { bytes = take 65537 (pending ++ line); is_ended = true })) ++ filter_map h (lines_of (behind ++ rest))
+    → filter_map h (input_lines_of ((pending ++ (line ++ (10 ∷ behind))) ++ rest)) ≡ option_to_list (h (record { bytes = take 65537 (pending ++ line); is_ended = true })) ++ filter_map h (input_lines_of (behind ++ rest))
 items_of_line h pending line behind rest same first second =
     let whole = unbroken_append pending line first second in
     let held = take 65537 (pending ++ line) in
     let regrouped : (pending ++ (line ++ (10 ∷ behind))) ++ rest ≡ (pending ++ line) ++ (10 ∷ (behind ++ rest)) = simp append_assoc in
     let ended : held ++ (10 ∷ (behind ++ rest)) ≡ (held ++ 10 ∷ []) ++ (behind ++ rest) = simp append_assoc in
-    ap (λ bytes. filter_map h (lines_of bytes)) regrouped
+    ap (λ bytes. filter_map h (input_lines_of bytes)) regrouped
     ∙ sym (items_kept h (pending ++ line) (10 ∷ (behind ++ rest)) same whole)
-    ∙ ap (λ bytes. filter_map h (lines_of bytes)) ended
+    ∙ ap (λ bytes. filter_map h (input_lines_of bytes)) ended
     ∙ items_ended h held (behind ++ rest) (unbroken_take 65537 (pending ++ line) whole)
 
 -- a line that no LF has ended asks for nothing yet

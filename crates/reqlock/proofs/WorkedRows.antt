@@ -1,24 +1,25 @@
 -- Worked values of the definitions.
 use Rattle.std.proofs.Common.{◌≡◌, List, [], ◌∷◌, Option, None, Some, ℕ, map, refl, codes}
+use Rattle.lists.specs.Spaces.{trim_start}
 use Rattle.edits.specs.declared.refusal.Refusal.TheVariants.{NothingToUndo, AlreadyPresent}
 use Rattle.edits.specs.declared.request.Edit.TheVariants.{Add, Constrain, Relock, Remove, Upgrade, UpgradeAll}
 use Rattle.journal.specs.declared.commands.Reply.TheVariants.{Same, Refused}
 use Rattle.reqlock.specs.declared.command_line.Item.{Item}
 use Rattle.reqlock.specs.declared.command_line.Item.TheVariants.{BadCommand, Edit, Redo, Undo}
-use Rattle.reqlock.specs.CommandLine.{asked_by, lines_of, text_of, trimmed}
+use Rattle.reqlock.specs.CommandLine.{asked_by, input_lines_of, text_of}
 use Rattle.reqlock.specs.Replies.{reply_text}
 
 -- a CR before an LF is dropped, and a last line counts
-texts_row : map text_of (lines_of (codes " undo\t\r\n\r\n\t\nredo x\nredo")) ≡ codes " undo\t" ∷ [] ∷ codes "\t" ∷ codes "redo x" ∷ codes "redo" ∷ []
+texts_row : map text_of (input_lines_of (codes " undo\t\r\n\r\n\t\nredo x\nredo")) ≡ codes " undo\t" ∷ [] ∷ codes "\t" ∷ codes "redo x" ∷ codes "redo" ∷ []
 texts_row = refl
 
 -- a CR at the end of the input stands
-cr_row : map text_of (lines_of (codes "undo\r")) ≡ codes "undo\r" ∷ []
+cr_row : map text_of (input_lines_of (codes "undo\r")) ≡ codes "undo\r" ∷ []
 cr_row = refl
 
 -- what texts ask for
 asked : List (List ℕ) → List (Option Item)
-asked texts = map (λ text. asked_by (trimmed text)) texts
+asked texts = map (λ text. asked_by (trim_start text)) texts
 
 -- blank texts ask for nothing, and an addition has a text
 commands_row : asked (codes " undo\t" ∷ codes "\t" ∷ codes "redo x" ∷ codes "redo" ∷ codes "undo\r" ∷ codes "add \t " ∷ codes "add" ∷ [])

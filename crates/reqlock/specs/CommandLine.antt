@@ -1,7 +1,8 @@
 -- The lines of a batch, and what each asks for. All of it is reqlock's own rule.
-use Rattle.std.specs.Prelude.{ℕ, Bool, true, false, ◌≡◌, ◌==◌, ◌||◌, ◌-◌, nat_lt, not, if◌then◌else◌, List, [], ◌∷◌, Option, Some, None, length, slice_index, take, drop, filter, codes}
-use Rattle.std.specs.List.{filter_map, before_first, position_or_len, slice_split, suffix_len}
+use Rattle.std.specs.Prelude.{ℕ, Bool, true, false, ◌≡◌, ◌==◌, ◌-◌, nat_lt, not, if◌then◌else◌, List, [], ◌∷◌, Option, Some, None, length, slice_index, take, drop, filter, codes}
+use Rattle.std.specs.List.{filter_map, before_first, position_or_len, slice_split}
 use Rattle.std.specs.Str.{is_utf8, bytes_eq}
+use Rattle.lists.specs.Spaces.{is_space_or_tab, trim_end, trim_start}
 use Rattle.edits.specs.declared.request.Edit.{Edit as EditValue}
 use Rattle.edits.specs.declared.request.Edit.TheVariants.{Add, Constrain, Relock, Remove, Upgrade, UpgradeAll}
 use Rattle.reqlock.specs.declared.command_line.Item.{Item}
@@ -18,9 +19,9 @@ with_first b [] = record { bytes = b ∷ []; is_ended = false } ∷ []
 with_first b (line ∷ lines) = record { bytes = b ∷ line.bytes; is_ended = line.is_ended } ∷ lines
 
 -- an input is cut behind each LF, and a rest without an LF is a last line
-abbrev pub lines_of : List ℕ → List Line
-lines_of [] = []
-lines_of (b ∷ bs) = if b == 10 then record { bytes = []; is_ended = true } ∷ lines_of bs else with_first b (lines_of bs)
+abbrev pub input_lines_of : List ℕ → List Line
+input_lines_of [] = []
+input_lines_of (b ∷ bs) = if b == 10 then record { bytes = []; is_ended = true } ∷ input_lines_of bs else with_first b (input_lines_of bs)
 
 -- the most bytes of a line that is read, its CR counted and its LF not
 abbrev pub longest_line : ℕ
@@ -34,33 +35,20 @@ without_cr bytes = if slice_index bytes (length bytes - 1) == 13 then take (leng
 abbrev pub text_of : Line → List ℕ
 text_of line = if line.is_ended then without_cr line.bytes else line.bytes
 
--- a space or a tab
-abbrev pub is_space : ℕ → Bool
-is_space b = b == 32 || b == 9
-
--- a text without the spaces and tabs at its start
-abbrev pub trimmed : List ℕ → List ℕ
-trimmed [] = []
-trimmed (b ∷ bs) = if is_space b then trimmed bs else b ∷ bs
-
 -- what stands from the first element that passes on, or nothing where none does
 abbrev pub from_first : (ℕ → Bool) → List ℕ → List ℕ
 from_first test text = drop (position_or_len test text) text
 
--- a text without the spaces and tabs at its end
-abbrev pub trimmed_end : List ℕ → List ℕ
-trimmed_end text = take (length text - suffix_len is_space text) text
-
 -- the first word of a text, up to a space or a tab, and what stands behind the space that follows it
 abbrev pub first_word : List ℕ → List ℕ
-first_word text = before_first is_space text
+first_word text = before_first is_space_or_tab text
 
 abbrev pub behind_word : List ℕ → List ℕ
-behind_word text = trimmed (from_first is_space text)
+behind_word text = trim_start (from_first is_space_or_tab text)
 
 -- the words of a text: what stands between spaces and tabs
 abbrev pub words_of : List ℕ → List (List ℕ)
-words_of text = filter (λ word. not (length word == 0)) (slice_split is_space text)
+words_of text = filter (λ word. not (length word == 0)) (slice_split is_space_or_tab text)
 
 -- an edit that takes a text: it is not empty
 abbrev pub taking : (List ℕ → EditValue) → List ℕ → Item
@@ -73,7 +61,7 @@ addition_of rest = taking Add rest
 
 -- the name that is to be removed
 abbrev pub removal_of : List ℕ → Item
-removal_of rest = taking (λ text. Remove (trimmed_end text)) rest
+removal_of rest = taking (λ text. Remove (trim_end text)) rest
 
 -- a name and its specifiers, which may be missing
 abbrev pub constraint_of : List ℕ → Item
@@ -108,7 +96,7 @@ asked_by (b ∷ bs) = Some (command_of (first_word (b ∷ bs)) (behind_word (b �
 
 -- what the text of a line asks for: one that isn't UTF-8 is a bad command
 abbrev pub asked_by_text : List ℕ → Option Item
-asked_by_text text = if is_utf8 text then asked_by (trimmed text) else Some BadCommand
+asked_by_text text = if is_utf8 text then asked_by (trim_start text) else Some BadCommand
 
 -- what a line asks for: a line that is too long is a bad command, whatever it holds
 abbrev pub item_of : Line → Option Item
@@ -129,7 +117,7 @@ IsUnbroken (b ∷ bs) = ((b == 10) ≡ false) × IsUnbroken bs
 
 -- the commands of an input, one for each line that isn't blank
 abbrev pub commands_of : List ℕ → List Item
-commands_of input = filter_map item_of (lines_of input)
+commands_of input = filter_map item_of (input_lines_of input)
 
 -- what a line asks for that an LF ended: any other has not been read to its end
 abbrev pub ended_item_of : Line → Option Item
@@ -137,4 +125,4 @@ ended_item_of line = if line.is_ended then item_of line else None
 
 -- the commands of an input whose lines an LF ended
 abbrev pub ended_commands_of : List ℕ → List Item
-ended_commands_of input = filter_map ended_item_of (lines_of input)
+ended_commands_of input = filter_map ended_item_of (input_lines_of input)

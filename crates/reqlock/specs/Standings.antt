@@ -25,7 +25,7 @@ Advances snapshot items old new =
     (replies : List Reply) × Replied snapshot items replies old.past new.past × Appends old.written new.written (reply_text replies) × (new.has_accepted ≡ (old.has_accepted || list_any is_accepted replies))
 
 -- of `bytes` so many commands were answered that those left are the ones of `back` and what follows
-pub record Answers (snapshot : Snapshot) (bytes back : List ℕ) (old new : Standing) : Type 0 where
+pub record AnswersAllBut (snapshot : Snapshot) (bytes back : List ℕ) (old new : Standing) : Type 0 where
   pub done : List Item
   pub advances : Advances snapshot done old new
   pub left : (rest : List ℕ) → commands_of (bytes ++ rest) ≡ done ++ commands_of (back ++ rest)
@@ -36,7 +36,7 @@ pub record ReadsOf (snapshot : Snapshot) (input pending rest : List ℕ) (old ne
   pub read : List ℕ
   pub input_is : input ≡ read ++ rest
   pub unbroken : IsUnbroken pending
-  pub answers : Answers snapshot read pending old new
+  pub answers : AnswersAllBut snapshot read pending old new
 
 -- the same of a source whose bytes may be unknown
 abbrev pub Reads : Snapshot → Option (List ℕ) → List ℕ → Option (List ℕ) → Standing → Standing → Type 0

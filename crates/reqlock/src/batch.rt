@@ -7,7 +7,7 @@ ghost use Rattle.reqlock.specs.CommandLine.{commands_of, item_of, IsUnbroken};
 ghost use Rattle.reqlock.specs.Faults.{IsFailure};
 ghost use Rattle.reqlock.specs.Replies.{is_accepted, text_of_reply};
 ghost use Rattle.reqlock.specs.Runs.{Answered, AnsweredWith, BreaksOff, EndsAt, IsCutOff, Replied};
-ghost use Rattle.reqlock.specs.Standings.{Advances, Answers, Breaks, Reads, standing};
+ghost use Rattle.reqlock.specs.Standings.{Advances, AnswersAllBut, Breaks, Reads, standing};
 ghost use Rattle.reqlock.specs.declared.batch.BatchFault.TheVariants.{OutOfMemory};
 
 use crate::command_line::{Item, read_item};
@@ -238,7 +238,7 @@ fn answer_piece<K: Sink>(
     session: &mut Session,
     snapshot: &Snapshot,
 ) -> Result<(), BatchFault>
-    ensures answers { OnOk result (Answers snapshot.now (pending.old ++ piece.now) pending.new
+    ensures answers { OnOk result (AnswersAllBut snapshot.now (pending.old ++ piece.now) pending.new
         (standing session.old (K.contents sink.old) text.old)
         (standing session.new (K.contents sink.new) text.new)) }
     ensures unbroken { OnOk result (IsUnbroken pending.new) }

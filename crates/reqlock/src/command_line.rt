@@ -3,9 +3,9 @@
 ghost use Rattle.std.specs.Prelude.{◌≡◌, IfOk, OnErr, Some};
 ghost use Rattle.reqlock.specs.CommandLine.{IsEdit, addition_of, asked_by, asked_by_text, command_of, constraint_of, item_of, plain, removal_of, text_of, upgrade_of, words_of};
 
-use crate::words::{cut_word, trim_end, trim_start};
+use crate::words::cut_word;
 use edits::Edit;
-use lists::{Seq, Text};
+use lists::{Seq, Text, trim_end, trim_start};
 use std::alloc::{AllocError, Global};
 use std::str;
 

@@ -1,5 +1,6 @@
 use Rattle.std.proofs.Common.{◌<◌, ◌∙◌, ◌++◌, ℕ, List, append_assoc, ap, length, sym}
-use Rattle.reqlock.specs.CommandLine.{from_first, is_space}
+use Rattle.lists.specs.Spaces.{is_space_or_tab}
+use Rattle.reqlock.specs.CommandLine.{from_first}
 use Rattle.reqlock.proofs.Texts.{behind-shorter, some-bytes, trimmed-again, words_of-first, words_of-trimmed}
 use Rattle.reqlock.proofs.command_line.words_of.Goals as goal
 
@@ -27,5 +28,5 @@ loop-rest-preserved c =
       words = rw (c.in_ok-push.ensures.items, c.in_ok-copy_of.ensures, c.cut_word.ensures.word, c.cut_word.ensures.behind, append_assoc)
           (ap (λ (ws : List (List ℕ)). c.loop-rest.words.items ++ ws) (sym (words_of-first rest some c.loop-rest.invariant.bare)) ∙ c.loop-rest.invariant.words);
       text = c.cut_word.ensures.text;
-      bare = rw c.cut_word.ensures.behind (trimmed-again (from_first is_space rest));
+      bare = rw c.cut_word.ensures.behind (trimmed-again (from_first is_space_or_tab rest));
     }
