@@ -68,7 +68,8 @@ impl ReplyText {
     /// Makes it the text of this reply. It has no refusal.
     pub fn set(&mut self, reply: &Reply)
         ensures text { self.new.text ≡ text_of_reply reply.now }
-        ensures accepted { self.new.has_accepted ≡ (self.old.has_accepted || is_accepted reply.now) }
+        ensures accepted { self.new.has_accepted
+            ≡ (self.old.has_accepted || is_accepted reply.now) }
     {
         self.has_accepted = self.has_accepted || is_done(reply);
         self.bytes.clear();

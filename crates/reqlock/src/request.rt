@@ -127,9 +127,11 @@ fn read_subcommand<'a>(
     given: &ArgMatches<'a>,
     options: Options<'a>,
 ) -> Result<Subcommand<'a>, RequestFault>
-    ensures asked { IfOk result (IsAsked (text_of options.entry.index) (text_of options.entry.environment)
+    ensures asked { IfOk result (IsAsked
+        (text_of options.entry.index) (text_of options.entry.environment)
         name.now (rows_of (found_of given.now))) }
-    ensures fault { IfErr result (IsLacking (text_of options.entry.index) (text_of options.entry.environment)
+    ensures fault { IfErr result (IsLacking
+        (text_of options.entry.index) (text_of options.entry.environment)
         name.now (rows_of (found_of given.now))) }
 {
     if let Some(edit) = read_edit(alloc, name, given)? {
@@ -219,7 +221,8 @@ fn read_constraint(
     specifiers: Option<&str>,
 ) -> Result<Option<Edit>, AllocError>
     ensures edit { IfOk result (λ edit.
-        edit ≡ option_map (λ n. Constrain n (unwrap_or (text_of specifiers.entry) [])) (text_of name.entry)) }
+        edit ≡ option_map (λ n. Constrain n (unwrap_or (text_of specifiers.entry) []))
+        (text_of name.entry)) }
 {
     let Some(name) = name else {
         return Ok(None);
