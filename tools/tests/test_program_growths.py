@@ -9,7 +9,8 @@ import tempfile
 import unittest
 from pathlib import Path
 
-from test_journals import PROGRAM, knows
+from checked_files import knows
+from test_readme import PROGRAM
 from test_requirement_rules import LINUX
 
 sys.path.insert(0, str(Path(__file__).resolve().parent.parent))
