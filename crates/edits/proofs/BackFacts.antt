@@ -1,7 +1,7 @@
 -- The splices that lead back.
-use Rattle.std.proofs.Common.{◌≡◌, ◌≢◌, ◌+◌, ◌-◌, ◌≤◌, ◌<◌, ◌^◌, ℕ, List, [], ◌∷◌, ◌++◌, length, refl, sym, ap, subst, arith}
+use Rattle.std.proofs.Common.{◌≡◌, ◌+◌, ◌-◌, ◌≤◌, ℕ, List, [], ◌∷◌, length, refl, sym, subst, arith}
 use Rattle.std.specs.List.{AllByRecursion}
-use Rattle.edits.specs.Changes.{AreSplices, AtSplice, IsExchange, PlacesFit, RiseFrom, Splices, back}
+use Rattle.edits.specs.Changes.{AreSplices, IsExchange, PlacesFit, RiseFrom, Splices, back}
 use Rattle.edits.specs.declared.change.parts.Splice.{Splice}
 
 -- where splices lead from old lines to new ones, those back lead from the new lines to the old ones

@@ -1,9 +1,9 @@
 -- The change back, and the change back from it.
-use Rattle.std.proofs.Common.{◌≡◌, ◌≢◌, ◌∙◌, ◌≤◌, ℕ, List, [], ◌∷◌, Contains, Option, Some, None, IfSome, map, option_map, true, refl, sym, ap, subst, arith}
+use Rattle.std.proofs.Common.{◌≡◌, ◌≢◌, ◌∙◌, ◌≤◌, ℕ, List, [], ◌∷◌, Contains, Option, Some, None, IfSome, map, option_map, refl, sym, ap, arith}
 use Rattle.std.specs.List.{AllByRecursion}
 use Rattle.pylock.specs.Order.{rises}
 use Rattle.pylock.specs.Packages.{EntryParts}
-use Rattle.edits.specs.Changes.{After, AreEntryChanges, AreSplices, ChangeParts, ChangesDigest, ChangesEntries, ChangesLock, IsEntryChange, IsMinimal, IsOn, back, digest_back, entry_back, inverse}
+use Rattle.edits.specs.Changes.{After, AreSplices, ChangeParts, ChangesDigest, ChangesEntries, IsEntryChange, IsMinimal, back, digest_back, entry_back, inverse}
 use Rattle.edits.specs.StateParts.{StateParts}
 use Rattle.edits.specs.declared.change.parts.DigestChange.{DigestChange}
 use Rattle.edits.specs.declared.change.parts.EntryChange.{EntryChange}

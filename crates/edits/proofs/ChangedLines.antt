@@ -1,5 +1,5 @@
 -- Lines of which one is left out, or gets other specifiers.
-use Rattle.std.proofs.Common.{◌≡◌, ◌⊎◌, ℕ, Bool, true, false, List, Contains, Option, Some, None, Result, Ok, Err, filter, map, refl, inl, inr}
+use Rattle.std.proofs.Common.{◌≡◌, ◌⊎◌, ℕ, true, List, Contains, Option, Some, None, Result, Ok, Err, map, refl, inl, inr}
 use Rattle.std.proofs.lemmas.Bool.{cases_Bool}
 use Rattle.markers.specs.declared.fault.Cause.{Cause}
 use Rattle.pep508.specs.Lines.{AreLines}

@@ -1,10 +1,10 @@
 -- What an edit leads to, from the state that its lines were locked as.
-use Rattle.std.proofs.Common.{◌≡◌, ◌≢◌, ◌⊎◌, ◌∙◌, ℕ, Bool, true, false, List, Option, Some, None, Result, Ok, Err, refl, sym, ap, subst, inl, inr}
-use Rattle.std.specs.Prelude.{IsTrue, ◌↔◌}
+use Rattle.std.proofs.Common.{◌≡◌, ℕ, false, List, Some, None, Ok, Err, refl, ap, subst, inr}
+use Rattle.std.specs.Prelude.{IsTrue}
 use Rattle.pep440.specs.Version.{VersionParts}
 use Rattle.snapshot.specs.Packages.{Index}
 use Rattle.edits.specs.StateParts.{StateParts}
-use Rattle.edits.specs.Edits.{EditResult, IsLocked, IsNew, given_of, kept_pins, lines_after, refusal_of}
+use Rattle.edits.specs.Edits.{EditResult, IsLocked, IsNew, given_of, kept_pins, lines_after}
 use Rattle.edits.specs.Locking.{versions_of}
 use Rattle.edits.specs.Refused.{or_refused, refused_by_lines, refused_by_lock}
 use Rattle.edits.specs.declared.request.Edit.{Edit}

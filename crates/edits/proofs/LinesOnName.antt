@@ -1,10 +1,9 @@
 -- The refusals of an edit of the one line on a name.
-use Rattle.std.proofs.Common.{◌≡◌, ◌≢◌, inl, inr, ℕ, Bool, true, false, List, Option, Some, None, Result, Ok, Err, refl, sym, ap, if◌then◌else◌, eqb}
+use Rattle.std.proofs.Common.{◌≡◌, ◌≢◌, inl, inr, ℕ, Bool, true, false, List, Some, Ok, Err, refl, sym, ap, if◌then◌else◌, eqb}
 use Rattle.std.proofs.lemmas.Bool.{cases_Bool, eqb-true}
 use Rattle.markers.specs.Names.{is_name, normal_of}
 use Rattle.edits.specs.Naming.{count_on}
-use Rattle.edits.specs.Refused.{or_refused, refused_count, refused_name}
-use Rattle.edits.specs.declared.refusal.Refusal.{Refusal}
+use Rattle.edits.specs.Refused.{refused_count, refused_name}
 use Rattle.edits.specs.declared.refusal.Refusal.TheVariants.{Ambiguous, BadText}
 
 -- a text that was read as a name is one

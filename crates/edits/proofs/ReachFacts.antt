@@ -1,5 +1,5 @@
 -- The names that requirements lead to, as they are followed.
-use Rattle.std.proofs.Common.{◌≡◌, ◌+◌, ◌≤◌, ◌<◌, ◌⊎◌, ◌++◌, ℕ, zero, suc, List, [], ◌∷◌, Contains, Option, Some, None, length, take, get_or, map, true, refl, sym, ap, ◌∙◌, subst, inl, inr, arith, append_assoc, append-nil}
+use Rattle.std.proofs.Common.{◌≡◌, ◌+◌, ◌≤◌, ◌<◌, ◌++◌, ℕ, List, [], ◌∷◌, Contains, Option, Some, None, length, take, get_or, map, true, refl, sym, ap, ◌∙◌, subst, inl, inr, arith, append_assoc, append-nil}
 use Rattle.std.proofs.lemmas.List.{length-append, map-append, take-append-le, take_more}
 use Rattle.std.proofs.Math.Seq.{take-length}
 use Rattle.std.proofs.lemmas.List.Elements.{Contains-append_cases, Contains-append_left, Contains-append_right, Contains-get_or}
@@ -14,7 +14,7 @@ use Rattle.edits.specs.Changes.{entry_on}
 use Rattle.edits.specs.State.{Reached, by_entry, by_line}
 use Rattle.edits.specs.Tied.Deciding.{AreReached, IsGrown, needs_of}
 use Rattle.edits.proofs.EntryFacts.{entry-from, entry-there}
-use Rattle.lists.proofs.Members.{Contains-cons_cases, Contains-here, Contains-map, Contains-map_of, Contains-nil}
+use Rattle.lists.proofs.Members.{Contains-cons_cases, Contains-map, Contains-map_of, Contains-nil}
 
 -- ---- names that are put behind others
 

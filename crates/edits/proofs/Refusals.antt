@@ -1,5 +1,5 @@
 -- Refusals that calls pass on.
-use Rattle.std.proofs.Common.{◌≡◌, ◌⊎◌, ◌∙◌, ℕ, Bool, true, false, List, [], ◌∷◌, Option, Some, None, Result, Ok, Err, refl, sym, ap, inl, inr, if◌then◌else◌}
+use Rattle.std.proofs.Common.{◌≡◌, ◌⊎◌, Bool, true, false, Option, Some, None, Ok, Err, refl, ap, inl, inr, if◌then◌else◌}
 use Rattle.edits.specs.Refused.{or_refused}
 use Rattle.edits.specs.declared.refusal.Refusal.{Refusal}
 use Rattle.edits.specs.declared.refusal.Refusal.TheVariants.{BadText, OutOfMemory}

@@ -1,5 +1,5 @@
 -- Lines that splices lead to, as they are put together.
-use Rattle.std.proofs.Common.{◌≡◌, ◌+◌, ◌-◌, ◌≤◌, ◌<◌, ℕ, zero, suc, true, List, [], ◌∷◌, ◌++◌, length, take, drop, get_or, is_ok, refl, sym, ap, ◌∙◌, subst, inl, inr, arith, append_assoc, Option, Some, None, Result, Ok, Err}
+use Rattle.std.proofs.Common.{◌≡◌, ◌+◌, ◌-◌, ◌≤◌, ◌<◌, ℕ, true, List, [], ◌∷◌, ◌++◌, length, take, drop, get_or, is_ok, refl, sym, ap, ◌∙◌, subst, inl, inr, arith, append_assoc, Option, Some, None, Result, Ok, Err}
 use Rattle.std.proofs.lemmas.Bool.{cases_Bool}
 use Rattle.std.proofs.lemmas.List.{at_drop_all, drop-drop, drop_more, length-append, length-drop, length-take, length-take-le, take-append-drop}
 use Rattle.std.proofs.Math.Seq.{drop-append_seam, take-append_seam, take-length}

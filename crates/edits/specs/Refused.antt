@@ -1,5 +1,5 @@
 -- The refusals that lines and lock alone give to an edit. All of it is reqlock's own rule.
-use Rattle.std.specs.Prelude.{ℕ, ◌==◌, not, Bool, List, [], find, is_some, map, Option, Some, None, option_map, Result, Ok, Err, if◌then◌else◌}
+use Rattle.std.specs.Prelude.{ℕ, ◌==◌, not, Bool, List, find, is_some, map, Option, Some, None, option_map, Result, Ok, Err, if◌then◌else◌}
 use Rattle.std.specs.List.{list_all}
 use Rattle.markers.specs.Names.{is_name, normal_of}
 use Rattle.pep508.specs.Requirement.{RequirementParts}

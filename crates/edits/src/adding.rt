@@ -95,7 +95,8 @@ fn with_line(alloc: Global, file: &ReqFile, line: Line) -> Result<ReqFile, Alloc
 /// The file with the text as its last line.
 pub(crate) fn added(alloc: Global, file: &ReqFile, text: &Text) -> Result<ReqFile, Refusal>
     ensures { Answers OutOfMemory
-        (or_refused (refused_addition file.now (asked_by text.now)) (with_line file.now text.now)) result }
+        (or_refused (refused_addition file.now (asked_by text.now)) (with_line file.now text.now))
+        result }
 {
     let Some(line) = asked_by(alloc, text)? else {
         return Err(Refusal::BadText);

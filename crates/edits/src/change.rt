@@ -73,7 +73,8 @@ impl Change {
         entries: Seq<EntryChange>,
         digests: Option<DigestChange>,
     ) -> Option<Change>
-        ensures { let parts : ChangeParts = record { splices = splices; entries = entries; digests = digests } in
+        ensures { let parts : ChangeParts
+            = record { splices = splices; entries = entries; digests = digests } in
             MatchOption result (IsMinimal parts → ⊥) (λ change. change ≡ parts) }
     {
         if minimal::are_splices(splices.as_slice())

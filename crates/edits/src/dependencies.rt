@@ -27,7 +27,8 @@ fn add_names(
     names: &mut BTreeSet<Name>,
 ) -> Result<(), AllocError>
     ensures { OnOk result (names.new.keys
-        ≡ with_names names.old.keys (names_wanted problem.now.environment node.now dependencies.now)) }
+        ≡ with_names names.old.keys
+        (names_wanted problem.now.environment node.now dependencies.now)) }
 {
     for dependency in dependencies {
         if leads_away(problem, node, dependency) {
@@ -59,7 +60,8 @@ fn add_node(
     gathered: &mut BTreeMap<Name, BTreeSet<Name>>,
 ) -> Result<(), AllocError>
     ensures { OnOk result ((own : List ℕ) → names_in gathered.new own
-        ≡ with_names (names_in gathered.old own) (names_at problem.now (version_for versions.now.entries) own node.now)) }
+        ≡ with_names (names_in gathered.old own)
+        (names_at problem.now (version_for versions.now.entries) own node.now)) }
 {
     let Some(release) = release_chosen(problem, versions, &node.name) else {
         return Ok(());

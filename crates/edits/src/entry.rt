@@ -97,7 +97,8 @@ pub(crate) fn entry(
     requires released { IsSome (release_at problem.now name.now version.now) }
     requires dependencies { are_dependencies name.now dependencies ≡ true }
     ensures entry { IfOk result (λ entry. entry
-        ≡ entry_with (name.now, version.now) dependencies (release_at problem.now name.now version.now)) }
+        ≡ entry_with (name.now, version.now) dependencies
+        (release_at problem.now name.now version.now)) }
     ensures release { IfOk result (λ _. HasRelease problem.now name.now version.now) }
 {
     let Some(release) = problem.release(name, version) else {

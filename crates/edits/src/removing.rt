@@ -30,7 +30,8 @@ fn lines_without(alloc: Global, lines: &[Line], name: &Name) -> Result<Seq<Line>
 /// The file without the one line on the name that the text is.
 pub(crate) fn removed(alloc: Global, file: &ReqFile, name: &Text) -> Result<ReqFile, Refusal>
     ensures { Answers OutOfMemory
-        (or_refused (refused_name file.now name.now) (without_line (normal_of name.now) file.now)) result }
+        (or_refused (refused_name file.now name.now) (without_line (normal_of name.now) file.now))
+        result }
 {
     let name = name_of_one(alloc, file.lines(), name)?;
     let lines = lines_without(alloc, file.lines(), &name)?;

@@ -7,7 +7,7 @@ ghost use Rattle.std.specs.Option.{option_copied};
 ghost use Rattle.std.specs.Str.{bytes_eq};
 ghost use Rattle.edits.specs.Edits.{without_pins};
 ghost use Rattle.edits.specs.Locking.{versions_of};
-ghost use Rattle.edits.specs.Refused.{is_locked, or_refused, refused_upgrade};
+ghost use Rattle.edits.specs.Refused.{is_locked, refused_upgrade};
 ghost use Rattle.edits.specs.declared.refusal.Refusal.TheVariants.{BadText, OutOfMemory};
 ghost use Rattle.markers.specs.Names.{is_name, normal_of};
 
@@ -62,7 +62,8 @@ pub(crate) fn upgraded(
     texts: &[Text],
 ) -> Result<BTreeMap<Name, Version>, Refusal>
     ensures ok { IfOk result (λ kept. (refused_upgrade state.now.lock.entries texts.now ≡ None)
-        × (kept.entries ≡ without_pins (map normal_of texts.now) (versions_of state.now.lock.entries))) }
+        × (kept.entries
+        ≡ without_pins (map normal_of texts.now) (versions_of state.now.lock.entries))) }
     ensures err { IfErr result (λ refusal. (refusal ≡ OutOfMemory)
         ⊎ (refused_upgrade state.now.lock.entries texts.now ≡ Some refusal)) }
 {

@@ -48,7 +48,8 @@ pub trait History {
         ensures past { past self.new
             ≡ (if is_ok result then pushed (past self.old) edited.state else past self.old) }
         ensures changes { changes self.new
-            ≡ (if is_ok result then with_change (past self.old).cursor (changes self.old) edited.change
+            ≡ (if is_ok result
+            then with_change (past self.old).cursor (changes self.old) edited.change
             else changes self.old) };
 
     /// Goes back to the state before the present one.

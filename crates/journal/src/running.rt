@@ -1,7 +1,7 @@
 // Commands applied to a history, one or many.
 
 ghost use Rattle.std.specs.Prelude.{◌≡◌, map, IfOk, OnErr};
-ghost use Rattle.journal.specs.Commands.{Asked, Editing, Undoing, Redoing, asked_of};
+ghost use Rattle.journal.specs.Commands.{Editing, Undoing, Redoing, asked_of};
 ghost use Rattle.journal.specs.Steps.{Step, Run};
 
 use crate::commands::{Command, Reply};

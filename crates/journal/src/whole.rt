@@ -1,6 +1,6 @@
 // The history that keeps each state whole.
 
-ghost use Rattle.std.specs.Prelude.{◌≡◌, ◌⊎◌, ◌↔◌, ◌+◌, ◌-◌, ◌<◌, [], length, Some, slice_get, if◌then◌else◌, is_ok, OnOk, OnErr, IfOk, IfErr, IsErrOf, IsSomeAnd};
+ghost use Rattle.std.specs.Prelude.{◌≡◌, ◌+◌, ◌-◌, ◌<◌, [], IfOk};
 ghost use Rattle.std.specs.List.{AllByRecursion};
 ghost use Rattle.edits.specs.State.{IsState};
 ghost use Rattle.journal.specs.Changes.{AreSteps};

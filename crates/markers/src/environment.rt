@@ -7,7 +7,7 @@ ghost use Rattle.std.specs.Option.{option_copied};
 ghost use Rattle.std.specs.Result.{result_map_both};
 ghost use Rattle.serde_json.specs.View.{view};
 ghost use Rattle.markers.specs.Comparisons.{clauses_read, version_read};
-ghost use Rattle.markers.specs.Environment.{IsEnvironment, all_variables, condition, environment_of, is_lawful, is_unescaped, is_versioned, kept_text, marker_text, object_of, place_of, text_in, text_of, texts_in, value_of, variable_named, without_plus};
+ghost use Rattle.markers.specs.Environment.{IsEnvironment, all_variables, condition, environment_of, is_lawful, is_unescaped, is_versioned, kept_text, marker_text, object_of, text_in, text_of, texts_in, value_of, variable_named, without_plus};
 ghost use Rattle.markers.specs.Faults.{memory_fault, no_line};
 ghost use Rattle.markers.specs.declared.fault.Cause.TheVariants.{OutOfMemory};
 ghost use Rattle.markers.specs.declared.variable.Variable.TheVariants.{PythonFullVersion};

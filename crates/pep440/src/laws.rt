@@ -22,8 +22,10 @@ pub fn a_text_spells_one_version()
 
 /// A text with nothing around it reads as the parts that it spells, over numbers of any size.
 pub fn a_bare_text_reads_as_its_parts()
-    ensures read { (text : List ℕ) (v : VersionParts) → bare_parts text ≡ Some v → IsVersionText text v }
-    ensures found { (text : List ℕ) (v : VersionParts) → IsVersionText text v → bare_parts text ≡ Some v }
+    ensures read { (text : List ℕ) (v : VersionParts)
+        → bare_parts text ≡ Some v → IsVersionText text v }
+    ensures found { (text : List ℕ) (v : VersionParts)
+        → IsVersionText text v → bare_parts text ≡ Some v }
 {}
 
 /// The canonical text of a version spells that version, trailing zeros too.

@@ -1,8 +1,7 @@
 // Which versions a set of specifiers matches.
 
-ghost use Rattle.std.specs.Prelude.{◌≡◌, ◌==◌, ◌&&◌, nat_eq, not, slice_index};
+ghost use Rattle.std.specs.Prelude.{◌≡◌, ◌==◌, ◌&&◌, not, slice_index};
 ghost use Rattle.pep440.specs.Version.{is_pre};
-ghost use Rattle.std.specs.Cmp.Lexicographic.{pointwise};
 ghost use Rattle.pep440.specs.Matching.{above, begins, below, clause_matches, equals, has_prefix, is_exclusion, is_pin, matches, names_pre, pins, same_release, without_last};
 
 use crate::order;

@@ -5,7 +5,7 @@ ghost use Rattle.std.specs.Char.{is_ascii_alphanumeric, is_ascii_digit, to_ascii
 ghost use Rattle.std.specs.List.{list_all};
 ghost use Rattle.pep440.specs.Grammar.{Spells, is_separator, is_space, value_from, ParseAnswers};
 ghost use Rattle.pep440.specs.Answers.{Gives};
-ghost use Rattle.pep440.specs.Tied.Reading.{fitting, fitting_numbers, is_local_from, locals_from, locals_of, numbers_from, part_of, parts_in, pre_with, trim_space, version_of};
+ghost use Rattle.pep440.specs.Tied.Reading.{fitting, fitting_numbers, is_local_from, locals_from, locals_of, numbers_from, part_of, parts_in, pre_with, version_of};
 ghost use Rattle.pep440.specs.Text.{trim_end, trim_front};
 ghost use Rattle.pep440.specs.Version.{VersionParts, fits};
 ghost use Rattle.pep440.specs.Tied.Views.{capped, capped_option, capped_pre, fitting_locals, fitting_part, is_local, span_view};

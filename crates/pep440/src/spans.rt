@@ -1,6 +1,6 @@
 // Where the parts of a version stand in its text.
 
-ghost use Rattle.std.specs.Prelude.{◌≡◌, ◌∷◌, ◌<◌, length, take, drop, IfSome, option_copied, true, false};
+ghost use Rattle.std.specs.Prelude.{◌≡◌, ◌<◌, IfSome, option_copied, true, false};
 ghost use Rattle.std.specs.Option.{option_map};
 ghost use Rattle.pep440.specs.Tied.Reading.{after_lead, after_release, dev_at, epoch_at, goes_on, is_local_from, local_at, post_at, pre_at, release_of, spans_of};
 ghost use Rattle.pep440.specs.Tied.Views.{is_local, span_view, word_view};

@@ -1,7 +1,6 @@
 // Versions.
 
-ghost use Rattle.std.specs.Prelude.{◌≡◌, ◌<◌, length, string_bytes, option_copied};
-ghost use Rattle.std.proofs.Common.{refl};
+ghost use Rattle.std.specs.Prelude.{◌≡◌, ◌<◌, length, string_bytes};
 ghost use Rattle.pep440.specs.Canonical.{canonical};
 ghost use Rattle.pep440.specs.Answers.{Gives};
 ghost use Rattle.pep440.specs.Version.{IsVersion, is_post, is_pre};

@@ -1,6 +1,6 @@
 // The words of pre, post and dev parts, and the digits behind them.
 
-ghost use Rattle.std.specs.Prelude.{◌≡◌, ◌∷◌, ◌<◌, length, take, drop, option_copied};
+ghost use Rattle.std.specs.Prelude.{◌≡◌, ◌<◌, option_copied};
 ghost use Rattle.pep440.specs.Grammar.{is_separator};
 ghost use Rattle.pep440.specs.Tied.Reading.{after_digits, after_separator, digits_of, is_implicit, number_behind, optional_word, post_word_at, pre_word_at, starts_digit, strip_word};
 ghost use Rattle.pep440.specs.Tied.Views.{word_view};

@@ -3,7 +3,6 @@
 ghost use Rattle.std.specs.Prelude.{◌≡◌, ◌<◌, suc, take, drop};
 ghost use Rattle.std.specs.List.{prefix_len, take_while};
 ghost use Rattle.std.specs.Option.{option_copied};
-ghost use Rattle.std.specs.Str.{IsCharBoundary};
 ghost use Rattle.markers.specs.Names.{is_name_byte};
 ghost use Rattle.pep508.specs.Parts as spec;
 

@@ -48,7 +48,8 @@ pub fn lines_may_get_one_more()
 
 /// A line that asks for something may get other specifiers, and then stand where it stood.
 pub fn a_line_may_get_specifiers()
-    ensures { (line specifiers : List ℕ) (wanted : RequirementParts) → requirement_of line ≡ Ok (Some wanted)
+    ensures { (line specifiers : List ℕ) (wanted : RequirementParts)
+        → requirement_of line ≡ Ok (Some wanted)
         → IsSpecifier specifiers
         → MayStandFor line (joined (with_version specifiers (slices_of line))) }
 {
@@ -64,6 +65,7 @@ pub fn lines_may_be_left_out()
 /// Lines may be exchanged for others that ask for something and end alike.
 pub fn lines_may_be_exchanged()
     ensures { (change : List ℕ → List ℕ) (lines : List (List ℕ)) → AreLines lines
-        → ((line : List ℕ) → Contains lines line → (change line ≡ line) ⊎ MayStandFor line (change line))
+        → ((line : List ℕ) → Contains lines line
+        → (change line ≡ line) ⊎ MayStandFor line (change line))
         → AreLines (map change lines) }
 {}

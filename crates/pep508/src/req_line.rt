@@ -45,7 +45,8 @@ impl<'a> Model for ReqLine<'a> {
 
     ghost view = { λ l. l.slices };
 
-    ghost invariant = { λ l. (requirement_of (joined l.slices) ≡ Ok l.requirement) × IsCut (joined l.slices) l.slices };
+    ghost invariant = { λ l. (requirement_of (joined l.slices) ≡ Ok l.requirement)
+        × IsCut (joined l.slices) l.slices };
 }
 
 impl<'a> ReqLine<'a> {
@@ -162,7 +163,8 @@ impl<'a> ReqLine<'a> {
         requires { 0 < length self.now.name }
         ensures joins { IfOk result (λ text. text ≡ joined (with_version specifier.now self.now)) }
         ensures reads { IfOk result (λ text. (wanted : RequirementParts) (clauses : List Clause)
-            → requirement_of (joined self.now) ≡ Ok (Some wanted) → set_of specifier.now ≡ Ok clauses
+            → requirement_of (joined self.now) ≡ Ok (Some wanted)
+            → set_of specifier.now ≡ Ok clauses
             → ReadsWith self.now wanted clauses text) }
     {
         // The new line reads since a set has bytes of its own alone: no `;`, and no `#`.

@@ -46,7 +46,8 @@ fn all_listed(
 
 /// The table of a problem.
 pub(crate) fn table_of(alloc: Global, question: &Question<'_>) -> Result<Tabled, AllocError>
-    ensures { IfOk result (λ tabled. IsPictured question.now tabled.names tabled.nodes tabled.table) }
+    ensures { IfOk result
+        (λ tabled. IsPictured question.now tabled.names tabled.nodes tabled.table) }
 {
     let mut gathering = Gathering::new(alloc);
     let lines = gathering.ask_lines(alloc, question)?;

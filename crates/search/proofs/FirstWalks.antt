@@ -1,7 +1,7 @@
 -- A walk that takes the first candidate at each name that nothing refuses has the best solution where it meets all that is asked for.
-use Rattle.std.proofs.Common.{List, [], ◌∷◌, ◌++◌, ◌≡◌, ◌⊎◌, inl, inr, true, false, Contains, refl, sym, ◌∙◌, ap, subst, Some, None, Option, append_assoc, append-nil}
-use Rattle.std.proofs.lemmas.List.Elements.{Contains-append_cases, Contains-append_left, Contains-append_right}
-use Rattle.lists.proofs.Members.{Contains-cons_cases, Contains-here, Contains-there}
+use Rattle.std.proofs.Common.{List, [], ◌∷◌, ◌++◌, ◌≡◌, ◌⊎◌, inl, inr, true, false, Contains, sym, ◌∙◌, ap, subst, Some, None, Option, append_assoc, append-nil}
+use Rattle.std.proofs.lemmas.List.Elements.{Contains-append_cases, Contains-append_right}
+use Rattle.lists.proofs.Members.{Contains-cons_cases, Contains-here}
 use Rattle.search.proofs.PinnedMaps.{version_pinned-cons_cases, version_pinned-last, Has-front, Has-push, Needed-more, next-in_solution, complete-same, some-inj}
 use Rattle.search.specs.FirstWalk.{IsAskedFor, IsRefused, IsFirst, IsFirstWalk}
 use Rattle.search.specs.Rules.{Rules, IsLawful}

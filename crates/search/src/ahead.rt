@@ -50,8 +50,9 @@ fn extra_from(
     from: usize,
 ) -> Option<(usize, Need)>
     requires { ask.requirement < length table.now.requirements }
-    ensures { MatchOption result Unit (λ found. IsTied (rules_of table.now) (first_at taken.now) (map
-        choice_at choices.now.entries) (ask ∷ []) found.1) }
+    ensures { MatchOption result Unit
+        (λ found. IsTied (rules_of table.now) (first_at taken.now)
+        (map choice_at choices.now.entries) (ask ∷ []) found.1) }
 {
     first_on(taken, table.name_asked(ask.requirement))?;
     let asked = table.requirement(ask.requirement);

@@ -132,8 +132,8 @@ impl Partial {
         requires known { trial.node < length table.now.nodes }
         requires free { IsFree (decisions_of self.old.held.items) trial.node }
         requires first { trial.leads ≡ true
-            → version_pinned nat_cmp (leaders_held (rules_of table.now) self.old.held.items) (name_of
-            table.now trial.node) ≡ None }
+            → version_pinned nat_cmp (leaders_held (rules_of table.now) self.old.held.items)
+            (name_of table.now trial.node) ≡ None }
         ensures partial { IfOk result (λ _. IsPartial table.now self.new) }
         ensures held { IfOk result
             (λ _. self.new.held.items ≡ self.old.held.items

@@ -1,6 +1,6 @@
 -- Whether a lock is one for lines in an environment, as it is decided.
 -- Tied to `IsState` by the contract of `State::new`; need not be read.
-use Rattle.std.specs.Prelude.{◌≡◌, ◌++◌, ◌⊎◌, ℕ, List, map, Option, Some, None, []}
+use Rattle.std.specs.Prelude.{◌≡◌, ◌++◌, ℕ, List, Option, Some, None, []}
 use Rattle.std.specs.List.{AllByRecursion, Contains}
 use Rattle.markers.specs.Environment.{Texts}
 use Rattle.pep508.specs.Requirement.{RequirementParts, requirement_of}

@@ -1,6 +1,6 @@
 -- The places behind splices, as they are gone over.
 -- Tied to `AreSplices` by the contract of `Change::new`; need not be read.
-use Rattle.std.specs.Prelude.{ℕ, ◌+◌, ◌-◌, ◌^◌, ◌<◌, nat_lt, ◌&&◌, min, List, length, Option, Some, None, if◌then◌else◌}
+use Rattle.std.specs.Prelude.{ℕ, ◌+◌, ◌-◌, ◌^◌, nat_lt, ◌&&◌, min, List, length, Option, Some, None, if◌then◌else◌}
 use Rattle.edits.specs.Changes.{PlacesFit, RiseFrom, back}
 use Rattle.edits.specs.declared.change.ends.Ends.{Ends}
 use Rattle.edits.specs.declared.change.parts.Splice.{Splice}

@@ -1,6 +1,5 @@
 -- What a change makes of a state.
 -- Tied to `After` by the contracts of `Change::apply` and `Change::carry`; need not be read.
-use Rattle.std.specs.Prelude.{ℕ, List}
 use Rattle.edits.specs.StateParts.{StateParts}
 use Rattle.edits.specs.declared.change.moving.Outcome.{Outcome}
 

@@ -1,6 +1,6 @@
 // What a change makes of a state.
 
-ghost use Rattle.std.specs.Prelude.{◌≡◌, IfOk, MatchOption};
+ghost use Rattle.std.specs.Prelude.{IfOk, MatchOption};
 ghost use Rattle.edits.specs.Changes.{After, ChangesDigest, LeadsNowhere};
 ghost use Rattle.edits.specs.Tied.Moving.{with_outcome};
 ghost use Rattle.edits.specs.Tied.Only.{IsTheOnly};

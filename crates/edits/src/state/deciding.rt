@@ -27,7 +27,8 @@ pub(crate) fn entry_on<'a>(entries: &'a [Entry], name: &Name) -> Option<&'a Entr
 
 /// Whether the entry runs on the environment's Python: the set that it asks for has its full version.
 fn runs(environment: &Environment, entry: &Entry) -> bool
-    ensures { result ≡ option_map_or (is_for_python environment.now) entry.now.requires_python true }
+    ensures { result
+        ≡ option_map_or (is_for_python environment.now) entry.now.requires_python true }
 {
     match entry.python() {
         Some(set) => set.matches(environment.full_version()),

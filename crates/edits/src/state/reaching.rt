@@ -176,7 +176,8 @@ pub(crate) fn are_reached(
 ) -> Result<bool, AllocError>
     requires { are_entries entries.now ≡ true }
     ensures { IfOk result (λ reached. IsTrue reached
-        ↔ AllByRecursion (λ e. Reached (requirements environment.now lines.now) entries.now e.name) entries.now) }
+        ↔ AllByRecursion
+        (λ e. Reached (requirements environment.now lines.now) entries.now e.name) entries.now) }
 {
     let names = reached_names(alloc, environment, lines, entries)?;
     Ok(have_names(&names, entries))

@@ -1,6 +1,5 @@
 // The entries of a lock as a journal has them.
 
-ghost use Rattle.std.specs.Prelude.{◌≡◌};
 ghost use Rattle.journal.specs.Format.Forms.{Gives, found, or_null};
 ghost use Rattle.journal.specs.Format.Entries.{canonical_in, digest_in, digest_of, entry_in, file_in, name_in, normal_in, version_in};
 ghost use Rattle.serde_json.specs.View.{view};

@@ -1,6 +1,6 @@
 // JSON values of a wanted form.
 
-ghost use Rattle.std.specs.Prelude.{◌≡◌, Result, is_some, length, map};
+ghost use Rattle.std.specs.Prelude.{◌≡◌, Result, is_some, map};
 ghost use Rattle.std.specs.List.{list_all};
 ghost use Rattle.serde_json.specs.Data.{Data};
 ghost use Rattle.serde_json.specs.Find.{as_array, as_object, get};

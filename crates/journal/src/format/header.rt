@@ -1,9 +1,9 @@
 // The header of a journal.
 
-ghost use Rattle.std.specs.Prelude.{◌≡◌, map};
+ghost use Rattle.std.specs.Prelude.{◌≡◌};
 ghost use Rattle.markers.specs.Environment.{all_variables, texts_in};
 ghost use Rattle.journal.specs.Format.Forms.{Gives, asked};
-ghost use Rattle.journal.specs.Format.Lines.{environment_in, header_in, header_of_line, texts_read, variable_names};
+ghost use Rattle.journal.specs.Format.Lines.{environment_in, header_in, header_of_line, texts_read};
 ghost use Rattle.serde_json.specs.View.{view};
 
 use crate::format::flaw::Flaw;

@@ -49,7 +49,8 @@ fn choice_refused<'a>(
 /// The active line on its name that doesn't admit one of the choices.
 pub(crate) fn refused<'a>(question: &Question<'_>, conflict: &'a [Choice]) -> Option<Ground<'a>>
     ensures { MatchOption result (LineRefuses (rules_of question.now) conflict.now → ⊥)
-        (λ found. (earlier : List (List ChoiceParts)) → IsGround question.now earlier conflict.now found) }
+        (λ found. (earlier : List (List ChoiceParts))
+        → IsGround question.now earlier conflict.now found) }
 {
     let lines = question.active.as_slice();
     let choice = choice_refused(question, lines, conflict)?;

@@ -1,13 +1,12 @@
 -- The files of a release as they are gone through, one after the other.
 -- Tied to `wheels_of` and `sdist_of` by the contract of the code's `choose`; need not be read.
-use Rattle.std.specs.Prelude.{◌&&◌, Bool, true, List, [], ◌∷◌, ◌++◌, Some, None}
-use Rattle.std.specs.Ordering.{is_lt}
+use Rattle.std.specs.Prelude.{[], ◌∷◌, ◌++◌, Some, None}
 use Rattle.std.specs.Option.{option_or}
 use Rattle.snapshot.specs.declared.chosen.Sorted.{Sorted}
 use Rattle.snapshot.specs.declared.file.ReleaseFile.{ReleaseFile}
 use Rattle.snapshot.specs.declared.form.Form.{Form}
 use Rattle.snapshot.specs.declared.form.Form.TheVariants.{Wheel, TarGz, Zip, Other}
-use Rattle.snapshot.specs.Files.{form_of, name_cmp}
+use Rattle.snapshot.specs.Files.{form_of}
 
 abbrev pub no_files : Sorted
 no_files = record { wheels = []; tar_gz = None; zip = None }

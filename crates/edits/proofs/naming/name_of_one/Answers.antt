@@ -1,4 +1,4 @@
-use Rattle.std.proofs.Common.{◌≡◌, Ok, ap, arith, inr, refl}
+use Rattle.std.proofs.Common.{Ok, ap, arith, inr, refl}
 use Rattle.edits.proofs.LinesOnName.{refused-at, refused-many}
 use Rattle.edits.proofs.naming.name_of_one.Goals as goal
 

@@ -1,6 +1,6 @@
-use Rattle.std.proofs.Common.{◌≡◌, ◌+◌, ◌∙◌, sym, refl, get_or, drop, true, false, []}
-use Rattle.std.proofs.lemmas.List.{at_drop_more, at_drop_all}
-use Rattle.edits.specs.Tied.Whole.{are_whole, is_whole}
+use Rattle.std.proofs.Common.{◌∙◌, sym, false}
+use Rattle.std.proofs.lemmas.List.{at_drop_all}
+use Rattle.edits.specs.Tied.Whole.{are_whole}
 use Rattle.edits.proofs.change.file.are_whole.Goals as goal
 
 pub returns : goal.returns

@@ -1,4 +1,3 @@
-use Rattle.std.proofs.Common.{◌∙◌}
 use Rattle.edits.proofs.PythonFacts.{asks-none, asks-set}
 use Rattle.edits.proofs.state.deciding.runs.Goals as goal
 
