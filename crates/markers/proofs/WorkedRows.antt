@@ -1,5 +1,5 @@
 -- Worked values of the definitions.
-use Rattle.std.specs.Prelude.{◌≡◌, codes, refl}
+use Rattle.std.specs.Prelude.{◌≡◌, [], ◌∷◌, codes, refl}
 use Rattle.markers.specs.MarkerDepth.{count_closed, count_opened}
 use Rattle.markers.specs.Names.{normal_of, words_of}
 
