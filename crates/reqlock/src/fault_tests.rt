@@ -1,8 +1,8 @@
-// A batch whose reader or writer fails in its midst: what was written, and where the session stands.
+// A batch whose reader or writer fails in its midst: what was written, and where the session
+// stands.
 
 use crate::batch::{BatchFault, batch};
 use crate::counted::Counted;
-use crate::resolving_tests::index_of;
 use crate::tests::ENVIRONMENT;
 use edits::{Environment, ReqFile, Snapshot};
 use journal::{Plain, Session};
@@ -11,8 +11,15 @@ use std::io;
 use std::process::Abort;
 use std::test::Fail;
 
+// The releases `a 1` and `c 1`, each with one wheel.
+const INDEX: &str =
+    r#"{"snapshot":1,"packages":[{"name":"a","releases":[{"version":"1","files":[{"name":"a-1-py3-none-any.whl","url":"https://files.example/a-1-py3-none-any.whl","size":1000,
+    "sha256":"0000000000000000000000000000000000000000000000000000000000000000"}]}]},
+    {"name":"c","releases":[{"version":"1","files":[{"name":"c-1-py3-none-any.whl","url":"https://files.example/c-1-py3-none-any.whl","size":1000,
+    "sha256":"0000000000000000000000000000000000000000000000000000000000000000"}]}]}]}"#;
+
 // Four commands. No LF ends the last one, so it is one only where the input ends well.
-const INPUT: &str = "add c\nundo\nbogus\nredo";
+pub const INPUT: &str = "add c\nundo\nbogus\nredo";
 
 // What they reply, in turn.
 const NONE: &str = "";
@@ -26,13 +33,13 @@ const THREE: &str = "ok 1\nok 0\nrefused bad-command\n";
 const FOUR: &str = "ok 1\nok 0\nrefused bad-command\nok 1\n";
 
 // Where the session stands: its cursor, and how many steps it has.
-type Place = (usize, usize);
+pub type Place = (usize, usize);
 
-const BEGUN: Place = (0, 0);
+pub const BEGUN: Place = (0, 0);
 
-const ADDED: Place = (1, 1);
+pub const ADDED: Place = (1, 1);
 
-const UNDONE: Place = (0, 1);
+pub const UNDONE: Place = (0, 1);
 
 // How many bytes a call moves at most, and how many calls go well before the one that doesn't; then
 // what is written, and where the session stands.
@@ -67,8 +74,8 @@ const FAILED_READS: &[Row] = &[
     (7, 3, THREE, UNDONE),
 ];
 
-// The call gives an empty piece, which is the end of the input. What stands before it is a line, also
-// without an LF.
+// The call gives an empty piece, which is the end of the input. What stands before it is a line,
+// also without an LF.
 const ENDS: &[Row] = &[
     (1, 0, NONE, BEGUN),
     (1, 5, ONE, ADDED),
@@ -128,16 +135,19 @@ const WHOLE_WRITES: &[Row] = &[
 
 // A reader that gives its bytes in pieces. After so many of them it fails, or gives an empty one.
 #[derive(Drop)]
-struct Pieces<'a> {
-    bytes: &'a [u8],
-    most: usize,
-    calls_left: usize,
-    fails: bool,
+pub struct Pieces<'a> {
+    pub bytes: &'a [u8],
+    pub most: usize,
+    pub calls_left: usize,
+    pub fails: bool,
+    // whether such a call was made
+    pub has_stopped: bool,
 }
 
 impl io::Read for Pieces<'_> {
     fn read(&mut self, buffer: &mut [u8]) -> io::Result<usize> {
         if self.calls_left == 0 {
+            self.has_stopped = true;
             return if self.fails {
                 Err(io::Error::other("broken"))
             } else {
@@ -155,16 +165,19 @@ impl io::Read for Pieces<'_> {
 
 // A writer that takes a few bytes a call. After so many calls it fails, or takes none.
 #[derive(Drop)]
-struct Narrow {
-    taken: Vec<u8>,
-    most: usize,
-    calls_left: usize,
-    fails: bool,
+pub struct Narrow {
+    pub taken: Vec<u8>,
+    pub most: usize,
+    pub calls_left: usize,
+    pub fails: bool,
+    // whether such a call was made
+    pub has_stopped: bool,
 }
 
 impl io::Write for Narrow {
     fn write(&mut self, buffer: &[u8]) -> io::Result<usize> {
         if self.calls_left == 0 {
+            self.has_stopped = true;
             return if self.fails {
                 Err(io::Error::other("full"))
             } else {
@@ -182,20 +195,19 @@ impl io::Write for Narrow {
     }
 }
 
-// A session of the file `a` over an index of the releases `a 1` and `c 1`.
-fn session(rt: &impl Abort, alloc: Global, snapshot: &Snapshot) -> Session {
+// A session of the file `a` over the index.
+pub fn session(rt: &impl Abort, alloc: Global, snapshot: &Snapshot) -> Session {
     let lines = ReqFile::read(alloc, b"a\n".as_slice()).expect(rt, "a file");
     let environment = Environment::read(alloc, ENVIRONMENT.as_bytes());
     let environment = environment.expect(rt, "an environment");
     Session::init(alloc, lines, environment, snapshot, &Plain).expect(rt, "a session")
 }
 
-fn index(rt: &impl Abort, alloc: Global) -> Result<Snapshot, Fail> {
-    let text = index_of(alloc, &[("a", "1", ""), ("c", "1", "")])?;
-    Ok(Snapshot::read(alloc, text.as_str().as_bytes()).expect(rt, "an index"))
+pub fn index(rt: &impl Abort, alloc: Global) -> Snapshot {
+    Snapshot::read(alloc, INDEX.as_bytes()).expect(rt, "an index")
 }
 
-fn stands(rt: &impl Abort, alloc: Global, session: &Session, place: Place) -> Result<(), Fail> {
+pub fn stands(rt: &impl Abort, alloc: Global, session: &Session, place: Place) -> Result<(), Fail> {
     assert_eq!(rt; session.cursor(), place.0);
     assert_eq!(rt; session.steps(), place.1);
     let file = session.state().lines().bytes(alloc)?;
@@ -212,7 +224,7 @@ fn reads(
     wanted: Result<(), BatchFault>,
 ) -> Result<(), Fail> {
     let alloc = rt.alloc();
-    let snapshot = index(rt, alloc)?;
+    let snapshot = index(rt, alloc);
     for (most, calls, written, place) in rows {
         let mut session = session(rt, alloc, &snapshot);
         let mut source = Counted::new(Pieces {
@@ -220,6 +232,7 @@ fn reads(
             most: *most,
             calls_left: *calls,
             fails,
+            has_stopped: false,
         });
         let mut sink = Counted::new(Vec::new(alloc));
         let done = batch(alloc, &mut source, &mut sink, &mut session, &snapshot);
@@ -238,7 +251,7 @@ fn writes(
     wanted: Result<(), BatchFault>,
 ) -> Result<(), Fail> {
     let alloc = rt.alloc();
-    let snapshot = index(rt, alloc)?;
+    let snapshot = index(rt, alloc);
     for (most, calls, written, place) in rows {
         let mut session = session(rt, alloc, &snapshot);
         let mut source = Counted::new(INPUT.as_bytes());
@@ -247,6 +260,7 @@ fn writes(
             most: *most,
             calls_left: *calls,
             fails,
+            has_stopped: false,
         });
         let done = batch(alloc, &mut source, &mut sink, &mut session, &snapshot);
         assert_eq!(rt; done, wanted);

@@ -5,6 +5,8 @@ mod batch;
 mod command_line;
 mod command_words;
 mod counted;
+#[cfg(test)]
+mod each_fault_tests;
 mod editing;
 mod explaining;
 #[cfg(test)]
@@ -16,28 +18,18 @@ mod lock_text;
 mod looking;
 mod pending_line;
 mod program;
-#[cfg(test)]
-mod program_tests;
 mod refutation_text;
 mod replacing;
-#[cfg(test)]
-mod replacing_tests;
 mod reply_text;
 mod request;
 mod requirement_text;
-#[cfg(test)]
-mod resolving_tests;
 mod saved_files;
-#[cfg(test)]
-mod saved_tests;
 mod sink;
 mod skipped_text;
 mod source;
 mod stop;
 #[cfg(test)]
 mod tests;
-#[cfg(test)]
-mod why_tests;
 mod words;
 
 use crate::batch::BatchFault;

@@ -10,8 +10,8 @@ use std::test::Fail;
 
 /// Numbers from a seed, by a linear congruence (Knuth's constants for 64 bits).
 #[derive(Drop)]
-struct Draw {
-    state: u64,
+pub(crate) struct Draw {
+    pub(crate) state: u64,
 }
 
 impl Draw {
@@ -24,7 +24,7 @@ impl Draw {
     }
 
     /// One of the texts; the empty one where there are none.
-    fn pick(&mut self, texts: &[&'static str]) -> &'static str {
+    pub(crate) fn pick(&mut self, texts: &[&'static str]) -> &'static str {
         let number = self.next();
         if texts.is_empty() {
             return "";

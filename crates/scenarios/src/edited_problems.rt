@@ -8,8 +8,12 @@ use std::alloc::Global;
 use std::test::Fail;
 
 /// Each name of the best solution with its version.
-fn solution_text(alloc: Global, problem: &Problem<'_>) -> Result<String, Fail> {
-    let Answer::Solution(versions) = Plain.resolve(alloc, problem)? else {
+pub(crate) fn solution_text<R: Resolver>(
+    alloc: Global,
+    problem: &Problem<'_>,
+    resolver: &R,
+) -> Result<String, Fail> {
+    let Answer::Solution(versions) = resolver.resolve(alloc, problem)? else {
         return Ok(String::from_str(alloc, NONE)?);
     };
     let mut text = String::new(alloc);
@@ -54,7 +58,7 @@ fn solved(alloc: Global, row: &Row) -> Result<String, Fail> {
     let later = index_of(alloc, later)?;
     let state = begin(alloc, file, &index)??;
     match problem_after(alloc, &state, &asked, &later) {
-        Ok(problem) => solution_text(alloc, &problem),
+        Ok(problem) => solution_text(alloc, &problem, &Plain),
         Err(refusal) => answer_text(alloc, Err(refusal)),
     }
 }

@@ -34,7 +34,7 @@ pub(crate) fn edit_of(alloc: Global, told: &str) -> Result<Edit, AllocError> {
 }
 
 /// What an edit answers, and the state behind it.
-fn after(
+pub(crate) fn after(
     alloc: Global,
     state: State,
     told: &str,

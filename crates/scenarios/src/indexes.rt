@@ -31,7 +31,7 @@ const INDEX: &str = r#"{"snapshot":1,"packages":[
 {"name":"C","releases":[{"version":"x","files":[]}]}]}"#;
 
 /// The canonical texts of a package's releases, each with a space behind it.
-fn versions(alloc: Global, snapshot: &Snapshot, name: &str) -> Result<String, Fail> {
+pub(crate) fn versions(alloc: Global, snapshot: &Snapshot, name: &str) -> Result<String, Fail> {
     let name = Name::parse(alloc, name)?;
     let mut texts = String::new(alloc);
     for release in snapshot.releases(&name) {
@@ -82,7 +82,12 @@ fn lets_python(alloc: Global, snapshot: &Snapshot, version: &str) -> Result<bool
 }
 
 /// Whether a release is left out so.
-fn is_left_out(skipped: Option<&Skipped>, package: &str, place: usize, cause: SkipCause) -> bool {
+pub(crate) fn is_left_out(
+    skipped: Option<&Skipped>,
+    package: &str,
+    place: usize,
+    cause: SkipCause,
+) -> bool {
     match skipped {
         Some(skipped) => {
             skipped.package().normal() == package
@@ -94,7 +99,7 @@ fn is_left_out(skipped: Option<&Skipped>, package: &str, place: usize, cause: Sk
 }
 
 /// The path of the first fault, or how the index is refused else.
-fn fault(alloc: Global, text: &str) -> Result<String, Fail> {
+pub(crate) fn fault(alloc: Global, text: &str) -> Result<String, Fail> {
     match Snapshot::read(alloc, text.as_bytes()) {
         Ok(_) => Ok(String::from_str(alloc, "read")?),
         Err(Fault::Shape(path)) => Ok(path.into_string()),

@@ -5,6 +5,8 @@
 #[cfg(test)]
 mod applied_changes;
 #[cfg(test)]
+mod both_histories;
+#[cfg(test)]
 mod changes;
 #[cfg(test)]
 mod cut_refutations;
@@ -24,6 +26,14 @@ mod lock_shapes;
 mod locked_files;
 #[cfg(test)]
 mod locks;
+#[cfg(test)]
+mod long_files;
+#[cfg(test)]
+mod long_histories;
+#[cfg(test)]
+mod long_indexes;
+#[cfg(test)]
+mod long_locks;
 #[cfg(test)]
 mod refutations;
 #[cfg(test)]

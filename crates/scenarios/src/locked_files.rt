@@ -67,7 +67,7 @@ fn the_files_of_a_release_are_locked(rt: HostRuntime) -> Result<(), Fail> {
 }
 
 /// Whether the lock is read back from its text, and from its table.
-fn is_read_back(alloc: Global, lock: &Lock) -> Result<bool, Fail> {
+pub(crate) fn is_read_back(alloc: Global, lock: &Lock) -> Result<bool, Fail> {
     let text = lock.print(alloc)?;
     let from_text = Lock::read(alloc, text.as_bytes())?.print(alloc)?;
     let table = lock.to_table(alloc)?;

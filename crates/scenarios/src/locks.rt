@@ -10,7 +10,7 @@ use toml::{Table, Value};
 
 const DIGEST: &str = "0000000000000000000000000000000000000000000000000000000000000000";
 
-fn file(alloc: Global, name: &str) -> Option<FileEntry> {
+pub(crate) fn file(alloc: Global, name: &str) -> Option<FileEntry> {
     Some(FileEntry {
         name: Text::copy_of(alloc, name).ok()?,
         url: Text::copy_of(alloc, "https://files.example/f").ok()?,
@@ -28,7 +28,13 @@ fn names(alloc: Global, name: &str) -> Option<Seq<Name>> {
     Some(names)
 }
 
-fn entry(alloc: Global, name: &str, version: &str, dependency: &str, wheel: &str) -> Option<Entry> {
+pub(crate) fn entry(
+    alloc: Global,
+    name: &str,
+    version: &str,
+    dependency: &str,
+    wheel: &str,
+) -> Option<Entry> {
     let name = Name::parse(alloc, name).ok()?;
     let version = Version::parse(alloc, version).ok()?;
     let dependencies = names(alloc, dependency)?;

@@ -164,20 +164,20 @@ fn a_refutation_is_found_where_there_is_no_solution(rt: HostRuntime) -> Result<(
     Ok(())
 }
 
-/// Forty names, each with the same behind it, and what comes after them.
-fn forty(alloc: Global, each: &str, after: &str) -> Result<String, Fail> {
+/// 120 names, each with the same behind it, and what comes after them.
+fn hundred_and_twenty(alloc: Global, each: &str, after: &str) -> Result<String, Fail> {
     let mut text = String::new(alloc);
-    for number in 10..50 {
+    for number in 100..220 {
         text.push_str(format!(in alloc; "p{number}{each}")?.as_str())?;
     }
     text.push_str(after)?;
     Ok(text)
 }
 
-/// Whether forty names that nothing ties together are refuted for what comes after them.
+/// Whether 120 names that nothing ties together are refuted for what comes after them.
 fn is_refuted_far(alloc: Global, packages: &str, line: &str) -> Result<bool, Fail> {
-    let index = forty(alloc, " 1 2/", packages)?;
-    let lines = forty(alloc, "\n", line)?;
+    let index = hundred_and_twenty(alloc, " 1 2/", packages)?;
+    let lines = hundred_and_twenty(alloc, "\n", line)?;
     Ok(is_refuted(alloc, index.as_str(), lines.as_str())? == Some(true))
 }
 
@@ -201,10 +201,10 @@ fn count_of(alloc: Global, index: &str, lines: &str) -> Result<usize, Fail> {
     }
 }
 
-/// How many conflicts there are beside forty names that nothing ties to the packages.
+/// How many conflicts there are beside 120 names that nothing ties to the packages.
 fn count_far(alloc: Global, packages: &str, lines: &str) -> Result<usize, Fail> {
-    let index = forty(alloc, " 1 2/", packages)?;
-    let lines = forty(alloc, "\n", lines)?;
+    let index = hundred_and_twenty(alloc, " 1 2/", packages)?;
+    let lines = hundred_and_twenty(alloc, "\n", lines)?;
     count_of(alloc, index.as_str(), lines.as_str())
 }
 

@@ -176,8 +176,8 @@ pub(crate) fn passed_over(alloc: Global) -> Result<Option<Table>, AllocError> {
     Ok(Table::new(nodes, asked, candidates, wants, lines))
 }
 
-// 40 names with two releases each, which nothing ties together, and behind them y and z: y 1 wants
-// z>=2, and there is only z 1. The lines ask for the 40, and for what is given besides. Where
+// 120 names with two releases each, which nothing ties together, and behind them y and z: y 1 wants
+// z>=2, and there is only z 1. The lines ask for the 120, and for what is given besides. Where
 // `first_wants_y`, so does the newest release of the first name.
 fn far_conflict(
     alloc: Global,
@@ -189,7 +189,7 @@ fn far_conflict(
     let mut candidates = Vec::new(alloc);
     let mut wants = Vec::new(alloc);
     let mut lines = Vec::new(alloc);
-    for name in 0..40 {
+    for name in 0..120 {
         nodes.push(name)?;
         asked.push(Requirement {
             node: name,
@@ -198,28 +198,28 @@ fn far_conflict(
         })?;
         candidates.push(numbers(alloc, &[0, 1])?)?;
         let newest: &[usize] = if first_wants_y && name == 0 {
-            &[40]
+            &[120]
         } else {
             &[]
         };
         wants.push(lists(alloc, &[newest, &[]])?)?;
         lines.push(name)?;
     }
-    nodes.push(40)?;
-    nodes.push(41)?;
+    nodes.push(120)?;
+    nodes.push(121)?;
     candidates.push(numbers(alloc, &[0])?)?;
     candidates.push(numbers(alloc, &[0])?)?;
     asked.push(Requirement {
-        node: 40,
+        node: 120,
         more: numbers(alloc, &[])?,
         admits: Seq::from_vec(Vec::from_slice(alloc, &[true])?),
     })?;
     asked.push(Requirement {
-        node: 41,
+        node: 121,
         more: numbers(alloc, &[])?,
         admits: Seq::from_vec(Vec::from_slice(alloc, &[false])?),
     })?;
-    wants.push(lists(alloc, &[&[41]])?)?;
+    wants.push(lists(alloc, &[&[121]])?)?;
     wants.push(lists(alloc, &[&[]])?)?;
     for line in more_lines {
         lines.push(*line)?;
@@ -244,14 +244,14 @@ fn is_learned(alloc: Global, table: Option<Table>, wanted: &[usize]) -> Result<b
 #[test]
 fn learns_from_a_far_line(rt: HostRuntime) -> Result<(), Fail> {
     let alloc = rt.alloc();
-    assert!(rt; is_learned(alloc, far_conflict(alloc, &[41], false)?, &[9])?);
+    assert!(rt; is_learned(alloc, far_conflict(alloc, &[121], false)?, &[9])?);
     Ok(())
 }
 
 #[test]
 fn learns_from_a_far_dependency(rt: HostRuntime) -> Result<(), Fail> {
     let alloc = rt.alloc();
-    assert!(rt; is_learned(alloc, far_conflict(alloc, &[40], false)?, &[9])?);
+    assert!(rt; is_learned(alloc, far_conflict(alloc, &[120], false)?, &[9])?);
     Ok(())
 }
 
@@ -259,10 +259,60 @@ fn learns_from_a_far_dependency(rt: HostRuntime) -> Result<(), Fail> {
 fn goes_back_to_the_choice_that_needs_it(rt: HostRuntime) -> Result<(), Fail> {
     let alloc = rt.alloc();
     let mut wanted = Vec::new(alloc);
-    for name in 0..40 {
+    for name in 0..120 {
         wanted.push(name)?;
         wanted.push(if name == 0 { 1 } else { 0 })?;
     }
     assert!(rt; is_learned(alloc, far_conflict(alloc, &[], true)?, wanted.as_slice())?);
+    Ok(())
+}
+
+// What the newest release of a name wants, and nothing for the older one.
+fn wants_of(alloc: Global, name: usize) -> Result<Vec<Seq<usize>>, AllocError> {
+    let mut wants = Vec::new(alloc);
+    if name < 149 {
+        wants.push(numbers(alloc, &[name + 1])?)?;
+    } else {
+        wants.push(numbers(alloc, &[])?)?;
+    }
+    wants.push(numbers(alloc, &[])?)?;
+    Ok(wants)
+}
+
+// 150 names with two releases each: the newest of a name wants the next name, and of the last name
+// only the older release is admitted. The line asks for the first name.
+fn chain(alloc: Global) -> Result<Option<Table>, AllocError> {
+    let mut nodes = Vec::new(alloc);
+    let mut asked = Vec::new(alloc);
+    let mut candidates = Vec::new(alloc);
+    let mut wants = Vec::new(alloc);
+    for name in 0..150 {
+        nodes.push(name)?;
+        asked.push(Requirement {
+            node: name,
+            more: numbers(alloc, &[])?,
+            admits: Seq::from_vec(Vec::from_slice(alloc, &[name < 149, true])?),
+        })?;
+        candidates.push(numbers(alloc, &[0, 1])?)?;
+        wants.push(Seq::from_vec(wants_of(alloc, name)?))?;
+    }
+    Ok(Table::new(
+        Seq::from_vec(nodes),
+        Seq::from_vec(asked),
+        Seq::from_vec(candidates),
+        Seq::from_vec(wants),
+        numbers(alloc, &[0])?,
+    ))
+}
+
+#[test]
+fn a_long_chain_is_followed_to_its_end(rt: HostRuntime) -> Result<(), Fail> {
+    let alloc = rt.alloc();
+    let mut wanted = Vec::new(alloc);
+    for name in 0..150 {
+        wanted.push(name)?;
+        wanted.push(if name < 149 { 0 } else { 1 })?;
+    }
+    assert!(rt; is_best(alloc, chain(alloc)?, wanted.as_slice())?);
     Ok(())
 }

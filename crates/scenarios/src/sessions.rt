@@ -14,7 +14,7 @@ const INDEX: &str = r#"{"snapshot":1,"packages":[
     {"name":"b","releases":[{"version":"1","files":[{"name":"b-1-py3-none-any.whl","url":"https://files.example/b-1-py3-none-any.whl","size":1000,
         "sha256":"0000000000000000000000000000000000000000000000000000000000000000"}]}]}]}"#;
 
-fn begin(alloc: Global, text: &str, snapshot: &Snapshot) -> Result<Session, Fail> {
+pub(crate) fn begin(alloc: Global, text: &str, snapshot: &Snapshot) -> Result<Session, Fail> {
     let lines = ReqFile::read(alloc, text.as_bytes())?;
     let environment = Environment::read(alloc, ENVIRONMENT.as_bytes())?;
     Ok(Session::init(alloc, lines, environment, snapshot, &Plain)?)
