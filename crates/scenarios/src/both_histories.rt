@@ -97,7 +97,9 @@ fn agreed(alloc: Global, seed: u64, commands: usize) -> Result<usize, Fail> {
 }
 
 #[test]
-fn two_hundred_commands_give_both_histories_the_same(rt: HostRuntime) -> Result<(), Fail> {
-    assert_eq!(rt; agreed(rt.alloc(), 1, 200)?, 200);
+fn drawn_commands_give_both_histories_the_same(rt: HostRuntime) -> Result<(), Fail> {
+    for (seed, commands) in [(1, 200), (2, 2_000)] {
+        assert_eq!(rt; agreed(rt.alloc(), seed, commands)?, commands);
+    }
     Ok(())
 }
