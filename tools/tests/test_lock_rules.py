@@ -1,0 +1,319 @@
+"""Tests of lock_rules.py and edit_rules.py by worked examples of the rules and by a law; and the program in drawn sessions, where
+it must answer what these rules do. There are 60 sessions, or 1,000 with LONG_TESTS=1."""
+
+import json
+import os
+import subprocess
+import unittest
+from collections import Counter
+from itertools import combinations
+
+from edit_rules import History, Refused, begun, edited, problem_after, status_of, with_set
+from journal_rules import is_state, opens, read_lock
+from lock_rules import (
+    Choice, Problem, best_solution, case_of, entries_of, is_refutation, read_index, read_refutation, solutions,
+)
+from made_sessions import Draw
+from requirement_rules import Fault, cut_lines, marker_text, order_key, read_line
+from test_program import FILES, PROGRAM, Program, index_of
+from test_requirement_rules import LINUX
+
+SESSIONS = 1000 if os.environ.get("LONG_TESTS") == "1" else 60
+EDITS = 6
+# what some session must have come to
+SEEN = {
+    "ok", "same", "bad-text", "already-present", "not-present", "ambiguous", "not-locked", "no-solution", "nothing-to-undo",
+    "nothing-to-redo", "refused init", "refuted", "solvable", "refused drop",
+}
+
+
+def names_on(lines):
+    """The names of lines, each once, in the order of bytes."""
+    return sorted({requirement.name for requirement in map(read_line, lines) if requirement is not None})
+
+
+def index_in(*releases):
+    return read_index(json.dumps(index_of(*releases)).encode())
+
+
+def problem_in(lines, *releases):
+    return Problem(lines.split("\n"), LINUX, index_in(*releases), {})
+
+
+class Locks(unittest.TestCase):
+    def check(self, wanted, lines, *releases):
+        """What is locked for lines over an index, as `NAME VERSION` with commas between; None where there is no solution."""
+        problem = problem_in(lines, *releases)
+        best = best_solution(problem)
+        found = None if best is None else ", ".join(f"{name} {it['version']}" for name, it in entries_of(problem, best).items())
+        self.assertEqual(found, wanted)
+
+    def test_pre_releases(self):
+        foo = ("foo", "1.0", []), ("foo", "2.0rc1", [])
+        self.check("foo 1.0", "foo", *foo)
+        self.check("foo 2.0rc1", "foo>1", *foo)
+        self.check("foo 1.0", "foo!=2.0rc1", *foo)
+        self.check("a 1, foo 1.0", "a", ("a", "1", ["foo"]), *foo)
+        self.check("a 1, foo 2.0rc1", "a\nfoo>=2.0rc1", ("a", "1", ["foo"]), *foo)
+        self.check(None, "a\nb", ("a", "1", ["foo>=2.0rc1"]), ("b", "1", ["foo"]), *foo)
+        self.check("foo 2.0rc1", "foo", ("foo", "1.0", [], {"requires_python": "<3"}), foo[1])
+        self.check("foo 2.0rc1", "foo", ("foo", "1.0", [], {"yanked": True}), foo[1])
+
+    def test_yanked_releases(self):
+        both = ("a", "1", []), ("a", "2", [], {"yanked": True})
+        self.check("a 1", "a", *both)
+        self.check("a 2", "a==2", *both)
+        self.check(None, "a>=2", *both)
+        self.check(None, "a==2.*", *both)
+        self.check("a 2, b 1", "b\na==2", ("b", "1", ["a"]), *both)
+        self.check("a 2, b 1", "b", ("b", "1", ["a==2"]), *both)
+
+    def test_dependencies(self):
+        some = ("a", "1", ["b"]), ("a", "2", ["b<2"]), ("b", "1", []), ("b", "2", []), ("c", "1", ["b>=2"])
+        self.check("a 1, b 2, c 1", "a\nc", *some)
+        self.check(None, "a==2\nc", *some)
+        self.check("a 2, b 1", "b\na", *some)
+        self.check("", "", *some)
+        self.check(None, "z", *some)
+        self.check("p 1, q 1", "p", ("p", "1", ["q"]), ("q", "1", ["p"]))
+        self.check("a 1", "a", ("a", "1", ["z ; os_name == 'nt'"]))
+
+    def test_extras(self):
+        some = ("x", "1", []), ("x", "2", ['y>=2; extra=="e"']), ("y", "1", [])
+        self.check("x 1", "x[e]", *some)
+        self.check(None, "x>=2\nx[e]", *some)
+        self.check("x 2", "x", *some)
+        nested = ("x", "1", ['x[f]; extra=="e"', 'y; extra=="f"']), ("y", "1", [])
+        problem = problem_in("x[e]", *nested)
+        self.assertEqual(entries_of(problem, best_solution(problem))["x"]["dependencies"], ["y"])
+
+    def test_kept_versions_come_first(self):
+        index = index_in(("a", "1", []), ("a", "2", []), ("b", "1", ["a>=2"]))
+        state = begun(["a==1\n"], LINUX, index)
+        for command, wanted in (
+            (("constrain", "a"), "1"), (("add", "b"), None), (("constrain", "a", ">=1"), "1"), (("constrain", "a", ">1"), "2"),
+        ):
+            with self.subTest(command=command):
+                if wanted is None:
+                    self.assertRaises(Refused, edited, state, command, index)
+                else:
+                    self.assertEqual(edited(state, command, index).entries["a"]["version"], wanted)
+
+    def test_releases_that_are_left_out(self):
+        self.check("a 1.0", "a", ("a", "1.0", []), ("a", "1.0.0", []))
+        self.check("a 1", "a", ("a", "1", []), ("a", "2", [], {"requires_python": ">=3.6.*"}), ("a", "3", ["b # x"]))
+        self.check("a 1", "a", ("a", "1", []), ("a", "2", [], {"files": []}), ("a", "x", []))
+
+
+class Edits(unittest.TestCase):
+    """Histories over a small index. Each command is followed by its reply, and where one is given by the file's text."""
+
+    def check(self, text, releases, *commands):
+        index = index_in(*releases)
+        history = History(begun(cut_lines(text), LINUX, index))
+        for words, reply, *texts in commands:
+            with self.subTest(words=words):
+                self.assertEqual(history.reply(words, index), reply)
+                self.assertTrue(is_state(history.state()))
+                self.assertEqual(["".join(history.state().lines)] * len(texts), texts)
+
+    def test_lines_that_come_and_go(self):
+        some = ("a", "1", []), ("b-b", "1", []), ("c", "1", [])
+        first = "# web\r\nB_b >=1 # pin\r\na"
+        self.check(
+            first, some, (("add", "c"), "ok 1", first + "\r\nc\r\n"), (("add", "C"), "refused already-present"),
+            (("undo",), "ok 0", first), (("undo",), "refused nothing-to-undo"), (("redo",), "ok 1"), (("remove", "b.B"), "ok 2"),
+            (("redo",), "refused nothing-to-redo", "# web\r\na\r\nc\r\n"), (("add", "a\n"), "refused bad-text"),
+            (("add", "# a"), "refused bad-text"), (("remove", "b-b"), "refused not-present"),
+            (("add", "z"), "refused no-solution"),
+        )
+        self.check("a\nb-b", some, (("remove", "b-b"), "ok 1", "a\n"), (("undo",), "ok 0"), (("remove", "a"), "ok 1", "b-b"))
+        self.check("a\nA >=1\n", some, (("remove", "a"), "refused ambiguous"), (("remove", "-"), "refused bad-text"))
+
+    def test_constraints(self):
+        self.check(
+            "a\n", [("a", "1", [])], (("constrain", "a", ">=9"), "refused no-solution"),
+            (("constrain", "a", "(>=1)"), "refused bad-text"), (("constrain", "a", " >=1,\t"), "ok 1", "a>=1,\n"),
+            (("constrain", "a", ">=1,"), "same"), (("constrain", "b", "=1"), "refused bad-text"),
+            (("constrain", "b"), "refused not-present"),
+        )
+        for line, text, wanted in (
+            ('B.b (>=1) ; os_name=="posix" # keep', ">=2", 'B.b >=2 ; os_name=="posix" # keep'),
+            ('a ; os_name=="nt"', ">=2", 'a>=2 ; os_name=="nt"'), ("a [e] # <2\r\n", "<3", "a [e]<3 # <2\r\n"),
+            ("a( ) \n", "", "a \n"), (" a[e]==1\n", "", " a[e]\n"),
+        ):
+            self.assertEqual(with_set(line, text), wanted)
+
+    def test_upgrades(self):
+        self.check(
+            "a==1\n", [("a", "1", []), ("a", "2", [])], (("constrain", "a"), "ok 1", "a\n"), (("relock",), "same"),
+            (("upgrade", "z"), "refused not-locked"), (("upgrade", "z", "_"), "refused bad-text"), (("upgrade", "A"), "ok 2"),
+            (("upgrade", "a"), "same"), (("undo",), "ok 1"), (("upgrade",), "ok 2"),
+        )
+
+
+class Refutations(unittest.TestCase):
+    INDEX = ("a", "1", ["b"]), ("a", "2", ["b<2"]), ("b", "1", []), ("b", "2", []), ("c", "1", ["b>=2"])
+    EXTRAS = ("x", "1", ['y>=2; extra=="e"']), ("y", "1", [])
+
+    def check(self, wanted, text, lines, *releases):
+        lines_of_text = text.replace(", ", "\n") + "\n" if text else ""
+        self.assertEqual(is_refutation(problem_in(lines, *releases), read_refutation(lines_of_text)), wanted)
+
+    def test_worked_examples(self):
+        for text, lines, wanted in (
+            ("x[e]==1 y==1, x[e]==1, -", "x[e]", True), ("x[e]==1 y==1, -", "x[e]", False),
+            ("x[e]==1 y==1, x[e]==1, -", "x", False),
+        ):
+            self.check(wanted, text, lines, *self.EXTRAS)
+        self.check(True, "-", "z", ("a", "1", []))
+        self.check(False, "", "z", ("a", "1", []))
+        self.check(True, "a==1 a==2, a==3, -", "a>1\nz", ("a", "1", []))
+
+    def test_each_conflict_of_a_worked_one_is_needed(self):
+        conflicts = ["b==1 c==1", "b==1", "a==2 b==2", "a==2", "a==1", "-"]
+        self.check(True, ", ".join(conflicts), "a==2\nc", *self.INDEX)
+        for place in range(len(conflicts)):
+            self.check(False, ", ".join(conflicts[:place] + conflicts[place + 1 :]), "a==2\nc", *self.INDEX)
+        self.check(False, ", ".join([*conflicts[:-1], "c==1"]), "a==2\nc", *self.INDEX)
+        self.check(False, ", ".join(conflicts), "a\nc", *self.INDEX)
+
+    def test_faulty_texts(self):
+        for text in "-", "a==1 \n", "b==1 a==1\n", "a==1 a==1\n", "A==1\n", "a==01\n", "a[]==1\n", "\n", "a=1\n":
+            self.assertRaises(Fault, read_refutation, text)
+
+    def test_the_empty_conflict_is_reached_where_there_is_no_solution(self):
+        answers = set()
+        for seed in range(SESSIONS):
+            draw = Draw(seed, ("a", "b-b"))
+            index, lines = read_index(json.dumps(draw.index()).encode()), cut_lines(draw.requirements())
+            problem = Problem(lines, LINUX, index, {})
+            with self.subTest(seed=seed):
+                is_solved = any(True for _ in solutions(problem))
+                self.assertEqual(reaches_the_empty_conflict(problem), not is_solved)
+                answers.add(is_solved)
+        self.assertEqual(answers, {True, False})
+
+
+def reaches_the_empty_conflict(problem):
+    """Whether the empty conflict is among all that follow, one from another, from nothing. A conflict that has another in it is of
+    no more use than that one."""
+    nodes = [(name, extra) for name in problem.releases for extra in (None, "e-1", "f")]
+    choices = [Choice(*node, order_key(release.version)) for node in nodes for release in problem.releases[node[0]]]
+    left = [frozenset(some) for count in range(4) for some in combinations(choices, count)]
+    found, more = [], True
+    while more:
+        more = [conflict for conflict in left if case_of(problem, conflict, found)]
+        found += more
+        left = [conflict for conflict in left if not any(map(conflict.issuperset, found))]
+    return frozenset() in found
+
+
+@unittest.skipUnless(PROGRAM.exists(), "the program isn't built")
+class Sessions(Program):
+    """Each session begins with a drawn index and file. Each command is a process over the files that the last one saved."""
+
+    def test_drawn_sessions(self):
+        self.seen = Counter()
+        for seed in range(SESSIONS):
+            with self.subTest(seed=seed):
+                self.play(Draw(seed))
+        self.assertLessEqual(SEEN, set(self.seen), self.seen)
+
+    def play(self, draw):
+        for path in self.folder.iterdir():
+            path.unlink()
+        self.take_index(draw.index())
+        history = History(self.begun_session(draw))
+        for _ in range(EDITS):
+            if draw.happens(40):
+                self.take_index(draw.index())
+            state = history.state()
+            command = draw.command(names_on(state.lines), list(state.entries))
+            reply = self.check_command(history, command)
+            if reply == "refused no-solution":
+                self.check_why(history.state(), command if command[0] == "add" else ("relock",))
+            elif draw.happens(15):
+                self.check_why(history.state(), ("add", draw.line()) if draw.happens(50) else ("relock",))
+
+    def check_command(self, history, command):
+        """A command is answered as the rules do, and where it isn't accepted the files stay. It gives the reply."""
+        before = self.files()
+        reply = history.reply(command, self.index)
+        self.seen[reply.removeprefix("refused ").split()[0]] += 1
+        self.assertEqual(self.told(*command), (status_of(reply), f"{reply}\n", ""), command)
+        if reply.startswith("ok"):
+            self.check_files(history)
+        else:
+            self.assertEqual(self.files(), before, command)
+        return reply
+
+    def take_index(self, index):
+        data = json.dumps(index).encode()
+        (self.outside / "index.json").write_bytes(data)
+        self.index = read_index(data)
+
+    def begun_session(self, draw):
+        """The first state that `init` makes of drawn files, which it refuses where they have no solution."""
+        for _ in range(100):
+            text = draw.requirements()
+            (self.folder / FILES[0]).write_bytes(text.encode())
+            try:
+                state = begun(cut_lines(text), LINUX, self.index)
+            except Refused as refused:
+                self.assertEqual(self.told("init"), (3, f"refused {refused.word}\n", ""), text)
+                self.assertEqual(self.files(), {FILES[0]: text.encode()})
+                self.seen["refused init"] += 1
+                continue
+            self.assertEqual(self.told("init"), (0, "ok 0\n", ""), text)
+            self.check_files(History(state))
+            return state
+        raise AssertionError("no file that was drawn has a solution")
+
+    def told(self, *words):
+        """What a command answers: its status, its standard output and its standard error."""
+        options = "--dir", self.folder, "--index", self.outside / "index.json", "--env", self.outside / "environment.json"
+        done = subprocess.run([PROGRAM, *options, *words], capture_output=True, encoding="utf-8", check=False)
+        return done.returncode, done.stdout, done.stderr
+
+    def check_files(self, history):
+        """The three files are those of the present state of a history."""
+        requirements, lock, journal = (self.files()[name] for name in FILES)
+        state = history.state()
+        self.assertEqual(requirements.decode(), "".join(state.lines))
+        self.assertEqual(read_lock(lock), (marker_text(LINUX), state.digest, state.entries))
+        self.assertEqual(opens(requirements, lock, journal), ("ok", history.cursor, len(history.states) - 1))
+
+    def check_why(self, state, command):
+        """`why` answers of an addition, or of a relock, what the rules do, and where there is no solution by a refutation."""
+        before = self.files()
+        status, output, error = self.told("why", *command[1:])
+        self.assertEqual((self.files(), error), (before, ""), command)
+        try:
+            problem = problem_after(state, command, self.index)[1]
+        except Refused as refused:
+            self.assertEqual((status, output), (1, f"refused {refused.word}\n"), command)
+            return
+        if best_solution(problem) is not None:
+            self.seen["solvable"] += 1
+            self.assertEqual((status, output), (0, "solvable\n"), command)
+            return
+        self.seen["refuted"] += 1
+        self.assertEqual(status, 3)
+        self.check_refutation(problem, read_refutation(output), state)
+
+    def check_refutation(self, problem, conflicts, state):
+        """A printed list is accepted. Altered lists aren't, and neither is it where there is a solution."""
+        self.assertTrue(is_refutation(problem, conflicts), conflicts)
+        self.assertFalse(is_refutation(problem, conflicts[:-1]))
+        self.assertFalse(is_refutation(problem, [*conflicts[:-1], *read_refutation("a==1\n")]))
+        for place in range(len(conflicts) - 1):
+            is_kept = is_refutation(problem, conflicts[:place] + conflicts[place + 1 :])
+            self.seen["needless conflict" if is_kept else "refused drop"] += 1
+        present = problem_after(state, ("relock",), self.index)[1]
+        if best_solution(present) is not None:
+            self.assertFalse(is_refutation(present, conflicts))
+
+
+if __name__ == "__main__":
+    unittest.main()
