@@ -24,7 +24,8 @@ MARKERS = (
 EXTRA_MARKERS = 'extra == "E_1"', "'e.1' == extra", 'extra != "e-1"', 'extra == "f"'
 FAULTY_LINES = "", " ", "# a", "a >>1", "a b", "_a", "a[", "a ;", "a @ https://x.example/a.whl", "a\n", "a # b\\", "a === 1"
 FAULTY_NAMES = "a b", "_", "a ", "a==1", ""
-ENDINGS = [["-py3-none-any.whl"]] * 6 + [["-py3-none-any.whl", "-cp312-none-any.whl"], [".zip", ".tar.gz"], [".egg"]]
+WHEEL, OTHER_WHEEL = "-py3-none-any.whl", "-cp312-none-any.whl"
+ENDINGS = [[WHEEL]] * 6 + [[WHEEL, OTHER_WHEEL], [OTHER_WHEEL, ".zip", WHEEL], [".zip", ".tar.gz"], [".egg"]]
 KINDS = ["add"] * 6 + ["remove"] * 2 + ["constrain"] * 5 + ["upgrade"] * 4 + ["relock"] * 2 + ["undo"] * 4 + ["redo"]
 
 

@@ -127,7 +127,10 @@ class Edits(unittest.TestCase):
             (("add", "# a"), "refused bad-text"), (("remove", "b-b"), "refused not-present"),
             (("add", "z"), "refused no-solution"),
         )
-        self.check("a\nb-b", some, (("remove", "b-b"), "ok 1", "a\n"), (("undo",), "ok 0"), (("remove", "a"), "ok 1", "b-b"))
+        self.check(
+            "a\nb-b", some, (("remove", "b-b"), "ok 1", "a\n"), (("undo",), "ok 0"), (("remove", "a"), "ok 1", "b-b"),
+            (("redo",), "refused nothing-to-redo"),
+        )
         self.check("a\nA >=1\n", some, (("remove", "a"), "refused ambiguous"), (("remove", "-"), "refused bad-text"))
 
     def test_constraints(self):
@@ -178,6 +181,12 @@ class Refutations(unittest.TestCase):
         self.check(False, ", ".join([*conflicts[:-1], "c==1"]), "a==2\nc", *self.INDEX)
         self.check(False, ", ".join(conflicts), "a\nc", *self.INDEX)
 
+    def test_two_versions_of_a_name_are_a_case_of_its_own(self):
+        problem = problem_in("x[e]", *self.EXTRAS, ("x", "2", []))
+        two, same = read_refutation("x==1 x[e]==2\nx==1 x[e]==1\n")
+        self.assertEqual(case_of(problem, two, []), "two versions of one name")
+        self.assertIsNone(case_of(problem, same, []))
+
     def test_faulty_texts(self):
         for text in "-", "a==1 \n", "b==1 a==1\n", "a==1 a==1\n", "A==1\n", "a==01\n", "a[]==1\n", "\n", "a=1\n":
             self.assertRaises(Fault, read_refutation, text)
@@ -196,8 +205,8 @@ class Refutations(unittest.TestCase):
 
 
 def reaches_the_empty_conflict(problem):
-    """Whether the empty conflict is among all that follow, one from another, from nothing. A conflict that has another in it is of
-    no more use than that one."""
+    """Whether the empty conflict is among all that follow, one from another, from nothing. A conflict that has another in it is
+    of no more use than that one."""
     nodes = [(name, extra) for name in problem.releases for extra in (None, "e-1", "f")]
     choices = [Choice(*node, order_key(release.version)) for node in nodes for release in problem.releases[node[0]]]
     left = [frozenset(some) for count in range(4) for some in combinations(choices, count)]

@@ -108,14 +108,14 @@ fn fails_to_read(
 }
 
 // A writer that fails behind so many calls, or takes nothing there.
-fn narrow(alloc: Global, most: usize, calls: usize, fails: bool) -> Counted<Narrow> {
-    Counted::new(Narrow {
+fn narrow(alloc: Global, most: usize, calls: usize, fails: bool) -> Narrow {
+    Narrow {
         taken: Vec::new(alloc),
         most,
         calls_left: calls,
         fails,
         has_stopped: false,
-    })
+    }
 }
 
 // Plays such a writer, and answers whether that call was made.
@@ -130,7 +130,7 @@ fn fails_to_write(
     let alloc = rt.alloc();
     let mut session = session(rt, alloc, snapshot);
     let mut source = Counted::new(case.input.as_bytes());
-    let mut sink = narrow(alloc, most, calls, fails);
+    let mut sink = Counted::new(narrow(alloc, most, calls, fails));
     let done = batch(alloc, &mut source, &mut sink, &mut session, snapshot);
     let has_failed = sink.inner.has_stopped;
     let taken = sink.inner.taken.as_slice();

@@ -81,7 +81,7 @@ fn an_index_has_many_releases(rt: HostRuntime) -> Result<(), Fail> {
     assert_eq!(rt; newest.wheels().len(), 131);
     let mut wanted = String::from_str(alloc, "2 ")?;
     for number in 0..150 {
-        let part = 249 - number;
+        let part = 249_usize.saturating_sub(number);
         wanted.push_str(format!(in alloc; "1.{part} ")?.as_str())?;
     }
     assert_eq!(rt;
