@@ -1,10 +1,2 @@
-pub mod CommandLine
-pub mod CommandWords
-pub mod Faults
 pub mod Inputs
 pub mod InputWords
-pub mod Replies
-pub mod Requests
-pub mod Runs
-pub mod Standings
-pub mod Streams

@@ -1,12 +1,11 @@
 // The subcommands that begin a history or make steps in it.
 
-use crate::batch::{RESOLVER, accepted_in, batch};
-use crate::counted::Counted;
 use crate::input_files::{InputFile, read_bytes, read_environment, read_index, read_requirements};
-use crate::reply_text::ReplyText;
-use crate::request::Inputs;
 use crate::saved_files::{SavedFiles, remove_left};
 use crate::stop::{Stop, in_file, print};
+use commands::batch::{RESOLVER, accepted_in, batch};
+use commands::request::Inputs;
+use commands::{Counted, ReplyText};
 use edits::Edit;
 use journal::{Command, Reply, Session};
 use snapshot::Snapshot;

@@ -1,7 +1,7 @@
 // The lock on the folder of the three files, by which calls of the program wait for one another.
 
-use crate::batch::BatchFault;
 use crate::stop::Stop;
+use commands::batch::BatchFault;
 use std::fs::{File, OpenFile};
 use std::io::{self, ErrorKind};
 use std::rt::Files;

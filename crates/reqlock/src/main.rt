@@ -1,39 +1,23 @@
 //! `reqlock`: a locker for Python requirements files, with undo and redo.
 #![tactic(auto)]
 
-mod batch;
-mod command_line;
-mod command_words;
-mod counted;
-#[cfg(test)]
-mod each_fault_tests;
 mod editing;
 mod explaining;
-#[cfg(test)]
-mod fault_tests;
 mod folder_lock;
 mod history_text;
 mod input_files;
 mod lock_text;
 mod looking;
-mod pending_line;
 mod program;
 mod refutation_text;
 mod replacing;
-mod reply_text;
-mod request;
 mod requirement_text;
 mod saved_files;
-mod sink;
 mod skipped_text;
-mod source;
 mod stop;
-#[cfg(test)]
-mod tests;
-mod words;
 
-use crate::batch::BatchFault;
 use crate::stop::{Status, report_fault};
+use commands::batch::BatchFault;
 use std::io::{self, ErrorKind, Write};
 use std::process::ExitCode;
 use std::rt::Env;

@@ -3,8 +3,8 @@
 use crate::editing::{edit_once, init, run_batch, step_once, try_commands};
 use crate::folder_lock::{LockFile, lock_to_save};
 use crate::looking::{print_check, print_history, print_lock, print_skipped, print_why};
-use crate::request::{Invocation, Subcommand, request};
 use crate::stop::{Status, Stop, report};
+use commands::request::{Invocation, Subcommand, request};
 use journal::Command;
 use std::io::{Read, Write};
 use std::rt::Files;

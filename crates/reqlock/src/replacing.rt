@@ -1,9 +1,9 @@
 // Replacing files so that none is ever half written: each is written whole beside its place, under
 // its name and `.new`, and only when all of them stand are they put into their places.
 
-use crate::batch::BatchFault;
 use crate::input_files::InputFile;
 use crate::stop::Stop;
+use commands::batch::BatchFault;
 use std::fs::{File, OpenFile, OpenOptions, Permissions};
 use std::io::{ErrorKind, Write};
 use std::rt::Files;

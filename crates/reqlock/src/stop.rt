@@ -1,13 +1,13 @@
 // Why the program ends before it did what was asked, and how it tells it.
 
 ghost use Rattle.std.specs.Prelude.{◌≡◌};
-ghost use Rattle.reqlock.specs.declared.batch.BatchFault.TheVariants as batches;
+ghost use Rattle.commands.specs.declared.batch.BatchFault.TheVariants as batches;
 ghost use Rattle.reqlock.specs.declared.stop.Stop.TheVariants.{Fault};
 
-use crate::batch::BatchFault;
 use crate::input_files::{InputFault, InputFile};
-use crate::reply_text::refusal_word;
-use crate::request::{NeededOption, RequestFault};
+use commands::batch::BatchFault;
+use commands::refusal_word;
+use commands::request::{NeededOption, RequestFault};
 use edits::{Refusal, SavedFile};
 use std::alloc::{AllocError, AllocFailed};
 use std::io::Write;

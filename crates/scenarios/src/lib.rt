@@ -1,17 +1,25 @@
-//! Tests of the public calls of searches, indexes, locks, edits and sessions. There is nothing else here, so that nothing is
+//! Tests of the public calls of searches, indexes, locks, edits, sessions and batches. There is nothing else here, so that nothing is
 //! proved twice for their sake.
 #![tactic(auto)]
 
 #[cfg(test)]
 mod applied_changes;
 #[cfg(test)]
+mod batch_faults;
+#[cfg(test)]
+mod batches;
+#[cfg(test)]
 mod both_histories;
 #[cfg(test)]
 mod changes;
 #[cfg(test)]
+mod command_lines;
+#[cfg(test)]
 mod cut_refutations;
 #[cfg(test)]
 mod drawn_problems;
+#[cfg(test)]
+mod each_batch_fault;
 #[cfg(test)]
 mod edited_files;
 #[cfg(test)]
@@ -36,6 +44,8 @@ mod long_indexes;
 mod long_locks;
 #[cfg(test)]
 mod refutations;
+#[cfg(test)]
+mod replies;
 #[cfg(test)]
 mod searches;
 #[cfg(test)]

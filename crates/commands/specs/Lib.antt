@@ -1,0 +1,8 @@
+pub mod CommandLine
+pub mod CommandWords
+pub mod Faults
+pub mod Replies
+pub mod Requests
+pub mod Runs
+pub mod Standings
+pub mod Streams

@@ -1,0 +1,85 @@
+-- A batch of commands on a history. All of it is reqlock's own rule.
+use Rattle.std.specs.Prelude.{ℕ, ◌≡◌, ◌<◌, Bool, List, [], ◌∷◌, ◌++◌, Option, None, Some, length}
+use Rattle.std.specs.List.{filter_map, list_any}
+use Rattle.std.specs.Io.KnownBytes.{Appends, Consumes}
+use Rattle.snapshot.specs.declared.snapshot.Snapshot.{Snapshot}
+use Rattle.edits.specs.declared.refusal.Refusal.TheVariants as refusals
+use Rattle.journal.specs.declared.commands.Reply.{Reply}
+use Rattle.journal.specs.declared.commands.Reply.TheVariants.{Refused}
+use Rattle.journal.specs.Past.{Past}
+use Rattle.journal.specs.Commands.{Asked, Editing, Undoing, Redoing}
+use Rattle.journal.specs.Steps.{Run}
+use Rattle.commands.specs.declared.batch.BatchFault.{BatchFault}
+use Rattle.commands.specs.declared.batch.BatchFault.TheVariants.{Read, Write, OutOfMemory}
+use Rattle.commands.specs.declared.command_line.Item.{Item}
+use Rattle.commands.specs.declared.command_line.Item.TheVariants.{Edit, Undo, Redo, BadCommand}
+use Rattle.commands.specs.CommandLine.{commands_of, ended_commands_of}
+use Rattle.commands.specs.Replies.{text_of_reply, reply_text, is_accepted}
+
+-- what an item asks a history for: a bad command asks for nothing
+abbrev pub asked_in : Snapshot → Item → Option Asked
+asked_in snapshot (Edit edit) = Some (Editing edit snapshot)
+asked_in snapshot Undo = Some Undoing
+asked_in snapshot Redo = Some Redoing
+asked_in snapshot BadCommand = None
+
+-- the replies to items, by those to what they ask for: a bad command is refused
+abbrev pub replies_of : List Item → List Reply → List Reply
+replies_of [] replies = []
+replies_of (BadCommand ∷ items) replies = Refused refusals.BadCommand ∷ replies_of items replies
+replies_of (Edit edit ∷ items) [] = []
+replies_of (Edit edit ∷ items) (reply ∷ replies) = reply ∷ replies_of items replies
+replies_of (Undo ∷ items) [] = []
+replies_of (Undo ∷ items) (reply ∷ replies) = reply ∷ replies_of items replies
+replies_of (Redo ∷ items) [] = []
+replies_of (Redo ∷ items) (reply ∷ replies) = reply ∷ replies_of items replies
+
+-- a run over what the items ask for, and with it these replies to the items
+abbrev pub Replied : Snapshot → List Item → List Reply → Past → Past → Type 0
+Replied snapshot items replies old new = (answers : List Reply) × Run old (filter_map (asked_in snapshot) items) answers new × (replies ≡ replies_of items answers)
+
+-- a run over these items, whose replies were written where the bytes before and after are known
+abbrev pub Answered : Snapshot → List Item → Past → Past → Option (List ℕ) → Option (List ℕ) → Type 0
+Answered snapshot items old new before after = (replies : List Reply) × Replied snapshot items replies old new × Appends before after (reply_text replies)
+
+-- the same, and whether some command was accepted
+abbrev pub AnsweredWith : Bool → Snapshot → List Item → Past → Past → Option (List ℕ) → Option (List ℕ) → Type 0
+AnsweredWith accepted snapshot items old new before after = (replies : List Reply) × Replied snapshot items replies old new × Appends before after (reply_text replies) × (accepted ≡ list_any is_accepted replies)
+
+-- of a text a front was written, and something is missing
+pub record IsCutOff (text : List ℕ) (before after : Option (List ℕ)) : Type 0 where
+  pub front : List ℕ
+  pub missing : List ℕ
+  pub text_is : text ≡ front ++ missing
+  pub is_missing : 0 < length missing
+  pub written : Appends before after front
+
+-- a run over these items, whose replies were written, but for an end of the last one
+pub record BreaksOff (snapshot : Snapshot) (items : List Item) (old new : Past) (before after : Option (List ℕ)) : Type 0 where
+  pub told : List Reply
+  pub last : Reply
+  pub replied : Replied snapshot items (told ++ last ∷ []) old new
+  pub front : List ℕ
+  pub missing : List ℕ
+  pub last_is : text_of_reply last ≡ front ++ missing
+  pub is_missing : 0 < length missing
+  pub written : Appends before after (reply_text told ++ front)
+
+-- of the bytes that were read the lines that an LF ended are answered, and a rest without LF isn't
+pub record EndsInReading (snapshot : Snapshot) (input : List ℕ) (left : Option (List ℕ)) (old new : Past) (before after : Option (List ℕ)) : Type 0 where
+  pub read : List ℕ
+  pub read_is : Consumes (Some input) left read
+  pub answered : Answered snapshot (ended_commands_of read) old new before after
+
+-- the first commands of the input are done, and the reply to the last of them is the one that breaks off
+pub record EndsInWriting (snapshot : Snapshot) (input : List ℕ) (old new : Past) (before after : Option (List ℕ)) : Type 0 where
+  pub done : List Item
+  pub more : List Item
+  pub commands_are : commands_of input ≡ done ++ more
+  pub breaks_off : BreaksOff snapshot done old new before after
+
+-- what is done where a batch ends at a fault, of an input of which these bytes are left
+abbrev pub EndsAt : BatchFault → Snapshot → List ℕ → Option (List ℕ) → Past → Past → Option (List ℕ) → Option (List ℕ) → Type 0
+EndsAt Read snapshot input left old new before after = EndsInReading snapshot input left old new before after
+EndsAt Write snapshot input left old new before after = EndsInWriting snapshot input old new before after
+EndsAt OutOfMemory snapshot input left old new before after = (new ≡ old) × (after ≡ before) × (left ≡ Some input)

@@ -1,0 +1,51 @@
+-- What the parts of `batch` promise one another. Tied to `commands_of` and `Run` by the clauses of `batch`; need not be read.
+use Rattle.std.specs.Prelude.{ℕ, ◌≡◌, ◌||◌, Bool, List, ◌++◌, Option, None, Some}
+use Rattle.std.specs.List.{list_any}
+use Rattle.std.specs.Io.KnownBytes.{Appends}
+use Rattle.snapshot.specs.declared.snapshot.Snapshot.{Snapshot}
+use Rattle.journal.specs.declared.commands.Reply.{Reply}
+use Rattle.journal.specs.Past.{Past}
+use Rattle.commands.specs.declared.command_line.Item.{Item}
+use Rattle.commands.specs.CommandLine.{commands_of, ended_commands_of, IsUnbroken}
+use Rattle.commands.specs.Replies.{Telling, reply_text, is_accepted}
+use Rattle.commands.specs.Runs.{Replied, BreaksOff}
+
+-- where a batch stands: its history, what was written where that is known, and whether a reply was `ok`
+pub record Standing : Type 0 where
+  pub past : Past
+  pub written : Option (List ℕ)
+  pub has_accepted : Bool
+
+abbrev pub standing : Past → Option (List ℕ) → Telling → Standing
+standing past written telling = record { past = past; written = written; has_accepted = telling.has_accepted }
+
+-- the items were answered
+abbrev pub Advances : Snapshot → List Item → Standing → Standing → Type 0
+Advances snapshot items old new =
+    (replies : List Reply) × Replied snapshot items replies old.past new.past × Appends old.written new.written (reply_text replies) × (new.has_accepted ≡ (old.has_accepted || list_any is_accepted replies))
+
+-- of `bytes` so many commands were answered that those left are the ones of `back` and what follows
+pub record AnswersAllBut (snapshot : Snapshot) (bytes back : List ℕ) (old new : Standing) : Type 0 where
+  pub done : List Item
+  pub advances : Advances snapshot done old new
+  pub left : (rest : List ℕ) → commands_of (bytes ++ rest) ≡ done ++ commands_of (back ++ rest)
+  pub ended : (rest : List ℕ) → ended_commands_of (bytes ++ rest) ≡ done ++ ended_commands_of (back ++ rest)
+
+-- of an input these bytes are left, and what was read of it is answered up to a pending line
+pub record ReadsOf (snapshot : Snapshot) (input pending rest : List ℕ) (old new : Standing) : Type 0 where
+  pub read : List ℕ
+  pub input_is : input ≡ read ++ rest
+  pub unbroken : IsUnbroken pending
+  pub answers : AnswersAllBut snapshot read pending old new
+
+-- the same of a source whose bytes may be unknown
+abbrev pub Reads : Snapshot → Option (List ℕ) → List ℕ → Option (List ℕ) → Standing → Standing → Type 0
+Reads snapshot None pending left old new = Unit {0}
+Reads snapshot (Some input) pending None old new = ⊥
+Reads snapshot (Some input) pending (Some rest) old new = ReadsOf snapshot input pending rest old new
+
+-- of these bytes the first commands are done, and the reply to the last of them breaks off
+pub record Breaks (snapshot : Snapshot) (bytes : List ℕ) (old new : Standing) : Type 0 where
+  pub done : List Item
+  pub breaks_off : BreaksOff snapshot done old.past new.past old.written new.written
+  pub left : (rest : List ℕ) → (more : List Item) × (commands_of (bytes ++ rest) ≡ done ++ more)

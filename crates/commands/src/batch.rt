@@ -1,0 +1,357 @@
+// Commands read from a source, and their replies written to a sink.
+
+ghost use Rattle.std.specs.Prelude.{◌≡◌, ◌⊎◌, ◌≤◌, ◌<◌, ◌+◌, ◌||◌, ◌++◌, [], ◌∷◌, true, false, length, take, drop, OnOk, OnErr, IfOk, IfErr, IfSome, IfNone};
+ghost use Rattle.std.specs.Io.KnownBytes.{Appends, Consumes, IsAtEnd, Keeps};
+ghost use Rattle.std.specs.Option.{option_to_list};
+ghost use Rattle.commands.specs.CommandLine.{commands_of, item_of, IsUnbroken};
+ghost use Rattle.commands.specs.Faults.{IsFailure};
+ghost use Rattle.commands.specs.Replies.{is_accepted, text_of_reply};
+ghost use Rattle.commands.specs.Runs.{Answered, AnsweredWith, BreaksOff, EndsAt, IsCutOff, Replied};
+ghost use Rattle.commands.specs.Standings.{Advances, AnswersAllBut, Breaks, Reads, standing};
+ghost use Rattle.commands.specs.declared.batch.BatchFault.TheVariants.{OutOfMemory};
+
+use crate::command_line::{Item, read_item};
+use crate::pending_line::PendingLine;
+use crate::reply_text::ReplyText;
+use crate::sink::Sink;
+use crate::source::Source;
+use edits::Refusal;
+use journal::{Command, Learning, Reply, Session};
+use snapshot::Snapshot;
+use std::alloc::{AllocError, Global};
+
+/// What finds each lock.
+pub const RESOLVER: Learning = Learning;
+
+// How many bytes one read asks for.
+const PIECE: usize = 8192;
+
+/// Why a batch ended before the end of its input.
+#[derive(Clone, Copy, Debug, PartialEq, Eq)]
+pub enum BatchFault {
+    /// The source failed.
+    Read,
+    /// The sink failed or took no bytes.
+    Write,
+    /// There was no memory for the buffers. No command was done.
+    OutOfMemory,
+}
+
+impl From<AllocError> for BatchFault {
+    ghost from_gives = { λ _ e. e ≡ OutOfMemory };
+
+    fn from(_error: AllocError) -> BatchFault {
+        BatchFault::OutOfMemory
+    }
+}
+
+/// Does the commands that `source` gives, one a line, and writes the reply to each to `sink` as
+/// its line is read. A refusal, of memory too, ends nothing; the first failed call ends the batch.
+pub fn batch<S: Source, K: Sink>(
+    alloc: Global,
+    source: &mut S,
+    sink: &mut K,
+    session: &mut Session,
+    snapshot: &Snapshot,
+) -> Result<(), BatchFault>
+    requires source { S.has_failed source.old ≡ false }
+    requires sink { K.has_failed sink.old ≡ false }
+    // What was written is the text of the replies of a run over the commands of the input.
+    ensures answered { OnOk result (IfSome (S.remaining source.old) (λ input.
+        Answered snapshot.now (commands_of input) session.old session.new
+        (K.contents sink.old) (K.contents sink.new))) }
+    // All was read.
+    ensures end { OnOk result (IsAtEnd (S.remaining source.new)) }
+    // A fault is of the stream that failed, and want of memory comes before all else.
+    ensures fault { IfErr result (λ e. (e ≡ BatchFault.OutOfMemory)
+        ⊎ IsFailure e (S.has_failed source.new) (K.has_failed sink.new)) }
+    // What is done where a fault ends it, and what of the replies stands.
+    ensures left { IfErr result (λ e. IfSome (S.remaining source.old) (λ input.
+        EndsAt e snapshot.now input (S.remaining source.new) session.old session.new
+        (K.contents sink.old) (K.contents sink.new))) }
+    ensures memory { result ≡ Err BatchFault.OutOfMemory
+        → (session.new ≡ session.old) × (sink.new ≡ sink.old) × (source.new ≡ source.old) }
+{
+    match accepted_in(alloc, source, sink, session, snapshot) {
+        Ok(_) => Ok(()),
+        Err(fault) => Err(fault),
+    }
+}
+
+/// As `batch`. It answers whether some command was accepted; where none was, the session is as it
+/// was.
+pub fn accepted_in<S: Source, K: Sink>(
+    alloc: Global,
+    source: &mut S,
+    sink: &mut K,
+    session: &mut Session,
+    snapshot: &Snapshot,
+) -> Result<bool, BatchFault>
+    requires source { S.has_failed source.old ≡ false }
+    requires sink { K.has_failed sink.old ≡ false }
+    ensures answered { IfOk result (λ accepted. IfSome (S.remaining source.old) (λ input.
+        AnsweredWith accepted snapshot.now (commands_of input) session.old session.new
+        (K.contents sink.old) (K.contents sink.new))) }
+    ensures end { OnOk result (IsAtEnd (S.remaining source.new)) }
+    ensures fault { IfErr result (λ e. (e ≡ BatchFault.OutOfMemory)
+        ⊎ IsFailure e (S.has_failed source.new) (K.has_failed sink.new)) }
+    ensures left { IfErr result (λ e. IfSome (S.remaining source.old) (λ input.
+        EndsAt e snapshot.now input (S.remaining source.new) session.old session.new
+        (K.contents sink.old) (K.contents sink.new))) }
+    ensures memory { result ≡ Err BatchFault.OutOfMemory
+        → (session.new ≡ session.old) × (sink.new ≡ sink.old) × (source.new ≡ source.old) }
+{
+    let mut text = ReplyText::new(alloc)?;
+    let mut piece = vec![in alloc; 0u8; PIECE]?;
+    let mut pending = PendingLine::new(alloc)?;
+    answer_all(
+        alloc,
+        source,
+        piece.as_mut_slice(),
+        &mut pending,
+        &mut text,
+        sink,
+        session,
+        snapshot,
+    )?;
+    Ok(text.has_accepted())
+}
+
+// Answers each line of the input. The replies are put into `text` in turn.
+fn answer_all<S: Source, K: Sink>(
+    alloc: Global,
+    source: &mut S,
+    piece: &mut [u8],
+    pending: &mut PendingLine,
+    text: &mut ReplyText,
+    sink: &mut K,
+    session: &mut Session,
+    snapshot: &Snapshot,
+) -> Result<(), BatchFault>
+    requires piece { 0 < length piece.old }
+    requires pending { pending.old ≡ [] }
+    ensures advances { OnOk result (IfSome (S.remaining source.old) (λ input.
+        Advances snapshot.now (commands_of input)
+        (standing session.old (K.contents sink.old) text.old)
+        (standing session.new (K.contents sink.new) text.new))) }
+    ensures end { OnOk result (IsAtEnd (S.remaining source.new)) }
+    ensures fault { IfErr result (λ e.
+        IsFailure e (S.has_failed source.new) (K.has_failed sink.new)) }
+    ensures left { IfErr result (λ e. IfSome (S.remaining source.old) (λ input.
+        EndsAt e snapshot.now input (S.remaining source.new) session.old session.new
+        (K.contents sink.old) (K.contents sink.new))) }
+{
+    answer_lines(alloc, source, piece, pending, text, sink, session, snapshot)?;
+    answer_last(alloc, pending, text, sink, session, snapshot)
+}
+
+// Answers a last line, of which no LF has come.
+fn answer_last<K: Sink>(
+    alloc: Global,
+    pending: &PendingLine,
+    text: &mut ReplyText,
+    sink: &mut K,
+    session: &mut Session,
+    snapshot: &Snapshot,
+) -> Result<(), BatchFault>
+    ensures advances { OnOk result (Advances snapshot.now (commands_of pending.now)
+        (standing session.old (K.contents sink.old) text.old)
+        (standing session.new (K.contents sink.new) text.new)) }
+    ensures breaks { OnErr result (BreaksOff snapshot.now (commands_of pending.now)
+        session.old session.new (K.contents sink.old) (K.contents sink.new)) }
+    ensures fault { IfErr result (λ e. (e ≡ BatchFault.Write) × (K.has_failed sink.new ≡ true)) }
+{
+    let line = pending.as_bytes();
+    if line.is_empty() {
+        return Ok(());
+    }
+    answer_line(alloc, line, false, text, sink, session, snapshot)
+}
+
+// Reads to the end of input and answers each line that an LF ended. The last line is left.
+fn answer_lines<S: Source, K: Sink>(
+    alloc: Global,
+    source: &mut S,
+    piece: &mut [u8],
+    pending: &mut PendingLine,
+    text: &mut ReplyText,
+    sink: &mut K,
+    session: &mut Session,
+    snapshot: &Snapshot,
+) -> Result<(), BatchFault>
+    requires piece { 0 < length piece.old }
+    requires pending { pending.old ≡ [] }
+    ensures reads { OnOk result (Reads snapshot.now
+        (S.remaining source.old) pending.new (S.remaining source.new)
+        (standing session.old (K.contents sink.old) text.old)
+        (standing session.new (K.contents sink.new) text.new)) }
+    ensures end { OnOk result (IsAtEnd (S.remaining source.new)) }
+    ensures fault { IfErr result (λ e.
+        IsFailure e (S.has_failed source.new) (K.has_failed sink.new)) }
+    ensures left { IfErr result (λ e. IfSome (S.remaining source.old) (λ input.
+        EndsAt e snapshot.now input (S.remaining source.new) session.old session.new
+        (K.contents sink.old) (K.contents sink.new))) }
+{
+    'pieces: loop {
+        let count = match read_piece(source, piece) {
+            Ok(count) => count,
+            Err(fault) => return Err(fault),
+        };
+        if count == 0 {
+            return Ok(());
+        }
+        answer_piece(
+            alloc,
+            &piece[..count],
+            pending,
+            text,
+            sink,
+            session,
+            snapshot,
+        )?;
+    }
+}
+
+fn read_piece<S: Source>(source: &mut S, piece: &mut [u8]) -> Result<usize, BatchFault>
+    ensures bound { IfOk result (λ n. n ≤ length piece.new) }
+    ensures bytes { IfOk result (λ n.
+        Consumes (S.remaining source.old) (S.remaining source.new) (take n piece.new)) }
+    ensures end { IfOk result (λ n.
+        n ≡ 0 → 0 < length piece.new → IsAtEnd (S.remaining source.new)) }
+    ensures calls { OnOk result (S.calls_left source.new < S.calls_left source.old) }
+    ensures fault { IfErr result (λ e. (e ≡ BatchFault.Read) × (S.has_failed source.new ≡ true)) }
+    ensures kept { OnErr result (Keeps (S.remaining source.old) (S.remaining source.new)) }
+{
+    match source.read(piece) {
+        Ok(count) => Ok(count),
+        Err(_) => Err(BatchFault::Read),
+    }
+}
+
+// Answers each line whose LF is in the piece, and keeps what is left of it.
+fn answer_piece<K: Sink>(
+    alloc: Global,
+    piece: &[u8],
+    pending: &mut PendingLine,
+    text: &mut ReplyText,
+    sink: &mut K,
+    session: &mut Session,
+    snapshot: &Snapshot,
+) -> Result<(), BatchFault>
+    ensures answers { OnOk result (AnswersAllBut snapshot.now (pending.old ++ piece.now) pending.new
+        (standing session.old (K.contents sink.old) text.old)
+        (standing session.new (K.contents sink.new) text.new)) }
+    ensures unbroken { OnOk result (IsUnbroken pending.new) }
+    ensures breaks { OnErr result (Breaks snapshot.now (pending.old ++ piece.now)
+        (standing session.old (K.contents sink.old) text.old)
+        (standing session.new (K.contents sink.new) text.new)) }
+    ensures fault { IfErr result (λ e. (e ≡ BatchFault.Write) × (K.has_failed sink.new ≡ true)) }
+{
+    let mut rest = piece;
+    'lines: while let Some((line, behind)) = split_line(rest) {
+        pending.keep(line);
+        answer_line(
+            alloc,
+            pending.as_bytes(),
+            true,
+            text,
+            sink,
+            session,
+            snapshot,
+        )?;
+        pending.clear();
+        rest = behind;
+    }
+    pending.keep(rest);
+    Ok(())
+}
+
+// The first line, and what is behind its LF.
+fn split_line(bytes: &[u8]) -> Option<(&[u8], &[u8])>
+    ensures none { IfNone result (IsUnbroken bytes.now) }
+    ensures line { IfSome result (λ parts. IsUnbroken parts.0.now) }
+    ensures split { IfSome result (λ parts. bytes.now ≡ parts.0.now ++ (10 ∷ parts.1.now)) }
+    ensures shorter { IfSome result (λ parts. length parts.1.now < length bytes.now) }
+{
+    let at = line_end(bytes)?;
+    Some((&bytes[..at], &bytes[at + 1..]))
+}
+
+// Where the first LF is.
+fn line_end(bytes: &[u8]) -> Option<usize>
+    ensures none { IfNone result (IsUnbroken bytes.now) }
+    ensures bound { IfSome result (λ at. at < length bytes.now) }
+    ensures line { IfSome result (λ at. IsUnbroken (take at bytes.now)) }
+    ensures split { IfSome result (λ at.
+        bytes.now ≡ take at bytes.now ++ (10 ∷ drop (at + 1) bytes.now)) }
+{
+    memchr::memchr(b'\n', bytes)
+}
+
+// Does what a line asks for, and writes the reply. A blank line asks for nothing.
+fn answer_line<K: Sink>(
+    alloc: Global,
+    line: &[u8],
+    is_ended: bool,
+    text: &mut ReplyText,
+    sink: &mut K,
+    session: &mut Session,
+    snapshot: &Snapshot,
+) -> Result<(), BatchFault>
+    ensures advances { OnOk result (Advances snapshot.now
+        (option_to_list (item_of (record { bytes = line.now; is_ended = is_ended })))
+        (standing session.old (K.contents sink.old) text.old)
+        (standing session.new (K.contents sink.new) text.new)) }
+    ensures breaks { OnErr result (BreaksOff snapshot.now
+        (option_to_list (item_of (record { bytes = line.now; is_ended = is_ended })))
+        session.old session.new (K.contents sink.old) (K.contents sink.new)) }
+    ensures fault { IfErr result (λ e. (e ≡ BatchFault.Write) × (K.has_failed sink.new ≡ true)) }
+{
+    match read_item(alloc, line, is_ended) {
+        Ok(None) => Ok(()),
+        Ok(Some(item)) => send(&reply_to(alloc, item, session, snapshot), text, sink),
+        Err(AllocError) => send(&Reply::Refused(Refusal::OutOfMemory), text, sink),
+    }
+}
+
+// Writes a reply.
+fn send<K: Sink>(reply: &Reply, text: &mut ReplyText, sink: &mut K) -> Result<(), BatchFault>
+    ensures reply { OnOk result
+        (Appends (K.contents sink.old) (K.contents sink.new) (text_of_reply reply.now)) }
+    ensures accepted { OnOk result
+        (text.new.has_accepted ≡ (text.old.has_accepted || is_accepted reply.now)) }
+    ensures cut_off { OnErr result
+        (IsCutOff (text_of_reply reply.now) (K.contents sink.old) (K.contents sink.new)) }
+    ensures fault { IfErr result (λ e. (e ≡ BatchFault.Write) × (K.has_failed sink.new ≡ true)) }
+{
+    text.set(reply);
+    write_all(sink, text.as_bytes())
+}
+
+fn reply_to(alloc: Global, item: Item, session: &mut Session, snapshot: &Snapshot) -> Reply
+    ensures replied { Replied snapshot.now (item ∷ []) (result ∷ []) session.old session.new }
+{
+    match item {
+        Item::Edit(edit) => session.apply(alloc, &Command::Edit(edit, snapshot), &RESOLVER),
+        Item::Undo => session.apply(alloc, &Command::Undo, &RESOLVER),
+        Item::Redo => session.apply(alloc, &Command::Redo, &RESOLVER),
+        Item::BadCommand => Reply::Refused(Refusal::BadCommand),
+    }
+}
+
+/// Writes all of the bytes, in as many calls as it takes.
+pub(crate) fn write_all<K: Sink>(sink: &mut K, bytes: &[u8]) -> Result<(), BatchFault>
+    ensures bytes { OnOk result (Appends (K.contents sink.old) (K.contents sink.new) bytes.now) }
+    ensures cut_off { OnErr result
+        (IsCutOff bytes.now (K.contents sink.old) (K.contents sink.new)) }
+    ensures fault { IfErr result (λ e. (e ≡ BatchFault.Write) × (K.has_failed sink.new ≡ true)) }
+{
+    let mut rest = bytes;
+    while !rest.is_empty() {
+        match sink.write(rest) {
+            Ok(0) | Err(_) => return Err(BatchFault::Write),
+            Ok(count) => rest = rest.split_at(count).1,
+        }
+    }
+    Ok(())
+}

@@ -1,9 +1,0 @@
-use Rattle.reqlock.specs.Standings.{Reads, standing}
-use Rattle.reqlock.proofs.batch.answer_lines.Given as goal
-
-abbrev pub invariant-pieces : goal.invariant-pieces
-invariant-pieces g l =
-    Reads l.snapshot (g.S.Source.remaining l.fn.source) l.pending (g.S.Source.remaining l.source) (standing l.fn.session (g.K.Sink.contents l.fn.sink) l.fn.text) (standing l.session (g.K.Sink.contents l.sink) l.text)
-
-abbrev pub decreases-pieces : goal.decreases-pieces
-decreases-pieces g l = g.S.Source.calls_left l.source

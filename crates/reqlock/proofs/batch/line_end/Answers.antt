@@ -1,8 +1,0 @@
-use Rattle.reqlock.proofs.Lines.{line_end_none, line_end_line}
-use Rattle.reqlock.proofs.batch.line_end.Goals as goal
-
-pub returns-clause-none : goal.returns-clause-none
-returns-clause-none c = line_end_none c.args.bytes.now c.memchr.result c.memchr.ensures
-
-pub returns-clause-line : goal.returns-clause-line
-returns-clause-line c = line_end_line c.args.bytes.now c.memchr.result c.memchr.ensures

@@ -1,5 +1,0 @@
-use Rattle.reqlock.proofs.Texts.{word-cut}
-use Rattle.reqlock.proofs.words.cut_word.Goals as goal
-
-pub split_at-requires : goal.split_at-requires
-split_at-requires c = rw (c.word_length.ensures, c.as_bytes.ensures.value) (word-cut c.args.text.now)
