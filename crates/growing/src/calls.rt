@@ -1,0 +1,80 @@
+// A call in which growths of memory may be refused.
+
+use crate::told::Told;
+use edits::Refusal;
+use std::alloc::Global;
+use std::fmt::Display;
+use std::io::Write;
+
+/// Written before the call: what refuses growths begins to count behind it.
+const CALL: &[u8] = b"call\n";
+
+/// Written behind the call: nothing is refused from here on.
+const ANSWER: &[u8] = b"answer ";
+
+/// What is told where memory was refused.
+const REFUSED: [&str; 3] = [
+    "out of memory",
+    "line 0: out of memory",
+    "memory allocation failed",
+];
+
+/// Tells what stands before a call, does it, and tells the answer and what stands behind it. Where memory
+/// was refused the call is done once more.
+pub fn play<S: Told, T: Told, E: Display + Drop, W: Write, F: FnMut(&mut S) -> Result<T, E>>(
+    alloc: Global,
+    out: &mut W,
+    subject: &mut S,
+    mut call: F,
+) -> Option<()>
+    requires { (call : F) (subject : _) → F.pre call subject }
+{
+    show(alloc, out, "before ", &*subject)?;
+    for _ in 0..2 {
+        out.write_all(CALL).ok()?;
+        let answer = call(subject);
+        let is_refused = answered(alloc, out, answer)?;
+        show(alloc, out, "behind ", &*subject)?;
+        if !is_refused {
+            break;
+        }
+    }
+    Some(())
+}
+
+/// The answer of a call that has no fault of its own.
+pub fn surely<T>(answer: T) -> Result<T, Refusal> {
+    Ok(answer)
+}
+
+/// Tells what stands there, if anything.
+fn show<S: Told, W: Write>(alloc: Global, out: &mut W, word: &str, subject: &S) -> Option<()> {
+    let mut text = String::from_str(alloc, word).ok()?;
+    subject.tell(alloc, &mut text)?;
+    if text.len() > word.len() {
+        write_line(out, &mut text)?;
+    }
+    Some(())
+}
+
+/// Tells the answer of a call, and whether it is want of memory.
+fn answered<T: Told, E: Display + Drop, W: Write>(
+    alloc: Global,
+    out: &mut W,
+    answer: Result<T, E>,
+) -> Option<bool> {
+    out.write_all(ANSWER).ok()?;
+    let mut text = String::new(alloc);
+    match answer {
+        Ok(value) => value.tell(alloc, &mut text)?,
+        Err(fault) => write!(text, "{fault}").ok()?,
+    }
+    let is_refused = REFUSED.contains(&text.as_str());
+    write_line(out, &mut text)?;
+    Some(is_refused)
+}
+
+fn write_line<W: Write>(out: &mut W, text: &mut String) -> Option<()> {
+    text.push_str("\n").ok()?;
+    out.write_all(text.as_bytes()).ok()
+}

@@ -1,0 +1,47 @@
+// Changes.
+
+use crate::calls::play;
+use crate::clones::cloned;
+use crate::commands::edit_of;
+use crate::data::{read_indexes, state};
+use edits::{Change, State};
+use journal::Plain;
+use std::alloc::{AllocError, Global};
+use std::io::Write;
+
+/// Does something with the change of an edit: clones it, turns it round, or goes along it.
+pub fn changes<W: Write>(alloc: Global, out: &mut W, told: &str) -> Option<()> {
+    let (what, rest) = told.split_once(' ')?;
+    let indexes = read_indexes(alloc)?;
+    let edit = edit_of(alloc, rest)?;
+    let mut state = state(alloc, &indexes)?;
+    let edited = edits::edit(alloc, &state, &edit, &indexes.later, &Plain).ok()?;
+    let change = edited.change;
+    match what {
+        "clone" => cloned(alloc, out, change),
+        "inverse" => turned(alloc, out, change),
+        "apply" => play(alloc, out, &mut state, |state| change.apply(alloc, state)),
+        "carry" => play(
+            alloc,
+            out,
+            &mut state,
+            |state| carried(alloc, &change, state),
+        ),
+        _ => None,
+    }
+}
+
+fn turned<W: Write>(alloc: Global, out: &mut W, mut change: Change) -> Option<()> {
+    play(alloc, out, &mut change, |change| change.inverse(alloc))
+}
+
+/// Whether the change leads somewhere; then the state is moved along it.
+fn carried(alloc: Global, change: &Change, state: &mut State) -> Result<bool, AllocError> {
+    match change.apply(alloc, &*state)? {
+        Some(_) => {
+            change.carry(alloc, state)?;
+            Ok(true)
+        }
+        None => Ok(false),
+    }
+}

@@ -1,0 +1,25 @@
+// Histories of whole states.
+
+use crate::calls::{play, surely};
+use crate::commands::all_commands;
+use crate::data::{read_indexes, state};
+use journal::{Plain, WholeHistory};
+use std::alloc::Global;
+use std::io::Write;
+
+/// Applies the last of the commands, behind the others.
+pub fn whole<W: Write>(alloc: Global, out: &mut W, told: &str) -> Option<()> {
+    let indexes = read_indexes(alloc)?;
+    let commands = all_commands(alloc, &indexes, told)?;
+    let (last, earlier) = commands.as_slice().split_last()?;
+    let mut history = WholeHistory::new(alloc, state(alloc, &indexes)?).ok()?;
+    for command in earlier {
+        let _ = journal::apply(alloc, &mut history, command, &Plain);
+    }
+    play(
+        alloc,
+        out,
+        &mut history,
+        |history| surely(journal::apply(alloc, history, last, &Plain)),
+    )
+}

@@ -1,0 +1,109 @@
+// States and the problems of their edits.
+
+use crate::calls::{play, surely};
+use crate::commands::edit_of;
+use crate::data::{read_indexes, state};
+use crate::told::Told;
+use edits::{Edit, Snapshot, State, problem_after};
+use journal::Learning;
+use resolve::{Problem, check};
+use std::alloc::Global;
+use std::io::Write;
+
+/// Does something with the state that a history begins with: makes it of clones of its parts, finds
+/// the problem of an edit, or refutes that problem and checks the refutation.
+pub fn states<W: Write>(alloc: Global, out: &mut W, told: &str) -> Option<()> {
+    let (what, rest) = told.split_once(' ').unwrap_or((told, "relock"));
+    let indexes = read_indexes(alloc)?;
+    let edit = edit_of(alloc, rest)?;
+    let mut state = state(alloc, &indexes)?;
+    match what {
+        "new" => made(alloc, out, &mut state),
+        "problem" => asked(alloc, out, state, &edit, &indexes.now),
+        "refute" => refuted(
+            alloc,
+            out,
+            problem_after(alloc, &state, &edit, &indexes.now).ok()?,
+        ),
+        "check" => checked(
+            alloc,
+            out,
+            problem_after(alloc, &state, &edit, &indexes.now).ok()?,
+        ),
+        _ => None,
+    }
+}
+
+/// A state, and the problem of an edit of it once that is found.
+struct Question<'a> {
+    state: State,
+    problem: Option<Problem<'a>>,
+}
+
+impl<'a> Drop for Question<'a> {
+    fn drop(self) {
+        let Question {
+            state: _,
+            problem: _,
+        } = self;
+    }
+}
+
+impl<'a> Told for Question<'a> {
+    fn tell(&self, alloc: Global, text: &mut String) -> Option<()> {
+        self.state.tell(alloc, text)?;
+        match &self.problem {
+            Some(problem) => {
+                text.push_str(" ").ok()?;
+                problem.tell(alloc, text)
+            }
+            None => Some(()),
+        }
+    }
+}
+
+/// Finds the problem of an edit. What a closure answers may borrow nothing, so the problem is told
+/// behind the call, with the state.
+fn asked<W: Write>(
+    alloc: Global,
+    out: &mut W,
+    state: State,
+    edit: &Edit,
+    index: &Snapshot,
+) -> Option<()> {
+    let mut question = Question {
+        state,
+        problem: None,
+    };
+    play(alloc, out, &mut question, |question| {
+        question.problem = Some(problem_after(alloc, &question.state, edit, index)?);
+        surely(())
+    })
+}
+
+fn made<W: Write>(alloc: Global, out: &mut W, state: &mut State) -> Option<()> {
+    play(alloc, out, state, |state| {
+        let lines = state.lines().clone()?;
+        let environment = state.environment().clone()?;
+        State::new(alloc, lines, environment, state.lock().clone()?)
+    })
+}
+
+fn refuted<W: Write>(alloc: Global, out: &mut W, mut problem: Problem<'_>) -> Option<()> {
+    play(
+        alloc,
+        out,
+        &mut problem,
+        |problem| Learning.refute(alloc, problem),
+    )
+}
+
+fn checked<W: Write>(alloc: Global, out: &mut W, mut problem: Problem<'_>) -> Option<()> {
+    let refutation = Learning.refute(alloc, &problem).ok()??;
+    play(
+        alloc,
+        out,
+        &mut problem,
+        |problem| surely(check(problem, &refutation)),
+    )
+}
