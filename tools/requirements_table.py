@@ -1,19 +1,19 @@
 #!/usr/bin/env python3
-"""Prints a test file of what packaging reads in markers and requirements: requirements_table.py > FILE.
+"""Prints rows of markers and requirements for crates/conformance, or what packaging reads: requirements_table.py rows|answers.
 
-Run it with Debian's /usr/bin/python3 and python3-packaging. The printed file is crates/conformance/src/requirement_table.rt.
-Texts on which reqlock's rules differ by design, or packaging's answer is a mistake, are counted in the file's first
-comment; their class is told from the text, never from reqlock's answer.
+Run it with Debian's /usr/bin/python3 and python3-packaging. The rows are a part of crates/conformance/stdin, the answers the same
+part of crates/conformance/stdout. Texts on which reqlock's rules differ by design, or packaging's answer is a mistake, are counted
+in the first lines; their class is told from the text, never from reqlock's answer.
 """
 import json
-import platform
 import re
 import sys
 from pathlib import Path
 
 import packaging
+from conformance_rows import headlines, print_rows, row_of, told
 from packaging._parser import Variable, parse_requirement
-from packaging.markers import UndefinedComparison
+from packaging.markers import Marker, UndefinedComparison
 from packaging.requirements import InvalidRequirement, Requirement
 from packaging.specifiers import InvalidSpecifier, Specifier
 from packaging.utils import canonicalize_name
@@ -244,28 +244,36 @@ def read(text, left_out):
 
 
 def marker_row(text, left_out):
-    """Whether a marker holds with no extra, or `-`, and with one, and its text."""
+    """A marker, and whether it holds with no extra, unless that is left out, and with the one asked."""
     # Packaging 23.0's `Marker(text)` ignores what stands behind a whole marker; a requirement's is read to its end.
     requirement = read(f"a;{text}", left_out)
     if requirement is None:
         return None
-    pairs = [{left.value, right.value} for left, _, right in atoms(f"a;{text}")]
-    without = mark(requirement.marker, "")
-    if {"extra", ""} in pairs:
+    marks = {"none": mark(requirement.marker, ""), ASKED: mark(requirement.marker, ASKED)}
+    if {"extra", ""} in [{left.value, right.value} for left, _, right in atoms(f"a;{text}")]:
         left_out[EMPTY] += 1
-        without = "-"
-    return f"{without}{mark(requirement.marker, ASKED)} {text}"
+        marks.pop("none")
+    return row_of("marker", text, *marks), "".join(marks.values())
 
 
 def requirement_row(text, left_out):
-    """The normal name, the extras, the versions that match, whether the marker holds, and the text."""
+    """A requirement: the normal name, the extras, how many clauses, the versions that match, and whether the marker holds."""
     requirement = read(text, left_out)
     if requirement is None:
         return None
-    extras = ",".join(sorted({canonicalize_name(extra) for extra in requirement.extras}))
+    extras = ",".join(map(canonicalize_name, parse_requirement(text).extras))
     marks = "".join(str(int(requirement.specifier.contains(v, prereleases=True))) for v in VERSIONS)
     active = mark(requirement.marker, "") if requirement.marker else "-"
-    return f"{canonicalize_name(requirement.name)} [{extras}] {marks} {active} {text}"
+    name, clauses = canonicalize_name(requirement.name), len(requirement.specifier)
+    return row_of("requirement", text), f"{name} [{extras}] {clauses} {marks} {active}"
+
+
+def environment_row():
+    """The environment, its version, and the marker that holds in it alone."""
+    marker = " and ".join(f'{name} == "{value}"' for name, value in sorted(ENVIRONMENT.items()))
+    if not Marker(marker).evaluate(ENVIRONMENT):
+        sys.exit("requirements_table: the environment doesn't meet its marker")
+    return row_of("environment", json.dumps(ENVIRONMENT)), f"{ENVIRONMENT['python_full_version']}: {marker}"
 
 
 def refuses_each(texts, before):
@@ -275,27 +283,14 @@ def refuses_each(texts, before):
             sys.exit(f"requirements_table: packaging reads {text!r}")
 
 
-def literal(text):
-    escapes = {"\t": "\\t", "\n": "\\n", "\r": "\\r", "\f": "\\x0c", "\\": "\\\\", '"': '\\"'}
-    return '"' + "".join(escapes.get(c, c) for c in text) + '"'
-
-
-def table(name, rows):
-    print(f"pub(crate) const {name}: &[&str] = &[")
-    for row in rows:
-        print(f"    {literal(row)},")
-    print("];")
-
-
-def joined(texts):
-    """The texts in order, joined by `|` to rows."""
-    rows = []
+def refused_rows(texts):
+    """Rows of texts that are no requirements, each of about a line's length."""
+    rows = [[]]
     for text in texts:
-        if rows and len(literal(f"{rows[-1]}|{text}")) <= 95:
-            rows[-1] += f"|{text}"
-        else:
-            rows.append(text)
-    return rows
+        if rows[-1] and len(row_of("requirements", *rows[-1], text)) > 100:
+            rows.append([])
+        rows[-1].append(text)
+    return [(row_of("requirements", *row), "0" * len(row)) for row in rows]
 
 
 def main():
@@ -309,26 +304,27 @@ def main():
     refuses_each(REFUSED_MARKERS, "a;")
     refuses_each(REFUSED, "")
 
-    print("// What packaging reads, printed by tools/requirements_table.py with packaging", end=" ")
-    print(f"{packaging.__version__} and Python {platform.python_version()}.")
-    print(f"// {len(markers)} markers, {len(REFUSED_MARKERS)} refused ones,", end=" ")
-    print(f"{len(requirements)} requirements, {len(REFUSED)} refused ones.")
-    print("// Left out, since our rules differ by design or packaging's answer is a mistake:")
-    for kind, count in left_out.items():
-        print(f"// - {kind}: {count}")
-    print(f"\npub(crate) const ENVIRONMENT: &str =\n    {literal(json.dumps(ENVIRONMENT))};")
-    print(f"\n// The extra that is asked.\npub(crate) const ASKED: &str = {literal(ASKED)};")
-    print("\n// Whether a marker holds with no extra (`-` where left out) and with the one asked, and its text.")
-    table("MARKERS", markers)
-    print("\n// Texts that are no markers, with `|` between them.")
-    table("REFUSED_MARKERS", joined(REFUSED_MARKERS))
-    print("\n// The versions that a requirement's specifiers are tried on.")
-    table("VERSIONS", VERSIONS)
-    print("\n// The normal name, the extras' normal names, for each version whether the specifiers match it,")
-    print("// whether the marker holds with no extra (`-` where there is none), and the text.")
-    table("REQUIREMENTS", requirements)
-    print("\n// Texts that are no requirements, with `|` between them.")
-    table("REFUSED", joined(REFUSED))
+    rows = headlines(
+        f"What packaging {packaging.__version__} reads in markers and requirements, printed by tools/requirements_table.py.",
+        f"{len(markers)} markers, {len(REFUSED_MARKERS)} refused ones, "
+        f"{len(requirements)} requirements, {len(REFUSED)} refused ones.",
+        "Left out, since our rules differ by design or packaging's answer is a mistake:",
+        *(f"- {kind}: {count}" for kind, count in left_out.items()),
+        "",
+        "The environment: its version, and the marker that holds in it alone.",
+    )
+    rows += [environment_row(), *headlines("", "Markers, and whether they hold with no extra and with one."), *markers]
+    rows += headlines("", "Texts that are no markers.")
+    rows += [(row_of("marker", text), "line 1: this is no marker") for text in REFUSED_MARKERS]
+    rows += headlines("", "The versions on which the specifiers of requirements are tried.")
+    rows += [(row_of("above" if place else "lowest", text), told(Version(text))) for place, text in enumerate(VERSIONS)]
+    rows += headlines(
+        "",
+        "Requirements: the name, the extras, how many clauses there are, a mark for each version, and whether the marker",
+        "holds, or a dash where there is none.",
+    )
+    rows += [*requirements, *headlines("", "Texts that are no requirements.")]
+    print_rows("requirements_table.py", rows + refused_rows(REFUSED))
 
 
 main()

@@ -1,14 +1,14 @@
 #!/usr/bin/env python3
-"""Prints a test file of what packaging answers on versions and specifiers: versions_table.py > FILE.
+"""Prints rows of versions and specifiers for crates/conformance, or what packaging answers: versions_table.py rows|answers.
 
-Run it with Debian's /usr/bin/python3 and python3-packaging. The printed file is crates/conformance/src/version_table.rt.
-Pairs on which reqlock's rules differ by design are marked `-` and counted in the file's first comment.
+Run it with Debian's /usr/bin/python3 and python3-packaging. The rows are a part of crates/conformance/stdin, the answers the same
+part of crates/conformance/stdout. Pairs on which reqlock's rules differ by design are marked `-` and counted in the first lines.
 """
-import platform
 import re
 import sys
 
 import packaging
+from conformance_rows import headlines, print_rows, row_of, told
 from packaging.specifiers import Specifier, SpecifierSet
 from packaging.version import InvalidVersion, Version
 
@@ -128,18 +128,6 @@ def pair_class(specifiers, candidate):
     return None
 
 
-def literal(text):
-    escapes = {"\t": "\\t", "\n": "\\n", "\r": "\\r", "\f": "\\x0c", "\v": "\\x0b"}
-    return '"' + "".join(escapes.get(c, c) for c in text) + '"'
-
-
-def row(*texts):
-    line = ", ".join(texts)
-    if len(line) <= 60:
-        return f"    ({line}),"
-    return "\n".join(["    (", *(f"        {text}," for text in texts), "    ),"])
-
-
 def answers(text, candidates, left_out):
     """A mark for each rank: whether the set accepts the versions of this rank, or `-`."""
     specifiers = [Specifier(piece) for piece in text.split(",") if piece.strip()]
@@ -155,8 +143,8 @@ def answers(text, candidates, left_out):
     return "".join(marks[rank] for rank in sorted(marks))
 
 
-def main():
-    left_out = dict.fromkeys([*TEXTS, ABOVE, EPOCHS], 0)
+def read_texts(left_out):
+    """The texts of versions that are equal, in rising order."""
     texts = []
     for text in READ + SPACED:
         kind = text_class(text)
@@ -164,42 +152,51 @@ def main():
             texts.append(text)
         else:
             left_out[kind] += 1
-    texts.sort(key=Version)
-    ranks, last = [], None
-    for text in texts:
-        if last is None or Version(last) < Version(text):
-            ranks.append(ranks[-1] + 1 if ranks else 0)
+    ranks = []
+    for text in sorted(texts, key=Version):
+        if ranks and Version(ranks[-1][0]) == Version(text):
+            ranks[-1].append(text)
         else:
-            ranks.append(ranks[-1])
-        last = text
-    candidates = [(Version(text), rank) for text, rank in zip(texts, ranks)]
+            ranks.append([text])
+    return ranks
+
+
+def rank_rows(ranks):
+    """A row for the texts of each rank, from the lowest one on."""
+    for place, texts in enumerate(ranks):
+        yield row_of("above" if place else "lowest", *texts), "; ".join(told(Version(text)) for text in texts)
+
+
+def set_row(text, marks):
+    """A row that asks which ranks a set accepts, but for those that are left out."""
+    asked = re.sub("[01]", "?", marks)
+    return row_of("accept", text, asked) if "-" in asked else row_of("accept", text), marks
+
+
+def main():
+    left_out = dict.fromkeys([*TEXTS, ABOVE, EPOCHS], 0)
+    ranks = read_texts(left_out)
     for text in REFUSED:
         if read(text) is not None:
             sys.exit(f"versions_table: packaging reads {text!r}")
-    rows = [f"{answers(text, candidates, left_out)} {text}" for text in SETS]
-    pairs = len(SETS) * len(texts)
+    candidates = [(Version(text), rank) for rank, texts in enumerate(ranks) for text in texts]
+    sets = [set_row(text, answers(text, candidates, left_out)) for text in SETS]
+    pairs = len(SETS) * len(candidates)
+    counts = f"{len(candidates)} texts of {len(ranks)} ranks, {len(REFUSED)} refused texts, {len(SETS)} sets"
 
-    print("// What packaging answers, printed by tools/versions_table.py with packaging", end=" ")
-    print(f"{packaging.__version__} and Python {platform.python_version()}.")
-    print(f"// {len(texts)} texts of {ranks[-1] + 1} ranks, {len(REFUSED)} refused texts, {len(SETS)} sets,", end=" ")
-    print(f"{pairs - left_out[ABOVE] - left_out[EPOCHS]} of {pairs} pairs.")
-    print("// Left out, since our rules differ by design or packaging departs from PEP 440:")
-    for kind, count in left_out.items():
-        what = "texts" if kind in TEXTS else "pairs"
-        print(f"// - {kind}: {count} {what}")
-    print()
-    print("// A text, its canonical text, and its rank in the order: equal versions have one rank.")
-    print("pub(crate) const READ: &[(&str, &str, usize)] = &[")
-    for text, (version, rank) in zip(texts, candidates):
-        print(row(literal(text), literal(str(version)), str(rank)))
-    print("];\n\n// Texts that are no versions.\npub(crate) const REFUSED: &[&str] = &[")
-    for text in REFUSED:
-        print(f"    {literal(text)},")
-    print("];\n\n// For each rank whether a set accepts its versions (`1`, `0`, or `-` where left out), and the set.")
-    print("pub(crate) const ACCEPTED: &[&str] = &[")
-    for text in rows:
-        print(f"    {literal(text)},")
-    print("];")
+    rows = headlines(
+        f"What packaging {packaging.__version__} answers on versions and sets, printed by tools/versions_table.py.",
+        f"{counts}, {pairs - left_out[ABOVE] - left_out[EPOCHS]} of {pairs} pairs.",
+        "Left out, since our rules differ by design or packaging departs from PEP 440:",
+        *(f"- {kind}: {count} {'texts' if kind in TEXTS else 'pairs'}" for kind, count in left_out.items()),
+        "",
+        "Versions in rising order, those that are equal in one row: the canonical text of each.",
+    )
+    rows += rank_rows(ranks)
+    rows += headlines("", "Texts that are no versions.")
+    rows += [(row_of("version", text), "this is no version") for text in REFUSED]
+    rows += headlines("", "Sets, and for each row of versions whether they accept it; a dash where that is left out.")
+    print_rows("versions_table.py", rows + sets)
 
 
 main()

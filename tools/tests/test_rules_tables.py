@@ -1,24 +1,37 @@
-"""Tests of requirement_rules.py, and of tools/versions.py below it, by the tables of what packaging 23.0 answers. The crate
-conformance has them; tools/versions_table.py and tools/requirements_table.py printed them, and say where the rules differ by
-design."""
+"""Tests of the rows of the crate conformance, and of requirement_rules.py, with tools/versions.py below it, by what packaging 23.0
+answers to them. tools/versions_table.py and tools/requirements_table.py print these parts of the rows and answers, and say where
+the rules differ by design."""
 
-import ast
 import json
-import re
+import subprocess
+import sys
 import unittest
 from pathlib import Path
 
 from requirement_rules import Fault, holds, matches, order_key, read_marker, read_requirement, read_set, read_version
 from versions import canonical
 
-ROWS = Path(__file__).resolve().parent.parent.parent / "crates" / "conformance" / "src"
+TOOLS = Path(__file__).resolve().parent.parent
+sys.path.insert(0, str(TOOLS))
+
+from conformance_rows import CRATE, printed_lines, printed_rows  # noqa: E402  (it stands in tools/)
+
+VERSIONS, REQUIREMENTS = "versions_table.py", "requirements_table.py"
+DEBIAN = "/usr/bin/python3"
 
 
-def table(name, constant):
-    """The value of a constant of a printed table, whose literals are Python's too but for the form of characters by number."""
-    text = (ROWS / name).read_text(encoding="utf-8")
-    found = re.search(rf"const {constant}: [^=]* =\s*&?(.*?);\n(?:\n|\Z)", text, re.DOTALL)[1]
-    return ast.literal_eval(re.sub(r"\\u\{([0-9a-fA-F]+)\}", lambda it: f"\\U{int(it[1], 16):08x}", found))
+def rows(tool, *kinds):
+    """The texts and the answer of each row of these kinds."""
+    return [(texts, answer) for kind, texts, answer in printed_rows(tool) if kind in kinds]
+
+
+def has_packaging():
+    """Whether Debian's Python has packaging 23.0."""
+    words = [DEBIAN, "-c", "import packaging; print(packaging.__version__)"]
+    try:
+        return subprocess.run(words, capture_output=True, encoding="utf-8", check=False).stdout == "23.0\n"
+    except OSError:
+        return False
 
 
 def is_read(read, text):
@@ -29,60 +42,86 @@ def is_read(read, text):
     return True
 
 
+class Rows(unittest.TestCase):
+    def test_each_has_its_answer(self):
+        questions, answers = ((CRATE / name).read_text(encoding="ascii").split("\n") for name in ("stdin", "stdout"))
+        self.assertEqual(len(questions), len(answers))
+        for question, answer in zip(questions, answers):
+            if question == "" or question.startswith("#"):
+                self.assertEqual(question, answer)
+            else:
+                self.assertNotIn(answer, ("", "no answer"), question)
+                self.assertEqual(" | => " in question, answer == "as said", question)
+
+    def test_are_counted(self):
+        sizes = [len(texts) for texts, _ in rows(VERSIONS, "lowest", "above")]
+        accepted = rows(VERSIONS, "accept")
+        pairs = [size for _, marks in accepted for size, mark in zip(sizes, marks, strict=True) if mark in "01"]
+        self.assertEqual((sum(sizes), len(accepted), sum(pairs)), (184, 78, 14182))
+        texts = len(rows(REQUIREMENTS, "marker", "requirement"))
+        texts += sum(len(texts) for texts, _ in rows(REQUIREMENTS, "requirements"))
+        self.assertEqual(texts, 432)
+
+    @unittest.skipUnless(has_packaging(), "there is no packaging 23.0")
+    def test_are_those_that_are_printed(self):
+        for tool in VERSIONS, REQUIREMENTS:
+            for word, lines in zip(("rows", "answers"), printed_lines(tool)):
+                done = subprocess.run([DEBIAN, "-B", TOOLS / tool, word], capture_output=True, encoding="ascii", check=True)
+                self.assertEqual(done.stdout.split("\n"), [*lines, ""])
+
+
 class Versions(unittest.TestCase):
     def test_are_read_and_ordered(self):
-        rows = table("version_table.rt", "READ")
-        keys = {}
-        for text, wanted, rank in rows:
-            version = read_version(text)
-            self.assertEqual(canonical(version), wanted, text)
-            self.assertEqual(keys.setdefault(rank, order_key(version)), order_key(version), text)
-        ordered = [keys[rank] for rank in sorted(keys)]
-        self.assertTrue(all(one < other for one, other in zip(ordered, ordered[1:])))
+        keys = []
+        for texts, answer in rows(VERSIONS, "lowest", "above"):
+            versions = list(map(read_version, texts))
+            self.assertEqual(list(map(canonical, versions)), [told.split(" ")[0] for told in answer.split("; ")], texts)
+            self.assertEqual({order_key(version) for version in versions}, {order_key(versions[0])}, texts)
+            keys.append(order_key(versions[0]))
+        self.assertTrue(all(one < other for one, other in zip(keys, keys[1:])))
 
     def test_are_refused(self):
-        for text in table("version_table.rt", "REFUSED"):
+        for [text], _ in rows(VERSIONS, "version"):
             self.assertIsNone(read_version(text), text)
 
     def test_match(self):
-        by_rank = {}
-        for text, _, rank in table("version_table.rt", "READ"):
-            by_rank.setdefault(rank, []).append(read_version(text))
-        for row in table("version_table.rt", "ACCEPTED"):
-            marks, _, text = row.partition(" ")
+        ranks = [list(map(read_version, texts)) for texts, _ in rows(VERSIONS, "lowest", "above")]
+        for (text, *_), marks in rows(VERSIONS, "accept"):
             clauses = read_set(text)
-            for rank, mark in enumerate(marks):
-                found = {matches(clauses, version) for version in by_rank[rank]}
-                self.assertTrue(mark == "-" or found == {mark == "1"}, (text, rank))
+            for versions, mark in zip(ranks, marks, strict=True):
+                found = {matches(clauses, version) for version in versions}
+                self.assertTrue(mark == "-" or found == {mark == "1"}, (text, versions))
 
 
 class Requirements(unittest.TestCase):
     def setUp(self):
-        self.environment = json.loads(table("requirement_table.rt", "ENVIRONMENT"))
-        self.asked = table("requirement_table.rt", "ASKED")
+        [([text], _)] = rows(REQUIREMENTS, "environment")
+        self.environment = json.loads(text)
 
     def test_markers_hold(self):
-        for row in table("requirement_table.rt", "MARKERS"):
-            marks, _, text = row.partition(" ")
-            for mark, extra in zip(marks, (None, self.asked)):
-                found = holds(read_marker(text), self.environment, extra)
-                self.assertTrue(mark == "-" or found == (mark == "1"), (text, extra))
+        for (text, *extras), marks in rows(REQUIREMENTS, "marker"):
+            if not extras:
+                self.assertFalse(is_read(read_marker, text), text)
+                continue
+            for extra, mark in zip(extras, marks, strict=True):
+                found = holds(read_marker(text), self.environment, None if extra == "none" else extra)
+                self.assertEqual(found, mark == "1", (text, extra))
 
     def test_are_read(self):
-        versions = list(map(read_version, table("requirement_table.rt", "VERSIONS")))
-        for row in table("requirement_table.rt", "REQUIREMENTS"):
-            name, extras, marks, active, text = re.fullmatch(r"(\S+) \[(.*?)\] (\S+) (\S+) (.*)", row, re.DOTALL).groups()
+        versions = [read_version(text) for [text], _ in rows(REQUIREMENTS, "lowest", "above")]
+        for [text], answer in rows(REQUIREMENTS, "requirement"):
+            name, extras, count, marks, active = answer.split(" ")
             found = read_requirement(text)
-            self.assertEqual((found.name, sorted(set(found.extras))), (name, extras.split(",") if extras else []), text)
+            extras = extras[1:-1].split(",") if extras != "[]" else []
+            self.assertEqual((found.name, list(found.extras), len(found.clauses)), (name, extras, int(count)), text)
             matched = "".join("01"[matches(found.clauses, version)] for version in versions)
             held = "-" if found.marker is None else "01"[holds(found.marker, self.environment)]
             self.assertEqual((matched, held), (marks, active), text)
 
     def test_are_refused(self):
-        for constant, read in ("REFUSED_MARKERS", read_marker), ("REFUSED", read_requirement):
-            for row in table("requirement_table.rt", constant):
-                for text in row.split("|"):
-                    self.assertFalse(is_read(read, text), text)
+        for texts, _ in rows(REQUIREMENTS, "requirements"):
+            for text in texts:
+                self.assertFalse(is_read(read_requirement, text), text)
 
 
 if __name__ == "__main__":

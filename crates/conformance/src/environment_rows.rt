@@ -1,0 +1,132 @@
+// Rows of environments.
+
+use crate::background::Background;
+use crate::marker_rows::told_fault;
+use crate::notation::agreed;
+use markers::{Environment, Fault, Variable};
+use std::alloc::Global;
+
+const VARIABLES: [Variable; 11] = [
+    Variable::ImplementationName,
+    Variable::ImplementationVersion,
+    Variable::OsName,
+    Variable::PlatformMachine,
+    Variable::PlatformPythonImplementation,
+    Variable::PlatformRelease,
+    Variable::PlatformSystem,
+    Variable::PlatformVersion,
+    Variable::PythonFullVersion,
+    Variable::PythonVersion,
+    Variable::SysPlatform,
+];
+
+/// The letter that stands for a byte which is no UTF-8.
+const ODD_BYTE: char = '\u{ff}';
+
+/// The bytes of a text: 255 for each odd letter.
+pub fn bytes_of(alloc: Global, text: &str) -> Option<Vec<u8>> {
+    let mut bytes = Vec::new(alloc);
+    let mut separator: &[u8] = b"";
+    for part in text.split(ODD_BYTE) {
+        bytes.extend_from_slice(separator).ok()?;
+        bytes.extend_from_slice(part.as_bytes()).ok()?;
+        separator = b"\xff";
+    }
+    Some(bytes)
+}
+
+/// The parts of an environment's marker; beside an earlier environment only those that are different.
+fn parts(
+    alloc: Global,
+    environment: &Environment,
+    earlier: Option<&Environment>,
+) -> Option<String> {
+    let mut text = String::new(alloc);
+    let mut separator = "";
+    for variable in &VARIABLES {
+        let value = environment.text(*variable);
+        if let Some(earlier) = earlier
+            && earlier.text(*variable) == value
+        {
+            continue;
+        }
+        let name = variable.name();
+        write!(text, "{separator}{name} == \"{value}\"").ok()?;
+        separator = " and ";
+    }
+    Some(text)
+}
+
+/// Whether each variable has one text by all calls, the marker and the form for debugging among them.
+fn is_of_one_text(alloc: Global, environment: &Environment) -> Option<bool> {
+    let marker = environment.marker_text(alloc).ok()?;
+    if parts(alloc, environment, None)?.as_str() != marker.as_str() {
+        return Some(false);
+    }
+    let shown = format!(in alloc; "{environment:?}").ok()?;
+    for variable in &VARIABLES {
+        let text = environment.text(*variable);
+        let quoted = format!(in alloc; "{text:?}").ok()?;
+        if environment.value(variable.name()) != Some(text)
+            || !shown.as_str().contains(quoted.as_str())
+        {
+            return Some(false);
+        }
+    }
+    Some(true)
+}
+
+/// The version of an environment and the parts of its marker.
+fn told(alloc: Global, environment: &Environment, earlier: Option<&Environment>) -> Option<String> {
+    if !is_of_one_text(alloc, environment)? {
+        return None;
+    }
+    let version = environment.full_version();
+    let parts = parts(alloc, environment, earlier)?;
+    format!(in alloc; "{version}: {parts}").ok()
+}
+
+/// An environment, or why there is none.
+fn answer(
+    alloc: Global,
+    read: &Result<Environment, Fault>,
+    earlier: Option<&Environment>,
+) -> Option<String> {
+    match read {
+        Ok(environment) => agreed(
+            told(alloc, environment, earlier)?,
+            told(alloc, &environment.clone().ok()?, earlier)?,
+        ),
+        Err(fault) => told_fault(alloc, *fault, Some(fault.cause)),
+    }
+}
+
+/// An environment, which later rows are answered in, or why there is none.
+pub fn environment(alloc: Global, background: &mut Background, json: &str) -> Option<String> {
+    let read = Environment::read(alloc, bytes_of(alloc, json)?.as_slice());
+    let answer = answer(alloc, &read, None)?;
+    if let Ok(environment) = read {
+        background.json = String::from_str(alloc, json).ok()?;
+        background.environment = Some(environment);
+    }
+    Some(answer)
+}
+
+/// The environment with a new text in the place of an old one of its JSON text, or why there is none.
+pub fn changed(alloc: Global, background: &Background, old: &str, new: &str) -> Option<String> {
+    let json = &background.json;
+    if !json.as_str().contains(old) {
+        return None;
+    }
+    let json = json.as_str().replace(alloc, old, new).ok()?;
+    let read = Environment::read(alloc, json.as_str().as_bytes());
+    answer(alloc, &read, Some(background.environment.as_ref()?))
+}
+
+/// The value of a variable of the environment, in quotes, or `none`.
+pub fn value(alloc: Global, background: &Background, name: &str) -> Option<String> {
+    match background.environment.as_ref()?.value(name) {
+        Some(value) => format!(in alloc; "\"{value}\"").ok(),
+        None => String::from_str(alloc, "none").ok(),
+    }
+}

@@ -1,0 +1,82 @@
+// Rows of names and markers.
+
+use crate::background::Background;
+use crate::notation::{agreed, mark};
+use markers::{Cause, Environment, Fault, Marker, Name, VersionFault};
+use std::alloc::Global;
+
+/// The text of a fault where the other call has the same cause; none where memory was refused.
+pub fn told_fault(alloc: Global, fault: Fault, other: Option<Cause>) -> Option<String> {
+    if fault.cause == Cause::OutOfMemory || other != Some(fault.cause) {
+        return None;
+    }
+    fault.to_string(alloc).ok()
+}
+
+/// The normal form of a name, or why there is none.
+pub fn name(alloc: Global, text: &str) -> Option<String> {
+    match Name::parse(alloc, text) {
+        Ok(name) => normal(alloc, &name),
+        Err(fault) => told_fault(alloc, fault, Name::read(alloc, text).err()),
+    }
+}
+
+/// The normal form of a name, which reads as the same name, as does a clone.
+fn normal(alloc: Global, name: &Name) -> Option<String> {
+    let again = Name::read(alloc, name.normal()).ok()?;
+    if again != *name || name.clone().ok()? != *name {
+        return None;
+    }
+    String::from_str(alloc, name.normal()).ok()
+}
+
+/// Whether a marker holds with each of the extras, `none` for no extra; or why there is none.
+pub fn marker(
+    alloc: Global,
+    background: &Background,
+    text: &str,
+    extras: &[String],
+) -> Option<String> {
+    let environment = background.environment.as_ref()?;
+    match Marker::parse(alloc, text) {
+        Ok(marker) => agreed(
+            marks(alloc, &marker, environment, extras)?,
+            marks(alloc, &marker.clone().ok()?, environment, extras)?,
+        ),
+        Err(fault) => told_fault(alloc, fault, Marker::read(alloc, text).err()),
+    }
+}
+
+/// Whether a marker holds with each of the extras.
+fn marks(
+    alloc: Global,
+    marker: &Marker,
+    environment: &Environment,
+    extras: &[String],
+) -> Option<String> {
+    let mut marks = String::new(alloc);
+    for extra in extras {
+        let holds = holds(alloc, marker, environment, extra.as_str())?;
+        marks.push(mark(holds)).ok()?;
+    }
+    Some(marks)
+}
+
+/// Whether a marker holds with an extra.
+fn holds(alloc: Global, marker: &Marker, environment: &Environment, extra: &str) -> Option<bool> {
+    if extra == "none" {
+        return Some(marker.holds(environment, None));
+    }
+    let extra = Name::parse(alloc, extra).ok()?;
+    Some(marker.holds(environment, Some(&extra)))
+}
+
+/// How want of memory is printed.
+pub fn memory(alloc: Global) -> Option<String> {
+    let version_fault = VersionFault::OutOfMemory;
+    let fault = Fault {
+        line: 1,
+        cause: Cause::OutOfMemory,
+    };
+    format!(in alloc; "{version_fault}; {fault}").ok()
+}

@@ -1,0 +1,80 @@
+"""The rows of crates/conformance with their answers, and the texts in them. The README.md there says how they are written."""
+
+import re
+import sys
+from pathlib import Path
+
+CRATE = Path(__file__).resolve().parent.parent / "crates" / "conformance"
+
+MARKS = {"\\": "\\\\", "\n": "\\n", "\r": "\\r", "\t": "\\t"}
+MEANT = {"n": "\n", "r": "\r", "t": "\t", "s": " ", "e": "", "\\": "\\"}
+MARK = re.compile(r"\\(?:([nrtse\\])|(#)|u\{([0-9a-f]+)\})")
+REPETITION = re.compile(r"\\\{([0-9]+)\*([^}]*)\}")
+
+
+def written(text):
+    """A text as a row has it, in printable ASCII."""
+    letters = [MARKS.get(c) or (c if " " <= c <= "~" else f"\\u{{{ord(c):x}}}") for c in text]
+    for place in {0, len(text) - 1} if text else ():
+        letters[place] = "\\s" if text[place] == " " else letters[place]
+    row = "".join(letters) or "\\e"
+    if " | " in row or expanded(row) != text:
+        sys.exit(f"conformance_rows: {text!r} can't be written")
+    return row
+
+
+def expanded(row):
+    """The text that a row writes so."""
+    parts = REPETITION.split(row)
+    text = plain(parts[0], 0)
+    for count, repeated, behind in zip(parts[1::3], parts[2::3], parts[3::3]):
+        text += "".join(plain(repeated, number) for number in range(int(count))) + plain(behind, 0)
+    return text
+
+
+def plain(row, number):
+    """A text with no repetition, in the round of this number."""
+    return MARK.sub(lambda it: str(number) if it[2] else chr(int(it[3], 16)) if it[3] else MEANT[it[1]], row)
+
+
+def row_of(kind, *texts):
+    return " | ".join([kind, *map(written, texts)])
+
+
+def told(version):
+    """What one of packaging's versions is told as: its canonical text, and whether it is a pre-release and a post-release."""
+    return str(version) + " pre" * version.is_prerelease + " post" * version.is_postrelease
+
+
+def end_of(tool):
+    """The line behind what a tool prints."""
+    return f"# The end of what tools/{tool} prints."
+
+
+def print_rows(tool, rows):
+    """Prints the rows, pairs of a row and its answer, or the answers, as the word of the command line asks. A headline is its own
+    answer."""
+    if sys.argv[1:] not in (["rows"], ["answers"]):
+        sys.exit(f"{tool}: the word rows or answers is needed")
+    for row, answer in [*rows, (end_of(tool), end_of(tool))]:
+        print(row if sys.argv[1] == "rows" else answer)
+
+
+def headlines(*lines):
+    return [(f"# {line}" if line else "", f"# {line}" if line else "") for line in lines]
+
+
+def printed_lines(tool):
+    """The rows and the answers that the crate's files have of a tool, headlines among them."""
+    rows, answers = ((CRATE / name).read_text(encoding="utf-8").split("\n") for name in ("stdin", "stdout"))
+    first = next(place for place, line in enumerate(rows) if line.startswith("#") and f" tools/{tool}." in line)
+    behind = rows.index(end_of(tool)) + 1
+    return rows[first:behind], answers[first:behind]
+
+
+def printed_rows(tool):
+    """The kind, the texts and the answer of each row that the crate's files have of a tool."""
+    for row, answer in zip(*printed_lines(tool)):
+        if row and not row.startswith("#"):
+            kind, *texts = row.split(" | ")
+            yield kind, list(map(expanded, texts)), answer
