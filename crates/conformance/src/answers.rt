@@ -44,10 +44,11 @@ fn answer_of(alloc: Global, background: &mut Background, row: &str) -> Option<St
         texts.push(expanded(alloc, text)?).ok()?;
     }
     let (first, more) = texts.as_slice().split_first()?;
-    let (first, second) = (
-        first.as_str(),
-        more.first().map_or("", |text| text.as_str()),
-    );
+    let first = first.as_str();
+    let second = match more.first() {
+        Some(text) => text.as_str(),
+        None => "",
+    };
     match kind {
         "version" => version_rows::version(alloc, first),
         "parts" => version_rows::parts(alloc, first),
