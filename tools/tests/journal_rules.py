@@ -134,10 +134,24 @@ def entry_of_table(package):
     return package["name"], entry
 
 
+# A quoted text, a comment, `=` with the space around it, a line break, or another character.
+TOML_PART = re.compile(r""""(?:[^"\\\n]|\\.)*"|'[^'\n]*'|#[^\n]*|\s*=\s*|\r?\n|.""", re.DOTALL)
+
+
+def in_toml_1_0(text):
+    """The text without the line breaks that TOML 1.1 allows in an inline table, anywhere but around `=`. The program reads 1.1, and
+    Python 1.0."""
+    depth, parts = 0, []
+    for part in TOML_PART.findall(text):
+        depth += {"{": 1, "}": -1}.get(part, 0)
+        parts.append(" " if depth > 0 and part in ("\n", "\r\n") else part)
+    return "".join(parts)
+
+
 def read_lock(data):
     """The text of a lock's environment, its digest of the index, and its entries by name."""
     try:
-        lock = tomllib.loads(data.decode("utf-8"))
+        lock = tomllib.loads(in_toml_1_0(data.decode("utf-8")))
     except (ValueError, RecursionError):
         raise Fault("TOML") from None
     want_keys(lock, ("lock-version", "environments", "created-by", "packages", "tool"))
