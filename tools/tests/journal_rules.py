@@ -143,6 +143,8 @@ def in_toml_1_0(text):
     Python 1.0."""
     depth, parts = 0, []
     for part in TOML_PART.findall(text):
+        if part in ('"', "'"):
+            return text  # a quoted text ends with its line: neither reads it
         depth += {"{": 1, "}": -1}.get(part, 0)
         parts.append(" " if depth > 0 and part in ("\n", "\r\n") else part)
     return "".join(parts)

@@ -129,9 +129,11 @@ class Opening(Example):
             self.assertNotEqual(lock, self.lock)
             whole = journal(self.requirements, lock, LINUX, self.cursor, *self.steps)
             self.check(("ok", 1, 1), lock=lock, journal=whole)
-        lock = self.lock.replace(b"url =", b"url\n=")
-        whole = journal(self.requirements, lock, LINUX, self.cursor, *self.steps)
-        self.check((DISAGREE, LOCK), lock=lock, journal=whole)
+        for old, new in (b"url =", b"url\n="), (b"https://", b"https:\n//"):
+            lock = self.lock.replace(old, new)
+            self.assertNotEqual(lock, self.lock)
+            whole = journal(self.requirements, lock, LINUX, self.cursor, *self.steps)
+            self.check((DISAGREE, LOCK), lock=lock, journal=whole)
 
     def test_of_locks_whose_parts_are_not_in_order(self):
         one, other = entry("c", "1")["wheels"] + entry("d", "1")["wheels"]
