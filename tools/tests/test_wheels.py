@@ -1,4 +1,4 @@
-"""From a folder of wheels to an installed environment, as README.md tells it: each line of that section is run by a shell, with
+"""From a folder of wheels to an installed environment, as docs/WHEELS.md tells it: each line of that page is run by a shell, with
 wheels that the test makes, the program, and the machine's own pip. Nothing is fetched."""
 
 import os
@@ -13,15 +13,15 @@ from pathlib import Path
 from made_archives import wheel
 from test_readme import PROGRAM, TOP
 
-SECTION = "## From a folder of wheels to an installed environment\n"
+SECTION = "# From a folder of wheels to an installed environment\n"
 REQUIREMENTS = b"# web\r\nclick<8  # the old one\r\n"
 FIRST = {"asgiref": "3.1", "click": "7.0", "flask": "2.0", "werkzeug": "2.0"}
 UPGRADED = {"asgiref": "3.2", "click": "7.0", "flask": "2.1", "werkzeug": "2.1"}
 
 
 def blocks():
-    """The indented blocks of the section, by the words that their first lines begin with."""
-    text = (TOP / "README.md").read_text(encoding="utf-8").split(SECTION)[1].split("\n## ")[0]
+    """The indented blocks of the page, by the words that their first lines begin with."""
+    text = (TOP / "docs" / "WHEELS.md").read_text(encoding="utf-8").split(SECTION)[1].split("\n## ")[0]
     found = re.findall(r"(?m)(?:^ {4}.*\n)+", text)
     return [re.sub("(?m)^ {4}", "", block) for block in found]
 
