@@ -160,7 +160,7 @@ class Calls(unittest.TestCase):
             self.assertTrue(self.is_right(scenario, told(run.output), found), (scenario, run))
 
     def is_right(self, scenario, run, ample):
-        if scenario.startswith("run "):
+        if scenario.startswith(("run ", "runs ")):
             return are_lawful(run, ample, functools.partial(self.without, scenario))
         return is_lawful(run, ample)
 

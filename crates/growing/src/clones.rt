@@ -3,6 +3,7 @@
 use crate::calls::play;
 use crate::data::{read_indexes, state};
 use crate::told::Told;
+use edits::{FileEntry, Requirement};
 use pep440::{SpecifierSet, Version};
 use std::alloc::Global;
 use std::io::Write;
@@ -12,10 +13,23 @@ pub fn cloned<T: Told + Clone, W: Write>(alloc: Global, out: &mut W, mut value: 
     play(alloc, out, &mut value, |value| value.clone())
 }
 
-/// Clones a value of the scenarios: that of a state clones its lines, environment and lock.
+/// A requirement with extras, a set and a marker.
+const REQUIREMENT: &str = "B.b[x,y]>=1.0,!=2.* ; os_name=='posix'";
+
+/// The wheel of the first entry of the scenarios' state.
+fn wheel(alloc: Global) -> Option<FileEntry> {
+    let state = state(alloc, &read_indexes(alloc)?)?;
+    let entry = state.lock().entries().first()?;
+    entry.wheels().first()?.clone().ok()
+}
+
+/// Clones a value of the scenarios. A state shares its lines and entries with its clone; the clones of a requirement and a
+/// file hold all that these do.
 pub fn clones<W: Write>(alloc: Global, out: &mut W, what: &str) -> Option<()> {
     match what {
         "state" => cloned(alloc, out, state(alloc, &read_indexes(alloc)?)?),
+        "requirement" => cloned(alloc, out, Requirement::read(alloc, REQUIREMENT).ok()?),
+        "file" => cloned(alloc, out, wheel(alloc)?),
         "set" => cloned(alloc, out, SpecifierSet::parse(alloc, ">=1.0,!=2.*").ok()?),
         _ => cloned(alloc, out, Version::parse(alloc, what).ok()?),
     }

@@ -1,11 +1,28 @@
 // Histories of whole states.
 
 use crate::calls::{play, surely};
-use crate::commands::all_commands;
+use crate::commands::{BEFORE, all_commands, commands_of};
 use crate::data::{read_indexes, state};
 use journal::{Plain, WholeHistory};
 use std::alloc::Global;
 use std::io::Write;
+
+/// Runs the commands.
+pub fn runs<W: Write>(alloc: Global, out: &mut W, told: &str) -> Option<()> {
+    let indexes = read_indexes(alloc)?;
+    let before = commands_of(alloc, &indexes, BEFORE)?;
+    let commands = commands_of(alloc, &indexes, told)?;
+    let mut history = WholeHistory::new(alloc, state(alloc, &indexes)?).ok()?;
+    for command in before.as_slice() {
+        let _ = journal::apply(alloc, &mut history, command, &Plain);
+    }
+    play(
+        alloc,
+        out,
+        &mut history,
+        |history| journal::run(alloc, history, commands.as_slice(), &Plain),
+    )
+}
 
 /// Applies the last of the commands, behind the others.
 pub fn whole<W: Write>(alloc: Global, out: &mut W, told: &str) -> Option<()> {

@@ -50,6 +50,7 @@ fn play<W: Write>(alloc: Global, out: &mut W, scenario: &str) -> Option<()> {
         "run" => sessions::run(alloc, out, rest),
         "files" => sessions::files(alloc, out, rest),
         "whole" => histories::whole(alloc, out, rest),
+        "runs" => histories::runs(alloc, out, rest),
         _ => None,
     }
 }

@@ -1,6 +1,6 @@
 // What values are told as.
 
-use edits::{Change, Entry, Environment, Line, ReqFile, Snapshot, State};
+use edits::{Change, Entry, Environment, FileEntry, Line, ReqFile, Requirement, Snapshot, State};
 use journal::{History, Plain, Reply, Resolver, Saved, Session, WholeHistory};
 use lists::Seq;
 use pep440::{SpecifierSet, Version};
@@ -83,6 +83,21 @@ impl Told for Line {
         let line = self.text();
         let name = self.requirement()?.name();
         write!(text, "{line:?} {name:?}").ok()
+    }
+}
+
+/// Its name, its extras, its clauses, and whether it has a marker.
+impl Told for Requirement {
+    fn tell(&self, _alloc: Global, text: &mut String) -> Option<()> {
+        let (name, extras) = (self.name(), self.extras());
+        let (clauses, is_marked) = (self.specifiers().clauses(), self.marker().is_some());
+        write!(text, "{name:?} {extras:?} {clauses:?} {is_marked}").ok()
+    }
+}
+
+impl Told for FileEntry {
+    fn tell(&self, _alloc: Global, text: &mut String) -> Option<()> {
+        write!(text, "{self:?}").ok()
     }
 }
 
