@@ -7,9 +7,9 @@ from pathlib import Path
 CRATE = Path(__file__).resolve().parent.parent / "crates" / "conformance"
 
 MARKS = {"\\": "\\\\", "\n": "\\n", "\r": "\\r", "\t": "\\t"}
-MEANT = {"n": "\n", "r": "\r", "t": "\t", "s": " ", "e": "", "\\": "\\"}
-MARK = re.compile(r"\\(?:([nrtse\\])|(#)|u\{([0-9a-f]+)\})")
-REPETITION = re.compile(r"\\\{([0-9]+)\*([^}]*)\}")
+MEANT = {"n": "\n", "r": "\r", "t": "\t", "s": " ", "e": "", "c": "}", "\\": "\\"}
+MARK = re.compile(r"\\(?:([nrtsec\\])|(#)|u\{([0-9a-f]+)\})")
+REPETITION = re.compile(r"\\\{(?:([0-9]+)\.\.)?([0-9]+)\*([^}]*)\}")
 
 
 def written(text):
@@ -27,8 +27,8 @@ def expanded(row):
     """The text that a row writes so."""
     parts = REPETITION.split(row)
     text = plain(parts[0], 0)
-    for count, repeated, behind in zip(parts[1::3], parts[2::3], parts[3::3]):
-        text += "".join(plain(repeated, number) for number in range(int(count))) + plain(behind, 0)
+    for first, end, repeated, behind in zip(parts[1::4], parts[2::4], parts[3::4], parts[4::4]):
+        text += "".join(plain(repeated, number) for number in range(int(first or 0), int(end))) + plain(behind, 0)
     return text
 
 

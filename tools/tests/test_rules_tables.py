@@ -1,6 +1,6 @@
 """Tests of the rows of the crate conformance, and of requirement_rules.py, with tools/versions.py below it, by what packaging 23.0
 answers to them. tools/versions_table.py and tools/requirements_table.py print these parts of the rows and answers, and say where
-the rules differ by design."""
+the rules differ by design. drawn_rows.py prints those that a second reading of the rules answers."""
 
 import json
 import subprocess
@@ -8,6 +8,7 @@ import sys
 import unittest
 from pathlib import Path
 
+import drawn_rows
 from requirement_rules import Fault, holds, matches, order_key, read_marker, read_requirement, read_set, read_version
 from versions import canonical
 
@@ -68,6 +69,10 @@ class Rows(unittest.TestCase):
             for word, lines in zip(("rows", "answers"), printed_lines(tool)):
                 done = subprocess.run([DEBIAN, "-B", TOOLS / tool, word], capture_output=True, encoding="ascii", check=True)
                 self.assertEqual(done.stdout.split("\n"), [*lines, ""])
+
+
+    def test_are_those_that_are_drawn(self):
+        self.assertEqual(list(zip(*printed_lines(drawn_rows.TOOL)))[:-1], drawn_rows.rows_and_answers())
 
 
 class Versions(unittest.TestCase):

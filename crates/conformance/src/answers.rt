@@ -1,9 +1,11 @@
 // Rows and their answers.
 
 use crate::background::Background;
+use crate::batch_rows::{self, Case};
 use crate::notation::{expanded, shown};
 use crate::{
-    environment_rows, line_rows, marker_rows, requirement_rows, specifier_rows, version_rows,
+    command_rows, environment_rows, index_rows, line_rows, lock_rows, marker_rows, problem_rows,
+    requirement_rows, saved_rows, session_rows, specifier_rows, table_rows, version_rows,
 };
 use std::alloc::Global;
 
@@ -40,36 +42,156 @@ fn compared(alloc: Global, answer: String, said: String) -> Option<String> {
 fn answer_of(alloc: Global, background: &mut Background, row: &str) -> Option<String> {
     let (kind, rest) = row.split_once(BAR).unwrap_or((row, ""));
     let mut texts = Vec::new(alloc);
-    for text in rest.split(BAR) {
-        texts.push(expanded(alloc, text)?).ok()?;
+    if !rest.is_empty() {
+        for text in rest.split(BAR) {
+            texts.push(expanded(alloc, text)?).ok()?;
+        }
     }
-    let (first, more) = texts.as_slice().split_first()?;
-    let first = first.as_str();
-    let second = match more.first() {
+    of_versions(alloc, background, kind, texts.as_slice())
+}
+
+/// The text at a place; the empty one where there is none.
+fn text_at(texts: &[String], place: usize) -> &str {
+    match texts.get(place) {
         Some(text) => text.as_str(),
         None => "",
-    };
+    }
+}
+
+/// The texts behind the first.
+fn behind(texts: &[String]) -> &[String] {
+    texts.get(1..).unwrap_or(&[])
+}
+
+/// The answer to a row of versions, sets and names, or to another one.
+fn of_versions(
+    alloc: Global,
+    background: &mut Background,
+    kind: &str,
+    texts: &[String],
+) -> Option<String> {
+    let (first, second) = (text_at(texts, 0), text_at(texts, 1));
     match kind {
         "version" => version_rows::version(alloc, first),
         "parts" => version_rows::parts(alloc, first),
         "compare" => version_rows::compare(alloc, first, second),
-        "lowest" => version_rows::lowest(alloc, background, texts.as_slice()),
-        "above" => version_rows::above(alloc, background, texts.as_slice()),
+        "lowest" => version_rows::lowest(alloc, background, texts),
+        "above" => version_rows::above(alloc, background, texts),
         "set" => specifier_rows::set(alloc, first),
-        "match" => specifier_rows::matched(alloc, first, more),
+        "match" => specifier_rows::matched(alloc, first, behind(texts)),
         "accept" => specifier_rows::accepted(alloc, background, first, second),
         "name" => marker_rows::name(alloc, first),
-        "marker" => marker_rows::marker(alloc, background, first, more),
+        "memory" => marker_rows::memory(alloc),
+        _ => of_lines(alloc, background, kind, texts),
+    }
+}
+
+/// The answer to a row of markers, environments and lines, or to another one.
+fn of_lines(
+    alloc: Global,
+    background: &mut Background,
+    kind: &str,
+    texts: &[String],
+) -> Option<String> {
+    let (first, second) = (text_at(texts, 0), text_at(texts, 1));
+    match kind {
+        "marker" => marker_rows::marker(alloc, background, first, behind(texts)),
         "environment" => environment_rows::environment(alloc, background, first),
         "changed" => environment_rows::changed(alloc, background, first, second),
         "value" => environment_rows::value(alloc, background, first),
         "requirement" => requirement_rows::requirement(alloc, background, first),
-        "requirements" => requirement_rows::requirements(alloc, texts.as_slice()),
+        "requirements" => requirement_rows::requirements(alloc, texts),
         "line" => line_rows::line(alloc, background, first),
-        "ended" => line_rows::ended(alloc, first, more),
+        "ended" => line_rows::ended(alloc, first, behind(texts)),
         "constrained" => line_rows::constrained(alloc, first, second),
         "file" => line_rows::file(alloc, first),
-        "memory" => marker_rows::memory(alloc),
+        _ => of_locks(alloc, background, kind, texts),
+    }
+}
+
+/// The answer to a row of indexes, problems, locks and tables, or to another one.
+fn of_locks(
+    alloc: Global,
+    background: &mut Background,
+    kind: &str,
+    texts: &[String],
+) -> Option<String> {
+    let (first, second) = (text_at(texts, 0), text_at(texts, 1));
+    match kind {
+        "index" => index_rows::index(alloc, background, first),
+        "packages" => index_rows::packages(alloc, background, first),
+        "digest" => index_rows::digest(alloc, background),
+        "releases" => index_rows::releases(alloc, background, first),
+        "versions" => index_rows::versions(alloc, background, first),
+        "solve" => problem_rows::solve(alloc, background, first),
+        "learn" => problem_rows::learn(alloc, background, first),
+        "refute" => problem_rows::refute(alloc, background, first),
+        "check" => problem_rows::accepted(alloc, background, first, behind(texts)),
+        "lock" => lock_rows::lock(alloc, background, first),
+        "altered lock" => lock_rows::altered(alloc, background, first, second),
+        "table" => table_rows::searched(alloc, texts),
+        "far table" => table_rows::learned(alloc, texts),
+        "recorded" => table_rows::recorded(alloc, texts),
+        _ => of_histories(alloc, background, kind, texts),
+    }
+}
+
+/// The answer to a row of histories and commands.
+fn of_histories(
+    alloc: Global,
+    background: &mut Background,
+    kind: &str,
+    texts: &[String],
+) -> Option<String> {
+    let (first, second) = (text_at(texts, 0), text_at(texts, 1));
+    match kind {
+        "begin" => session_rows::begin(alloc, background, first),
+        "lead" => session_rows::applied(alloc, background, first),
+        "replies" => session_rows::others(alloc),
+        "command" => command_rows::command(alloc, first, true),
+        "rest" => command_rows::command(alloc, first, false),
+        "words" => command_rows::words(alloc, texts),
+        "failing reads" => batch_rows::reads(alloc, background, &case_of(texts, true)?),
+        "empty reads" => batch_rows::reads(alloc, background, &case_of(texts, false)?),
+        "failing writes" => batch_rows::writes(alloc, background, &case_of(texts, true)?),
+        "empty writes" => batch_rows::writes(alloc, background, &case_of(texts, false)?),
+        "do" => {
+            let histories = background.histories.as_mut()?;
+            session_rows::done(alloc, background.index.as_ref()?, histories, first)
+        }
+        _ => of_history(alloc, background, kind, first, second, text_at(texts, 2)),
+    }
+}
+
+/// The answer to a row of the history that has begun.
+fn of_history(
+    alloc: Global,
+    background: &Background,
+    kind: &str,
+    first: &str,
+    second: &str,
+    third: &str,
+) -> Option<String> {
+    let histories = background.histories.as_ref()?;
+    match kind {
+        "lines" => session_rows::lines(alloc, histories),
+        "files" => session_rows::files(alloc, background.index.as_ref()?, histories),
+        "change" => session_rows::change(alloc, histories),
+        "saved" => saved_rows::saved(alloc, &histories.session),
+        "altered" => saved_rows::altered(alloc, &histories.session, first, second, third),
         _ => None,
     }
+}
+
+/// The case of lines, an input and how many bytes a call moves.
+fn case_of<'a>(texts: &'a [String], fails: bool) -> Option<Case<'a>> {
+    let [lines, input, most] = texts else {
+        return None;
+    };
+    Some(Case {
+        lines: lines.as_str(),
+        input: input.as_str(),
+        most: most.as_str().parse::<usize>().ok()?,
+        fails,
+    })
 }

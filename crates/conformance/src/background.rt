@@ -1,8 +1,25 @@
 // What rows are answered with.
 
+use journal::{Session, WholeHistory};
 use markers::Environment;
 use pep440::Version;
+use snapshot::Snapshot;
 use std::alloc::Global;
+
+/// One history that is kept in both ways: as changes, and as whole states.
+pub struct Histories {
+    pub session: Session,
+    pub whole: WholeHistory,
+}
+
+impl Drop for Histories {
+    fn drop(self) {
+        let Histories {
+            session: _,
+            whole: _,
+        } = self;
+    }
+}
 
 /// What earlier rows have set.
 pub struct Background {
@@ -11,6 +28,11 @@ pub struct Background {
     /// The JSON text of the environment.
     pub json: String,
     pub environment: Option<Environment>,
+    /// The index that lines are locked over.
+    pub index: Option<Snapshot>,
+    pub histories: Option<Histories>,
+    /// The text of a lock.
+    pub lock: String,
 }
 
 impl Drop for Background {
@@ -19,6 +41,9 @@ impl Drop for Background {
             candidates: _,
             json: _,
             environment: _,
+            index: _,
+            histories: _,
+            lock: _,
         } = self;
     }
 }
@@ -30,6 +55,9 @@ impl Background {
             candidates: Vec::new(alloc),
             json: String::new(alloc),
             environment: None,
+            index: None,
+            histories: None,
+            lock: String::new(alloc),
         }
     }
 }

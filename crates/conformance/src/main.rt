@@ -1,15 +1,28 @@
-//! `conformance`: what the public calls of `pep440`, `markers` and `pep508` answer to the rows of standard
-//! input, a line for each row. README.md says how rows are written.
+//! `conformance`: what the public calls of the libraries answer to the rows of standard input, a line for
+//! each row. README.md says how rows are written.
 #![tactic(auto)]
 
 mod answers;
 mod background;
+mod batch_rows;
+mod command_rows;
+mod confirmations;
+mod conflicts;
 mod environment_rows;
+mod index_rows;
 mod line_rows;
+mod lock_rows;
 mod marker_rows;
 mod notation;
+mod problem_rows;
 mod requirement_rows;
+mod saved_rows;
+mod session_rows;
+mod short_form;
 mod specifier_rows;
+mod state_texts;
+mod streams;
+mod table_rows;
 mod version_rows;
 
 use crate::answers::answer_to;

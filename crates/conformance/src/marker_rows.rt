@@ -78,5 +78,7 @@ pub fn memory(alloc: Global) -> Option<String> {
         line: 1,
         cause: Cause::OutOfMemory,
     };
-    format!(in alloc; "{version_fault}; {fault}").ok()
+    let index_fault = snapshot::Fault::OutOfMemory;
+    let lock_fault = pylock::Fault::OutOfMemory;
+    format!(in alloc; "{version_fault}; {fault}; {index_fault}; {lock_fault}").ok()
 }

@@ -16,11 +16,12 @@ pub fn expanded(alloc: Global, written: &str) -> Option<String> {
     Some(text)
 }
 
-/// Pushes a repetition such as `200*.7}` and what stands behind it.
+/// Pushes a repetition such as `200*.7}` or `100..120*p\#}`, and what stands behind it.
 fn push_repeated(text: &mut String, part: &str) -> Option<()> {
     let (repetition, behind) = part.split_once('}')?;
-    let (count, repeated) = repetition.split_once('*')?;
-    for number in 0..count.parse::<usize>().ok()? {
+    let (rounds, repeated) = repetition.split_once('*')?;
+    let (first, end) = rounds.split_once("..").unwrap_or(("0", rounds));
+    for number in first.parse::<usize>().ok()?..end.parse::<usize>().ok()? {
         push_plain(text, repeated, number)?;
     }
     push_plain(text, behind, 0)
@@ -65,6 +66,7 @@ fn meant_by(mark: char) -> Option<&'static str> {
         't' => Some("\t"),
         's' => Some(" "),
         'e' => Some(""),
+        'c' => Some("}"),
         '\\' => Some("\\"),
         _ => None,
     }

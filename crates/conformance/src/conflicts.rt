@@ -1,0 +1,93 @@
+// Conflicts as rows write them.
+
+use lists::Seq;
+use markers::Name;
+use pep440::Version;
+use resolve::{Choice, Refutation};
+use std::alloc::Global;
+use std::collections::BTreeSet;
+
+/// The choice that a text such as `x[e]==1` tells.
+fn choice_of(alloc: Global, told: &str) -> Option<Choice> {
+    let (node, version) = told.split_once("==")?;
+    let (name, extra) = match node.split_once('[') {
+        Some((name, extra)) => (name, Some(extra.trim_end_matches(']'))),
+        None => (node, None),
+    };
+    let extra = match extra {
+        Some(extra) => Some(Name::parse(alloc, extra).ok()?),
+        None => None,
+    };
+    Some(Choice {
+        name: Name::parse(alloc, name).ok()?,
+        extra,
+        version: Version::parse(alloc, version).ok()?,
+    })
+}
+
+/// The choices between spaces; none for `-`.
+fn conflict_of(alloc: Global, told: &str) -> Option<Seq<Choice>> {
+    let mut choices = Seq::new(alloc);
+    if told == "-" {
+        return Some(choices);
+    }
+    for choice in told.split(' ') {
+        choices.push(choice_of(alloc, choice)?).ok()?;
+    }
+    Some(choices)
+}
+
+/// The list of these conflicts.
+pub fn refutation_of(alloc: Global, told: &[String]) -> Option<Refutation> {
+    let mut conflicts = Seq::new(alloc);
+    for conflict in told {
+        conflicts.push(conflict_of(alloc, conflict.as_str())?).ok()?;
+    }
+    Some(Refutation::new(conflicts))
+}
+
+/// A choice as it is written.
+fn choice_text(alloc: Global, choice: &Choice) -> Option<String> {
+    let (name, version) = (choice.name.normal(), &choice.version);
+    match &choice.extra {
+        Some(extra) => {
+            let extra = extra.normal();
+            format!(in alloc; "{name}[{extra}]=={version}").ok()
+        }
+        None => format!(in alloc; "{name}=={version}").ok(),
+    }
+}
+
+/// Pushes a conflict: its choices in the order of their bytes, or `-`.
+fn push_conflict(alloc: Global, text: &mut String, conflict: &[Choice]) -> Option<()> {
+    if conflict.is_empty() {
+        return text.push_str("-").ok();
+    }
+    let mut choices = BTreeSet::new(alloc);
+    for choice in conflict {
+        choices.insert(choice_text(alloc, choice)?).ok()?;
+    }
+    push_all(text, choices)
+}
+
+fn push_all(text: &mut String, choices: BTreeSet<String>) -> Option<()> {
+    let mut separator = "";
+    for choice in choices {
+        text.push_str(separator).ok()?;
+        text.push_str(choice.as_str()).ok()?;
+        separator = " ";
+    }
+    Some(())
+}
+
+/// The conflicts of a refutation, with a bar between two.
+pub fn refutation_text(alloc: Global, refutation: &Refutation) -> Option<String> {
+    let mut text = String::new(alloc);
+    let mut separator = "";
+    for conflict in refutation.conflicts() {
+        text.push_str(separator).ok()?;
+        push_conflict(alloc, &mut text, conflict.as_slice())?;
+        separator = " | ";
+    }
+    Some(text)
+}
