@@ -46,18 +46,6 @@ pub fn refutation_of(alloc: Global, told: &[String]) -> Option<Refutation> {
     Some(Refutation::new(conflicts))
 }
 
-/// A choice as it is written.
-fn choice_text(alloc: Global, choice: &Choice) -> Option<String> {
-    let (name, version) = (choice.name.normal(), &choice.version);
-    match &choice.extra {
-        Some(extra) => {
-            let extra = extra.normal();
-            format!(in alloc; "{name}[{extra}]=={version}").ok()
-        }
-        None => format!(in alloc; "{name}=={version}").ok(),
-    }
-}
-
 /// Pushes a conflict: its choices in the order of their bytes, or `-`.
 fn push_conflict(alloc: Global, text: &mut String, conflict: &[Choice]) -> Option<()> {
     if conflict.is_empty() {
@@ -65,7 +53,7 @@ fn push_conflict(alloc: Global, text: &mut String, conflict: &[Choice]) -> Optio
     }
     let mut choices = BTreeSet::new(alloc);
     for choice in conflict {
-        choices.insert(choice_text(alloc, choice)?).ok()?;
+        choices.insert(choice.text(alloc).ok()?).ok()?;
     }
     push_all(text, choices)
 }

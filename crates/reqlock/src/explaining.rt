@@ -1,6 +1,6 @@
 // Refutations in sentences.
 
-use crate::refutation_text::{add_conflict, choice_text};
+use crate::refutation_text::add_conflict;
 use crate::requirement_text::add_requirement;
 use crate::skipped_text::add_skipped;
 use edits::{
@@ -104,14 +104,14 @@ fn add_ground(
         Ground::LineRefuses(place, choice) => {
             add_line(text, told, place)?;
             text.push_str(" doesn't admit ")?;
-            text.push_str(choice_text(alloc, choice)?.as_str())
+            text.push_str(choice.text(alloc)?.as_str())
         }
         Ground::ChoicesClash(one, wanted, other) => {
-            text.push_str(choice_text(alloc, one)?.as_str())?;
+            text.push_str(one.text(alloc)?.as_str())?;
             text.push_str(" needs ")?;
             add_requirement(text, wanted)?;
             text.push_str(", which doesn't admit ")?;
-            text.push_str(choice_text(alloc, other)?.as_str())
+            text.push_str(other.text(alloc)?.as_str())
         }
         Ground::VersionsDiffer(one, _) => {
             let name = one.name.normal();
@@ -140,7 +140,7 @@ fn add_need(
             add_node(text, name, extra)
         }
         Need::Dependency(one, wanted) => {
-            text.push_str(choice_text(alloc, one)?.as_str())?;
+            text.push_str(one.text(alloc)?.as_str())?;
             text.push_str(" needs ")?;
             add_requirement(text, wanted)
         }

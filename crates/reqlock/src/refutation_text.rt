@@ -38,20 +38,7 @@ pub fn add_conflict(
 fn sorted_texts(alloc: Global, conflict: &[Choice]) -> Result<BTreeSet<String>, AllocError> {
     let mut texts = BTreeSet::new(alloc);
     for choice in conflict {
-        texts.insert(choice_text(alloc, choice)?)?;
+        texts.insert(choice.text(alloc)?)?;
     }
     Ok(texts)
-}
-
-/// `name==version`, or `name[extra]==version` at the node of an extra.
-pub fn choice_text(alloc: Global, choice: &Choice) -> Result<String, AllocError> {
-    let name = choice.name.normal();
-    let version = &choice.version;
-    match &choice.extra {
-        Some(extra) => {
-            let extra = extra.normal();
-            format!(in alloc; "{name}[{extra}]=={version}")
-        }
-        None => format!(in alloc; "{name}=={version}"),
-    }
 }

@@ -16,6 +16,7 @@ pub mod Asking
 pub mod OnWay
 pub mod Deciding
 pub mod Equals
+pub mod EqualChoices
 pub mod Checked
 pub mod Counting
 pub mod Grounded

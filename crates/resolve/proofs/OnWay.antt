@@ -9,8 +9,7 @@ use Rattle.std.proofs.lemmas.Bool.{cases_Bool}
 use Rattle.std.proofs.lemmas.List.{drop-append-le, drop_all}
 use Rattle.pep440.specs.Version.{VersionParts}
 use Rattle.pep508.specs.Requirement.{RequirementParts}
-use Rattle.search.specs.FirstWalk.{IsFirst, IsFirstWalk}
-use Rattle.search.specs.Search.{IsComplete}
+use Rattle.search.specs.FirstWalk.{IsFirst, IsFirstWalk, IsComplete}
 use Rattle.search.specs.Solutions.{IsBest, Pin, version_pinned}
 use Rattle.snapshot.specs.Release.{Release}
 use Rattle.resolve.specs.Admission.{admits, release_at}

@@ -7,9 +7,8 @@ use Rattle.std.proofs.lemmas.Bool.{cases_Bool}
 use Rattle.std.proofs.lemmas.Cmp.{tied_itself}
 use Rattle.std.proofs.lemmas.List.Elements.{Contains-append_cases, Contains-append_left, Contains-append_right, Contains-push_cases}
 use Rattle.lists.proofs.Members.{Contains-cons_cases, Contains-here, Contains-nil, Contains-there}
-use Rattle.search.specs.FirstWalk.{IsAskedFor, IsFirst, IsFirstWalk, IsRefused}
+use Rattle.search.specs.FirstWalk.{IsAskedFor, IsFirst, IsFirstWalk, IsRefused, IsComplete}
 use Rattle.search.specs.Rules.{IsLawful, Rules}
-use Rattle.search.specs.Search.{IsComplete}
 use Rattle.search.specs.Solutions.{IsMet, IsNeededName, IsNext, Needed, Pin, by_dependency, by_line, version_pinned}
 use Rattle.resolve.specs.Walking.{AreFollowed, IsHeld, IsWalked}
 

@@ -12,5 +12,7 @@ pub mod Choosing
 pub mod Walking
 pub mod Laws
 pub mod Refutations
+pub mod Choices
+pub mod ChoiceLaws
 pub mod Checking
 pub mod Grounds

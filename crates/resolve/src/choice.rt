@@ -2,9 +2,14 @@
 
 ghost use Rattle.std.specs.Prelude.{◌≡◌, ◌↔◌, IsTrue};
 ghost use Rattle.std.specs.Option.{option_copied};
+ghost use Rattle.std.specs.Ordering.{eq_by_cmp};
 ghost use Rattle.search.specs.Conflicts.{IsSameChoice};
 ghost use Rattle.resolve.specs.Checking.{is_same};
+ghost use Rattle.resolve.specs.Choices.{choice_cmp};
 ghost use Rattle.resolve.specs.Refutations.{same_version};
+
+mod order;
+mod text;
 
 use crate::nodes::{copy_of, is_asked};
 use lists::Faithful;
@@ -81,9 +86,11 @@ pub(crate) fn are_one(choice: &Choice, other: &Choice) -> bool
 }
 
 impl Choice {
-    /// Whether the other choice is at the same node, with a version that equals this one's.
+    /// Whether the other choice is at the same node, with a version that equals this one's. It is
+    /// what `==` answers.
     pub fn is_same(&self, other: &Choice) -> bool
-        ensures { IsTrue result ↔ IsSameChoice same_version self.now other.now }
+        ensures same { IsTrue result ↔ IsSameChoice same_version self.now other.now }
+        ensures equal { result ≡ eq_by_cmp choice_cmp self.now other.now }
     {
         are_one(self, other)
     }

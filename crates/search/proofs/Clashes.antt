@@ -3,9 +3,10 @@ use Rattle.std.proofs.Common.{ℕ, zero, suc, ◌<◌, ◌≤◌, ◌+◌, lengt
 use Rattle.std.specs.List.{list_any}
 use Rattle.lists.proofs.Members.{Contains-here, Contains-there, Contains-cons_cases, Contains-nil, take-whole}
 use Rattle.search.proofs.PinnedMaps.{clash-line, clash-dependency}
+use Rattle.search.specs.FirstWalk.{IsComplete}
 use Rattle.search.specs.Rules.{Rules, IsLawful}
 use Rattle.search.specs.Solutions.{Needed, by_line, by_dependency, version_pinned, Pin}
-use Rattle.search.specs.Search.{IsRefuted, IsComplete, AllFit, AreNeeded, AreAsked, NoneFree, clash_at, clash_in}
+use Rattle.search.specs.Search.{IsRefuted, AllFit, AreNeeded, AreAsked, NoneFree, clash_at, clash_in}
 
 or-true : (a b : Bool) → (a || b) ≡ true → (a ≡ true) ⊎ (b ≡ true)
 or-true true b h = inl refl

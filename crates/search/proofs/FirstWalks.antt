@@ -3,9 +3,8 @@ use Rattle.std.proofs.Common.{List, [], ◌∷◌, ◌++◌, ◌≡◌, ◌⊎�
 use Rattle.std.proofs.lemmas.List.Elements.{Contains-append_cases, Contains-append_right}
 use Rattle.lists.proofs.Members.{Contains-cons_cases, Contains-here}
 use Rattle.search.proofs.PinnedMaps.{version_pinned-cons_cases, version_pinned-last, Has-front, Has-push, Needed-more, next-in_solution, complete-same, some-inj}
-use Rattle.search.specs.FirstWalk.{IsAskedFor, IsRefused, IsFirst, IsFirstWalk}
+use Rattle.search.specs.FirstWalk.{IsAskedFor, IsRefused, IsFirst, IsFirstWalk, IsComplete}
 use Rattle.search.specs.Rules.{Rules, IsLawful}
-use Rattle.search.specs.Search.{IsComplete}
 use Rattle.search.specs.Solutions.{Pin, IsMet, IsNeededName, Solution, version_pinned, IsNext, IsWalk, Has, IsBetter, IsBest}
 
 behind-one : {N V : Type 0} (xs : List (Pin N V)) (p : Pin N V) (ys : List (Pin N V)) → (xs ++ p ∷ []) ++ ys ≡ xs ++ p ∷ ys

@@ -15,14 +15,14 @@ use Rattle.search.specs.declared.trial.Held.{Held}
 use Rattle.search.specs.declared.trial.Trial.{Trial}
 use Rattle.search.specs.Asking.{Clashes}
 use Rattle.search.specs.Conflicts.{IsSameChoice, Completes, NeedsNode, Follows, EachFollows, IsRefutation}
-use Rattle.search.specs.Gathering.{Gathers, IsCompleted, IsWithin, decision, places_eq}
+use Rattle.search.specs.Gathering.{Gathers, IsCompleted, IsWithin, decision}
 use Rattle.search.specs.Known.{IsKnown, AreKnown}
 use Rattle.search.specs.Learned.{decision_of, decisions_of, names_held, leaders_held, IsInTurn, IsNeededBy, IsFree, IsTrial, FitsBefore, IsHeld, IsLearning, IsPartial, LastIsNew}
 use Rattle.search.specs.Learning.{IsLearned, version_of}
 use Rattle.search.specs.Rules.{Rules}
 use Rattle.search.specs.Solutions.{Needed, IsNext, version_pinned}
-use Rattle.search.specs.Table.{TableParts, rules_of, name_of, candidates_of, in_range}
-use Rattle.search.specs.Trials.{IsRefused}
+use Rattle.search.specs.Table.{TableParts, rules_of, name_of, candidates_of, in_range, places_eq}
+use Rattle.search.specs.Trials.{RefusesOneMore}
 
 -- ---- a candidate is refused
 
@@ -39,7 +39,7 @@ refused-completed conflicts old new conflict candidate there g = (
   ],
 )
 
-pub trial-refused : (rules : Rules ℕ ℕ ℕ ℕ) (conflicts : List (List (NodeChoice ℕ ℕ))) (before : List Held) (old new : Trial) (place : ℕ) (conflict : List (NodeChoice ℕ ℕ)) → IsTrial rules conflicts before old → IsRefused old new conflict (decision old.node place) → Contains conflicts conflict → IsWithin conflict (decisions_of before) (decision old.node place) → old.turn < length (rules.candidates (rules.on old.node)) → get_or (rules.candidates (rules.on old.node)) old.turn place ≡ place → IsTrial rules conflicts before new
+pub trial-refused : (rules : Rules ℕ ℕ ℕ ℕ) (conflicts : List (List (NodeChoice ℕ ℕ))) (before : List Held) (old new : Trial) (place : ℕ) (conflict : List (NodeChoice ℕ ℕ)) → IsTrial rules conflicts before old → RefusesOneMore old new conflict (decision old.node place) → Contains conflicts conflict → IsWithin conflict (decisions_of before) (decision old.node place) → old.turn < length (rules.candidates (rules.on old.node)) → get_or (rules.candidates (rules.on old.node)) old.turn place ≡ place → IsTrial rules conflicts before new
 trial-refused rules conflicts before old new place conflict h r there within turn at = record {
   in_turn = subst (λ n. IsInTurn rules (names_held rules before) n new.leads) (sym r.node) (subst (λ b. IsInTurn rules (names_held rules before) old.node b) (sym r.leads) h.in_turn);
   needed = subst (λ n. Needed rules (version_pinned rules.compare (names_held rules before)) n) (sym r.node) h.needed;

@@ -7,11 +7,10 @@ use Rattle.search.proofs.PictureFacts.{picture-lines, picture-nodes}
 use Rattle.search.proofs.Ranges.{eq-true, lines-known, wants-known, nodes-known, name-known}
 use Rattle.search.specs.declared.conflict.NodeChoice.{NodeChoice}
 use Rattle.search.specs.Conflicts.{IsSameChoice, LineRefuses, ChoicesClash, VersionsDiffer, NeedsNode, Completes, NoneLeft, Follows, EachFollows, IsRefutation}
-use Rattle.search.specs.Gathering.{places_eq}
 use Rattle.search.specs.Known.{IsKnown, AreKnown, choice_pictured, conflict_pictured, conflicts_pictured, AreApart}
 use Rattle.search.specs.Picture.{Picture, IsPicture, name_asked}
 use Rattle.search.specs.Rules.{Rules}
-use Rattle.search.specs.Table.{TableParts, rules_of, name_of, wants_at, candidates_of, admits_at, in_range}
+use Rattle.search.specs.Table.{TableParts, rules_of, name_of, wants_at, candidates_of, admits_at, in_range, places_eq}
 
 -- ---- what the rules say of what a known choice stands for
 

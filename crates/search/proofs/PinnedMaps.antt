@@ -4,9 +4,10 @@ use Rattle.std.specs.Ordering.{is_eq}
 use Rattle.std.specs.Cmp.{Equal-is}
 use Rattle.std.proofs.lemmas.Cmp.{tied_itself}
 use Rattle.lists.proofs.Members.{Contains-here, Contains-there}
+use Rattle.search.specs.FirstWalk.{IsComplete}
 use Rattle.search.specs.Rules.{Rules, IsOrder, IsLawful}
 use Rattle.search.specs.Solutions.{Pin, Needed, by_line, by_dependency, IsNeededName, IsMet, Solution, version_pinned, IsNext, Has}
-use Rattle.search.specs.Search.{IsRefuted, IsComplete}
+use Rattle.search.specs.Search.{IsRefuted}
 
 -- ---- maps made of choices
 

@@ -3,9 +3,10 @@ use Rattle.std.proofs.Common.{ℕ, suc, List, [], ◌∷◌, ◌++◌, ◌≡◌
 use Rattle.lists.proofs.Members.{Contains-take_suc, take-whole, nat_cases, split_at, get_or-any}
 use Rattle.search.proofs.PinnedMaps.{version_pinned-cons_cases, version_pinned-last, Has-front, Has-push, Needed-more, next-in_solution, complete-same}
 use Rattle.search.specs.declared.parts.Frame.{Frame}
+use Rattle.search.specs.FirstWalk.{IsComplete}
 use Rattle.search.specs.Rules.{Rules, IsLawful}
 use Rattle.search.specs.Solutions.{Pin, IsNeededName, Solution, version_pinned, IsNext, IsWalk, Has, ComesFirst, IsBetter, IsBest}
-use Rattle.search.specs.Search.{pin_at, pins_of, Refutes, IsFrame, IsSearch, IsRefuted, IsComplete}
+use Rattle.search.specs.Search.{pin_at, pins_of, Refutes, IsFrame, IsSearch, IsRefuted}
 
 -- ---- the choices of a search
 

@@ -7,7 +7,8 @@ use Rattle.search.specs.declared.agenda.Ask.{Ask}
 use Rattle.search.specs.declared.next.Need.{Need}
 use Rattle.search.specs.declared.trial.Held.{Held}
 use Rattle.search.specs.Conflicts.{Follows}
-use Rattle.search.specs.Gathering.{decision, places_eq}
+use Rattle.search.specs.Gathering.{decision}
+use Rattle.search.specs.Table.{places_eq}
 use Rattle.search.specs.Learned.{IsFree, decisions_of}
 use Rattle.search.specs.Rules.{Rules}
 

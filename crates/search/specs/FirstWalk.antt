@@ -1,9 +1,8 @@
--- A walk that takes at each name the first candidate that nothing asked for refuses, and never goes back.
--- Tied to `IsBest` by the law `a_first_walk_finds_the_best_solution`; need not be read.
+-- A walk that takes at each name the first candidate that nothing asked for refuses, and never goes back; and when it has met all that is asked for.
 use Rattle.std.specs.Prelude.{List, [], ◌∷◌, ◌++◌, Option, Some, ◌≡◌, ◌⊎◌, false}
 use Rattle.std.specs.List.{Contains}
 use Rattle.search.specs.Rules.{Rules}
-use Rattle.search.specs.Solutions.{Needed, IsNext, Pin, version_pinned}
+use Rattle.search.specs.Solutions.{Needed, IsMet, IsNext, Pin, version_pinned}
 
 -- r is asked for by a line, or counts at a needed node
 abbrev pub IsAskedFor : {N X V R : Type 0} → Rules N X V R → (N → Option V) → R → Type 0
@@ -27,3 +26,8 @@ IsFirstWalk rules before [] = Unit {0}
 IsFirstWalk rules before (p ∷ ps) =
     (IsNext rules before p.name × IsFirst rules (IsRefused rules (version_pinned rules.compare before) p.name) p.name p.version)
     × IsFirstWalk rules (before ++ p ∷ []) ps
+
+-- all that is asked for is met
+pub record IsComplete {N X V R : Type 0} (rules : Rules N X V R) (chosen : N → Option V) : Type 0 where
+  pub lines_met : (r : R) → Contains rules.lines r → IsMet rules chosen r
+  pub dependencies_met : (node : X) (v : V) (r : R) → Needed rules chosen node → chosen (rules.on node) ≡ Some v → Contains (rules.wants node v) r → IsMet rules chosen r

@@ -1,15 +1,11 @@
 -- Lists of choices that are read as sets.
--- Tied to `Follows` by the contract of `learned_or_refuted`; but for `places_eq` need not be read.
-use Rattle.std.specs.Prelude.{ℕ, List, ◌≡◌, ◌==◌, ◌⊎◌, Bool}
+-- Tied to `Follows` by the contract of `learned_or_refuted`; need not be read.
+use Rattle.std.specs.Prelude.{ℕ, List, ◌≡◌, ◌⊎◌}
 use Rattle.std.specs.List.{Contains}
 use Rattle.search.specs.declared.conflict.NodeChoice.{NodeChoice}
 
 abbrev pub decision : ℕ → ℕ → NodeChoice ℕ ℕ
 decision node place = record { node = node; version = place }
-
--- releases of a table are told apart by their places
-abbrev pub places_eq : ℕ → ℕ → Bool
-places_eq v w = v == w
 
 -- new is old and what is gathered without what is left out, and no more
 pub record Gathers (old new gathered left_out : List (NodeChoice ℕ ℕ)) : Type 0 where

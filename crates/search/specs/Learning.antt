@@ -9,12 +9,11 @@ use Rattle.search.specs.declared.learning.Progress.TheVariants.{Trying, Solved, 
 use Rattle.search.specs.declared.trial.Held.{Held}
 use Rattle.search.specs.declared.trial.Trial.{Trial}
 use Rattle.search.specs.Conflicts.{EachFollows, IsRefutation}
-use Rattle.search.specs.Gathering.{places_eq}
 use Rattle.search.specs.Known.{AreKnown}
 use Rattle.search.specs.Learned.{IsLearning, IsPartial, IsTrial, chosen_held}
 use Rattle.search.specs.Solutions.{IsBest}
-use Rattle.search.specs.Table.{TableParts, rules_of, candidates_of, name_of}
-use Rattle.search.specs.Trials.{IsRefused}
+use Rattle.search.specs.Table.{TableParts, rules_of, candidates_of, name_of, places_eq}
+use Rattle.search.specs.Trials.{RefusesOneMore}
 
 -- each recorded conflict follows from those before it and is known to the table, and what is held is in keeping with them
 pub record IsLearned (t : TableParts) (p : Partial) (conflicts : List (List (NodeChoice ℕ ℕ))) : Type 0 where
@@ -34,7 +33,7 @@ pub record IsRefusedFor (old new : Trial) (before after : List (List (NodeChoice
   pub one : Contains conflict candidate
   pub two : Contains conflict other
   pub only : (c : NodeChoice ℕ ℕ) → Contains conflict c → (c ≡ candidate) ⊎ (c ≡ other)
-  pub refused : IsRefused old new conflict candidate
+  pub refused : RefusesOneMore old new conflict candidate
 
 -- the choice of some node is given back, with those behind it, and its next candidate is tried
 pub record IsBack (old new : List Held) (trial : Trial) : Type 0 where

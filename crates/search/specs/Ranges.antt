@@ -1,5 +1,4 @@
 -- Numbers below a bound.
--- Tied to `in_range` by the contracts of private functions; need not be read.
 use Rattle.std.specs.Prelude.{ℕ, List, ◌<◌}
 use Rattle.std.specs.List.{Contains}
 

@@ -4,16 +4,11 @@ use Rattle.std.specs.Prelude.{ℕ, List, [], ◌∷◌, ◌++◌, Option, Some, 
 use Rattle.std.specs.List.{Contains, slice_index_or}
 use Rattle.search.specs.declared.parts.Frame.{Frame}
 use Rattle.search.specs.Rules.{Rules}
-use Rattle.search.specs.Solutions.{Needed, Solution, IsNext, IsMet, Has, Pin}
+use Rattle.search.specs.Solutions.{Needed, Solution, IsNext, Has, Pin}
 
 -- no solution has what is taken
 abbrev pub IsRefuted : {N X V R : Type 0} → Rules N X V R → List (Pin N V) → Type 0
 IsRefuted {N} {X} {V} rules taken = (t : N → Option V) → Solution rules t → Has rules t taken → ⊥
-
--- all that is asked for is met
-pub record IsComplete {N X V R : Type 0} (rules : Rules N X V R) (chosen : N → Option V) : Type 0 where
-  pub lines_met : (r : R) → Contains rules.lines r → IsMet rules chosen r
-  pub dependencies_met : (node : X) (v : V) (r : R) → Needed rules chosen node → chosen (rules.on node) ≡ Some v → Contains (rules.wants node v) r → IsMet rules chosen r
 
 abbrev pub pin_at : Frame → Pin ℕ ℕ
 pin_at f = record { name = f.name; version = f.place }

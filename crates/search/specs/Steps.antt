@@ -6,7 +6,8 @@ use Rattle.search.specs.declared.parts.Frame.{Frame}
 use Rattle.search.specs.declared.parts.Step.{Step}
 use Rattle.search.specs.declared.parts.Step.TheVariants.{Complete, Entered, Refuted}
 use Rattle.search.specs.Solutions.{version_pinned}
-use Rattle.search.specs.Search.{pins_of, IsSearch, IsRefuted, IsComplete}
+use Rattle.search.specs.FirstWalk.{IsComplete}
+use Rattle.search.specs.Search.{pins_of, IsSearch, IsRefuted}
 use Rattle.search.specs.Table.{TableParts, rules_of, candidates_of}
 
 -- a frame on this name, with the candidate of this turn
@@ -38,8 +39,8 @@ IsStep t old new Refuted = (new ≡ old) × IsRefuted (rules_of t) (pins_of old)
 IsStep t old new Entered = (f : Frame) × (new ≡ old ++ f ∷ []) × IsSearch (rules_of t) [] new
 
 -- the names of the frames are less than the bound
-abbrev pub AreKnown : ℕ → List Frame → Type 0
-AreKnown bound frames = (f : Frame) → Contains frames f → f.name < bound
+abbrev pub AreKnownFrames : ℕ → List Frame → Type 0
+AreKnownFrames bound frames = (f : Frame) → Contains frames f → f.name < bound
 
 -- what is taken with the choice of one frame more, unless its name was taken
 pub record TakesFirst (old new : List (Option ℕ)) (f : Frame) : Type 0 where

@@ -56,6 +56,10 @@ rules_of t = record {
   compare = nat_cmp;
 }
 
+-- releases of a table are told apart by their places
+abbrev pub places_eq : ℕ → ℕ → Bool
+places_eq v w = v == w
+
 -- whether each of the numbers is less than the bound
 abbrev pub all_below : ℕ → List ℕ → Bool
 all_below bound ns = list_all (λ n. nat_lt n bound) ns

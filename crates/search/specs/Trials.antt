@@ -6,7 +6,7 @@ use Rattle.search.specs.declared.trial.Trial.{Trial}
 use Rattle.search.specs.Gathering.{Gathers}
 
 -- one candidate more is refused, for a conflict that it completes
-pub record IsRefused (old new : Trial) (conflict : List (NodeChoice ℕ ℕ)) (candidate : NodeChoice ℕ ℕ) : Type 0 where
+pub record RefusesOneMore (old new : Trial) (conflict : List (NodeChoice ℕ ℕ)) (candidate : NodeChoice ℕ ℕ) : Type 0 where
   pub node : new.node ≡ old.node
   pub leads : new.leads ≡ old.leads
   pub by : new.by ≡ old.by

@@ -5,7 +5,7 @@ ghost use Rattle.std.specs.Ordering.{nat_cmp};
 ghost use Rattle.search.specs.Front.{IsFront};
 ghost use Rattle.search.specs.Search.{taken_at, pins_of, NoneFree, IsLeastFree};
 ghost use Rattle.search.specs.Solutions.{version_pinned};
-ghost use Rattle.search.specs.Steps.{AreKnown, TakesFirst};
+ghost use Rattle.search.specs.Steps.{AreKnownFrames, TakesFirst};
 ghost use Rattle.search.specs.Table.{rules_of};
 
 use crate::clash::{do_any_clash, least_free};
@@ -39,7 +39,7 @@ impl Drop for Front {
 impl Front {
     /// The front of frames, worked out anew.
     pub fn of(alloc: Global, table: &Table, frames: &[Frame]) -> Result<Front, AllocError>
-        requires { AreKnown (length table.now.candidates) frames.now }
+        requires { AreKnownFrames (length table.now.candidates) frames.now }
         ensures front { IfOk result (λ front. IsFront table.now front) }
         ensures same { IfOk result (λ front. (n : ℕ)
             → taken_at front.taken.items n ≡ version_pinned nat_cmp (pins_of frames.now) n) }

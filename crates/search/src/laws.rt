@@ -2,15 +2,13 @@
 
 ghost use Rattle.std.specs.Prelude.{ℕ, ◌≡◌, List, [], Option, Bool, true};
 ghost use Rattle.std.specs.List.{Contains};
-ghost use Rattle.search.specs.FirstWalk.{IsFirstWalk};
+ghost use Rattle.search.specs.FirstWalk.{IsFirstWalk, IsComplete};
 ghost use Rattle.search.specs.Conflicts.{IsVersionEquality, LiesInNone, Follows, EachFollows, IsRefutation};
-ghost use Rattle.search.specs.Gathering.{places_eq};
 ghost use Rattle.search.specs.Known.{AreKnown, AreApart, conflicts_pictured};
 ghost use Rattle.search.specs.Picture.{Picture, IsPicture, pictured};
 ghost use Rattle.search.specs.Rules.{Rules, IsOrder, IsLawful};
-ghost use Rattle.search.specs.Search.{IsComplete};
 ghost use Rattle.search.specs.Solutions.{Pin, Solution, IsBest, IsBetter, HasNoSolution, version_pinned};
-ghost use Rattle.search.specs.Table.{TableParts, in_range, place_in, rules_of};
+ghost use Rattle.search.specs.Table.{TableParts, in_range, place_in, rules_of, places_eq};
 ghost use Rattle.search.specs.declared.conflict.NodeChoice.{NodeChoice};
 ghost use Rattle.search.specs.declared.parts.Choice.{Choice};
 

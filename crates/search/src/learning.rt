@@ -5,13 +5,13 @@ ghost use Rattle.std.specs.List.{Contains, slice_index_or};
 ghost use Rattle.search.specs.declared.conflict.NodeChoice.{NodeChoice};
 ghost use Rattle.search.specs.Conflicts.{IsRefutation};
 ghost use Rattle.search.specs.Found.{MatchFound};
-ghost use Rattle.search.specs.Gathering.{decision, places_eq};
+ghost use Rattle.search.specs.Gathering.{decision};
 ghost use Rattle.search.specs.Known.{AreKnown};
 ghost use Rattle.search.specs.Learned.{FitsBefore, IsPartial, IsTrial, chosen_held, decisions_of};
 ghost use Rattle.search.specs.Learning as spec;
 ghost use Rattle.search.specs.Learning.{GoesOnward, IsBack, IsFirst, IsLearned, IsRefusedFor, StandsAt};
 ghost use Rattle.search.specs.Solutions.{HasNoSolution, IsBest};
-ghost use Rattle.search.specs.Table.{TableParts, rules_of, candidates_of, name_of, in_range, place_in, IsAscending};
+ghost use Rattle.search.specs.Table.{TableParts, rules_of, candidates_of, name_of, in_range, place_in, IsAscending, places_eq};
 
 use crate::ahead::Cursor;
 use crate::conflict::{Decision, has};

@@ -4,7 +4,7 @@ ghost use Rattle.std.specs.Prelude.{◌≡◌, ◌<◌, ℕ, IfOk, length};
 ghost use Rattle.std.specs.Ordering.{nat_cmp};
 ghost use Rattle.search.specs.Search.{taken_at, pins_of};
 ghost use Rattle.search.specs.Solutions.{version_pinned};
-ghost use Rattle.search.specs.Steps.{AreKnown, TakesFirst};
+ghost use Rattle.search.specs.Steps.{AreKnownFrames, TakesFirst};
 ghost use Rattle.search.specs.Table.{place_in, IsAscending};
 
 use crate::parts::{Choice, Frame};
@@ -28,7 +28,7 @@ pub fn taken_of(
     table: &Table,
     frames: &[Frame],
 ) -> Result<Vec<Option<usize>>, AllocError>
-    requires { AreKnown (length table.now.candidates) frames.now }
+    requires { AreKnownFrames (length table.now.candidates) frames.now }
     ensures same { IfOk result (λ taken. (n : ℕ)
         → taken_at taken.items n ≡ version_pinned nat_cmp (pins_of frames.now) n) }
     ensures room { IfOk result (λ taken. length taken.items ≡ length table.now.candidates) }
@@ -56,7 +56,7 @@ pub fn choices_taken(alloc: Global, taken: &[Option<usize>]) -> Result<Seq<Choic
 
 /// The choices of a search in the order of their names.
 pub fn choices_of(alloc: Global, table: &Table, frames: &[Frame]) -> Result<Seq<Choice>, AllocError>
-    requires { AreKnown (length table.now.candidates) frames.now }
+    requires { AreKnownFrames (length table.now.candidates) frames.now }
     ensures same { IfOk result (λ choices. (n : ℕ)
         → place_in choices n ≡ version_pinned nat_cmp (pins_of frames.now) n) }
     ensures ascending { IfOk result (λ choices. IsAscending choices) }

@@ -2,7 +2,7 @@
 
 ghost use Rattle.std.specs.Prelude.{◌≡◌, ◌<◌, [], IfOk, option_to_list};
 ghost use Rattle.search.specs.Gathering.{Gathers, decision};
-ghost use Rattle.search.specs.Trials.{IsRefused};
+ghost use Rattle.search.specs.Trials.{RefusesOneMore};
 
 use crate::conflict::{Decision, insert, insert_all};
 use std::alloc::AllocError;
@@ -42,7 +42,7 @@ impl Trial {
     ) -> Result<(), AllocError>
         requires { self.old.turn < count }
         ensures { IfOk result
-            (λ _. IsRefused self.old self.new conflict.now (decision self.old.node place)) }
+            (λ _. RefusesOneMore self.old self.new conflict.now (decision self.old.node place)) }
     {
         let candidate = Decision {
             node: self.node,

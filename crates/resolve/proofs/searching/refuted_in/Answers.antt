@@ -1,9 +1,8 @@
 use Rattle.std.proofs.Common.{◌∙◌, List, ℕ, ap, map, sym, subst}
 use Rattle.search.specs.Conflicts.{IsRefutation}
-use Rattle.search.specs.Gathering.{places_eq}
 use Rattle.search.specs.Known.{AreKnown}
 use Rattle.search.specs.Solutions.{IsBest}
-use Rattle.search.specs.Table.{place_in, rules_of as rules_of_table}
+use Rattle.search.specs.Table.{place_in, rules_of as rules_of_table, places_eq}
 use Rattle.search.specs.declared.conflict.NodeChoice.{NodeChoice}
 use Rattle.resolve.specs.Pictured.{choice_at, picture_of}
 use Rattle.resolve.specs.Refutations.{ChoiceParts, same_version}

@@ -10,7 +10,7 @@ use Rattle.search.specs.Gathering.{decision}
 use Rattle.search.specs.Learned.{decision_of, decisions_of, IsHeld, IsLearning, IsPartial}
 use Rattle.search.specs.Learning.{IsLearned}
 use Rattle.search.specs.Table.{TableParts, rules_of, candidates_of, name_of}
-use Rattle.search.specs.Trials.{IsRefused}
+use Rattle.search.specs.Trials.{RefusesOneMore}
 use Rattle.search.proofs.learning.cut_back.Goals as goal
 
 abbrev Popped : List Held → List Held → Option Held → Type 0
@@ -65,9 +65,9 @@ returns-then-has-clause-learned c =
     let h : Held = c.in-Some.held in
     let k : IsLearning (rules_of t) cs [] front × IsHeld (rules_of t) cs front h = parted t c.loop-held.partial cs front h c.loop-held.invariant.learned (popped c.loop-held.partial.held.items c.pop.new.self.held.items c.in-Some.held c.in_ok-held.field-0 c.in-Some.is c.in_ok-held.ensures.popped) in
     let conflict : List (NodeChoice ℕ ℕ) = get_or cs c.args.at [] in
-    let refused : IsRefused h.trial c.refuse.new.self conflict (decision h.trial.node h.place) =
-    subst (λ (xs : List (NodeChoice ℕ ℕ)). IsRefused h.trial c.refuse.new.self xs (decision h.trial.node h.place)) c.at-conflict.ensures
-    (subst (λ (x : Trial). IsRefused x c.refuse.new.self c.at-conflict.result.now (decision x.node h.place)) c.into_trial-trial.ensures c.in_ok-refuse.ensures) in (
+    let refused : RefusesOneMore h.trial c.refuse.new.self conflict (decision h.trial.node h.place) =
+    subst (λ (xs : List (NodeChoice ℕ ℕ)). RefusesOneMore h.trial c.refuse.new.self xs (decision h.trial.node h.place)) c.at-conflict.ensures
+    (subst (λ (x : Trial). RefusesOneMore x c.refuse.new.self c.at-conflict.result.now (decision x.node h.place)) c.into_trial-trial.ensures c.in_ok-refuse.ensures) in (
       record { partial = (now-partial c.args.table.now c.pop.new.self c.in-Some.held c.in_ok-held.field-0 c.in-Some.is c.in_ok-held.ensures.partial); follows = c.loop-held.invariant.learned.follows; known = c.loop-held.invariant.learned.known; learning = k.0 },
       trial-refused (rules_of t) cs front h.trial c.refuse.new.self h.place conflict k.1.trial refused (Contains-get_or cs c.args.at [] c.requires.at)
           (within-last front h conflict (λ d i. subst (λ (xs : List Held). Contains (decisions_of xs) d) (popped c.loop-held.partial.held.items c.pop.new.self.held.items c.in-Some.held c.in_ok-held.field-0 c.in-Some.is c.in_ok-held.ensures.popped) (c.loop-held.invariant.within d i)))

@@ -8,12 +8,11 @@ use Rattle.search.specs.declared.held.Partial.{Partial}
 use Rattle.search.specs.declared.learning.Progress.{Progress}
 use Rattle.search.specs.declared.learning.Progress.TheVariants.{Trying, Solved, Refuted}
 use Rattle.search.specs.Conflicts.{IsRefutation}
-use Rattle.search.specs.Gathering.{places_eq}
 use Rattle.search.specs.Known.{AreKnown}
 use Rattle.search.specs.Learned.{chosen_held}
 use Rattle.search.specs.Learning.{StandsAt}
 use Rattle.search.specs.Solutions.{IsBest}
-use Rattle.search.specs.Table.{TableParts, rules_of, place_in}
+use Rattle.search.specs.Table.{TableParts, rules_of, place_in, places_eq}
 use Rattle.search.proofs.learning.learned_or_refuted.Goals as goal
 
 -- where the search is at its end, what it has recorded is a refutation

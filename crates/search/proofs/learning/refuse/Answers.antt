@@ -11,7 +11,7 @@ use Rattle.search.specs.Known.{IsKnown}
 use Rattle.search.specs.Learned.{IsTrial}
 use Rattle.search.specs.Learning.{IsLearned, IsRefusedFor}
 use Rattle.search.specs.Table.{TableParts, rules_of}
-use Rattle.search.specs.Trials.{IsRefused}
+use Rattle.search.specs.Trials.{RefusesOneMore}
 use Rattle.search.proofs.learning.refuse.Goals as goal
 
 pub clash-requires-clause-node : goal.clash-requires-clause-node
@@ -25,7 +25,7 @@ returns-in-Some-clause-trial c =
     let old : Trial = c.args.trial.now in
     let conflict : List (NodeChoice ℕ ℕ) = get_or cs c.in-Some.found [] in
     trial-refused (rules_of t) cs hs old c.refuse.new.self c.args.place conflict c.requires.trial
-    (subst (λ (xs : List (NodeChoice ℕ ℕ)). IsRefused old c.refuse.new.self xs (decision old.node c.args.place)) c.at.ensures c.in_ok-refuse.ensures)
+    (subst (λ (xs : List (NodeChoice ℕ ℕ)). RefusesOneMore old c.refuse.new.self xs (decision old.node c.args.place)) c.at.ensures c.in_ok-refuse.ensures)
     (Contains-get_or cs c.in-Some.found [] c.in-Some.ensures.0)
     (subst (λ (ds : List (NodeChoice ℕ ℕ)). IsWithin conflict ds (decision old.node c.args.place)) (ap (map choice_at) c.requires.learned.partial.choices ∙ entries-decisions hs) c.in-Some.ensures.1)
     (subst (λ k. old.turn < k) c.requires.count c.requires.turn) c.requires.place

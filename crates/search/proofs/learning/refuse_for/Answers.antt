@@ -1,7 +1,7 @@
 use Rattle.std.proofs.Common.{ℕ, List, subst}
 use Rattle.search.specs.declared.conflict.NodeChoice.{NodeChoice}
 use Rattle.search.specs.Gathering.{decision}
-use Rattle.search.specs.Trials.{IsRefused}
+use Rattle.search.specs.Trials.{RefusesOneMore}
 use Rattle.search.proofs.learning.refuse_for.Goals as goal
 
 pub returns : goal.returns
@@ -11,5 +11,5 @@ returns c = record {
   one = c.in_ok-conflict.ensures.one;
   two = c.in_ok-conflict.ensures.other;
   only = c.in_ok-conflict.ensures.only;
-  refused = subst (λ (xs : List (NodeChoice ℕ ℕ)). IsRefused c.args.trial.now c.refuse.new.self xs (decision c.args.trial.now.node c.args.place)) c.as_slice.ensures.value c.in_ok-refuse.ensures;
+  refused = subst (λ (xs : List (NodeChoice ℕ ℕ)). RefusesOneMore c.args.trial.now c.refuse.new.self xs (decision c.args.trial.now.node c.args.place)) c.as_slice.ensures.value c.in_ok-refuse.ensures;
 }

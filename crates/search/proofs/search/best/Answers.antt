@@ -8,14 +8,14 @@ use Rattle.search.specs.declared.parts.Step.TheVariants.{Complete, Entered, Refu
 use Rattle.search.specs.Table.{rules_of, place_in}
 use Rattle.search.specs.Solutions.{IsBest, version_pinned}
 use Rattle.search.specs.Search.{pins_of, IsSearch, IsRefuted}
-use Rattle.search.specs.Steps.{IsStep, AreKnown}
+use Rattle.search.specs.Steps.{IsStep, AreKnownFrames}
 use Rattle.search.proofs.search.best.Goals as goal
 
 pub choices_of-requires : goal.choices_of-requires
 choices_of-requires c =
     let t = c.args.table.now in let old = c.search.frames.items in let new = c.advance.new.frames.items in
     let step : IsStep t old new Complete = subst (λ s. IsStep t old new s) c.in-Complete.is c.in_ok-advance.ensures.step in
-    subst (λ (fs : List Frame). AreKnown (length t.candidates) fs) (sym (c.as_slice-in-Complete.ensures.value ∙ step.0)) (frames-known t old c.search.invariant.search)
+    subst (λ (fs : List Frame). AreKnownFrames (length t.candidates) fs) (sym (c.as_slice-in-Complete.ensures.value ∙ step.0)) (frames-known t old c.search.invariant.search)
 
 pub returns-in-Complete-clause-best : goal.returns-in-Complete-clause-best
 returns-in-Complete-clause-best c =
@@ -42,7 +42,7 @@ search-smaller c =
     (c.in_ok-retreat-in-Refuted.ensures.search c.if-not-branch.false))
 
 pub of-requires : goal.of-requires
-of-requires c = subst (λ (fs : List Frame). AreKnown (length c.args.table.now.candidates) fs) (sym (c.as_slice.ensures.value ∙ c.in_ok-frames.ensures.items)) (λ f i. absurd (Contains-nil f i))
+of-requires c = subst (λ (fs : List Frame). AreKnownFrames (length c.args.table.now.candidates) fs) (sym (c.as_slice.ensures.value ∙ c.in_ok-frames.ensures.items)) (λ f i. absurd (Contains-nil f i))
 
 pub search-init : goal.search-init
 search-init c = record {
@@ -74,7 +74,7 @@ retreat-requires-clause-refuted c =
 pub of-requires-in-Refuted : goal.of-requires-in-Refuted
 of-requires-in-Refuted c =
     let t = c.args.table.now in
-    subst (λ (fs : List Frame). AreKnown (length t.candidates) fs) (sym c.as_slice-in-Refuted.ensures.value) (frames-known t c.retreat.new.frames.items (c.in_ok-retreat-in-Refuted.ensures.search c.if-not-branch.false))
+    subst (λ (fs : List Frame). AreKnownFrames (length t.candidates) fs) (sym c.as_slice-in-Refuted.ensures.value) (frames-known t c.retreat.new.frames.items (c.in_ok-retreat-in-Refuted.ensures.search c.if-not-branch.false))
 
 pub search-preserved : goal.search-preserved
 search-preserved c = record {
