@@ -52,12 +52,12 @@ class Program(unittest.TestCase):
         (self.folder / "requirements.txt").write_bytes(requirements)
         (self.outside / "index.json").write_text(json.dumps(index_of(*releases)), encoding="utf-8")
 
-    def call(self, *words, text="", before=None):
-        """The status of a call of the program, and all that it writes."""
+    def call(self, *words, text="", before=None, seconds=None):
+        """The status of a call of the program, and all that it writes. It may take these seconds at most."""
         options = "--dir", self.folder, "--index", self.outside / "index.json", "--env", self.outside / "environment.json"
         done = subprocess.run(
             [PROGRAM, *options, *words], input=text, stdout=subprocess.PIPE, stderr=subprocess.STDOUT, encoding="utf-8",
-            check=False, preexec_fn=before,
+            check=False, preexec_fn=before, timeout=seconds,
         )
         return done.returncode, done.stdout
 
@@ -177,18 +177,24 @@ class Day(Program):
                     self.assertEqual(self.state(), states[cursor])
                 else:
                     self.assertEqual(self.files(), before)
-        last = self.files()
-        self.assertEqual(sorted(last), sorted(FILES))
+        self.assertEqual(sorted(self.files()), sorted(FILES))
+        self.check_way_back_and_on(states)
+
+    def check_way_back_and_on(self, states):
+        """Each undo leads to the state before. Each redo leads to the files that stood there on the way back, to the byte."""
+        stood = [self.files()]
         for cursor in reversed(range(len(states) - 1)):
             self.assertEqual(self.call("undo"), (0, f"ok {cursor}\n"))
             self.assertEqual(self.state(), states[cursor])
-        self.assertEqual(self.files()["requirements.txt"], self.START)
+            stood.insert(0, self.files())
+        self.assertEqual(stood[0]["requirements.txt"], self.START)
+        self.assertEqual(len({files["reqlock.journal"].partition(b"\n")[2] for files in stood}), 1)
         self.assertEqual(self.call("undo"), (1, "refused nothing-to-undo\n"))
         for cursor in range(1, len(states)):
             self.assertEqual(self.call("redo"), (0, f"ok {cursor}\n"))
-            self.assertEqual(self.state(), states[cursor])
+            self.assertEqual(self.files(), stood[cursor])
         self.assertEqual(self.call("redo"), (1, "refused nothing-to-redo\n"))
-        self.assertEqual(self.files(), last)
+        self.assertEqual(self.files(), stood[-1])
 
     def state(self):
         """The requirements file and the lock, and the journal's header says that they are its own."""

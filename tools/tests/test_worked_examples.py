@@ -3,11 +3,13 @@ wanted value comes from the rules."""
 
 import hashlib
 import os
+import re
 import stat
 import subprocess
 import unittest
 
-from test_program import PROGRAM, Program
+from journal_rules import read_lock
+from test_program import PROGRAM, Program, file_of
 
 # Indexes: releases of a name and a version, what they need, and what else their objects have.
 A_C = ("a", "1", []), ("c", "1", []), ("c", "2", [])
@@ -24,13 +26,13 @@ CYCLE = ("p", "1", ["q"]), ("q", "1", ["p"])
 # a dependency that asks for a pre-release, and one that doesn't
 PRE_ASKED_ONCE = ("a", "1", ["foo>=2.0rc1"]), ("b", "1", ["foo"]), *PRE_RELEASE
 PRE_UNASKED = ("a", "1", ["foo"]), *PRE_RELEASE
-# a release that is left out, since it asks for what can't be read
-LEFT_OUT = ("b", "1", ["c>1"]), ("b", "2", ["c @ https://c.example"]), ("c", "1", [])
 
 COMMENTS = "# z\nb\n# a\na\n"
 WINDOWS = "# web\r\nB_b >=1 # pin\r\na"
 KEPT = 'B.b (>=1) ; os_name=="posix" # keep'
 TOP = "# top\nb==1\n\n# tail\na\n"
+# the first line of `show` where no name is long
+HEAD = "name  version  line  needed by\n"
 # an index, a requirements file, commands, and what is printed: the replies, and then the file
 TRIED = (
     (A_C, "a\n", "add c<2", "ok 1\na\nc<2\n"),
@@ -124,23 +126,6 @@ class Tried(Program):
                 self.assertEqual(self.try_it("add c\n"), (4, b"", f"reqlock: {told}\n".encode()))
 
 
-class Words(Program):
-    """Files and options that aren't there."""
-
-    def told(self, *words):
-        done = subprocess.run([PROGRAM, *words], capture_output=True, check=False, encoding="utf-8")
-        return done.returncode, done.stdout, done.stderr
-
-    def test_a_missing_file_is_named(self):
-        words = "--dir", "/nowhere", "--index", "/nowhere/index.json", "--env", "/nowhere/environment.json", "try"
-        self.assertEqual(self.told(*words), (4, "", "reqlock: requirements.txt: unreadable\n"))
-
-    def test_a_missing_option_is_named(self):
-        for words, option in (["try"], "--index"), (["--env", "e", "try"], "--index"), (["--index", "i", "try"], "--env"):
-            with self.subTest(words=words):
-                self.assertEqual(self.told(*words), (2, "", f"reqlock: {option} is needed\n"))
-
-
 class Calls(Program):
     """Single calls, each over the files that the last one saved."""
 
@@ -153,6 +138,37 @@ class Calls(Program):
     def holds(self, text, name="requirements.txt"):
         self.assertEqual((self.folder / name).read_bytes(), text.encode())
 
+    def locked(self):
+        """The versions that are locked, by name."""
+        entries = read_lock((self.folder / "pylock.toml").read_bytes())[2]
+        return {name: entry["version"] for name, entry in entries.items()}
+
+
+class Learning(Calls):
+    """Problems in which only a search that learns from its conflicts comes to an end."""
+
+    NAMES = [f"p{number:02}" for number in range(1, 41)]
+    PAIRS = tuple((name, version, []) for name in NAMES for version in ("1", "2"))
+    SECONDS = 60
+
+    def begin_lines(self, names, *releases):
+        self.begin("".join(f"{name}\n" for name in names).encode(), *releases)
+
+    def test_no_solution_where_the_last_line_has_none(self):
+        self.begin_lines([*self.NAMES, "z>=2"], *self.PAIRS, ("z", "1", []))
+        self.assertEqual(self.call("init", seconds=self.SECONDS), (3, "refused no-solution\n"))
+
+    def test_no_solution_where_a_dependency_of_the_last_line_has_none(self):
+        self.begin_lines([*self.NAMES, "y"], *self.PAIRS, ("y", "1", ["z>=2"]), ("z", "1", []))
+        self.assertEqual(self.call("init", seconds=self.SECONDS), (3, "refused no-solution\n"))
+
+    def test_the_first_name_gives_way(self):
+        first, second, *others = self.PAIRS
+        releases = first, (*second[:2], ["y"]), *others, ("y", "1", ["z>=2"]), ("z", "1", [])
+        self.begin_lines(self.NAMES, *releases)
+        self.assertEqual(self.call("init", seconds=self.SECONDS), (0, "ok 0\n"))
+        self.assertEqual(self.locked(), {name: "1" if name == "p01" else "2" for name in self.NAMES})
+
 
 class Saved(Calls):
     """What is saved, and comes back."""
@@ -162,23 +178,40 @@ class Saved(Calls):
         self.begin(WINDOWS.encode(), *A_B_C)
         self.plays((["init"], 0, "ok 0\n"), (["add", "c"], 0, "ok 1\n"))
         self.holds(after)
-        lines = (self.folder / "reqlock.journal").read_bytes().splitlines()
-        self.assertEqual(len(lines), 2)
-        self.assertTrue(lines[1].endswith(rb'"lines":[[2,["a"],["a\r\n","c\r\n"]]],"snapshot":null}'))
         self.plays((["undo"], 0, "ok 0\n"))
         self.holds(WINDOWS)
         self.plays((["undo"], 1, "refused nothing-to-undo\n"), (["redo"], 0, "ok 1\n"))
         self.holds(after)
 
+    # The journal of that example. LOCK and REQUIREMENTS stand for the digests of these files, and Z for 64 zeros.
+    HEADER = (
+        '{"cursor":1,"environment":{"implementation_name":"cpython","implementation_version":"3.12.3","os_name":"posix",'
+        '"platform_machine":"x86_64","platform_python_implementation":"CPython","platform_release":"6.1.0-13-amd64",'
+        '"platform_system":"Linux","platform_version":"#1 SMP Debian 6.1.55-1","python_full_version":"3.12.3",'
+        '"python_version":"3.12","sys_platform":"linux"},"journal":1,"lock":"LOCK","requirements":"REQUIREMENTS","steps":1}\n'
+    )
+    STEP = (
+        '{"entries":[["c",null,{"dependencies":[],"requires_python":null,"sdist":null,"version":"1","wheels":[{"name":'
+        '"c-1-py3-none-any.whl","sha256":"Z","size":1000,"url":"https://files.example/c-1-py3-none-any.whl"}]}]],'
+        '"lines":[[2,["a"],["a\\r\\n","c\\r\\n"]]],"snapshot":null}\n'
+    )
+
+    def test_a_journal_has_the_form_that_is_written_down(self):
+        self.begin(WINDOWS.encode(), *A_B_C)
+        self.plays((["init"], 0, "ok 0\n"), (["add", "c"], 0, "ok 1\n"))
+        names = {"LOCK": "pylock.toml", "REQUIREMENTS": "requirements.txt"}
+        digests = {word: hashlib.sha256((self.folder / name).read_bytes()).hexdigest() for word, name in names.items()}
+        header = re.sub("|".join(names), lambda found: digests[found[0]], self.HEADER)
+        self.holds(header + self.STEP.replace("Z", "0" * 64), "reqlock.journal")
+
     def test_a_removed_line_comes_back(self):
         after = "# top\n\n# tail\na\n"
-        head = "name  version  line  needed by\n"
         self.begin(TOP.encode(), *A_B_C)
         self.plays((["init"], 0, "ok 0\n"), (["remove", "b"], 0, "ok 1\n"))
         self.holds(after)
-        self.plays((["show"], 0, f"{head}a     1        4\n"), (["undo"], 0, "ok 0\n"))
+        self.plays((["show"], 0, f"{HEAD}a     1        4\n"), (["undo"], 0, "ok 0\n"))
         self.holds(TOP)
-        self.plays((["show"], 0, f"{head}a     1        5\nb     1        2\n"), (["redo"], 0, "ok 1\n"))
+        self.plays((["show"], 0, f"{HEAD}a     1        5\nb     1        2\n"), (["redo"], 0, "ok 1\n"))
         self.holds(after)
 
     def test_an_upgrade_is_saved(self):
@@ -203,7 +236,7 @@ class Saved(Calls):
 
     def test_an_empty_file_has_a_history(self):
         self.begin(b"", *A_B_C)
-        self.plays((["init"], 0, "ok 0\n"), (["relock"], 0, "same\n"), (["show"], 0, "name  version  line  needed by\n"))
+        self.plays((["init"], 0, "ok 0\n"), (["relock"], 0, "same\n"), (["show"], 0, HEAD))
         told = f'"requirements":"{hashlib.sha256(b"").hexdigest()}"'
         self.assertIn(told, (self.folder / "reqlock.journal").read_text(encoding="utf-8"))
 
@@ -233,16 +266,27 @@ class Saved(Calls):
             self.plays((["init"], status, told), (["undo"], 4, "reqlock: reqlock.journal: unreadable\n"))
 
     def test_a_version_may_change_its_text(self):
-        head = "name  version  line  needed by\n"
         self.begin(b"a\n", ("a", "1", []))
         self.plays((["init"], 0, "ok 0\n"))
-        self.begin(b"a\n", ("a", "1.0", []))
+        self.begin(b"a\n", ("a", "1.0", [], {"files": [file_of("a", "1")]}))
         self.plays(
             (["relock"], 0, "ok 1\n"),
             (["log"], 0, "  0 init\n* 1 a 1 -> 1.0, another index, 0 lines\n"),
-            (["show"], 0, f"{head}a     1.0      1\n"),
+            (["show"], 0, f"{HEAD}a     1.0      1\n"),
             (["undo"], 0, "ok 0\n"),
-            (["show"], 0, f"{head}a     1        1\n"),
+            (["show"], 0, f"{HEAD}a     1        1\n"),
+        )
+
+    def test_packages_that_need_each_other_come_back(self):
+        both = f"{HEAD}p     1        1     q\nq     1              p\n"
+        self.begin(b"p\n", *CYCLE)
+        self.plays(
+            (["init"], 0, "ok 0\n"),
+            (["show"], 0, both),
+            (["remove", "p"], 0, "ok 1\n"),
+            (["show"], 0, HEAD),
+            (["undo"], 0, "ok 0\n"),
+            (["show"], 0, both),
         )
 
     def test_a_batch_is_saved_once(self):
@@ -305,70 +349,6 @@ class Replaced(Calls):
         self.assertTrue(requirements.is_symlink())
         self.holds("a\nc\n", "real.txt")
         self.assertEqual(stat.S_IMODE(real.stat().st_mode), 0o640)
-
-
-class Why(Calls):
-    """What `why` prints of problems with a solution and without one. It saves nothing."""
-
-    def test_a_solvable_problem_is_told(self):
-        self.begin(b"a\nc\n", *SHARED)
-        self.plays(
-            (["why"], 4, "reqlock: reqlock.journal: unreadable\n"),
-            (["init"], 0, "ok 0\n"),
-            (["why"], 0, "solvable\n"),
-            (["why", "b"], 0, "solvable\n"),
-            (["log"], 0, "* 0 init\n"),
-        )
-
-    def test_a_refused_text_is_told(self):
-        self.begin(b"a\n", ("a", "1", []))
-        self.plays(
-            (["init"], 0, "ok 0\n"),
-            (["why", "A"], 1, "refused already-present\n"),
-            (["why", "--", "-r x"], 1, "refused bad-text\n"),
-            (["why", ""], 1, "refused bad-text\n"),
-        )
-
-    # An index, a requirements file, the words, and what is told.
-    REFUTED = (
-        ([("a", "1", [])], b"a\n", ["z"], "-\n"),
-        (SHARED, b"a==2\n", ["c"], "b==1 c==1\nb==1\na==2 b==2\na==2\na==1\n-\n"),
-        (UNMET_EXTRA, b"", ["x[e]"], "x[e]==1 y==1\nx[e]==1\n-\n"),
-        (
-            [("a", "1", [])], b"# web\na==1\n", ["--explain", "z"],
-            "1. -: the new line (z) needs z, and the index has no release of z\n",
-        ),
-        (
-            SHARED, b"a==2\n", ["--explain", "c"],
-            "1. b==1 c==1: c==1 needs b>=2, which doesn't admit b==1\n"
-            "2. b==1: the new line (c) needs c, and no release of c is left: 1 by 1\n"
-            "3. a==2 b==2: a==2 needs b<2, which doesn't admit b==2\n"
-            "4. a==2: a==2 needs b<2, and no release of b is left: 2 by 3, 1 by 2\n"
-            "5. a==1: line 1 (a==2) doesn't admit a==1\n"
-            "6. -: line 1 (a==2) needs a, and no release of a is left: 2 by 4, 1 by 5\n",
-        ),
-        (
-            UNMET_EXTRA, b"", ["--explain", "x[e]"],
-            "1. x[e]==1 y==1: x[e]==1 needs y>=2, which doesn't admit y==1\n"
-            "2. x[e]==1: x[e]==1 needs y>=2, and no release of y is left: 1 by 1\n"
-            "3. -: the new line (x[e]) needs x[e], and no release of x[e] is left: 1 by 2\n",
-        ),
-        (
-            LEFT_OUT, b"", ["--explain", "b"],
-            "1. b==1 c==1: b==1 needs c>1, which doesn't admit c==1\n"
-            "2. b==1: b==1 needs c>1, and no release of c is left: 1 by 1\n"
-            "3. -: the new line (b) needs b, and no release of b is left: 1 by 2\n"
-            "b: release 1: requirement 0 url-requirement\n",
-        ),
-    )
-
-    def test_conflicts_are_printed_and_told_in_sentences(self):
-        for releases, file, words, told in self.REFUTED:
-            self.begin(file, *releases)
-            self.plays((["init"], 0, "ok 0\n"))
-            before = self.files()
-            self.plays((["why", *words], 3, told))
-            self.assertEqual(self.files(), before)
 
 
 if __name__ == "__main__":

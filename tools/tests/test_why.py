@@ -1,0 +1,76 @@
+"""Why there is no solution, over the built program: what `why` prints, and what it tells in sentences."""
+
+import unittest
+
+from test_worked_examples import SHARED, UNMET_EXTRA, Calls
+
+# a release that is left out, since it asks for what can't be read
+LEFT_OUT = ("b", "1", ["c>1"]), ("b", "2", ["c @ https://c.example"]), ("c", "1", [])
+
+
+class Why(Calls):
+    """What `why` prints of problems with a solution and without one. It saves nothing."""
+
+    def test_a_solvable_problem_is_told(self):
+        self.begin(b"a\nc\n", *SHARED)
+        self.plays(
+            (["why"], 4, "reqlock: reqlock.journal: unreadable\n"),
+            (["init"], 0, "ok 0\n"),
+            (["why"], 0, "solvable\n"),
+            (["why", "b"], 0, "solvable\n"),
+            (["log"], 0, "* 0 init\n"),
+        )
+
+    def test_a_refused_text_is_told(self):
+        self.begin(b"a\n", ("a", "1", []))
+        self.plays(
+            (["init"], 0, "ok 0\n"),
+            (["why", "A"], 1, "refused already-present\n"),
+            (["why", "--", "-r x"], 1, "refused bad-text\n"),
+            (["why", ""], 1, "refused bad-text\n"),
+        )
+
+    # An index, a requirements file, the words, and what is told.
+    REFUTED = (
+        ([("a", "1", [])], b"a\n", ["z"], "-\n"),
+        (SHARED, b"a==2\n", ["c"], "b==1 c==1\nb==1\na==2 b==2\na==2\na==1\n-\n"),
+        (UNMET_EXTRA, b"", ["x[e]"], "x[e]==1 y==1\nx[e]==1\n-\n"),
+        (
+            [("a", "1", [])], b"# web\na==1\n", ["--explain", "z"],
+            "1. -: the new line (z) needs z, and the index has no release of z\n",
+        ),
+        (
+            SHARED, b"a==2\n", ["--explain", "c"],
+            "1. b==1 c==1: c==1 needs b>=2, which doesn't admit b==1\n"
+            "2. b==1: the new line (c) needs c, and no release of c is left: 1 by 1\n"
+            "3. a==2 b==2: a==2 needs b<2, which doesn't admit b==2\n"
+            "4. a==2: a==2 needs b<2, and no release of b is left: 2 by 3, 1 by 2\n"
+            "5. a==1: line 1 (a==2) doesn't admit a==1\n"
+            "6. -: line 1 (a==2) needs a, and no release of a is left: 2 by 4, 1 by 5\n",
+        ),
+        (
+            UNMET_EXTRA, b"", ["--explain", "x[e]"],
+            "1. x[e]==1 y==1: x[e]==1 needs y>=2, which doesn't admit y==1\n"
+            "2. x[e]==1: x[e]==1 needs y>=2, and no release of y is left: 1 by 1\n"
+            "3. -: the new line (x[e]) needs x[e], and no release of x[e] is left: 1 by 2\n",
+        ),
+        (
+            LEFT_OUT, b"", ["--explain", "b"],
+            "1. b==1 c==1: b==1 needs c>1, which doesn't admit c==1\n"
+            "2. b==1: b==1 needs c>1, and no release of c is left: 1 by 1\n"
+            "3. -: the new line (b) needs b, and no release of b is left: 1 by 2\n"
+            "b: release 1: requirement 0 url-requirement\n",
+        ),
+    )
+
+    def test_conflicts_are_printed_and_told_in_sentences(self):
+        for releases, file, words, told in self.REFUTED:
+            self.begin(file, *releases)
+            self.plays((["init"], 0, "ok 0\n"))
+            before = self.files()
+            self.plays((["why", *words], 3, told))
+            self.assertEqual(self.files(), before)
+
+
+if __name__ == "__main__":
+    unittest.main()
