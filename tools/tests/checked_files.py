@@ -1,6 +1,7 @@
-"""What `check` of the program answers of three files, beside what the rules of journal_rules.py say. It needs the program, which
-./check builds first."""
+"""What `check` and `log` of the program answer of three files, beside what the rules of journal_rules.py say. They need the
+program, which ./check builds first."""
 
+import re
 import subprocess
 import tempfile
 from pathlib import Path
@@ -18,21 +19,34 @@ IS_BUILT = knows("check")
 
 
 def told(answer, *others):
-    """The status, the standard output and the standard error of `check` for an answer of the rules."""
+    """What `checked` gives for an answer of the rules."""
     if answer == "ok":
-        return 0, f"ok {others[0]}\n", ""
+        cursor, steps = others
+        heads = [f"{'*' if place == cursor else ' '} {place} " for place in range(steps + 1)]
+        return 0, f"ok {cursor}\n", "", heads
     if answer == "files-disagree":
-        return 4, "", f"reqlock: {others[0]}: files-disagree\n"
-    return 4, "", f"reqlock: reqlock.journal: line {others[0]}: journal-broken\n"
+        return 4, "", f"reqlock: {others[0]}: files-disagree\n", []
+    return 4, "", f"reqlock: reqlock.journal: line {others[0]}: journal-broken\n", []
+
+
+def heads_of(log):
+    """The mark and the number that each line of a log begins with."""
+    return [re.match("(?:[* ] [0-9]+ )?", line)[0] for line in log.splitlines()]
 
 
 def checked(given):
-    """What `check` answers in a folder of these files: status, standard output and standard error. It leaves the files."""
+    """What `check` answers in a folder of these files: status, standard output and standard error; and where it finds no fault,
+    what the lines of `log` begin with. The files stay."""
     with tempfile.TemporaryDirectory() as name:
         folder = Path(name)
         for file, data in zip(NAMES, given):
             (folder / file).write_bytes(data)
-        done = subprocess.run([PROGRAM, "--dir", folder, "check"], capture_output=True, encoding="utf-8", check=False)
+
+        def call(subcommand):
+            return subprocess.run([PROGRAM, "--dir", folder, subcommand], capture_output=True, encoding="utf-8", check=False)
+
+        done = call("check")
+        heads = heads_of(call("log").stdout) if done.returncode == 0 else []
         if tuple((folder / file).read_bytes() for file in NAMES) != tuple(given):
-            raise AssertionError("`check` changed a file")
-    return done.returncode, done.stdout, done.stderr
+            raise AssertionError("`check` or `log` changed a file")
+    return done.returncode, done.stdout, done.stderr, heads

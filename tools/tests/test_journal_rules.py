@@ -189,24 +189,45 @@ class Steps(Example):
         self.steps = [{**ADDED, "snapshot": [ONES, ZEROS]}]
         self.check(("ok", 1, 1))
 
+    def test_that_are_altered(self):
+        whole = self.journal()
+        for old, new in (
+            (b'["a"]', b'["b"]'), (b'[2,["a"],["a\\r\\n","c\\r\\n"]]', b'[2,["a"],[]],[3,[],["a\\r\\n","c\\r\\n"]]'),
+            (b'"snapshot":null', f'"snapshot":["{ZEROS}","{ZEROS}"]'.encode()),
+        ):
+            self.assertEqual(whole.count(old), 1)
+            self.check((BROKEN, 2), journal=whole.replace(old, new))
+
+    def check_form(self, change, is_lawful):
+        """A step has a lawful form, or not. In front of it stands one that doesn't apply, which is told where the forms of all
+        steps are lawful."""
+        if not is_lawful:
+            self.assertRaises(Fault, read_step, compact(change))
+        self.steps = [step([[9, ["x"], []]]), change]
+        self.check((BROKEN, 2 if is_lawful else 3))
+
     def test_that_are_no_minimal_changes(self):
         for splices in (
             [[2, ["a"], []], [3, [], ["a\r\n", "c\r\n"]]], [[2, [], []]], [[2, ["a"], ["a", "c"]]], [[2, ["c", "a"], ["a"]]],
             [[2, ["a"], ["b"]], [1, ["a"], ["b"]]], [[2**64, ["a"], ["b"]]], [[2**64 - 1, [], ["a"]], [2**64, [], ["a"]]],
             [[0, [], ["a"]], [2**64 - 1, [], ["b"]]], [["2", ["a"], ["b"]]], [[2, ["a"]]], [[2, ["a"], [1]]],
         ):
-            self.assertRaises(Fault, read_step, compact(step(splices)))
-        one, other = entry("a", "1"), entry("a", "1.0")
+            self.check_form(step(splices), False)
+        one = entry("a", "1")
         for entries in (
             [["a", one, one]], [["a", None, None]], [["b", None, entry("b", "1")], ["a", None, one]], [["A", None, one]],
             [["a", None, one], ["a", one, None]], [["a", None, {**one, "x": 1}]], [["a", None, {**one, "wheels": []}]],
         ):
-            self.assertRaises(Fault, read_step, compact(step([], entries)))
-        self.assertEqual(read_step(compact(step([], [["a", one, other]]))), Change([], [("a", one, other)], None))
+            self.check_form(step([], entries), False)
         for snapshot in [ZEROS, ZEROS], [ZEROS], [ZEROS, None], "":
-            self.assertRaises(Fault, read_step, compact(step(snapshot=snapshot)))
-        self.assertEqual(read_step(compact(step())), Change([], [], None))
-        self.assertTrue(is_minimal(read_step(compact(step([[0, [], ["a"]], [2**64 - 2, [], ["b"]]])))))
+            self.check_form(step(snapshot=snapshot), False)
+
+    def test_that_are_minimal_changes(self):
+        one, other = entry("a", "1"), entry("a", "1.0")
+        for splices, entries in ([], []), ([], [("a", one, other)]), ([(0, [], ["a"]), (2**64 - 2, [], ["b"])], []):
+            change = step(splices, entries)
+            self.assertEqual(read_step(compact(change)), Change(splices, entries, None))
+            self.check_form(change, True)
 
     def test_through_a_state_that_is_none(self):
         self.requirements, self.lock = b"a\n", lock_text(LINUX, {"a": entry("a", "1")})
