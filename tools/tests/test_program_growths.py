@@ -147,14 +147,24 @@ class Program(unittest.TestCase):
         self.assertNotIn(b"memory", ample.output + ample.errors)
         return ample
 
-    def check_single(self, *words, starts):
-        """Each growth of a subcommand is refused in turn; with ample memory its reply starts so."""
-        before, command = growths.files_in(self.folder), self.words(*words)
-        ample = self.ample_run(command)
-        self.assertTrue(ample.output.startswith(starts.encode()), ample)
+    def check_growths(self, command):
+        """Each growth of a command is refused in turn. It gives the run with ample memory."""
+        before, ample = growths.files_in(self.folder), self.ample_run(command)
         for number in numbers(ample):
             run = growths.run_once(command, self.library, number, folder=self.folder)
-            self.assertTrue(is_lawful(run, ample, before), (words, run))
+            self.assertTrue(is_lawful(run, ample, before), (command, run))
+        return ample
+
+    def check_single(self, *words, starts):
+        """Each growth of a subcommand is refused in turn; with ample memory its reply starts so."""
+        ample = self.check_growths(self.words(*words))
+        self.assertTrue(ample.output.startswith(starts.encode()), ample)
+
+    def check_fault(self, command, status, errors):
+        """Each growth is refused in turn of a command that has this status and tells this fault with ample memory."""
+        ample = self.check_growths(command)
+        self.assertEqual((ample.status, ample.output), (status, b""))
+        self.assertTrue(ample.errors.startswith(errors), ample)
 
     def check_several(self, subcommand):
         command = self.words(subcommand)
@@ -207,18 +217,20 @@ class Program(unittest.TestCase):
         self.check_refused("skipped", word=b"index: shape /packages/0/releases/0")
 
     def check_refused(self, *words, word):
-        """Each growth is refused in turn of a subcommand that tells this fault with ample memory."""
-        before, command = growths.files_in(self.folder), self.words(*words)
-        ample = self.ample_run(command)
-        self.assertEqual((ample.status, ample.errors), (4, b"reqlock: " + word + b"\n"))
-        for number in numbers(ample):
-            run = growths.run_once(command, self.library, number, folder=self.folder)
-            self.assertTrue(is_lawful(run, ample, before), (words, run))
+        """Each growth is refused in turn of a subcommand that refuses an input with this word."""
+        self.check_fault(self.words(*words), 4, b"reqlock: " + word + b"\n")
+
+    def test_words_that_are_no_request(self):
+        self.prepare("init")
+        self.check_fault(self.words("add"), 2, b"error: the following required arguments were not provided")
+        self.check_fault([PROGRAM, "--env", "environment.json", "relock"], 2, b"reqlock: --index is needed\n")
+        self.check_fault([PROGRAM, "--index", "index.json", "init"], 2, b"reqlock: --env is needed\n")
 
     def test_why(self):
         self.prepare("init")
         for words, starts in (
             (["why"], "solvable"), (["why", "x[e]"], "d==1 x[e]==1"), (["why", "A"], "refused already-present"),
+            (["why", "--explain", "x[e]"], "1. d==1 x[e]==1: "),
         ):
             self.check_single(*words, starts=starts)
 
@@ -230,6 +242,34 @@ class Program(unittest.TestCase):
         self.prepare("undo")
         self.check_single("redo", starts="ok 2")
         self.check_single("add", "c", starts="ok 2")
+
+    def stop_a_save(self):
+        """Leaves the folder as a save that stopped behind the first of its three files does."""
+        self.prepare("init")
+        before = growths.files_in(self.folder)
+        self.prepare("remove", "a")
+        for name in "pylock.toml", "reqlock.journal":
+            path = self.folder / name
+            path.rename(self.folder / f"{name}.new")
+            path.write_bytes(before[name])
+
+    def done_again(self, command, run):
+        """A run with ample memory over the files that another one has left."""
+        with tempfile.TemporaryDirectory() as folder:
+            for name, data in run.files.items():
+                (Path(folder) / name).write_bytes(data)
+            return growths.run_once(command, self.library, AMPLE, folder=folder)
+
+    def test_a_stopped_save_that_is_ended(self):
+        self.stop_a_save()
+        command = self.words("add", "d")
+        ample = self.ample_run(command)
+        self.assertEqual((ample.status, ample.output), (0, b"ok 2\n"))
+        for number in numbers(ample):
+            run = growths.run_once(command, self.library, number, folder=self.folder)
+            if run != ample:
+                self.assertEqual((run.status, run.output, run.errors), (5, b"", OUT_OF_MEMORY))
+                self.assertEqual(self.done_again(command, run), ample)
 
     def test_several_commands(self):
         self.prepare("init")
