@@ -1,5 +1,5 @@
 """Inputs that are far larger than any real one, each with what the program must answer. An input is made for a count, of
-which SIZES has the largest."""
+which SIZES has the largest, and SMALL the one of every run where that is more than a thousandth."""
 
 import json
 from dataclasses import dataclass, field
@@ -188,3 +188,5 @@ SIZES = {
     arrays_of_an_environment: 1_000_000, arrays_of_a_journal: 1_000_000, arrays_of_a_lock: 1_000_000,
     tables_of_a_lock: 1_000_000, keys_of_a_lock: 1_000_000,
 }
+
+SMALL = {steps_opened: 10_000}

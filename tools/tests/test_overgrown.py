@@ -1,14 +1,14 @@
 """The program on inputs that are far larger than any real one, in a stack of 256 KiB: each ends with its answer. With
-LONG_TESTS=1 in the environment each has its largest count, without it a thousandth."""
+LONG_TESTS=1 in the environment each has its largest count, without it a thousandth; a history then has 10,000 steps."""
 
 import os
 import resource
 import unittest
 
-from overgrown import SIZES
+from overgrown import SIZES, SMALL
 from test_program import Program
 
-SHARE = 1 if os.environ.get("LONG_TESTS") == "1" else 1000
+IS_LONG = os.environ.get("LONG_TESTS") == "1"
 STACK = 256 * 1024
 
 
@@ -31,7 +31,7 @@ class Overgrown(Program):
     def test_each_ends_with_its_answer(self):
         for make, most in SIZES.items():
             with self.subTest(make.__name__):
-                given = make(most // SHARE)
+                given = make(most if IS_LONG else SMALL.get(make, most // 1000))
                 status, output = self.give(given)
                 self.assertEqual((status, output[-len(given.ends) :]), (given.status, given.ends))
                 self.setUp()

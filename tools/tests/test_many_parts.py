@@ -1,0 +1,122 @@
+"""Calls over indexes, locks and steps of more than a hundred parts, each with its exact answer."""
+
+import unittest
+
+from journal_rules import opens, read_lock
+from made_journals import entry
+from test_program import FILES
+from test_worked_examples import HEAD, Calls
+
+COUNT = 120
+NAMES = [f"p{number:03}" for number in range(COUNT)]
+# each package needs the next one
+CHAIN = tuple((name, "1", [other]) for name, other in zip(NAMES, NAMES[1:])) + ((NAMES[-1], "1", []),)
+CHAIN_ENTRIES = {name: entry(name, "1", *needs) for name, _, needs in CHAIN}
+
+
+class Printed(Calls):
+    """What only prints."""
+
+    def test_the_lock_as_a_table(self):
+        lines = ["# all", *reversed(NAMES[::2])]
+        self.begin("".join(f"{line}\n" for line in lines).encode(), *CHAIN)
+        self.plays((["init"], 0, "ok 0\n"))
+        rows = ""
+        for name, before in zip(NAMES, ["", *NAMES]):
+            number = f"{lines.index(name) + 1}" if name in lines else ""
+            rows += f"{name}  1        {number:4}  {before}".rstrip() + "\n"
+        self.plays((["show"], 0, HEAD + rows))
+
+    def test_an_entry_that_all_others_need(self):
+        self.begin("".join(f"{name}\n" for name in NAMES).encode(), *((name, "1", ["z"]) for name in NAMES), ("z", "1", []))
+        rows = "".join(f"{name}  1        {place}\n" for place, name in enumerate(NAMES, 1))
+        last = f"z     1              {', '.join(NAMES)}\n"
+        self.plays((["init"], 0, "ok 0\n"), (["show"], 0, HEAD + rows + last))
+
+    # What makes a release be left out of the index, and the cause that is told.
+    CAUSES = (
+        ("x", [], {}, "version bad-version"), ("1.0.0", [], {}, "duplicate"), ("3", [], {"files": []}, "no-file"),
+        ("4", ["b", "c>>1"], {}, "requirement 1 bad-clause"), ("5", [], {"requires_python": "3"}, "requires-python bad-clause"),
+    )
+
+    def test_the_releases_that_are_left_out(self):
+        releases, told = [], ""
+        for name in NAMES:
+            releases.append((name, "1", []))
+            for place, (version, needs, more, cause) in enumerate(self.CAUSES, 1):
+                releases.append((name, version, needs, more))
+                told += f"{name}: release {place}: {cause}\n"
+        self.begin(b"", *releases)
+        self.plays((["skipped"], 0, told))
+
+    def begin_refuted(self):
+        """An empty file over a chain whose last package asks for what there isn't. Of each package a release is left out."""
+        refuted = *CHAIN[:-1], (NAMES[-1], "1", ["z>=2"]), ("z", "1", []), ("other", "1", [])
+        self.begin(b"", *refuted, *((name, "x", []) for name, *_ in refuted))
+        self.plays((["init"], 0, "ok 0\n"))
+
+    # The conflicts from the end of the chain to its head, in which nothing can be spared.
+    CONFLICTS = [f"{NAMES[-1]}==1 z==1", *(f"{name}==1" for name in reversed(NAMES)), "-"]
+
+    def test_a_refutation(self):
+        self.begin_refuted()
+        self.plays((["why", NAMES[0]], 3, "".join(f"{conflict}\n" for conflict in self.CONFLICTS)))
+
+    def test_a_refutation_in_sentences(self):
+        self.begin_refuted()
+        needs = [f"{name}==1 needs {other}" for name, other in zip(NAMES, [*NAMES[1:], "z>=2"])]
+        causes = [f"{needs[-1]}, which doesn't admit z==1"]
+        for number, (need, other) in enumerate(zip(reversed(needs), ["z", *reversed(NAMES)]), 1):
+            causes.append(f"{need}, and no release of {other} is left: 1 by {number}")
+        number, first = COUNT + 1, NAMES[0]
+        causes.append(f"the new line ({first}) needs {first}, and no release of {first} is left: 1 by {number}")
+        sentences = [f"{number}. {conflict}: {cause}" for number, (conflict, cause) in enumerate(zip(self.CONFLICTS, causes), 1)]
+        left_out = [f"{name}: release 1: version bad-version" for name in (*NAMES, "z")]
+        self.plays((["why", "--explain", first], 3, "".join(f"{line}\n" for line in sentences + left_out)))
+
+
+class Changed(Calls):
+    """Steps that change more than a hundred entries, undone and redone."""
+
+    def entries(self):
+        return read_lock((self.folder / "pylock.toml").read_bytes())[2]
+
+    def check_opens(self, cursor, steps):
+        self.plays((["check"], 0, f"ok {cursor}\n"))
+        self.assertEqual(opens(*(self.files()[name] for name in FILES)), ("ok", cursor, steps))
+
+    def check_undone_and_redone(self):
+        """The one step is undone, redone and opened: the files are those of before and of after it. It gives both locks."""
+        after, locks = self.files(), [self.entries()]
+        self.check_opens(1, 1)
+        self.plays((["undo"], 0, "ok 0\n"))
+        self.check_opens(0, 1)
+        locks.insert(0, self.entries())
+        self.plays((["redo"], 0, "ok 1\n"))
+        self.assertEqual(self.files(), after)
+        return locks
+
+    def test_a_line_that_all_entries_stand_on(self):
+        self.begin(f"# head\n{NAMES[0]}\n".encode(), *CHAIN)
+        self.plays((["init"], 0, "ok 0\n"))
+        self.assertEqual(self.entries(), CHAIN_ENTRIES)
+        self.plays((["remove", NAMES[0]], 0, "ok 1\n"))
+        self.holds("# head\n")
+        gone = ", ".join(f"- {name} 1" for name in NAMES)
+        self.plays((["log"], 0, f"  0 init\n* 1 {gone}, 1 line\n"))
+        self.assertEqual(self.check_undone_and_redone(), [CHAIN_ENTRIES, {}])
+
+    def test_names_that_are_upgraded(self):
+        lines = "".join(f"{name}\n" for name in NAMES).encode()
+        old = tuple((name, "1", []) for name in NAMES)
+        self.begin(lines, *old)
+        self.plays((["init"], 0, "ok 0\n"))
+        self.begin(lines, *old, *((name, "2", []) for name in NAMES))
+        self.plays((["upgrade", *reversed(NAMES[10:])], 0, "ok 1\n"))
+        before = {name: entry(name, "1") for name in NAMES}
+        after = before | {name: entry(name, "2") for name in NAMES[10:]}
+        self.assertEqual(self.check_undone_and_redone(), [before, after])
+
+
+if __name__ == "__main__":
+    unittest.main()
