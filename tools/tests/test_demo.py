@@ -110,6 +110,18 @@ class Demo(unittest.TestCase):
             self.assertIn(f"demo: {told}; the whole log is {self.copy}/crates/reqlock/out/demo.log\n", errors)
             self.assertNotIn("built:", output)
 
+    def test_a_call_that_is_no_answer_ends_the_session(self):
+        program = self.copy / "crates" / "reqlock" / "out" / "reqlock"
+        program.parent.mkdir(parents=True)
+        for status in 1, 2, 3, 4, 5, 101:
+            program.write_text(f"#!/bin/bash\necho replied\nexit {status}\n", encoding="utf-8")
+            program.chmod(0o755)
+            with self.subTest(status=status):
+                is_refusal = status in (1, 3)
+                found, output, errors, _ = self.demo()
+                self.assertEqual((found, output.count("replied")), (0, 9) if is_refusal else (1, 1))
+                self.assertEqual(errors, "" if is_refusal else f"demo: reqlock ended with status {status}\n")
+
     def test_a_missing_rt_is_told(self):
         for words in (), ("--quick",):
             status, output, errors, _ = self.demo(*words)

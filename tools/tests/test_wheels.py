@@ -11,6 +11,7 @@ import unittest
 from pathlib import Path
 
 from made_archives import wheel
+from test_program import FILES
 from test_readme import PROGRAM, TOP
 
 SECTION = "# From a folder of wheels to an installed environment\n"
@@ -59,11 +60,11 @@ class Wheels(unittest.TestCase):
         self.folder = Path(folder.name)
         os.symlink(TOP / "tools", self.folder / "tools")
         (self.folder / "requirements.txt").write_bytes(REQUIREMENTS)
-        self.begin, self.install, self.later, _, self.job = blocks()
+        self.begin, self.install, self.later, self.attributes, self.job = blocks()
 
     def run_lines(self, text):
         """The status and the output of the lines, of which the first that fails ends the run."""
-        kept = {name: value for name, value in os.environ.items() if not name.startswith(("PIP_", "PYTHON"))}
+        kept = {name: value for name, value in os.environ.items() if not name.startswith(("PIP_", "PYTHON", "GIT_"))}
         variables = {
             **kept,
             "PATH": f"{PROGRAM.parent}:{os.environ['PATH']}",
@@ -122,6 +123,28 @@ class Wheels(unittest.TestCase):
         status, output = self.run_lines(self.install)
         self.assertNotEqual(status, 0)
         self.assertIn("DO NOT MATCH THE HASHES", output)
+
+    # A repository that makes every line end in CRLF keeps the files, and two clones give them out: one does so too, one doesn't.
+    KEEPING = """
+        git init --quiet
+        git config core.autocrlf true
+        git add .gitattributes requirements.txt pylock.toml reqlock.journal
+        git -c user.name=name -c user.email=name@host.example commit --quiet --message first
+        git clone --quiet --config core.autocrlf=true . true
+        git clone --quiet --config core.autocrlf=false . false
+        reqlock --dir true check
+        reqlock --dir false check
+    """
+
+    @unittest.skipUnless(shutil.which("git"), "there is no git")
+    def test_the_attributes_keep_all_bytes(self):
+        make_wheels(self.folder / "wheels")
+        self.check_runs(self.begin, "ok 0", "ok 1")
+        (self.folder / ".gitattributes").write_text(self.attributes, encoding="utf-8")
+        self.check_runs(self.KEEPING, "ok 1", "ok 1")
+        for name in FILES:
+            stands = (self.folder / name).read_bytes()
+            self.assertEqual([(self.folder / clone / name).read_bytes() for clone in ("true", "false")], [stands] * 2)
 
     def test_the_job_that_checks(self):
         lines = [line.removeprefix("  - run: ") for line in self.job.splitlines()[1:]]
