@@ -113,16 +113,28 @@ class Faults(Program):
                     self.assertEqual(self.call(*words), (4, f"reqlock: {name}: unreadable\n"))
                 self.assertEqual(len(list(self.folder.iterdir())), 3)
                 self.assertEqual(os.readlink(path), "nowhere")
-                if name == "requirements.txt":
-                    self.assertEqual(self.call("init"), (4, f"reqlock: {name}: unreadable\n"))
-                    path.unlink()
-                    path.write_bytes(content)
-                else:
-                    # one that isn't read gives way to the file
-                    self.assertEqual(self.call("init"), (0, "ok 0\n"))
-                    self.assertEqual((path.is_symlink(), path.read_bytes()), (False, content))
+                fault = "unreadable" if name == "requirements.txt" else "write failed"
+                status = 4 if name == "requirements.txt" else 5
+                self.assertEqual(self.call("init"), (status, f"reqlock: {name}: {fault}\n"))
+                self.assertEqual(len(list(self.folder.iterdir())), 3)
+                self.assertEqual(os.readlink(path), "nowhere")
+                path.unlink()
+                path.write_bytes(content)
                 self.assertEqual(self.call("check"), (0, "ok 0\n"))
                 self.assertEqual(len(self.files()), 3)
+
+    def test_a_link_that_leads_to_a_file(self):
+        folder = self.outside / "other"
+        folder.mkdir()
+        for name in FILES:
+            path = self.folder / name
+            path.rename(folder / name)
+            path.symlink_to(folder / name)
+        self.assertEqual(self.call("add", "c"), (0, "ok 1\n"))
+        self.assertEqual(self.call("check"), (0, "ok 1\n"))
+        self.assertEqual([(self.folder / name).is_symlink() for name in FILES], [True] * 3)
+        self.assertEqual(sorted(path.name for path in folder.iterdir()), sorted(FILES))
+        self.assertEqual(sorted(self.files()), sorted(FILES))
 
     def test_a_folder_that_is_not_there(self):
         done = subprocess.run(
@@ -131,8 +143,36 @@ class Faults(Program):
         self.assertEqual((done.returncode, done.stdout), (4, b"reqlock: requirements.txt: unreadable\n"))
         self.assertFalse((self.outside / "none").exists())
 
-    @unittest.skipIf(os.geteuid() == 0, "root may write everywhere")
+    def test_a_folder_without_a_name(self):
+        # no path is made of it, which would lead to files at the root
+        options = "--dir", "", "--index", self.outside / "index.json", "--env", self.outside / "environment.json"
+        for words in (
+            ["init"], ["add", "c"], ["remove", "a"], ["constrain", "a"], ["upgrade"], ["relock"], ["undo"], ["redo"], ["batch"],
+            ["try"], ["show"], ["log"], ["check"], ["why"],
+        ):
+            with self.subTest(words=words):
+                done = subprocess.run([PROGRAM, *options, *words], input=b"", cwd=self.folder, capture_output=True, check=False)
+                told = b"reqlock: requirements.txt: unreadable\n"
+                self.assertEqual((done.returncode, done.stdout, done.stderr), (4, b"", told))
+        done = subprocess.run([PROGRAM, *options, "skipped"], capture_output=True, check=False)
+        self.assertEqual((done.returncode, done.stdout, done.stderr), (0, b"", b""))
+
+    def test_a_folder_without_a_right_to_read(self):
+        # it can't be locked, so nothing is saved; its files can be read
+        self.leave_root()
+        files = self.files()
+        mode = self.folder.stat().st_mode
+        self.folder.chmod(mode & ~0o444)
+        for words in ["init"], ["add", "c"], ["undo"], ["batch"]:
+            self.assertEqual(self.call(*words), (5, "reqlock: requirements.txt: write failed\n"))
+        self.assertEqual(self.call("check"), (0, "ok 0\n"))
+        self.assertEqual(self.call("try"), (0, "a\n"))
+        self.folder.chmod(mode)
+        self.assertEqual(self.files(), files)
+        self.assertEqual(self.call("add", "c"), (0, "ok 1\n"))
+
     def test_a_folder_without_a_right_to_write(self):
+        self.leave_root()
         files = self.files()
         mode = self.folder.stat().st_mode
         self.folder.chmod(mode & ~0o222)

@@ -5,7 +5,9 @@ import hashlib
 import json
 import os
 import resource
+import shutil
 import signal
+import stat
 import subprocess
 import sys
 import tempfile
@@ -21,6 +23,7 @@ ENVIRONMENT = {
     "platform_version": "#1 SMP Debian 6.1.55-1", "python_full_version": "3.12.3", "python_version": "3.12",
     "sys_platform": "linux",
 }
+NOBODY = 65534
 MARKER = " and ".join(f'{name} == "{value}"' for name, value in sorted(ENVIRONMENT.items()))
 
 
@@ -40,6 +43,8 @@ def index_of(*releases):
 
 @unittest.skipUnless(PROGRAM.exists(), "the program isn't built")
 class Program(unittest.TestCase):
+    program, user = PROGRAM, {}
+
     def setUp(self):
         folder = tempfile.TemporaryDirectory()
         self.addCleanup(folder.cleanup)
@@ -56,10 +61,19 @@ class Program(unittest.TestCase):
         """The status of a call of the program, and all that it writes. It may take these seconds at most."""
         options = "--dir", self.folder, "--index", self.outside / "index.json", "--env", self.outside / "environment.json"
         done = subprocess.run(
-            [PROGRAM, *options, *words], input=text, stdout=subprocess.PIPE, stderr=subprocess.STDOUT, encoding="utf-8",
-            check=False, preexec_fn=before, timeout=seconds,
+            [self.program, *options, *words], input=text, stdout=subprocess.PIPE, stderr=subprocess.STDOUT, encoding="utf-8",
+            check=False, preexec_fn=before, timeout=seconds, **self.user,
         )
         return done.returncode, done.stdout
+
+    def leave_root(self):
+        """From here on the program runs without the rights of root, and what stands there now belongs to the one who runs it."""
+        if os.geteuid() != 0:
+            return
+        self.program = Path(shutil.copy(PROGRAM, self.outside))
+        for path in [self.outside, *self.outside.rglob("*")]:
+            os.chown(path, NOBODY, NOBODY)
+        self.user = {"user": NOBODY, "group": NOBODY, "extra_groups": []}
 
     def files(self):
         """What stands in the folder."""
@@ -293,9 +307,9 @@ class Writing(Program):
         self.assertEqual(self.call("add", "c"), (0, "ok 1\n"))
         self.assertEqual(sorted(self.files()), sorted(FILES))
 
-    @unittest.skipIf(os.geteuid() == 0, "root may write everywhere")
     def test_a_lost_write_right_replaces_nothing(self):
         self.begin_at_one()
+        self.leave_root()
         before = self.files()
         for path, name in (self.folder / "pylock.toml", "pylock.toml"), (self.folder, "requirements.txt"):
             mode = path.stat().st_mode
@@ -303,6 +317,40 @@ class Writing(Program):
             self.assertEqual(self.call("add", "c"), (5, f"reqlock: {name}: write failed\n"))
             path.chmod(mode)
             self.assertEqual(self.files(), before)
+
+    @unittest.skipUnless(os.geteuid() == 0, "only root may give files away")
+    def test_mode_owner_and_group_stay(self):
+        self.begin_at_one()
+        given = {name: (0o640 + place, NOBODY - place, 100 + place) for place, name in enumerate(FILES)}
+        for name, (mode, owner, group) in given.items():
+            os.chown(self.folder / name, owner, group)
+            (self.folder / name).chmod(mode)
+        self.assertEqual(self.call("add", "c"), (0, "ok 1\n"))
+        self.assertEqual(self.owners(), given)
+        # who may not give files away saves all the same
+        self.leave_root()
+        for name in FILES:
+            os.chown(self.folder / name, 0, 0)
+            (self.folder / name).chmod(0o666)
+        self.assertEqual(self.call("undo"), (0, "ok 0\n"))
+        self.assertEqual(self.owners(), {name: (0o666, NOBODY, NOBODY) for name in FILES})
+
+    def owners(self):
+        """Mode, owner and group of each file."""
+        stats = {path.name: path.stat() for path in self.folder.iterdir()}
+        return {name: (stat.S_IMODE(found.st_mode), found.st_uid, found.st_gid) for name, found in stats.items()}
+
+    def test_a_folder_whose_name_is_no_text(self):
+        # the words of the program are texts, so it is called from inside
+        folder = self.outside / os.fsdecode(b"\xff")
+        folder.mkdir()
+        (folder / "requirements.txt").write_bytes(b"a\n")
+        (self.outside / "index.json").write_text(json.dumps(index_of(*self.RELEASES)), encoding="utf-8")
+        options = "--index", self.outside / "index.json", "--env", self.outside / "environment.json"
+        for words, reply in (["init"], b"ok 0\n"), (["add", "c"], b"ok 1\n"), (["undo"], b"ok 0\n"), (["check"], b"ok 0\n"):
+            done = subprocess.run([PROGRAM, *options, *words], cwd=folder, capture_output=True, check=False)
+            self.assertEqual((done.returncode, done.stdout, done.stderr), (0, reply, b""))
+        self.assertEqual(sorted(os.listdir(folder)), sorted(FILES))
 
     def test_files_that_are_not_needed_are_not_read(self):
         self.begin_at_one()

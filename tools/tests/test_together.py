@@ -1,5 +1,7 @@
 """Calls of the program at the same time, and calls that are stopped. 300 calls are stopped, or 3,000 with LONG_TESTS=1."""
 
+import itertools
+import json
 import os
 import random
 import shutil
@@ -8,7 +10,7 @@ import time
 import unittest
 from collections import Counter
 
-from test_program import FILES, PROGRAM, Program
+from test_program import FILES, PROGRAM, Program, index_of, limited
 
 NAMES = [f"p{number:02}" for number in range(50)]
 RELEASES = [(name, version, []) for name in NAMES for version in ("1", "2")]
@@ -159,9 +161,31 @@ class Stopped(Folders):
     def sides(self):
         """The files before and after an edit that changes all three."""
         self.begin_all()
+        return self.around("add", "p01", reply="ok 1\n")
+
+    def around(self, *words, text="", reply):
+        """The files before and after a call."""
         before = self.files()
-        self.assertEqual(self.call("add", "p01"), (0, "ok 1\n"))
+        self.assertEqual(self.call(*words, text=text), (0, reply))
         return before, self.files()
+
+    def stop(self, before, after, left):
+        """Makes the files those of a save that was stopped when these were left beside. The others are in their places."""
+        changed = [name for name in FILES if before[name] != after[name]]
+        moved = {name: after[name] for name in changed if name not in left}
+        self.put(before | moved | {f"{name}.new": after[name] for name in left})
+
+    def check_healed(self, before, after):
+        """Whichever files were left, but all, the next call that saves ends the save."""
+        changed = [name for name in FILES if before[name] != after[name]]
+        for left in itertools.chain.from_iterable(itertools.combinations(changed, count) for count in range(1, len(changed))):
+            with self.subTest(left=left):
+                self.stop(before, after, left)
+                stopped = self.files()
+                self.assertEqual(self.call("check")[0], 4)
+                self.assertEqual(self.files(), stopped)
+                self.assertEqual(self.call("remove", "p99"), (1, "refused not-present\n"))
+                self.assertEqual(self.files(), after)
 
     def test_a_save_that_stopped_between_two_files_is_ended(self):
         before, after = self.sides()
@@ -200,6 +224,51 @@ class Stopped(Folders):
             self.assertEqual(self.call("check"), (4, "reqlock: reqlock.journal: unreadable\n"))
             self.assertEqual(self.call("relock"), (0, "same\n"))
             self.assertEqual(self.files(), before)
+
+    def test_whichever_files_are_left_the_save_is_ended(self):
+        # a system may make a later name last before an earlier one
+        self.check_healed(*self.sides())
+        self.check_healed(*self.around("undo", reply="ok 0\n"))
+        self.check_healed(*self.around("redo", reply="ok 1\n"))
+        self.check_healed(*self.around("batch", text="add p02\nadd p03\n", reply="ok 2\nok 3\n"))
+
+    def test_a_save_of_two_files_is_ended(self):
+        self.begin(b"p01\n", ("p01", "1", []))
+        self.assertEqual(self.call("init"), (0, "ok 0\n"))
+        (self.outside / "index.json").write_text(json.dumps(index_of(("p01", "1", []), ("p01", "2", []))), encoding="utf-8")
+        before, after = self.around("upgrade", reply="ok 1\n")
+        self.assertEqual(before["requirements.txt"], after["requirements.txt"])
+        self.check_healed(before, after)
+        # none of them was put into its place
+        self.stop(before, after, FILES[1:])
+        self.assertEqual(self.call("remove", "p99"), (1, "refused not-present\n"))
+        self.assertEqual(self.files(), before)
+
+    def test_requirements_that_were_changed_by_hand_stay(self):
+        before, after = self.sides()
+        for left in ["requirements.txt"], ["requirements.txt", "pylock.toml"], ["requirements.txt", "reqlock.journal"], FILES:
+            with self.subTest(left=left):
+                self.stop(before, after, left)
+                (self.folder / "requirements.txt").write_bytes(b"# by hand\r\n")
+                stopped = self.files()
+                for words in ["relock"], ["undo"], ["check"]:
+                    self.assertEqual(self.call(*words), (4, "reqlock: requirements.txt: files-disagree\n"))
+                self.assertEqual(self.files(), stopped)
+                self.assertEqual(self.call("init"), (0, "ok 0\n"))
+                self.assertEqual(self.files()["requirements.txt"], b"# by hand\r\n")
+                self.assertEqual(sorted(self.files()), sorted(FILES))
+
+    def test_a_new_history_that_cannot_be_saved_leaves_the_old_one(self):
+        before, after = self.sides()
+        for left in FILES[1:], FILES[2:], FILES[:1]:
+            with self.subTest(left=left):
+                self.stop(before, after, left)
+                self.assertEqual(self.call("init", before=limited(0)), (5, "reqlock: pylock.toml: write failed\n"))
+                self.assertEqual(self.call("relock"), (0, "same\n"))
+                self.assertEqual(self.files(), after)
+                self.assertEqual(self.call("init"), (0, "ok 0\n"))
+                self.assertEqual(self.files()["requirements.txt"], after["requirements.txt"])
+                self.assertEqual(sorted(self.files()), sorted(FILES))
 
     def test_a_new_history_leaves_nothing_beside(self):
         before, after = self.sides()

@@ -1,8 +1,9 @@
 // The subcommands that begin a history or make steps in it.
 
 use crate::input_files::{InputFile, read_bytes, read_environment, read_index, read_requirements};
-use crate::saved_files::{SavedFiles, remove_left};
+use crate::saved_files::SavedFiles;
 use crate::stop::{Stop, in_file, print};
+use crate::stopped_save::{end_left, remove_left};
 use commands::batch::{RESOLVER, accepted_in, batch};
 use commands::request::Inputs;
 use commands::{Counted, ReplyText};
@@ -12,13 +13,15 @@ use snapshot::Snapshot;
 use std::io::{Read, Write};
 use std::rt::Files;
 
-/// Locks the requirements file, and saves the history that begins with it.
+/// Locks the requirements file, and saves the history that begins with it. A save that was stopped is
+/// ended before, so that its history stays where this one can't be saved.
 pub fn init<R: Files + AllocGlobal, O: Write>(
     rt: &R,
     dir: &str,
     inputs: Inputs<'_>,
     output: &mut O,
 ) -> Result<(), Stop> {
+    end_left(rt, dir)?;
     let Opened {
         files,
         session,

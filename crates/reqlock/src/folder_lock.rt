@@ -1,10 +1,13 @@
 // The lock on the folder of the three files, by which calls of the program wait for one another.
 
-use crate::stop::Stop;
-use commands::batch::BatchFault;
+use crate::input_files::InputFile;
+use crate::stop::{Stop, passed_over, unwritten};
 use std::fs::{File, OpenFile};
 use std::io::{self, ErrorKind};
 use std::rt::Files;
+
+// Linux's ENOLCK, for which std has no kind: a network file system without a service of locks.
+const NO_LOCKS: i32 = 37;
 
 /// A file with an advisory lock, which is held until the file is closed.
 pub trait LockFile {
@@ -26,59 +29,68 @@ impl LockFile for File {
 }
 
 /// Locks the folder, so that no other call reads or writes in it until what this gives is dropped.
+/// Where there is no folder, or no locks, it stays unlocked. Any other error refuses the save, since
+/// another call could then save at the same time.
 pub fn lock_to_save<R: Files + AllocGlobal>(rt: &R, dir: &str) -> Result<Option<R::File>, Stop>
 where
     R::File: LockFile,
 {
-    match open_folder(rt, dir)? {
-        Some(folder) => {
-            let locked = folder.lock();
-            held(folder, locked)
-        }
-        None => Ok(None),
+    let folder = match open_folder(rt, dir) {
+        Ok(folder) => folder,
+        Err(error) if is_without_folder(&error) => return Ok(None),
+        Err(error) => return Err(unwritten(InputFile::Requirements, &error)),
+    };
+    match folder.lock() {
+        Ok(()) => Ok(Some(folder)),
+        Err(error) if is_without_locks(&error) => Ok(None),
+        Err(error) => Err(unwritten(InputFile::Requirements, &error)),
     }
 }
 
-/// Locks the folder, so that no other call writes in it until what this gives is dropped.
+/// Locks the folder, so that no other call writes in it until what this gives is dropped. A folder
+/// that can't be locked is read as it stands: files of two saves don't belong together, which the
+/// journal tells.
 pub fn lock_to_read<R: Files + AllocGlobal>(rt: &R, dir: &str) -> Result<Option<R::File>, Stop>
 where
     R::File: LockFile,
 {
-    match open_folder(rt, dir)? {
-        Some(folder) => {
-            let locked = folder.lock_shared();
-            held(folder, locked)
-        }
-        None => Ok(None),
+    let folder = match open_folder(rt, dir) {
+        Ok(folder) => folder,
+        Err(error) => return passed_over(&error),
+    };
+    match folder.lock_shared() {
+        Ok(()) => Ok(Some(folder)),
+        Err(error) => passed_over(&error),
     }
 }
 
 /// Makes the names in the folder last, where the system can.
 pub fn sync_folder<R: Files + AllocGlobal>(rt: &R, dir: &str) {
-    if let Ok(Some(folder)) = open_folder(rt, dir) {
+    if let Ok(folder) = open_folder(rt, dir) {
         let _ = folder.sync_all();
     }
 }
 
-// A folder that can't be opened isn't locked: it is told by the first of its files that can't be read.
-fn open_folder<R: Files + AllocGlobal>(rt: &R, dir: &str) -> Result<Option<R::File>, Stop> {
+fn open_folder<R: Files + AllocGlobal>(rt: &R, dir: &str) -> io::Result<R::File> {
     let path = format!(in rt.alloc(); "{dir}/")?;
-    match File::open(rt, path.as_str()) {
-        Ok(folder) => Ok(Some(folder)),
-        Err(error) if error.kind() == ErrorKind::OutOfMemory => {
-            Err(Stop::Fault(BatchFault::OutOfMemory))
-        }
-        Err(_) => Ok(None),
+    File::open(rt, path.as_str())
+}
+
+// Whether no folder has this path. Then none of its files can be read, which is told of the first.
+fn is_without_folder(error: &io::Error) -> bool {
+    match error.kind() {
+        ErrorKind::NotFound
+        | ErrorKind::NotADirectory
+        | ErrorKind::InvalidFilename
+        | ErrorKind::FilesystemLoop => true,
+        _ => false,
     }
 }
 
-// A file system without locks leaves the folder unlocked.
-fn held<F: Drop>(folder: F, locked: io::Result<()>) -> Result<Option<F>, Stop> {
-    match locked {
-        Ok(()) => Ok(Some(folder)),
-        Err(error) if error.kind() == ErrorKind::OutOfMemory => {
-            Err(Stop::Fault(BatchFault::OutOfMemory))
-        }
-        Err(_) => Ok(None),
+// Whether the file system knows no locks.
+fn is_without_locks(error: &io::Error) -> bool {
+    match error.kind() {
+        ErrorKind::Unsupported | ErrorKind::InvalidInput => true,
+        _ => error.raw_os_error() == Some(NO_LOCKS),
     }
 }

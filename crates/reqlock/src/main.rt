@@ -15,6 +15,7 @@ mod requirement_text;
 mod saved_files;
 mod skipped_text;
 mod stop;
+mod stopped_save;
 
 use crate::stop::{Status, report_fault};
 use commands::batch::BatchFault;

@@ -2,6 +2,7 @@
 
 use crate::editing::{edit_once, init, run_batch, step_once, try_commands};
 use crate::folder_lock::{LockFile, lock_to_save};
+use crate::input_files::{InputFault, InputFile};
 use crate::looking::{print_check, print_history, print_lock, print_skipped, print_why};
 use crate::stop::{Status, Stop, report};
 use commands::request::{Invocation, Subcommand, request};
@@ -37,6 +38,7 @@ where
     R::File: LockFile,
 {
     let Invocation { dir, subcommand } = request(rt.alloc(), words)?;
+    refuse_no_folder(dir, &subcommand)?;
     let _lock = locked(rt, dir, &subcommand)?;
     match subcommand {
         Subcommand::Init(inputs) => init(rt, dir, inputs, output),
@@ -52,6 +54,16 @@ where
         Subcommand::Why(edit, index, explains) => {
             print_why(rt, dir, &edit, index, explains, output)
         },
+    }
+}
+
+// No folder has the empty name, so none of its files can be read; a path made of it would lead to the
+// root folder. `skipped` reads no file of the folder.
+fn refuse_no_folder(dir: &str, subcommand: &Subcommand<'_>) -> Result<(), Stop> {
+    match subcommand {
+        Subcommand::Skipped(_) => Ok(()),
+        _ if dir.is_empty() => Err(Stop::Input(InputFile::Requirements, InputFault::Unreadable)),
+        _ => Ok(()),
     }
 }
 

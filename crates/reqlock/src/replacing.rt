@@ -1,11 +1,13 @@
 // Replacing files so that none is ever half written: each is written whole beside its place, under
 // its name and `.new`, and only when all of them stand are they put into their places.
 
+use crate::folder_lock::sync_folder;
 use crate::input_files::InputFile;
-use crate::stop::Stop;
-use commands::batch::BatchFault;
-use std::fs::{File, OpenFile, OpenOptions, Permissions};
+use crate::stop::{Stop, passed_over, unwritten};
+use std::fs::{File, Metadata, OpenFile, OpenOptions};
 use std::io::{ErrorKind, Write};
+use std::os::unix::fs::{MetadataExt, lchown};
+use std::path::Path;
 use std::rt::Files;
 use std::{fs, io};
 
@@ -17,12 +19,12 @@ pub struct Replacement<'a> {
     pub bytes: &'a [u8],
 }
 
-// A file that stands beside its place.
+/// Where a file stands, and where it is written before it is put there.
 #[derive(Drop)]
-struct Staged {
+pub struct Places {
     file: InputFile,
     place: String,
-    beside: String,
+    pub beside: String,
 }
 
 /// Replaces the files in turn. Where one can't be written, none is replaced, and what was written
@@ -35,66 +37,101 @@ pub fn replace_all<R: Files + AllocGlobal>(
     let mut staged = Vec::with_capacity(rt.alloc(), replacements.len())?;
     for replacement in replacements {
         match stage(rt, replacement) {
-            Ok(file) => staged.push(file)?,
+            Ok(places) => staged.push(places)?,
             Err(error) => {
                 remove_staged(rt, staged.as_slice());
                 return Err(unwritten(replacement.file, &error));
             }
         }
     }
-    put_in_place(rt, staged.as_slice())
+    put_all(rt, staged.as_slice())
 }
 
-fn put_in_place<R: Files>(rt: &R, staged: &[Staged]) -> Result<(), Stop> {
+fn put_all<R: Files + AllocGlobal>(rt: &R, staged: &[Places]) -> Result<(), Stop> {
     for number in 0..staged.len() {
-        let file = &staged[number];
-        if let Err(error) = fs::rename(rt, file.beside.as_str(), file.place.as_str()) {
+        if let Err(stop) = put_in_place(rt, &staged[number]) {
             if number == 0 {
                 remove_staged(rt, staged);
             }
-            return Err(unwritten(file.file, &error));
+            return Err(stop);
         }
     }
     Ok(())
 }
 
-fn remove_staged<R: Files>(rt: &R, staged: &[Staged]) {
-    for file in staged {
-        let _ = fs::remove_file(rt, file.beside.as_str());
+fn remove_staged<R: Files>(rt: &R, staged: &[Places]) {
+    for places in staged {
+        let _ = fs::remove_file(rt, places.beside.as_str());
     }
 }
 
-fn unwritten(file: InputFile, error: &io::Error) -> Stop {
-    match error.kind() {
-        ErrorKind::OutOfMemory => Stop::Fault(BatchFault::OutOfMemory),
-        _ => Stop::Unwritten(file),
+/// Puts what stands beside a file's place into it, and makes that last before another one is put into
+/// its own.
+pub fn put_in_place<R: Files + AllocGlobal>(rt: &R, places: &Places) -> Result<(), Stop> {
+    match fs::rename(rt, places.beside.as_str(), places.place.as_str()) {
+        Ok(()) => {
+            sync_names(rt, places.place.as_str());
+            Ok(())
+        }
+        Err(error) => Err(unwritten(places.file, &error)),
+    }
+}
+
+// Makes the names last in the folder of a place, to which a link may have led.
+fn sync_names<R: Files + AllocGlobal>(rt: &R, place: &str) {
+    if let Some(folder) = Path::new(place).parent() {
+        sync_folder(rt, folder.as_str());
     }
 }
 
 // Writes a file beside its place.
-fn stage<R: Files + AllocGlobal>(rt: &R, replacement: &Replacement<'_>) -> io::Result<Staged> {
-    let place = place_of(rt, replacement.path.as_str())?;
-    let permissions = permissions_at(rt, place.as_str())?;
-    let beside = format!(in rt.alloc(); "{place}.new")?;
-    let mut file = create_anew(rt, beside.as_str())?;
-    match write_whole(&mut file, replacement.bytes, permissions) {
-        Ok(()) => Ok(Staged {
-            file: replacement.file,
-            place,
-            beside,
-        }),
+fn stage<R: Files + AllocGlobal>(rt: &R, replacement: &Replacement<'_>) -> io::Result<Places> {
+    let places = places_of(rt, replacement.file, replacement.path.as_str())?;
+    let replaced = metadata_at(rt, places.place.as_str())?;
+    let mut file = create_anew(rt, places.beside.as_str())?;
+    if let Some(metadata) = &replaced {
+        keep_owner(rt, places.beside.as_str(), metadata);
+    }
+    match write_whole(&mut file, replacement.bytes, replaced.as_ref()) {
+        Ok(()) => {
+            sync_names(rt, places.place.as_str());
+            Ok(places)
+        }
         Err(error) => {
-            let _ = fs::remove_file(rt, beside.as_str());
+            let _ = fs::remove_file(rt, places.beside.as_str());
             Err(error)
         }
     }
 }
 
-// Where a file stands, at the end of all symbolic links. A path at which nothing stands is its own
-// place.
+/// The places of a file. Nothing where it can have none.
+pub fn places_at<R: Files + AllocGlobal>(
+    rt: &R,
+    file: InputFile,
+    path: &str,
+) -> Result<Option<Places>, Stop> {
+    match places_of(rt, file, path) {
+        Ok(places) => Ok(Some(places)),
+        Err(error) => passed_over(&error),
+    }
+}
+
+fn places_of<R: Files + AllocGlobal>(rt: &R, file: InputFile, path: &str) -> io::Result<Places> {
+    let place = place_of(rt, path)?;
+    let beside = format!(in rt.alloc(); "{place}.new")?;
+    Ok(Places {
+        file,
+        place,
+        beside,
+    })
+}
+
+// Where a file stands: its path, or the end of all symbolic links where it is one. A link that leads
+// nowhere has no place.
 fn place_of<R: Files + AllocGlobal>(rt: &R, path: &str) -> io::Result<String> {
-    match fs::canonicalize(rt, path) {
-        Ok(place) => Ok(place.into_string()),
+    match fs::symlink_metadata(rt, path) {
+        Ok(metadata) if metadata.is_symlink() => Ok(fs::canonicalize(rt, path)?.into_string()),
+        Ok(_) => Ok(String::from_str(rt.alloc(), path)?),
         Err(error) if error.kind() == ErrorKind::NotFound => {
             Ok(String::from_str(rt.alloc(), path)?)
         }
@@ -102,13 +139,13 @@ fn place_of<R: Files + AllocGlobal>(rt: &R, path: &str) -> io::Result<String> {
     }
 }
 
-// The permissions of the file in this place, or none where nothing stands there. A folder can't be
-// replaced, nor a file that may not be written.
-fn permissions_at<R: Files>(rt: &R, place: &str) -> io::Result<Option<Permissions>> {
+// What the system tells of the file in this place, or none where nothing stands there. A folder can't
+// be replaced, nor a file that may not be written.
+fn metadata_at<R: Files>(rt: &R, place: &str) -> io::Result<Option<Metadata>> {
     match fs::metadata(rt, place) {
         Ok(metadata) if metadata.is_file() => {
             let _file = OpenOptions::new().write(true).open(rt, place)?;
-            Ok(Some(metadata.permissions()))
+            Ok(Some(metadata))
         }
         Ok(_) => Err(io::Error::from(ErrorKind::IsADirectory)),
         Err(error) if error.kind() == ErrorKind::NotFound => Ok(None),
@@ -126,40 +163,21 @@ fn create_anew<R: Files>(rt: &R, path: &str) -> io::Result<R::File> {
     File::create_new(rt, path)
 }
 
+// Gives a file the group and the owner of the one that it replaces, each where the system lets it.
+fn keep_owner<R: Files>(rt: &R, path: &str, replaced: &Metadata) {
+    let _ = lchown(rt, path, None, Some(replaced.gid()));
+    let _ = lchown(rt, path, Some(replaced.uid()), None);
+}
+
+// The mode comes behind the owner, whose change may take bits of it away.
 fn write_whole<F: Write + OpenFile>(
     file: &mut F,
     bytes: &[u8],
-    permissions: Option<Permissions>,
+    replaced: Option<&Metadata>,
 ) -> io::Result<()> {
-    if let Some(permissions) = permissions {
-        file.set_permissions(permissions)?;
+    if let Some(metadata) = replaced {
+        file.set_permissions(metadata.permissions())?;
     }
     file.write_all(bytes)?;
     file.sync_all()
-}
-
-/// Where a file is written before it is put into its place.
-pub fn beside_of<R: Files + AllocGlobal>(
-    rt: &R,
-    file: InputFile,
-    path: &str,
-) -> Result<String, Stop> {
-    match place_of(rt, path) {
-        Ok(place) => Ok(format!(in rt.alloc(); "{place}.new")?),
-        Err(error) => Err(unwritten(file, &error)),
-    }
-}
-
-/// Puts what stands beside a file's place into it.
-pub fn put_beside_in_place<R: Files + AllocGlobal>(
-    rt: &R,
-    file: InputFile,
-    path: &str,
-) -> Result<(), Stop> {
-    let beside = beside_of(rt, file, path)?;
-    let place = beside.as_str().strip_suffix(".new").unwrap_or(path);
-    match fs::rename(rt, beside.as_str(), place) {
-        Ok(()) => Ok(()),
-        Err(error) => Err(unwritten(file, &error)),
-    }
 }

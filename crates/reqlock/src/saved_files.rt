@@ -1,22 +1,12 @@
 // The three files of the folder: the requirements file, its lock and the journal.
 
-use crate::folder_lock::sync_folder;
-use crate::input_files::{InputFile, read_bytes};
-use crate::replacing::{Replacement, beside_of, put_beside_in_place, replace_all};
+use crate::input_files::{InputFault, InputFile, read_bytes};
+use crate::replacing::{Places, Replacement, places_at, replace_all};
 use crate::stop::{Stop, in_file};
+use crate::stopped_save::{end_save, remove_left};
 use journal::Session;
 use std::alloc::Global;
-use std::fs;
 use std::rt::Files;
-
-// The files in the order in which they are put into their places.
-const FILES: [InputFile; 3] = [InputFile::Requirements, InputFile::Lock, InputFile::Journal];
-
-// What a save that was stopped between two files can have left beside their places.
-const LEFT_BESIDE: [&[InputFile]; 2] = [
-    &[InputFile::Journal],
-    &[InputFile::Lock, InputFile::Journal],
-];
 
 /// What the three files held when they were read.
 #[derive(Drop)]
@@ -61,8 +51,8 @@ impl SavedFiles {
         })
     }
 
-    // Reads the three files, and of these the one that stands beside its place.
-    fn read_with<R: Files + AllocGlobal>(
+    /// Reads the three files, and of these the one that stands beside its place.
+    pub fn read_with<R: Files + AllocGlobal>(
         rt: &R,
         dir: &str,
         beside: &[InputFile],
@@ -138,76 +128,37 @@ impl SavedFiles {
                 changed.push(Replacement { file, path, bytes })?;
             }
         }
-        replace_all(rt, changed.as_slice())?;
-        sync_folder(rt, dir);
-        Ok(())
+        replace_all(rt, changed.as_slice())
     }
 }
 
-// Ends a save that was stopped between two files, where the files open with those in place that it
-// left beside. It answers whether there was one.
-fn end_save<R: Files + AllocGlobal>(rt: &R, dir: &str) -> Result<bool, Stop> {
-    for left in LEFT_BESIDE {
-        if opens_with(rt, dir, left)? {
-            for file in left {
-                let path = path_of(rt.alloc(), dir, *file)?;
-                put_beside_in_place(rt, *file, path.as_str())?;
-            }
-            sync_folder(rt, dir);
-            return Ok(true);
-        }
-    }
-    Ok(false)
-}
-
-// Whether the files open with these from beside their places.
-fn opens_with<R: Files + AllocGlobal>(
+/// The places of a file of the folder. Nothing where it can have none.
+pub fn places_in<R: Files + AllocGlobal>(
     rt: &R,
     dir: &str,
-    beside: &[InputFile],
-) -> Result<bool, Stop> {
-    match SavedFiles::read_with(rt, dir, beside) {
-        Ok(files) => match files.open(rt.alloc()) {
-            Ok(_) => Ok(true),
-            Err(Stop::Input(_, _)) => Ok(false),
-            Err(stop) => Err(stop),
-        },
-        // What has no place has nothing beside it.
-        Err(Stop::Input(_, _) | Stop::Unwritten(_)) => Ok(false),
-        Err(stop) => Err(stop),
-    }
-}
-
-/// Removes what a save that was stopped has left beside the places of the files.
-pub fn remove_left<R: Files + AllocGlobal>(rt: &R, dir: &str) -> Result<(), Stop> {
-    for file in FILES {
-        let path = path_of(rt.alloc(), dir, file)?;
-        match beside_of(rt, file, path.as_str()) {
-            Ok(beside) => {
-                let _ = fs::remove_file(rt, beside.as_str());
-            }
-            Err(Stop::Unwritten(_)) => {}
-            Err(stop) => return Err(stop),
-        }
-    }
-    Ok(())
+    file: InputFile,
+) -> Result<Option<Places>, Stop> {
+    let path = path_of(rt.alloc(), dir, file)?;
+    places_at(rt, file, path.as_str())
 }
 
 fn path_of(alloc: Global, dir: &str, file: InputFile) -> Result<String, Stop> {
     Ok(format!(in alloc; "{dir}/{file}")?)
 }
 
-// The bytes of a file, in its place or, where it is among these, beside it.
-fn read_in<R: Files + AllocGlobal>(
+/// The bytes of a file, in its place or, where it is among these, beside it.
+pub fn read_in<R: Files + AllocGlobal>(
     rt: &R,
     dir: &str,
     file: InputFile,
     beside: &[InputFile],
 ) -> Result<Vec<u8>, Stop> {
-    let path = path_of(rt.alloc(), dir, file)?;
-    if beside.contains(&file) {
-        let path = beside_of(rt, file, path.as_str())?;
+    if !beside.contains(&file) {
+        let path = path_of(rt.alloc(), dir, file)?;
         return in_file(file, read_bytes(rt, path.as_str()));
     }
-    in_file(file, read_bytes(rt, path.as_str()))
+    match places_in(rt, dir, file)? {
+        Some(places) => in_file(file, read_bytes(rt, places.beside.as_str())),
+        None => Err(Stop::Input(file, InputFault::Unreadable)),
+    }
 }

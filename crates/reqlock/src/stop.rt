@@ -10,7 +10,7 @@ use commands::refusal_word;
 use commands::request::{NeededOption, RequestFault};
 use edits::{Refusal, SavedFile};
 use std::alloc::{AllocError, AllocFailed};
-use std::io::Write;
+use std::io::{self, ErrorKind, Write};
 
 /// The status that the program ends with.
 #[derive(Clone, Copy, Debug, PartialEq, Eq)]
@@ -97,6 +97,22 @@ pub fn in_file<T>(file: InputFile, read: Result<T, InputFault>) -> Result<T, Sto
         Ok(value) => Ok(value),
         Err(InputFault::OutOfMemory) => Err(Stop::Fault(BatchFault::OutOfMemory)),
         Err(fault) => Err(Stop::Input(file, fault)),
+    }
+}
+
+/// Why a file can't be written.
+pub fn unwritten(file: InputFile, error: &io::Error) -> Stop {
+    match error.kind() {
+        ErrorKind::OutOfMemory => Stop::Fault(BatchFault::OutOfMemory),
+        _ => Stop::Unwritten(file),
+    }
+}
+
+/// Nothing, in the place of what an error kept from us. Only want of memory isn't passed over.
+pub fn passed_over<T>(error: &io::Error) -> Result<Option<T>, Stop> {
+    match error.kind() {
+        ErrorKind::OutOfMemory => Err(Stop::Fault(BatchFault::OutOfMemory)),
+        _ => Ok(None),
     }
 }
 
