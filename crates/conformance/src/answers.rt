@@ -4,8 +4,9 @@ use crate::background::Background;
 use crate::batch_rows::{self, Case};
 use crate::notation::{expanded, shown};
 use crate::{
-    command_rows, environment_rows, index_rows, line_rows, lock_rows, marker_rows, problem_rows,
-    requirement_rows, saved_rows, session_rows, specifier_rows, table_rows, version_rows,
+    command_rows, conflicts, environment_rows, index_rows, line_rows, lock_rows, marker_rows,
+    problem_rows, requirement_rows, saved_rows, session_rows, specifier_rows, table_rows,
+    version_rows,
 };
 use std::alloc::Global;
 
@@ -129,6 +130,7 @@ fn of_locks(
         "check" => problem_rows::accepted(alloc, background, first, behind(texts)),
         "lock" => lock_rows::lock(alloc, background, first),
         "altered lock" => lock_rows::altered(alloc, background, first, second),
+        "choices" => conflicts::choices(alloc, texts),
         "table" => table_rows::searched(alloc, texts),
         "far table" => table_rows::learned(alloc, texts),
         "recorded" => table_rows::recorded(alloc, texts),

@@ -5,6 +5,7 @@ use markers::Name;
 use pep440::Version;
 use resolve::{Choice, Refutation};
 use std::alloc::Global;
+use std::cmp::Ordering;
 use std::collections::BTreeSet;
 
 /// The choice that a text such as `x[e]==1` tells.
@@ -23,6 +24,35 @@ fn choice_of(alloc: Global, told: &str) -> Option<Choice> {
         extra,
         version: Version::parse(alloc, version).ok()?,
     })
+}
+
+/// How two choices are ordered, which equality agrees with.
+fn sign(one: &Choice, other: &Choice) -> Option<&'static str> {
+    let order = one.cmp(other);
+    let are_equal = order.is_eq();
+    if (one == other) != are_equal || one.is_same(other) != are_equal {
+        return None;
+    }
+    match order {
+        Ordering::Less => Some(" < "),
+        Ordering::Equal => Some(" = "),
+        Ordering::Greater => Some(" > "),
+    }
+}
+
+/// Choices, and between each two how they are ordered.
+pub fn choices(alloc: Global, told: &[String]) -> Option<String> {
+    let mut text = String::new(alloc);
+    let mut before = None;
+    for one in told {
+        let choice = choice_of(alloc, one.as_str())?;
+        if let Some(earlier) = before.as_ref() {
+            text.push_str(sign(earlier, &choice)?).ok()?;
+        }
+        text.push_str(choice.text(alloc).ok()?.as_str()).ok()?;
+        before = Some(choice);
+    }
+    Some(text)
 }
 
 /// The choices between spaces; none for `-`.
