@@ -89,11 +89,11 @@ fn push_conflict(alloc: Global, text: &mut String, conflict: &[Choice]) -> Optio
 }
 
 fn push_all(text: &mut String, choices: BTreeSet<String>) -> Option<()> {
-    let mut separator = "";
+    let mut is_first = true;
     for choice in choices {
-        text.push_str(separator).ok()?;
+        text.push_str(if is_first { "" } else { " " }).ok()?;
         text.push_str(choice.as_str()).ok()?;
-        separator = " ";
+        is_first = false;
     }
     Some(())
 }

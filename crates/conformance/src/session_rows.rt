@@ -61,24 +61,36 @@ pub fn session_of(
     Some(Session::init(alloc, lines, environment, index, &Learning))
 }
 
+/// Keeps one history in both ways: what its first state locks.
+fn kept(
+    alloc: Global,
+    background: &mut Background,
+    session: Session,
+    state: State,
+) -> Option<String> {
+    let answer = agreed(
+        lock_text(alloc, session.state())?,
+        lock_text(alloc, &state)?,
+    )?;
+    let whole = WholeHistory::new(alloc, state).ok()?;
+    background.histories = Some(Histories { session, whole });
+    format!(in alloc; "ok 0:{answer}").ok()
+}
+
+/// The reply to lines that both ways refuse alike.
+fn refused(alloc: Global, refusal: Refusal, other: Refusal) -> Option<String> {
+    if refusal != other {
+        return None;
+    }
+    reply_text(alloc, &Reply::Refused(refusal))
+}
+
 /// Begins a history of the lines: what is locked, or why there is none.
 pub fn begin(alloc: Global, background: &mut Background, lines: &str) -> Option<String> {
-    let state = begun(alloc, background, lines)?;
     let session = session_of(alloc, background, lines)?;
-    match (session, state) {
-        (Ok(session), Ok(state)) => {
-            let answer = agreed(
-                lock_text(alloc, session.state())?,
-                lock_text(alloc, &state)?,
-            )?;
-            let whole = WholeHistory::new(alloc, state).ok()?;
-            background.histories = Some(Histories { session, whole });
-            format!(in alloc; "ok 0:{answer}").ok()
-        }
-        (Err(refusal), Err(other)) if refusal == other => {
-            reply_text(alloc, &Reply::Refused(refusal))
-        }
-        _ => None,
+    match begun(alloc, background, lines)? {
+        Ok(state) => kept(alloc, background, session.ok()?, state),
+        Err(refusal) => refused(alloc, refusal, session.err()?),
     }
 }
 

@@ -8,11 +8,11 @@ const FILES: &str = r#","files":[{"name":"w.whl","url":"https://files.example/w.
 
 /// Pushes texts that have bars between them as JSON strings.
 fn push_texts(json: &mut String, texts: &str) -> Option<()> {
-    let mut mark = "\"";
+    let mut is_first = true;
     for text in texts.split('|') {
-        json.push_str(mark).ok()?;
+        json.push_str(if is_first { "\"" } else { "\",\"" }).ok()?;
         json.push_str(text).ok()?;
-        mark = "\",\"";
+        is_first = false;
     }
     json.push_str("\"").ok()
 }
