@@ -53,11 +53,11 @@ fn push_package(json: &mut String, package: &str) -> Option<()> {
     json.push_str("{\"name\":").ok()?;
     push_texts(json, name)?;
     json.push_str(",\"releases\":[").ok()?;
-    let mut separator = "";
+    let mut is_first = true;
     for release in releases.split(' ') {
-        json.push_str(separator).ok()?;
+        json.push_str(if is_first { "" } else { "," }).ok()?;
         push_release(json, release)?;
-        separator = ",";
+        is_first = false;
     }
     json.push_str("]}").ok()
 }
@@ -66,11 +66,11 @@ fn push_package(json: &mut String, package: &str) -> Option<()> {
 /// release asks for Python `>=3.8`, the second depends on `b<2`, and the last is yanked.
 pub fn json_of(alloc: Global, packages: &str) -> Option<String> {
     let mut json = String::from_str(alloc, "{\"snapshot\":1,\"packages\":[").ok()?;
-    let mut separator = "";
+    let mut is_first = true;
     for package in packages.split('/') {
-        json.push_str(separator).ok()?;
+        json.push_str(if is_first { "" } else { "," }).ok()?;
         push_package(&mut json, package)?;
-        separator = ",";
+        is_first = false;
     }
     json.push_str("]}").ok()?;
     Some(json)
