@@ -250,6 +250,8 @@ class Program(unittest.TestCase):
         after = growths.files_in(self.folder)
         for left in ("pylock.toml", "reqlock.journal"), ("requirements.txt",):
             stopped = after | {name: before[name] for name in left} | {f"{name}.new": after[name] for name in left}
+            for path in self.folder.iterdir():
+                path.unlink()
             for name, data in stopped.items():
                 (self.folder / name).write_bytes(data)
             for words, starts in (["relock"], "same"), (["init"], "ok 0"):
