@@ -6,15 +6,15 @@ use Rattle.edits.specs.declared.request.Edit.TheVariants.{Add, Constrain, Relock
 use Rattle.journal.specs.declared.commands.Reply.TheVariants.{Same, Refused}
 use Rattle.commands.specs.declared.command_line.Item.{Item}
 use Rattle.commands.specs.declared.command_line.Item.TheVariants.{BadCommand, Edit, Redo, Undo}
-use Rattle.commands.specs.CommandLine.{asked_by, input_lines_of, text_of}
+use Rattle.commands.specs.CommandLine.{asked_by, input_lines_of, line_text}
 use Rattle.commands.specs.Replies.{reply_text}
 
 -- a CR before an LF is dropped, and a last line counts
-texts_row : map text_of (input_lines_of (codes " undo\t\r\n\r\n\t\nredo x\nredo")) ≡ codes " undo\t" ∷ [] ∷ codes "\t" ∷ codes "redo x" ∷ codes "redo" ∷ []
+texts_row : map line_text (input_lines_of (codes " undo\t\r\n\r\n\t\nredo x\nredo")) ≡ codes " undo\t" ∷ [] ∷ codes "\t" ∷ codes "redo x" ∷ codes "redo" ∷ []
 texts_row = refl
 
 -- a CR at the end of the input stands
-cr_row : map text_of (input_lines_of (codes "undo\r")) ≡ codes "undo\r" ∷ []
+cr_row : map line_text (input_lines_of (codes "undo\r")) ≡ codes "undo\r" ∷ []
 cr_row = refl
 
 -- what texts ask for

@@ -32,8 +32,8 @@ abbrev pub without_cr : List ℕ → List ℕ
 without_cr bytes = if slice_index bytes (length bytes - 1) == 13 then take (length bytes - 1) bytes else bytes
 
 -- the text of a line: where an LF ended it, one CR before the LF is dropped
-abbrev pub text_of : Line → List ℕ
-text_of line = if line.is_ended then without_cr line.bytes else line.bytes
+abbrev pub line_text : Line → List ℕ
+line_text line = if line.is_ended then without_cr line.bytes else line.bytes
 
 -- what stands from the first element that passes on, or nothing where none does
 abbrev pub from_first : (ℕ → Bool) → List ℕ → List ℕ
@@ -100,7 +100,7 @@ asked_by_text text = if is_utf8 text then asked_by (trim_start text) else Some B
 
 -- what a line asks for: a line that is too long is a bad command, whatever it holds
 abbrev pub item_of : Line → Option Item
-item_of line = if nat_lt longest_line (length line.bytes) then Some BadCommand else asked_by_text (text_of line)
+item_of line = if nat_lt longest_line (length line.bytes) then Some BadCommand else asked_by_text (line_text line)
 
 -- an edit, whose texts have to be copied
 abbrev pub IsEdit : Option Item → Type 0

@@ -1,7 +1,7 @@
 // One line of a batch, read as a command.
 
 ghost use Rattle.std.specs.Prelude.{◌≡◌, IfOk, OnErr, Some};
-ghost use Rattle.commands.specs.CommandLine.{IsEdit, addition_of, asked_by, asked_by_text, command_of, constraint_of, item_of, plain, removal_of, text_of, upgrade_of, words_of};
+ghost use Rattle.commands.specs.CommandLine.{IsEdit, addition_of, asked_by, asked_by_text, command_of, constraint_of, item_of, plain, removal_of, line_text, upgrade_of, words_of};
 
 use crate::words::cut_word;
 use edits::Edit;
@@ -40,7 +40,7 @@ pub fn read_item(alloc: Global, line: &[u8], is_ended: bool) -> Result<Option<It
 
 // A line without the CR before its LF.
 fn line_text(line: &[u8], is_ended: bool) -> &[u8]
-    ensures { result.now ≡ text_of (record { bytes = line.now; is_ended = is_ended }) }
+    ensures { result.now ≡ line_text (record { bytes = line.now; is_ended = is_ended }) }
 {
     if is_ended && !line.is_empty() && line[line.len() - 1] == b'\r' {
         &line[..line.len() - 1]

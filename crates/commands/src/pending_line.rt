@@ -55,6 +55,7 @@ impl PendingLine {
         self.bytes.clear();
     }
 
+    /// The bytes read so far: no LF among them, and at most one more than the longest line has.
     pub fn as_bytes(&self) -> &[u8]
         ensures line { result.now ≡ self.now }
         ensures unbroken { IsUnbroken self.now }

@@ -83,6 +83,7 @@ impl ReplyText {
         self.has_accepted
     }
 
+    /// The bytes of the replies.
     pub fn as_bytes(&self) -> &[u8]
         ensures text { result.now ≡ self.now.text }
     {

@@ -6,7 +6,7 @@ use Rattle.pylock.specs.Packages.{EntryParts}
 use Rattle.edits.specs.Changes.{After, AreEntryChanges, ChangeParts, ChangesDigest, ChangesEntries, IsMinimal, Splices}
 use Rattle.edits.specs.StateParts.{StateParts}
 use Rattle.edits.specs.Tied.Carried.{carried, carried_digest, carried_entries, carried_lines, from_name}
-use Rattle.edits.specs.Tied.Exchanging.{count_below, count_on}
+use Rattle.edits.specs.Tied.Exchanging.{count_below, entries_on}
 use Rattle.edits.specs.declared.change.parts.DigestChange.{DigestChange}
 use Rattle.edits.specs.declared.change.parts.EntryChange.{EntryChange}
 use Rattle.edits.specs.declared.change.parts.Splice.{Splice}
@@ -31,8 +31,8 @@ entries-onward : (done left : List EntryChange) (old rest after new : List Entry
 entries-onward done [] old rest after new are is leads = subst (λ (l : List EntryChange). ChangesEntries l old (after ++ rest)) (sym (append-nil done)) is.so_far
 entries-onward done (c ∷ left) old rest after new are is leads =
     let before = take (count_below c.name rest) rest in
-    let at = take (count_on c.name (from_name c.name rest)) (from_name c.name rest) in
-    let behind = drop (count_on c.name (from_name c.name rest)) (from_name c.name rest) in
+    let at = take (entries_on c.name (from_name c.name rest)) (from_name c.name rest) in
+    let behind = drop (entries_on c.name (from_name c.name rest)) (from_name c.name rest) in
     let parts = cut c.name rest (rises-left after rest is.so_far.new_rises) in
     let stood = IsExchangedTo-stood done c left old rest after before at behind new are parts is leads in
     let next = IsExchangedTo-next done c left old rest after before at behind are parts stood is in

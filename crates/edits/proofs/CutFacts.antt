@@ -10,7 +10,7 @@ use Rattle.std.specs.Str.{bytes_eq}
 use Rattle.pylock.specs.Locks.{are_entries}
 use Rattle.pylock.specs.Packages.{EntryParts}
 use Rattle.edits.specs.Changes.{entry_on}
-use Rattle.edits.specs.Tied.Exchanging.{AreAbove, IsCutAt, count_below, count_on}
+use Rattle.edits.specs.Tied.Exchanging.{AreAbove, IsCutAt, count_below, entries_on}
 use Rattle.edits.proofs.DecideFacts.{All-of}
 use Rattle.edits.proofs.EntryFacts.{less-of, not-below, rises-above, rises-rest}
 use Rattle.edits.proofs.LawfulNames.{apart}
@@ -65,7 +65,7 @@ none-above name (e ∷ rest) above = past-first e rest name (λ same. below-othe
 -- ---- the cut
 
 cut-first : (name : List ℕ) (e : EntryParts) (rest : List EntryParts) → are_entries (e ∷ rest) ≡ true → is_lt (slice_cmp nat_cmp e.name name) ≡ false
-    → IsCutAt name (e ∷ rest) [] (take (count_on name (e ∷ rest)) (e ∷ rest)) (drop (count_on name (e ∷ rest)) (e ∷ rest))
+    → IsCutAt name (e ∷ rest) [] (take (entries_on name (e ∷ rest)) (e ∷ rest)) (drop (entries_on name (e ∷ rest)) (e ∷ rest))
 cut-first name e rest rise not_less = elim (cases_Bool (bytes_eq name e.name)) [
   | inl same ↦
       let named : name ≡ e.name = (bytes_eq-Decides name e.name).0 same in
@@ -96,8 +96,8 @@ count_below-within name (e ∷ rest) = elim (cases_Bool (is_lt (slice_cmp nat_cm
 -- entries that rise are cut so
 pub cut : (name : List ℕ) (entries : List EntryParts) → are_entries entries ≡ true
     → IsCutAt name entries (take (count_below name entries) entries)
-    (take (count_on name (drop (count_below name entries) entries)) (drop (count_below name entries) entries))
-    (drop (count_on name (drop (count_below name entries) entries)) (drop (count_below name entries) entries))
+    (take (entries_on name (drop (count_below name entries) entries)) (drop (count_below name entries) entries))
+    (drop (entries_on name (drop (count_below name entries) entries)) (drop (count_below name entries) entries))
 cut name [] rise = record { whole = refl; below = tt; there = refl; above = tt }
 cut name (e ∷ rest) rise = elim (cases_Bool (is_lt (slice_cmp nat_cmp e.name name))) [
   | inl less ↦

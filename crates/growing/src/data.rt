@@ -7,6 +7,7 @@ use std::alloc::Global;
 /// A comment line, lines with CRLF, and a line with parentheses, a marker and a comment.
 pub const LINES: &str = "# web\r\nB.b (>=1) ; os_name=='posix' # keep\r\na";
 
+/// An environment: CPython 3.12 on Linux.
 pub const ENVIRONMENT: &str =
     r##"{"implementation_name":"cpython","implementation_version":"3.12.3","os_name":"posix",
     "platform_machine":"x86_64","platform_python_implementation":"CPython",
@@ -49,6 +50,7 @@ pub fn index_text(alloc: Global) -> Option<String> {
     Some(text)
 }
 
+/// Both indexes, read; `None` where memory ran out.
 pub fn read_indexes(alloc: Global) -> Option<Indexes> {
     let mut text = index_text(alloc)?;
     let now = Snapshot::read(alloc, text.as_bytes()).ok()?;
@@ -57,10 +59,12 @@ pub fn read_indexes(alloc: Global) -> Option<Indexes> {
     Some(Indexes { now, later })
 }
 
+/// `LINES`, read; `None` where memory ran out.
 pub fn lines(alloc: Global) -> Option<ReqFile> {
     ReqFile::read(alloc, LINES.as_bytes()).ok()
 }
 
+/// `ENVIRONMENT`, read; `None` where memory ran out.
 pub fn environment(alloc: Global) -> Option<Environment> {
     Environment::read(alloc, ENVIRONMENT.as_bytes()).ok()
 }

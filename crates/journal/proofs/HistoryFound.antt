@@ -8,13 +8,13 @@ use Rattle.edits.specs.State.{IsState}
 use Rattle.edits.specs.declared.refusal.Refusal.TheVariants.{JournalBroken}
 use Rattle.journal.specs.Values.{State, Refusal}
 use Rattle.journal.specs.Neighbours.{IsHistory, states_of}
-use Rattle.journal.specs.Opening.{Gives, GoesOn, PastOf, StatesBefore, StatesBehind}
+use Rattle.journal.specs.Opening.{IsAnswer, GoesOn, PastOf, StatesBefore, StatesBehind}
 use Rattle.journal.proofs.Neighbours.{IsFound, found}
 use Rattle.journal.proofs.StatesLawful.{lawful-joined}
 use Rattle.journal.proofs.StepsJoined.{steps-joined}
 
 count_by : (changes : List ChangeParts) (states : List State) (before : State) (part : Result (List State) Refusal) → ((xs : List State) → StatesBefore changes before (Ok xs) → length xs ≡ length changes)
-    → StatesBefore changes before part → GoesOn (λ xs. Gives (xs ++ before ∷ [])) part (Ok states) → length states ≡ length changes + 1
+    → StatesBefore changes before part → GoesOn (λ xs. IsAnswer (xs ++ before ∷ [])) part (Ok states) → length states ≡ length changes + 1
 count_by changes states before (Ok xs) others h go_on =
     let same : states ≡ xs ++ before ∷ [] = cc in
     let more = length-append xs (before ∷ []) in

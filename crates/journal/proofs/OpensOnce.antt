@@ -6,14 +6,14 @@ use Rattle.edits.specs.Changes.{ChangeParts, Leads, inverse}
 use Rattle.edits.specs.Laws.{AChangeLeadsToOneState}
 use Rattle.journal.specs.Values.{State, Refusal}
 use Rattle.journal.specs.Format.Lines.{cut_line, header_of_line, step_of_line}
-use Rattle.journal.specs.Opening.{Asks, BeginsWith, Finds, Gives, GoesOn, Opens, PastOf, Present, PresentParts, StatesBefore, StatesBehind, StepAt, StepLines, Then}
+use Rattle.journal.specs.Opening.{Asks, BeginsWith, Finds, IsAnswer, GoesOn, Opens, PastOf, Present, PresentParts, StatesBefore, StatesBehind, StepAt, StepLines, Then}
 use Rattle.journal.specs.declared.format.header.Header.{Header}
 
 -- there is one answer at most
 abbrev pub IsOnce : {A : Type 0} → (Result A Refusal → Type 0) → Type 0
 IsOnce {A} Is = (a b : Result A Refusal) → Is a → Is b → a ≡ b
 
-gives-once : {A : Type 0} (x : A) → IsOnce (Gives x)
+gives-once : {A : Type 0} (x : A) → IsOnce (IsAnswer x)
 gives-once x a b p q = p ∙ sym q
 
 asks-once : {A : Type 0} (fact : Type 0) (refusal : Refusal) (go_on : Result A Refusal → Type 0) → IsOnce go_on → IsOnce (Asks fact refusal go_on)

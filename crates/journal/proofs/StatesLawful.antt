@@ -5,11 +5,11 @@ use Rattle.edits.specs.Changes.{ChangeParts}
 use Rattle.edits.specs.State.{IsState}
 use Rattle.edits.specs.declared.refusal.Refusal.TheVariants.{JournalBroken}
 use Rattle.journal.specs.Values.{State, Refusal}
-use Rattle.journal.specs.Opening.{Gives, GoesOn, StatesBefore, StatesBehind}
+use Rattle.journal.specs.Opening.{IsAnswer, GoesOn, StatesBefore, StatesBehind}
 use Rattle.journal.proofs.StepsJoined.{all-append}
 
 behind_by : (number : ℕ) (changes : List ChangeParts) (states : List State) (next : State) (part : Result (List State) Refusal) → IsState next
-    → ((xs : List State) → StatesBehind number changes next (Ok xs) → AllByRecursion IsState xs) → StatesBehind number changes next part → GoesOn (λ xs. Gives (next ∷ xs)) part (Ok states)
+    → ((xs : List State) → StatesBehind number changes next (Ok xs) → AllByRecursion IsState xs) → StatesBehind number changes next part → GoesOn (λ xs. IsAnswer (next ∷ xs)) part (Ok states)
     → AllByRecursion IsState states
 behind_by number changes states next (Ok xs) lawful others h go_on =
     let same : states ≡ next ∷ xs = cc in
@@ -23,7 +23,7 @@ lawful-behind number (change ∷ changes) state states (inl h) = behind_by (numb
 lawful-behind number (change ∷ changes) state states (inr h) = absurd (let is : Ok states ≡ Err (JournalBroken number) = h.1 in cc)
 
 before_by : (changes : List ChangeParts) (states : List State) (before : State) (part : Result (List State) Refusal) → IsState before
-    → ((xs : List State) → StatesBefore changes before (Ok xs) → AllByRecursion IsState xs) → StatesBefore changes before part → GoesOn (λ xs. Gives (xs ++ before ∷ [])) part (Ok states)
+    → ((xs : List State) → StatesBefore changes before (Ok xs) → AllByRecursion IsState xs) → StatesBefore changes before part → GoesOn (λ xs. IsAnswer (xs ++ before ∷ [])) part (Ok states)
     → AllByRecursion IsState states
 before_by changes states before (Ok xs) lawful others h go_on =
     let same : states ≡ xs ++ before ∷ [] = cc in

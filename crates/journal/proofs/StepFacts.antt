@@ -5,7 +5,7 @@ use Rattle.std.proofs.lemmas.List.{append-nil}
 use Rattle.edits.specs.Changes.{ChangeParts}
 use Rattle.edits.specs.declared.refusal.Refusal.TheVariants.{JournalBroken}
 use Rattle.journal.specs.Values.{Refusal, OutOfMemory}
-use Rattle.journal.specs.Opening.{Gives, GoesOn, StepAt, StepLines}
+use Rattle.journal.specs.Opening.{IsAnswer, GoesOn, StepAt, StepLines}
 
 -- what was read before, and what the rest answers
 abbrev pub before : {X : Type 0} → List X → Result (List X) Refusal → Result (List X) Refusal
@@ -82,7 +82,7 @@ module _ (steps : ℕ) (bytes : List ℕ) (place : ℕ) (rest : List ℕ) (done 
   refused e below (inr broken) = inr (subst (λ r. StepLines steps 2 bytes (Err r)) (sym broken.0) (no_step below broken.1))
 
 count_by : (steps : ℕ) (change : ChangeParts) (changes : List ChangeParts) (part : Result (List ChangeParts) Refusal) → ((xs : List ChangeParts) → part ≡ Ok xs → length xs ≡ steps)
-    → GoesOn (λ xs. Gives (change ∷ xs)) part (Ok changes) → length changes ≡ suc steps
+    → GoesOn (λ xs. IsAnswer (change ∷ xs)) part (Ok changes) → length changes ≡ suc steps
 count_by steps change changes (Ok xs) counted go_on =
     let same : changes ≡ change ∷ xs = cc in
     rw same (ap suc (counted xs refl))

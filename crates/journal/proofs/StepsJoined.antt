@@ -8,7 +8,7 @@ use Rattle.edits.specs.declared.refusal.Refusal.TheVariants.{JournalBroken}
 use Rattle.edits.proofs.ChangeFacts.{After-inverse, inverse-inverse}
 use Rattle.journal.specs.Values.{State, Refusal}
 use Rattle.journal.specs.Changes.{AreSteps, IsChange}
-use Rattle.journal.specs.Opening.{Gives, GoesOn, StatesBefore, StatesBehind}
+use Rattle.journal.specs.Opening.{IsAnswer, GoesOn, StatesBefore, StatesBehind}
 
 pub all-append : {X : Type 0} (P : X → Type 0) (xs ys : List X) → AllByRecursion P xs → AllByRecursion P ys → AllByRecursion P (xs ++ ys)
 all-append P [] ys h g = g
@@ -39,7 +39,7 @@ leads-on change state before minimal leads = record {
 }
 
 behind_by : (number : ℕ) (changes : List ChangeParts) (state : State) (states : List State) (change : ChangeParts) (next : State) (part : Result (List State) Refusal) → IsChange state change next
-    → ((xs : List State) → StatesBehind number changes next (Ok xs) → AreSteps (next ∷ xs) changes) → StatesBehind number changes next part → GoesOn (λ xs. Gives (next ∷ xs)) part (Ok states)
+    → ((xs : List State) → StatesBehind number changes next (Ok xs) → AreSteps (next ∷ xs) changes) → StatesBehind number changes next part → GoesOn (λ xs. IsAnswer (next ∷ xs)) part (Ok states)
     → AreSteps (state ∷ states) (change ∷ changes)
 behind_by number changes state states change next (Ok xs) step joined h go_on =
     let same : states ≡ next ∷ xs = cc in
@@ -57,7 +57,7 @@ steps-behind number (change ∷ changes) state states minimal (inr h) = absurd (
 
 before_by : (changes : List ChangeParts) (state : State) (states : List State) (change : ChangeParts) (before : State) (tail : List State) (later : List ChangeParts) (part : Result (List State) Refusal)
     → ((xs : List State) → StatesBefore changes before (Ok xs) → AreSteps (xs ++ before ∷ state ∷ tail) (reverse changes ++ change ∷ later)) → StatesBefore changes before part
-    → GoesOn (λ xs. Gives (xs ++ before ∷ [])) part (Ok states) → AreSteps (states ++ state ∷ tail) (reverse (change ∷ changes) ++ later)
+    → GoesOn (λ xs. IsAnswer (xs ++ before ∷ [])) part (Ok states) → AreSteps (states ++ state ∷ tail) (reverse (change ∷ changes) ++ later)
 before_by changes state states change before tail later (Ok xs) joined h go_on =
     let same : states ≡ xs ++ before ∷ [] = cc in
     let whole : states ++ state ∷ tail ≡ xs ++ before ∷ state ∷ tail = ap (λ ss. ss ++ state ∷ tail) same ∙ append_assoc xs (before ∷ []) (state ∷ tail) in

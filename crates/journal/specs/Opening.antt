@@ -32,8 +32,8 @@ abbrev pub Then : {X A : Type 0} → (Result X Refusal → Type 0) → (X → Re
 Then {X} Part go_on answer = (part : Result X Refusal) × Part part × GoesOn go_on part answer
 
 -- this is the answer
-abbrev pub Gives : {A : Type 0} → A → Result A Refusal → Type 0
-Gives x answer = answer ≡ Ok x
+abbrev pub IsAnswer : {A : Type 0} → A → Result A Refusal → Type 0
+IsAnswer x answer = answer ≡ Ok x
 
 -- what a part of the reading answers: what was looked for; or that there was no memory; or this refusal, where nothing is as it
 -- was looked for
@@ -62,11 +62,11 @@ PresentParts header requirements lock =
     Finds (λ lines. file_of requirements ≡ Ok lines) (FilesDisagree Requirements) (λ lines.
     Finds (λ locked. lock_in_text lock ≡ Ok locked) (FilesDisagree Lock) (λ locked.
     Asks (locked.environment ≡ marker_text header.environment) (JournalBroken 1) (
-    Gives (record { lines = lines; environment = header.environment; lock = locked }))))))
+    IsAnswer (record { lines = lines; environment = header.environment; lock = locked }))))))
 
 -- the present state, for which all holds that holds of every state
 abbrev pub Present : Header → List ℕ → List ℕ → Result State Refusal → Type 0
-Present header requirements lock = Then (PresentParts header requirements lock) (λ state. Asks (IsState state) (FilesDisagree Lock) (Gives state))
+Present header requirements lock = Then (PresentParts header requirements lock) (λ state. Asks (IsState state) (FilesDisagree Lock) (IsAnswer state))
 
 -- ---- the steps
 
@@ -78,36 +78,36 @@ pub record StepAt (bytes : List ℕ) (step : ChangeParts × List ℕ) : Type 0 w
 
 -- so many steps, the first of them in the line of this number, and nothing behind them
 abbrev pub StepLines : ℕ → ℕ → List ℕ → Result (List ChangeParts) Refusal → Type 0
-StepLines zero number bytes = Asks (bytes ≡ []) (JournalBroken number) (Gives [])
+StepLines zero number bytes = Asks (bytes ≡ []) (JournalBroken number) (IsAnswer [])
 StepLines (suc steps) number bytes =
     Finds (StepAt bytes) (JournalBroken number) (λ step.
     Then (StepLines steps (number + 1) step.1) (λ changes.
-    Gives (step.0 ∷ changes)))
+    IsAnswer (step.0 ∷ changes)))
 
 -- ---- the states
 
 -- the states that changes lead back to, from the nearest change on; the first change of a journal is in line 2
 abbrev pub StatesBefore : List ChangeParts → State → Result (List State) Refusal → Type 0
-StatesBefore [] state = Gives []
+StatesBefore [] state = IsAnswer []
 StatesBefore (change ∷ changes) state =
     Finds (Leads state (inverse change)) (JournalBroken (length changes + 2)) (λ before.
     Then (StatesBefore changes before) (λ states.
-    Gives (states ++ before ∷ [])))
+    IsAnswer (states ++ before ∷ [])))
 
 -- the states that changes lead on to; the first change is in the line of this number
 abbrev pub StatesBehind : ℕ → List ChangeParts → State → Result (List State) Refusal → Type 0
-StatesBehind number [] state = Gives []
+StatesBehind number [] state = IsAnswer []
 StatesBehind number (change ∷ changes) state =
     Finds (Leads state change) (JournalBroken number) (λ next.
     Then (StatesBehind (number + 1) changes next) (λ states.
-    Gives (next ∷ states)))
+    IsAnswer (next ∷ states)))
 
 -- the history that changes lead to from the present state, in both directions
 abbrev pub PastOf : ℕ → List ChangeParts → State → Result Past Refusal → Type 0
 PastOf cursor changes state =
     Then (StatesBefore (reverse (take cursor changes)) state) (λ before.
     Then (StatesBehind (cursor + 2) (drop cursor changes) state) (λ behind.
-    Gives (record { states = before ++ state ∷ behind; cursor = cursor })))
+    IsAnswer (record { states = before ++ state ∷ behind; cursor = cursor })))
 
 -- what three byte strings stand for, or the first of their faults
 abbrev pub Opens : List ℕ → List ℕ → List ℕ → Result Past Refusal → Type 0

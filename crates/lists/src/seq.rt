@@ -58,18 +58,21 @@ impl<T> Seq<T> {
         self.items
     }
 
+    /// The items, lent.
     pub fn as_slice(&self) -> &[T]
         ensures { result.now ≡ self.now }
     {
         self.items.as_slice()
     }
 
+    /// How many items there are.
     pub fn len(&self) -> usize
         ensures { result ≡ length self.now }
     {
         self.items.len()
     }
 
+    /// Whether there is no item.
     pub fn is_empty(&self) -> bool
         ensures { result ≡ (length self.now == 0) }
     {

@@ -62,6 +62,7 @@ impl Text {
         self.text
     }
 
+    /// The text, lent.
     pub fn as_str(&self) -> &str
         ensures { result.now ≡ self.now }
     {

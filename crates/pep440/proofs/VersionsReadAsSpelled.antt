@@ -17,7 +17,7 @@ one_version text v w h g =
     let b = spells-parts text w g in
     cc
 
-fitting-ok : (o : Option VersionParts) (v : VersionParts) → fitting o ≡ Ok v → (o ≡ Some v) × (fits v ≡ true)
+pub fitting-ok : (o : Option VersionParts) (v : VersionParts) → fitting o ≡ Ok v → (o ≡ Some v) × (fits v ≡ true)
 fitting-ok None v h = absurd cc
 fitting-ok (Some w) v h = elim (cases_Bool (fits w)) [
   | inl good ↦ let g = (rw good at h) in let e : w ≡ v = cc in (ap Some e, ap fits (sym e) ∙ good)
@@ -53,6 +53,18 @@ answers-read text (Err OutOfMemory) h = tt
 -- a version whose numbers fit is what reading gives
 pub spells-version : (text : List ℕ) (v : VersionParts) → Spells text v → fits v ≡ true → version_of text ≡ Ok v
 spells-version text v h fine = rw (spells-parts text v h, fine) refl
+
+-- a version whose numbers don't fit is told as such
+pub spells-large : (text : List ℕ) (v : VersionParts) → Spells text v → fits v ≡ false → version_of text ≡ Err NumberTooLarge
+spells-large text v h wide = rw (spells-parts text v h, wide) refl
+
+fitting-bad : (o : Option VersionParts) → ((v : VersionParts) → ¬ (o ≡ Some v)) → fitting o ≡ Err BadVersion
+fitting-bad None none = refl
+fitting-bad (Some v) none = absurd (none v refl)
+
+-- a text that spells nothing is no version
+pub spells-nothing : (text : List ℕ) → ((v : VersionParts) → ¬ Spells text v) → version_of text ≡ Err BadVersion
+spells-nothing text none = fitting-bad (parts_of text) (λ v e. none v (parts-spell text v e))
 
 pub found-read : (text : List ℕ) (r : Result VersionParts Fault) → Gives (λ v. v) r (version_of text) → (v : VersionParts) → Spells text v → fits v ≡ true → IsOkUnless r OutOfMemory
 found-read text (Ok w) h v g fine = tt

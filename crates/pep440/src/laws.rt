@@ -1,6 +1,6 @@
 //! Laws of the grammars of versions and of specifiers.
 
-ghost use Rattle.std.specs.Prelude.{◌≡◌, ℕ, List, Ok, Result, Some, true, ◌⊎◌, [], false, slice_index};
+ghost use Rattle.std.specs.Prelude.{◌≡◌, ℕ, List, Ok, Err, Result, Some, true, ◌⊎◌, [], false, slice_index};
 ghost use Rattle.std.specs.List.{list_all};
 ghost use Rattle.std.specs.declared.cmp.Ordering.TheVariants.{Equal};
 ghost use Rattle.lists.specs.Spaces.{is_space_or_tab};
@@ -13,11 +13,25 @@ ghost use Rattle.pep440.specs.SetGrammar.{IsClause, PieceAnswers, SetAnswers, be
 ghost use Rattle.pep440.specs.Tied.Sets.{clause_of, set_of};
 ghost use Rattle.pep440.specs.Version.{IsVersion, VersionParts, fits};
 ghost use Rattle.pep440.specs.declared.fault.Fault.{Fault};
+ghost use Rattle.pep440.specs.declared.fault.Fault.TheVariants.{BadVersion, NumberTooLarge};
 ghost use Rattle.pep440.specs.declared.specifier.Clause.{Clause};
 
 /// A text spells at most one version.
 pub fn a_text_spells_one_version()
     ensures { (text : List ℕ) (v w : VersionParts) → Spells text v → Spells text w → v ≡ w }
+{}
+
+/// What a text reads as is what the grammar says of it: the version that it spells where its numbers fit,
+/// `NumberTooLarge` where they don't, and `BadVersion` where it spells none.
+pub fn a_text_reads_as_what_it_spells()
+    ensures read { (text : List ℕ) (v : VersionParts)
+        → version_of text ≡ Ok v → Spells text v × (fits v ≡ true) }
+    ensures found { (text : List ℕ) (v : VersionParts)
+        → Spells text v → fits v ≡ true → version_of text ≡ Ok v }
+    ensures large { (text : List ℕ) (v : VersionParts)
+        → Spells text v → fits v ≡ false → version_of text ≡ Err NumberTooLarge }
+    ensures bad { (text : List ℕ) → ((v : VersionParts) → ¬ Spells text v)
+        → version_of text ≡ Err BadVersion }
 {}
 
 /// A text with nothing around it reads as the parts that it spells, over numbers of any size.

@@ -89,6 +89,7 @@ impl Model for SpecifierSet {
 }
 
 impl SpecifierSet {
+    /// The clauses, in the order of the text.
     pub fn clauses(&self) -> &[Clause]
         ensures { result.now ≡ self.now }
     {

@@ -59,6 +59,7 @@ impl Model for Version {
 }
 
 impl Version {
+    /// The epoch; 0 where the text has none.
     pub fn epoch(&self) -> u64
         ensures { result ≡ self.now.epoch }
     {
@@ -73,24 +74,28 @@ impl Version {
         self.release.as_slice()
     }
 
+    /// The pre-release part: its kind and number.
     pub fn pre(&self) -> Option<Pre>
         ensures { result ≡ self.now.pre }
     {
         self.pre
     }
 
+    /// The number of the post-release part.
     pub fn post(&self) -> Option<u64>
         ensures { result ≡ self.now.post }
     {
         self.post
     }
 
+    /// The number of the dev-release part.
     pub fn dev(&self) -> Option<u64>
         ensures { result ≡ self.now.dev }
     {
         self.dev
     }
 
+    /// The parts of the local version, in the order of the text; none where there is no local version.
     pub fn local(&self) -> &[LocalPart]
         ensures { result.now ≡ self.now.local }
     {

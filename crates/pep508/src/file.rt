@@ -63,6 +63,7 @@ impl ReqFile {
         ReqFile { lines }
     }
 
+    /// The lines, in the order of the file, each with its ending.
     pub fn lines(&self) -> &[Line]
         ensures { result.now ≡ self.now }
     {

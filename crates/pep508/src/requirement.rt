@@ -159,6 +159,7 @@ impl Requirement {
         wanted_in(alloc, &slices_with("", text, "", ""))
     }
 
+    /// The name, in normal form.
     pub fn name(&self) -> &Name
         ensures { result.now ≡ self.now.name }
     {
@@ -172,12 +173,14 @@ impl Requirement {
         self.extras.as_slice()
     }
 
+    /// The specifiers; none where every version is admitted.
     pub fn specifiers(&self) -> &SpecifierSet
         ensures { result.now ≡ self.now.clauses }
     {
         &self.specifiers
     }
 
+    /// The marker, where there is one.
     pub fn marker(&self) -> Option<&Marker>
         ensures { option_copied result ≡ self.now.marker }
     {

@@ -52,6 +52,7 @@ impl SpecifierText {
         Ok(SpecifierText { text })
     }
 
+    /// The text, as it was written.
     pub fn text(&self) -> &str
         ensures text { result.now ≡ self.now }
         ensures reads { IsSpecifier self.now }

@@ -145,6 +145,7 @@ impl Entry {
         &self.shared.as_ref().name
     }
 
+    /// The version of the package.
     pub fn version(&self) -> &Version
         ensures { result.now ≡ self.now.version }
     {

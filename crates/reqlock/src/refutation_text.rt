@@ -15,6 +15,8 @@ pub fn refutation_text(alloc: Global, refutation: &Refutation) -> Result<String,
     Ok(text)
 }
 
+/// Puts a conflict behind the text: its choices in the order of their texts, with a space between two;
+/// `-` where it has none.
 pub fn add_conflict(
     alloc: Global,
     text: &mut String,

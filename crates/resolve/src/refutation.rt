@@ -28,6 +28,7 @@ impl Model for Refutation {
 }
 
 impl Refutation {
+    /// The refutation of these conflicts, in their order. Whether it is one, `check` tells.
     pub fn new(conflicts: Seq<Seq<Choice>>) -> Refutation
         ensures { result ≡ conflicts }
     {

@@ -71,7 +71,7 @@ GoesOnward t old new before Solved = Unit {0}
 GoesOnward t old new before Refuted = Unit {0}
 
 -- the first candidate of a node is tried, or the search is at its end
-abbrev pub IsFirst : Progress → Type 0
-IsFirst (Trying trial) = trial.turn ≡ 0
-IsFirst Solved = Unit {0}
-IsFirst Refuted = ⊥
+abbrev pub TriesFirst : Progress → Type 0
+TriesFirst (Trying trial) = trial.turn ≡ 0
+TriesFirst Solved = Unit {0}
+TriesFirst Refuted = ⊥

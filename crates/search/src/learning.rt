@@ -9,7 +9,7 @@ ghost use Rattle.search.specs.Gathering.{decision};
 ghost use Rattle.search.specs.Known.{AreKnown};
 ghost use Rattle.search.specs.Learned.{FitsBefore, IsPartial, IsTrial, chosen_held, decisions_of};
 ghost use Rattle.search.specs.Learning as spec;
-ghost use Rattle.search.specs.Learning.{GoesOnward, IsBack, IsFirst, IsLearned, IsRefusedFor, StandsAt};
+ghost use Rattle.search.specs.Learning.{GoesOnward, IsBack, TriesFirst, IsLearned, IsRefusedFor, StandsAt};
 ghost use Rattle.search.specs.Solutions.{HasNoSolution, IsBest};
 ghost use Rattle.search.specs.Table.{TableParts, rules_of, candidates_of, name_of, in_range, place_in, IsAscending, places_eq};
 
@@ -191,7 +191,7 @@ fn onward(
     requires learned { IsLearned table.now partial.old conflicts.now.list.items }
     ensures stands { StandsAt table.now partial.new conflicts.now.list.items result }
     ensures held { partial.new.held ≡ partial.old.held }
-    ensures first { IsFirst result }
+    ensures first { TriesFirst result }
 {
     let _known = conflicts.list.len();
     match next(alloc, table, partial, cursor) {

@@ -4,7 +4,7 @@ ghost use Rattle.std.specs.Prelude.{◌≡◌, [], refl, IfOk, IsOkUnless, Ok, O
 ghost use Rattle.std.specs.BTreeSet.{insert_key};
 ghost use Rattle.std.specs.Cmp.{eq_by_cmp_equiv, partial_equiv_from_equiv, partial_order_from_total};
 ghost use Rattle.std.specs.Ordering.{as_partial_cmp, eq_by_cmp};
-ghost use Rattle.snapshot.specs.Tied.Chosen.{no_files, with_file};
+ghost use Rattle.snapshot.specs.Tied.Chosen.{no_files, sorted_with};
 ghost use Rattle.snapshot.specs.Files.{name_cmp, sdist_of, wheels_of};
 ghost use Rattle.snapshot.specs.declared.fault.Fault.TheVariants.{OutOfMemory};
 
@@ -35,7 +35,7 @@ pub(crate) struct Sorted {
 
 /// Puts one more file to those before it.
 fn add(sorted: &mut Sorted, file: ReleaseFile) -> Result<(), Fault>
-    ensures kept { OnOk result (sorted.new ≡ with_file sorted.old file) }
+    ensures kept { OnOk result (sorted.new ≡ sorted_with sorted.old file) }
     ensures memory { IsOkUnless result OutOfMemory }
 {
     match form_of(file.name()) {
@@ -59,7 +59,7 @@ fn add(sorted: &mut Sorted, file: ReleaseFile) -> Result<(), Fault>
 
 /// The files, gone through one after the other.
 fn sort_files(alloc: Global, files: Vec<ReleaseFile>) -> Result<Sorted, Fault>
-    ensures all { IfOk result (λ sorted. sorted ≡ fold with_file no_files files.items) }
+    ensures all { IfOk result (λ sorted. sorted ≡ fold sorted_with no_files files.items) }
     ensures memory { IsOkUnless result OutOfMemory }
 {
     let mut sorted = Sorted {

@@ -104,6 +104,7 @@ impl Release {
         }
     }
 
+    /// The version of the release.
     pub fn version(&self) -> &Version
         ensures { result.now ≡ self.now.version }
     {

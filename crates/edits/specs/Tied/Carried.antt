@@ -5,7 +5,7 @@ use Rattle.std.specs.Option.{option_to_list}
 use Rattle.pylock.specs.Packages.{EntryParts}
 use Rattle.edits.specs.Changes.{ChangeParts}
 use Rattle.edits.specs.StateParts.{StateParts}
-use Rattle.edits.specs.Tied.Exchanging.{count_below, count_on}
+use Rattle.edits.specs.Tied.Exchanging.{count_below, entries_on}
 use Rattle.edits.specs.declared.change.parts.Splice.{Splice}
 use Rattle.edits.specs.declared.change.parts.EntryChange.{EntryChange}
 use Rattle.edits.specs.declared.change.parts.DigestChange.{DigestChange}
@@ -25,7 +25,7 @@ abbrev pub carried_entries : List EntryChange → List EntryParts → List Entry
 carried_entries [] entries = entries
 carried_entries (change ∷ rest) entries =
     take (count_below change.name entries) entries ++ option_to_list change.new
-    ++ carried_entries rest (drop (count_on change.name (from_name change.name entries)) (from_name change.name entries))
+    ++ carried_entries rest (drop (entries_on change.name (from_name change.name entries)) (from_name change.name entries))
 
 -- the digest after its change
 abbrev pub carried_digest : Option DigestChange → List ℕ → List ℕ

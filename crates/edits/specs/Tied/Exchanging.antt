@@ -16,9 +16,9 @@ count_below name [] = 0
 count_below name (e ∷ rest) = if is_lt (slice_cmp nat_cmp e.name name) then suc (count_below name rest) else 0
 
 -- how many entries on the name stand first, where no name is there twice
-abbrev pub count_on : List ℕ → List EntryParts → ℕ
-count_on name [] = 0
-count_on name (e ∷ rest) = if bytes_eq name e.name then 1 else 0
+abbrev pub entries_on : List ℕ → List EntryParts → ℕ
+entries_on name [] = 0
+entries_on name (e ∷ rest) = if bytes_eq name e.name then 1 else 0
 
 -- the names of entries are below a name, or above it
 abbrev pub AreBelow : List EntryParts → List ℕ → Type 0

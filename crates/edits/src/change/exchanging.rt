@@ -5,7 +5,7 @@ ghost use Rattle.std.specs.Cmp.Lexicographic.{slice_cmp};
 ghost use Rattle.std.specs.Option.{option_to_list};
 ghost use Rattle.std.specs.Ordering.{is_lt, nat_cmp};
 ghost use Rattle.edits.specs.Changes.{AreEntryChanges, ChangesEntries};
-ghost use Rattle.edits.specs.Tied.Exchanging.{IsCutAt, count_below, count_on};
+ghost use Rattle.edits.specs.Tied.Exchanging.{IsCutAt, count_below, entries_on};
 ghost use Rattle.edits.specs.Tied.Only.{IsTheOnly};
 ghost use Rattle.pylock.specs.Locks.{are_entries};
 
@@ -33,8 +33,8 @@ fn count_below(entries: &[Entry], name: &Name) -> usize
 }
 
 /// How many entries on the name stand first: one or none.
-fn count_on(entries: &[Entry], name: &Name) -> usize
-    ensures { result ≡ count_on name.now entries.now }
+fn entries_on(entries: &[Entry], name: &Name) -> usize
+    ensures { result ≡ entries_on name.now entries.now }
 {
     match entries.first() {
         Some(first) if name.is_same(first.name()) => 1,
@@ -48,7 +48,7 @@ fn cut_at<'a>(entries: &'a [Entry], name: &Name) -> (&'a [Entry], &'a [Entry], &
     ensures { IsCutAt name.now entries.now result.0.now result.1.now result.2.now }
 {
     let (below, rest) = entries.split_at(count_below(entries, name));
-    let (on, above) = rest.split_at(count_on(rest, name));
+    let (on, above) = rest.split_at(entries_on(rest, name));
     (below, on, above)
 }
 

@@ -1,5 +1,5 @@
 -- Reading a version from left to right.
--- Tied to `Spells` by the contract of `Version::parse`; need not be read.
+-- Tied to `Spells` by the law `a_text_reads_as_what_it_spells`; need not be read.
 use Rattle.std.specs.Prelude.{ℕ, ◌+◌, ◌-◌, ◌*◌, ◌^◌, ◌==◌, ◌&&◌, ◌||◌, nat_lt, Bool, true, false, List, [], ◌∷◌, ◌++◌, map, Option, Some, None, unwrap_or, Result, Ok, Err, if◌then◌else◌, codes}
 use Rattle.std.specs.Char.{is_ascii_alphanumeric, is_ascii_digit, to_ascii_lowercase}
 use Rattle.std.specs.Option.{option_map}

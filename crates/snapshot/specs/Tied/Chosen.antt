@@ -18,5 +18,5 @@ with_form s f Zip = record { wheels = s.wheels; tar_gz = s.tar_gz; zip = option_
 with_form s f Other = s
 
 -- one more file
-abbrev pub with_file : Sorted → ReleaseFile → Sorted
-with_file s f = with_form s f (form_of f.name)
+abbrev pub sorted_with : Sorted → ReleaseFile → Sorted
+sorted_with s f = with_form s f (form_of f.name)

@@ -6,5 +6,5 @@ split_at-requires c = rw c.count_below.ensures (count_below-within c.args.name.n
 
 pub returns : goal.returns
 returns c =
-    rw (c.split_at.ensures.front, c.split_at-2.ensures.front, c.split_at-2.ensures.back, c.count_on.ensures, c.split_at.ensures.back, c.count_below.ensures)
+    rw (c.split_at.ensures.front, c.split_at-2.ensures.front, c.split_at-2.ensures.back, c.entries_on.ensures, c.split_at.ensures.back, c.count_below.ensures)
     (cut c.args.name.now c.args.entries.now c.requires)
