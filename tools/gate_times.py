@@ -4,7 +4,8 @@
 usage: tools/gate_times.py COMMAND..    as in tools/gate_times.py ./check
 
 The command's output comes as it is. A table in Markdown follows, on standard error, in processor minutes; the last row counts
-everything, what is no check of a crate too. The status is the command's.
+everything, what is no check of a crate too. Behind it stand the ten dearest edits, in processor seconds. The status is the
+command's. The edits are those of the folder that it is called in.
 """
 
 import os
@@ -14,7 +15,39 @@ import sys
 import threading
 import time
 
-KINDS = "proofs", "tests", "edits"
+KINDS = "proofs", "tests", "second proofs", "edits"
+DEAREST = 10
+
+
+def replacements(edit):
+    """The file that a must-fail edit is for, and each text that it takes away, with what comes in its place."""
+    file, pairs = None, []
+    with open(edit, encoding="utf-8") as lines:
+        for line in lines:
+            word, _, text = line.rstrip("\n").partition(":")
+            text = text.removeprefix(" ")
+            if word == "file":
+                file = text
+            elif word == "old":
+                pairs.append([text, ""])
+            elif word == "new" and pairs:
+                pairs[-1][1] = text
+    return file, pairs
+
+
+def edit_in(crate, folder):
+    """The name of the edit that a copy of a crate in a folder has; None where it has none."""
+    home = os.path.join("crates", crate)
+    for name in sorted(os.listdir(os.path.join(home, "must-fail"))):
+        file, pairs = replacements(os.path.join(home, "must-fail", name))
+        with open(os.path.join(home, file), encoding="utf-8") as source:
+            wanted = source.read()
+        for old, new in pairs:
+            wanted = wanted.replace(old, new)
+        with open(os.path.join(folder, file), encoding="utf-8") as source:
+            if source.read() == wanted:
+                return name.removesuffix(".edit")
+    return None
 
 
 def check_of(words, folder):
@@ -46,15 +79,27 @@ def processes():
 
 
 class Watch:
-    """Samples the processes until it is stopped; `used` has the seconds of each crate and kind."""
+    """Samples the processes until it is stopped; `used` has the seconds of each crate and kind, `edits` those of each edit."""
 
     def __init__(self):
+        self.known = {}
         self.seen = {}
         self.is_over = threading.Event()
+
+    def name(self, key, crate, folder):
+        """The crate and the name of the edit that a process tries; the name is None where it proves the crate as it is."""
+        if key not in self.known:
+            try:
+                self.known[key] = crate, edit_in(crate, folder)
+            except OSError:
+                return crate, None
+        return self.known[key]
 
     def look(self):
         for key, words, folder, seconds in processes():
             found = check_of(words, folder)
+            if found and found[1] == "edits" and self.name(key, found[0], folder)[1] is None:
+                found = found[0], "second proofs"
             if found:
                 self.seen[key] = found, seconds
 
@@ -68,17 +113,30 @@ class Watch:
             used[found] = used.get(found, 0) + seconds
         return used
 
+    def edits(self):
+        spent = {}
+        for key, found in self.known.items():
+            if found[1] is not None:
+                spent[found] = spent.get(found, 0) + self.seen[key][1]
+        return spent
+
 
 def table(used, whole, wall):
     """The lines of the table, the crates with the most time first."""
     crates = sorted({crate for crate, _ in used}, key=lambda crate: -sum(used.get((crate, kind), 0) for kind in KINDS))
-    lines = ["| Crate | Proofs | Tests | Must-fail edits | Together |", "|---|---|---|---|---|"]
+    lines = ["| Crate | Proofs | Tests | Second proofs | Must-fail edits | Together |", "|---|---|---|---|---|---|"]
     for crate in crates:
         parts = [used.get((crate, kind), 0) for kind in KINDS]
         lines.append(f"| {crate} | " + " | ".join(f"{part / 60:.1f}" for part in [*parts, sum(parts)]) + " |")
     parts = [sum(seconds for (_, kind), seconds in used.items() if kind == wanted) for wanted in KINDS]
     lines.append("| all | " + " | ".join(f"{part / 60:.1f}" for part in [*parts, whole]) + " |")
     return [*lines, f"{whole / 60:.0f} processor minutes in {wall / 60:.0f} minutes"]
+
+
+def dearest(spent):
+    """A line for each of the edits that took the most seconds."""
+    found = sorted(spent.items(), key=lambda item: -item[1])[:DEAREST]
+    return [f"{seconds:.0f} s {crate} {name}" for (crate, name), seconds in found]
 
 
 def main(words):
@@ -95,7 +153,8 @@ def main(words):
         watch.is_over.set()
         sampling.join()
     spent = resource.getrusage(resource.RUSAGE_CHILDREN)
-    print(*table(watch.used(), spent.ru_utime + spent.ru_stime, time.monotonic() - start), sep="\n", file=sys.stderr)
+    lines = table(watch.used(), spent.ru_utime + spent.ru_stime, time.monotonic() - start)
+    print(*lines, *dearest(watch.edits()), sep="\n", file=sys.stderr)
     return status
 
 

@@ -29,11 +29,33 @@ class Times(unittest.TestCase):
         used = {("a", "proofs"): 60, ("b", "proofs"): 30, ("b", "tests"): 60, ("a", "edits"): 6}
         lines = gate_times.table(used, 200, 90)
         self.assertEqual(lines[2:], [
-            "| b | 0.5 | 1.0 | 0.0 | 1.5 |",
-            "| a | 1.0 | 0.0 | 0.1 | 1.1 |",
-            "| all | 1.5 | 1.0 | 0.1 | 3.3 |",
+            "| b | 0.5 | 1.0 | 0.0 | 0.0 | 1.5 |",
+            "| a | 1.0 | 0.0 | 0.0 | 0.1 | 1.1 |",
+            "| all | 1.5 | 1.0 | 0.0 | 0.1 | 3.3 |",
             "3 processor minutes in 2 minutes",
         ])
+
+    def test_the_dearest_edits_are_told_with_their_crates(self):
+        spent = {("a", "one"): 20.4, ("b", "two"): 61, **{("c", str(n)): n for n in range(9)}}
+        lines = gate_times.dearest(spent)
+        self.assertEqual((lines[:3], len(lines)), (["61 s b two", "20 s a one", "8 s c 8"], 10))
+
+    def test_an_edit_is_known_by_the_copy_that_it_is_made_in(self):
+        here = os.getcwd()
+        with tempfile.TemporaryDirectory() as folder:
+            for place, y in ("crates/a", 2), ("copy", 3), ("plain", 2):
+                source = Path(folder) / place / "src"
+                source.mkdir(parents=True)
+                (source / "lib.rt").write_text(f"x = 1\ny = {y}\n", encoding="utf-8")
+            edits = Path(folder) / "crates/a/must-fail"
+            edits.mkdir()
+            (edits / "x_is_gone.edit").write_text("file: src/lib.rt\nold: x = 1\nnew:\n", encoding="utf-8")
+            (edits / "y_is_three.edit").write_text("file: src/lib.rt\nold: y = 2\nnew: y = 3\n", encoding="utf-8")
+            os.chdir(folder)
+            try:
+                self.assertEqual([gate_times.edit_in("a", name) for name in ("copy", "plain")], ["y_is_three", None])
+            finally:
+                os.chdir(here)
 
     def test_runs_the_command_and_gives_its_status(self):
         with tempfile.TemporaryDirectory() as folder:
@@ -46,7 +68,7 @@ class Times(unittest.TestCase):
                 capture_output=True, encoding="utf-8", check=False,
             )
         self.assertEqual((done.returncode, done.stdout), (3, "done\n"))
-        self.assertRegex(done.stderr, r"\| lists \| 0\.0 \| 0\.0 \| 0\.0 \| 0\.0 \|")
+        self.assertRegex(done.stderr, r"\| lists \| 0\.0 \| 0\.0 \| 0\.0 \| 0\.0 \| 0\.0 \|")
 
 
 if __name__ == "__main__":
