@@ -64,9 +64,21 @@ def headlines(*lines):
     return [(f"# {line}" if line else "", f"# {line}" if line else "") for line in lines]
 
 
+def lines_with_answers():
+    """The lines of the crate's rows, and the answer at each, headlines among them."""
+    rows, told = ((CRATE / name).read_text(encoding="ascii").splitlines() for name in ("stdin", "stdout"))
+    return rows, told[: len(rows)]
+
+
+def behind_answers():
+    """What the crate's program tells behind its answers."""
+    rows, told = ((CRATE / name).read_text(encoding="ascii").splitlines(keepends=True) for name in ("stdin", "stdout"))
+    return "".join(told[len(rows) :])
+
+
 def printed_lines(tool):
     """The rows and the answers that the crate's files have of a tool, headlines among them."""
-    rows, answers = ((CRATE / name).read_text(encoding="utf-8").split("\n") for name in ("stdin", "stdout"))
+    rows, answers = lines_with_answers()
     first = next(place for place, line in enumerate(rows) if line.startswith("#") and f" tools/{tool}." in line)
     behind = rows.index(end_of(tool)) + 1
     return rows[first:behind], answers[first:behind]

@@ -1,6 +1,6 @@
 """Library calls with one growth of their memory refused: each in turn with LONG_TESTS=1 in the environment, without it each 50th
-and the last 40. `growing` (crates/growing) does the calls. It tells what stands before a call, what the call answers and what
-stands behind it; and where the call wants memory, it does the call once more, which then has to answer as if nothing had been.
+and the last 40. The scenarios of `conformance` do the calls. They tell what stands before a call, what the call answers and what
+stands behind it; and where the call wants memory, do it once more, and then it has to answer as if nothing had been.
 
 A call answers as with ample memory, or that memory was refused, and then all is what it was. Of the commands of a `run` one alone
 may be answered so, and all else is as if it hadn't been given; or the `run` as a whole, and then none was done."""
@@ -16,8 +16,9 @@ from library_scenarios import CRATE, scenario_text, scenarios, wanted
 
 sys.path.insert(0, str(Path(__file__).resolve().parent.parent))
 import growths  # noqa: E402
+from conformance_rows import behind_answers  # noqa: E402
 
-PROGRAM = CRATE / "out" / "growing"
+PROGRAM = CRATE / "out" / "conformance"
 PACE = 1 if os.environ.get("LONG_TESTS") == "1" else 50
 LAST = 40
 AMPLE = 10**12
@@ -118,10 +119,10 @@ class Rules(unittest.TestCase):
 
 class Scenarios(unittest.TestCase):
     def test_are_told_as_the_rules_say(self):
-        self.assertEqual((CRATE / "stdout").read_text(encoding="utf-8"), wanted())
+        self.assertEqual(behind_answers(), wanted())
 
 
-@unittest.skipUnless(PROGRAM.exists(), "the program `growing` isn't built")
+@unittest.skipUnless(PROGRAM.exists(), "the program `conformance` isn't built")
 @unittest.skipUnless(sys.platform == "linux" and growths.compiler(), "there is no C compiler, or no glibc")
 class Calls(unittest.TestCase):
     @classmethod

@@ -15,7 +15,7 @@ from versions import canonical
 TOOLS = Path(__file__).resolve().parent.parent
 sys.path.insert(0, str(TOOLS))
 
-from conformance_rows import CRATE, printed_lines, printed_rows  # noqa: E402  (it stands in tools/)
+from conformance_rows import lines_with_answers, printed_lines, printed_rows  # noqa: E402  (it stands in tools/)
 
 VERSIONS, REQUIREMENTS = "versions_table.py", "requirements_table.py"
 DEBIAN = "/usr/bin/python3"
@@ -45,7 +45,7 @@ def is_read(read, text):
 
 class Rows(unittest.TestCase):
     def test_each_has_its_answer(self):
-        questions, answers = ((CRATE / name).read_text(encoding="ascii").split("\n") for name in ("stdin", "stdout"))
+        questions, answers = lines_with_answers()
         self.assertEqual(len(questions), len(answers))
         for question, answer in zip(questions, answers):
             if question == "" or question.startswith("#"):

@@ -1,5 +1,6 @@
-//! `conformance`: what the public calls of the libraries answer to the rows of standard input, a line for
-//! each row. README.md says how rows are written.
+//! `conformance`: what public calls of the libraries answer. It answers each row of standard input with a
+//! line, and then plays the scenarios that the words of the command line are. README.md says how rows and
+//! scenarios are written.
 #![tactic(auto)]
 
 mod answers;
@@ -17,6 +18,7 @@ mod notation;
 mod problem_rows;
 mod requirement_rows;
 mod saved_rows;
+mod scenarios;
 mod session_rows;
 mod short_form;
 mod specifier_rows;
@@ -29,10 +31,11 @@ use crate::answers::answer_to;
 use crate::background::Background;
 use std::io::{self, BufRead, BufReader};
 use std::process::ExitCode;
+use std::rt::Env;
 
 fn main(rt: HostRuntime) -> ExitCode {
-    match answer_rows(&rt) {
-        Ok(true) => ExitCode::SUCCESS,
+    match (answer_rows(&rt), play_scenarios(&rt)) {
+        (Ok(true), Some(())) => ExitCode::SUCCESS,
         _ => ExitCode::FAILURE,
     }
 }
@@ -51,4 +54,11 @@ fn answer_rows(rt: &HostRuntime) -> io::Result<bool> {
         }
     }
     Ok(are_answered)
+}
+
+/// Plays the scenarios of the command line.
+fn play_scenarios(rt: &HostRuntime) -> Option<()> {
+    let words: Vec<String> = std::env::args(rt).ok()?.collect(rt.alloc()).ok()?;
+    let mut out = rt.stdout();
+    scenarios::played(rt.alloc(), &mut out, words.as_slice().get(1..)?)
 }

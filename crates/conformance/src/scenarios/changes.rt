@@ -1,9 +1,9 @@
 // Changes.
 
-use crate::calls::play;
-use crate::clones::cloned;
-use crate::commands::edit_of;
-use crate::data::{read_indexes, state};
+use crate::scenarios::calls::play;
+use crate::scenarios::clones::cloned;
+use crate::scenarios::data::{read_indexes, state};
+use crate::scenarios::told_commands::edit_of;
 use edits::{Change, State};
 use journal::Plain;
 use std::alloc::{AllocError, Global};

@@ -1,6 +1,6 @@
 // A call in which growths of memory may be refused.
 
-use crate::told::Told;
+use crate::scenarios::told::Told;
 use edits::Refusal;
 use std::alloc::Global;
 use std::fmt::Display;

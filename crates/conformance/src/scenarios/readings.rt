@@ -1,7 +1,7 @@
 // Readings of texts.
 
-use crate::calls::{play, surely};
-use crate::data::{self, ENVIRONMENT, LINES, index_text};
+use crate::scenarios::calls::{play, surely};
+use crate::scenarios::data::{self, ENVIRONMENT, LINES, index_text};
 use edits::{Environment, Line, Name, ReqFile, Snapshot};
 use pep440::{SpecifierSet, Version};
 use pep508::Marker;

@@ -1,38 +1,26 @@
-//! `growing`: library calls in which growths of memory may be refused, each with what stands before and
-//! behind it. A preloaded library refuses; the words of the command line are the scenarios.
-#![tactic(auto)]
+// Scenarios: library calls in which growths of memory may be refused, each with what stands before and
+// behind it. A preloaded library refuses them.
 
 mod calls;
 mod changes;
 mod clones;
-mod commands;
 mod data;
 mod histories;
 mod readings;
 mod sessions;
 mod states;
 mod told;
+mod told_commands;
 
 use std::alloc::Global;
 use std::io::Write;
-use std::process::ExitCode;
 
-fn main(rt: HostRuntime) -> ExitCode {
-    let mut out = rt.stdout();
-    match played(&rt, &mut out) {
-        Some(()) => ExitCode::SUCCESS,
-        None => ExitCode::FAILURE,
-    }
-}
-
-/// Plays the scenario of each word in turn.
-fn played<R: std::rt::Env + AllocGlobal, W: Write>(rt: &R, out: &mut W) -> Option<()> {
-    let words = std::env::args(rt).ok()?.collect(rt.alloc()).ok()?;
-    let words: Vec<String> = words;
-    for word in words.as_slice().get(1..)? {
-        out.write_all(word.as_bytes()).ok()?;
+/// Plays each scenario in turn, behind a line that names it.
+pub fn played<W: Write>(alloc: Global, out: &mut W, scenarios: &[String]) -> Option<()> {
+    for scenario in scenarios {
+        out.write_all(scenario.as_bytes()).ok()?;
         out.write_all(b"\n").ok()?;
-        play(rt.alloc(), out, word.as_str())?;
+        play(alloc, out, scenario.as_str())?;
     }
     Some(())
 }

@@ -1,6 +1,6 @@
 // Commands as they are told: `add d/undo` for two of them.
 
-use crate::data::Indexes;
+use crate::scenarios::data::Indexes;
 use edits::Edit;
 use journal::Command;
 use lists::{Seq, Text};

@@ -1,8 +1,8 @@
 // Sessions: one command, several, and their files.
 
-use crate::calls::{play, surely};
-use crate::commands::{BEFORE, all_commands, commands_of};
-use crate::data::{self, Indexes, read_indexes};
+use crate::scenarios::calls::{play, surely};
+use crate::scenarios::data::{self, Indexes, read_indexes};
+use crate::scenarios::told_commands::{BEFORE, all_commands, commands_of};
 use journal::{Command, Learning, Session};
 use std::alloc::Global;
 use std::io::Write;

@@ -1,9 +1,9 @@
 // States and the problems of their edits.
 
-use crate::calls::{play, surely};
-use crate::commands::edit_of;
-use crate::data::{read_indexes, state};
-use crate::told::Told;
+use crate::scenarios::calls::{play, surely};
+use crate::scenarios::data::{read_indexes, state};
+use crate::scenarios::told::Told;
+use crate::scenarios::told_commands::edit_of;
 use edits::{Edit, Snapshot, State, problem_after};
 use journal::Learning;
 use resolve::{Problem, check};

@@ -1,8 +1,8 @@
 // Histories of whole states.
 
-use crate::calls::{play, surely};
-use crate::commands::{BEFORE, all_commands, commands_of};
-use crate::data::{read_indexes, state};
+use crate::scenarios::calls::{play, surely};
+use crate::scenarios::data::{read_indexes, state};
+use crate::scenarios::told_commands::{BEFORE, all_commands, commands_of};
 use journal::{Plain, WholeHistory};
 use std::alloc::Global;
 use std::io::Write;

@@ -1,8 +1,8 @@
 // Clones.
 
-use crate::calls::play;
-use crate::data::{read_indexes, state};
-use crate::told::Told;
+use crate::scenarios::calls::play;
+use crate::scenarios::data::{read_indexes, state};
+use crate::scenarios::told::Told;
 use edits::{FileEntry, Requirement};
 use pep440::{SpecifierSet, Version};
 use std::alloc::Global;
