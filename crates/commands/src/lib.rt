@@ -3,6 +3,14 @@
 //! `batch` reads commands from a `Source`, one a line, does them on a session, and writes the reply to
 //! each to a `Sink`. `request` reads the words of a command line, by `clap`, into a subcommand with its
 //! texts and the files that it needs.
+//!
+//! What the words of a command line ask for:
+//!
+//! ```rust
+//! let words = ["reqlock", "--dir", "web", "undo"];
+//! let asked = request(alloc, &words)?;
+//! Ok(asked.dir == "web" && matches!(asked.subcommand, Subcommand::Undo))
+//! ```
 #![tactic(auto)]
 
 pub mod batch;

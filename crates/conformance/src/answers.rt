@@ -4,9 +4,9 @@ use crate::background::Background;
 use crate::batch_rows::{self, Case};
 use crate::notation::{expanded, shown};
 use crate::{
-    command_rows, conflicts, environment_rows, index_rows, line_rows, lock_rows, marker_rows,
-    problem_rows, requirement_rows, saved_rows, session_rows, specifier_rows, table_rows,
-    version_rows,
+    command_rows, conflicts, environment_rows, examples, index_rows, line_rows, lock_rows,
+    marker_rows, problem_rows, requirement_rows, saved_rows, session_rows, specifier_rows,
+    table_rows, version_rows,
 };
 use std::alloc::Global;
 
@@ -134,6 +134,7 @@ fn of_locks(
         "table" => table_rows::searched(alloc, texts),
         "far table" => table_rows::learned(alloc, texts),
         "recorded" => table_rows::recorded(alloc, texts),
+        "example" => examples::example(alloc, first),
         _ => of_histories(alloc, background, kind, texts),
     }
 }

@@ -10,6 +10,7 @@ mod command_rows;
 mod confirmations;
 mod conflicts;
 mod environment_rows;
+mod examples;
 mod index_rows;
 mod line_rows;
 mod lock_rows;

@@ -4,7 +4,7 @@
 mod calls;
 mod changes;
 mod clones;
-mod data;
+pub mod data;
 mod histories;
 mod readings;
 mod sessions;

@@ -1,4 +1,13 @@
 //! States of a requirements file with its lock, and the edits that lead from one to the next.
+//!
+//! An edit of a state over an index, and the change that takes it back:
+//!
+//! ```rust
+//! let line = Text::copy_of(alloc, "d  # new")?;
+//! let edited = edit(alloc, state, &Edit::Add(line), index, &Learning)?;
+//! let back = edited.change.inverse(alloc)?;
+//! Ok(back.apply(alloc, &edited.state)?.is_some())
+//! ```
 #![tactic(auto)]
 
 mod adding;

@@ -2,6 +2,16 @@
 //!
 //! A history is seen as the list of its states and a cursor, and each command is one step of it.
 //! Each lock in it is the best solution of its lines, by whatever resolver it was found.
+//!
+//! A session in which an edit is undone:
+//!
+//! ```rust
+//! let mut session = Session::init(alloc, lines, environment, index, &Learning)?;
+//! let add = Edit::Add(Text::copy_of(alloc, "d  # new")?);
+//! let added = session.apply(alloc, &Command::Edit(add, index), &Learning);
+//! let undone = session.apply(alloc, &Command::Undo, &Learning);
+//! Ok(added == Reply::Done(1) && undone == Reply::Done(0))
+//! ```
 #![tactic(auto)]
 
 mod change_history;

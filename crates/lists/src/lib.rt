@@ -2,6 +2,14 @@
 //!
 //! `Text` holds a `String` and `Seq<T>` a `Vec<T>`. In a clause each of them is the list of its
 //! contents, so two values are equal where their contents are, whatever their capacities.
+//!
+//! A text that grows, and what stands before its trailing spaces:
+//!
+//! ```rust
+//! let mut line = Text::copy_of(alloc, "flask")?;
+//! line.push_str(">=2 \t")?;
+//! Ok(trim_end(line.as_str()) == "flask>=2")
+//! ```
 #![tactic(auto)]
 
 mod copying;

@@ -1,4 +1,12 @@
 //! Names, environments and their markers (PEP 503, PEP 508, PEP 685).
+//!
+//! Whether a marker holds in an environment, with an extra:
+//!
+//! ```rust
+//! let marker = Marker::parse(alloc, "os_name == 'posix' and extra == 'Web_UI'")?;
+//! let extra = Name::parse(alloc, "web.ui")?;
+//! Ok(marker.holds(environment, Some(&extra)))
+//! ```
 #![tactic(auto)]
 
 mod comparison;

@@ -1,4 +1,12 @@
 //! Versions and version specifiers of Python packages, after PEP 440.
+//!
+//! Whether a set of specifiers matches a version:
+//!
+//! ```rust
+//! let version = Version::parse(alloc, "3.12.1rc1")?;
+//! let set = SpecifierSet::parse(alloc, ">=3.8,!=3.9.*")?;
+//! Ok(version.is_pre() && set.matches(&version))
+//! ```
 #![tactic(auto)]
 
 mod display;

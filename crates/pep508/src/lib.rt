@@ -1,4 +1,11 @@
 //! Dependency specifiers (PEP 508): requirements, and the lines of a requirements file.
+//!
+//! What a line asks for, and whether it counts in an environment:
+//!
+//! ```rust
+//! let wanted = Requirement::parse(alloc, "Flask[async]>=2 ; python_version >= '3.9'")?;
+//! Ok(wanted.name().normal() == "flask" && wanted.is_active(environment))
+//! ```
 #![tactic(auto)]
 
 mod cuts;

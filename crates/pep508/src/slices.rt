@@ -51,19 +51,20 @@ impl Slices<'_> {
         ensures { IfOk result
             (λ text. text ≡ spec.joined (spec.with_version version.now self.now)) }
     {
-        let mut text = Text::new(alloc);
-        text.push_str(self.lead)?;
-        text.push_str(self.name)?;
-        text.push_str(self.gap1)?;
-        text.push_str(self.extras)?;
-        text.push_str(self.gap2)?;
-        text.push_str(version)?;
-        text.push_str(self.gap3)?;
-        text.push_str(self.marker)?;
-        text.push_str(self.gap4)?;
-        text.push_str(self.comment)?;
-        text.push_str(self.end)?;
-        Ok(text)
+        let parts = [
+            self.lead,
+            self.name,
+            self.gap1,
+            self.extras,
+            self.gap2,
+            version,
+            self.gap3,
+            self.marker,
+            self.gap4,
+            self.comment,
+            self.end,
+        ];
+        Ok(Text::from_string(parts.concat(alloc)?))
     }
 }
 

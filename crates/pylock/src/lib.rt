@@ -1,4 +1,11 @@
 //! The lock file `pylock.toml` (PEP 751): typed locks, and the TOML table of each.
+//!
+//! A lock and its entries, whose names rise:
+//!
+//! ```rust
+//! let lock = Lock::read(alloc, bytes)?;
+//! Ok(rises(lock.entries()))
+//! ```
 #![tactic(auto)]
 
 mod checks;

@@ -1,4 +1,15 @@
 //! The problem of a lock, and what resolves it: the best solution, or that there is none.
+//!
+//! Why lines have no solution over an index, where they have none:
+//!
+//! ```rust
+//! let problem = Problem::new(alloc, lines, environment, index, BTreeMap::new(alloc))?;
+//! match Learning.refute(alloc, &problem)? {
+//!     Some(refutation) => Ok(check(&problem, &refutation)),
+//!     // There is a solution.
+//!     None => Ok(true),
+//! }
+//! ```
 #![tactic(auto)]
 
 mod admission;

@@ -1,4 +1,15 @@
 //! The index: the releases that a lock may choose from, read from a JSON snapshot.
+//!
+//! An index, and what it leaves out:
+//!
+//! ```rust
+//! let index = Snapshot::read(alloc, bytes)?;
+//! match index.skipped() {
+//!     // What was left out: of which package, at which place, and why.
+//!     [skipped, ..] => Ok(skipped.package().normal() == "x" && skipped.place() == 1),
+//!     [] => Ok(false),
+//! }
+//! ```
 #![tactic(auto)]
 
 mod chosen;

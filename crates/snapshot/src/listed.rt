@@ -28,13 +28,24 @@ pub(crate) struct Listed {
 }
 
 /// What an object has at the keys of a release.
-#[derive(Drop)]
 struct ListedValues {
     version: Option<Value>,
     requires_python: Option<Value>,
     requires_dist: Option<Value>,
     yanked: Option<Value>,
     files: Option<Value>,
+}
+
+impl Drop for ListedValues {
+    fn drop(self) {
+        let ListedValues {
+            version: _,
+            requires_python: _,
+            requires_dist: _,
+            yanked: _,
+            files: _,
+        } = self;
+    }
 }
 
 /// What an object has at the keys of a release, which it gives up.
@@ -77,19 +88,17 @@ fn listed_values(alloc: Global, object: Value) -> Result<ListedValues, Fault>
 pub(crate) fn listed_of(alloc: Global, value: Value) -> Result<Listed, Fault>
     ensures { Gives (λ r. r) (listed_of (view value)) result }
 {
-    let ListedValues {
-        version,
-        requires_python,
-        requires_dist,
-        yanked,
-        files,
-    } = listed_values(alloc, value)?;
-    let version = text_of(alloc, "version", version)?;
-    let requires_python = optional_text_of(alloc, "requires_python", requires_python)?;
-    let dependencies = optional_items_of(alloc, "requires_dist", requires_dist)?;
+    let mut values = listed_values(alloc, value)?;
+    let version = text_of(alloc, "version", values.version.take())?;
+    let requires_python = optional_text_of(
+        alloc,
+        "requires_python",
+        values.requires_python.take(),
+    )?;
+    let dependencies = optional_items_of(alloc, "requires_dist", values.requires_dist.take())?;
     let requires_dist = below_key(alloc, "requires_dist", texts_of(alloc, dependencies))?;
-    let yanked = flag_of(alloc, "yanked", yanked)?;
-    let listed = items_of(alloc, "files", files)?;
+    let yanked = flag_of(alloc, "yanked", values.yanked.take())?;
+    let listed = items_of(alloc, "files", values.files.take())?;
     let files = below_key(alloc, "files", files_of(alloc, listed))?;
     Ok(Listed {
         version,

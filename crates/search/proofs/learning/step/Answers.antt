@@ -1,4 +1,4 @@
-use Rattle.std.proofs.Common.{ℕ, List, ◌≡◌, ◌∙◌, ◌<◌, length, get_or, sym, ap, subst, arith}
+use Rattle.std.proofs.Common.{ℕ, List, ◌≡◌, ◌∙◌, ◌<◌, length, get_or, sym, ap, subst, arith, rules}
 use Rattle.lists.proofs.Members.{get_or-any}
 use Rattle.search.proofs.Learns.{trial-known, leads-first, learned-push}
 use Rattle.search.specs.declared.trial.Trial.{Trial}
@@ -25,3 +25,6 @@ onward-requires-clause-learned c =
     (subst (λ (x : Trial). x.turn < length (candidates_of t (name_of t x.node))) (sym both.0) (subst (λ (xs : List ℕ). old.turn < length xs) same within))
     (subst (λ (x : Trial). get_or (candidates_of t (name_of t x.node)) x.turn place ≡ place) (sym both.0) (subst (λ (xs : List ℕ). get_or xs old.turn place ≡ place) same (get_or-any c.candidates-candidates.result.now old.turn place 0 within)))
     (subst (λ (x : Trial). FitsBefore (rules_of t) c.args.partial.now.held.items (decision x.node place)) (sym both.0) both.1)
+
+pub returns-then-branch-clause-stands : goal.returns-then-branch-clause-stands
+returns-then-branch-clause-stands c = search rules

@@ -1,4 +1,4 @@
-use Rattle.std.proofs.Common.{ℕ, Option, List, ◌<◌, ◌≡◌, [], sym, ◌∙◌, ap, subst, length}
+use Rattle.std.proofs.Common.{ℕ, Option, List, ◌<◌, ◌≡◌, [], sym, ◌∙◌, ap, subst, length, rules}
 use Rattle.std.specs.Ordering.{nat_cmp}
 use Rattle.lists.proofs.Members.{Contains-nil}
 use Rattle.search.proofs.Stack.{search-best}
@@ -84,3 +84,6 @@ search-preserved c = record {
     same = λ n. c.in_ok-front-in-Refuted.ensures.same n ∙ ap (λ (fs : List Frame). version_pinned nat_cmp (pins_of fs) n) c.as_slice-in-Refuted.ensures.value;
   };
 }
+
+pub returns-then-not-branch-clause-best : goal.returns-then-not-branch-clause-best
+returns-then-not-branch-clause-best c = search rules

@@ -1,4 +1,5 @@
-use Rattle.std.proofs.Common.{◌<◌, ◌∙◌, sym, subst, get_or}
+use Rattle.std.proofs.Common.{◌<◌, ◌∙◌, sym, subst, get_or, arith}
+use Rattle.std.proofs.lemmas.Grind.{common_steps}
 use Rattle.lists.proofs.Members.{get_or-any}
 use Rattle.search.proofs.Ranges.{at-member}
 use Rattle.search.proofs.TakenFacts.{first-more}
@@ -19,3 +20,6 @@ loop-frame-preserved c =
       room = c.take_frame.ensures.room ∙ c.loop-frame.invariant.room;
       same = first-more c.loop-frame.taken.items c.take_frame.new.taken.items c.args.frames.now c.loop-frame.frame-index f c.loop-frame-test.true (get_or-any c.args.frames.now c.loop-frame.frame-index zero f c.loop-frame-test.true) c.take_frame.ensures c.loop-frame.invariant.same;
     }
+
+pub loop-frame-init : goal.loop-frame-init
+loop-frame-init c = grind (arith, common_steps)

@@ -1,0 +1,122 @@
+// The examples at the heads of the libraries: the body of `of_NAME` stands in `lib.rt` of NAME.
+
+use crate::scenarios::data;
+use commands::request::{RequestFault, Subcommand, request};
+use edits::{Edit, Refusal, State, edit};
+use journal::{Command, Reply, Session};
+use lists::{Text, trim_end};
+use markers::{Environment, Marker, Name};
+use pep440::{SpecifierSet, Version};
+use pep508::{ReqFile, Requirement};
+use pylock::{Lock, rises};
+use resolve::{Learning, Problem, check};
+use snapshot::Snapshot;
+use std::alloc::{AllocError, Global};
+use std::collections::BTreeMap;
+
+/// Whether the example of a library comes out true.
+pub fn example(alloc: Global, library: &str) -> Option<String> {
+    let is_true = match library {
+        "lists" => of_lists(alloc).ok()?,
+        "pep440" => of_pep440(alloc).ok()?,
+        "markers" => of_markers(alloc, &data::environment(alloc)?).ok()?,
+        "pep508" => of_pep508(alloc, &data::environment(alloc)?).ok()?,
+        "snapshot" => of_snapshot(alloc, data::index_text(alloc)?.as_bytes()).ok()?,
+        "commands" => of_commands(alloc).ok()?,
+        _ => of_states(alloc, library)?,
+    };
+    format!(in alloc; "{is_true}").ok()
+}
+
+/// Whether the example of a library over an index comes out true.
+fn of_states(alloc: Global, library: &str) -> Option<bool> {
+    let index = data::read_indexes(alloc)?;
+    let state = data::state(alloc, &index)?;
+    match library {
+        "resolve" => of_resolve(alloc, state.lines(), state.environment(), &index.now).ok(),
+        "pylock" => of_pylock(alloc, state.lock().print(alloc).ok()?.as_bytes()).ok(),
+        "edits" => of_edits(alloc, &state, &index.now).ok(),
+        "journal" => {
+            let environment = data::environment(alloc)?;
+            of_journal(alloc, data::lines(alloc)?, environment, &index.now).ok()
+        }
+        _ => None,
+    }
+}
+
+fn of_lists(alloc: Global) -> Result<bool, AllocError> {
+    let mut line = Text::copy_of(alloc, "flask")?;
+    line.push_str(">=2 \t")?;
+    Ok(trim_end(line.as_str()) == "flask>=2")
+}
+
+fn of_pep440(alloc: Global) -> Result<bool, pep440::Fault> {
+    let version = Version::parse(alloc, "3.12.1rc1")?;
+    let set = SpecifierSet::parse(alloc, ">=3.8,!=3.9.*")?;
+    Ok(version.is_pre() && set.matches(&version))
+}
+
+fn of_markers(alloc: Global, environment: &Environment) -> Result<bool, markers::Fault> {
+    let marker = Marker::parse(alloc, "os_name == 'posix' and extra == 'Web_UI'")?;
+    let extra = Name::parse(alloc, "web.ui")?;
+    Ok(marker.holds(environment, Some(&extra)))
+}
+
+fn of_pep508(alloc: Global, environment: &Environment) -> Result<bool, pep508::Fault> {
+    let wanted = Requirement::parse(alloc, "Flask[async]>=2 ; python_version >= '3.9'")?;
+    Ok(wanted.name().normal() == "flask" && wanted.is_active(environment))
+}
+
+fn of_snapshot(alloc: Global, bytes: &[u8]) -> Result<bool, snapshot::Fault> {
+    let index = Snapshot::read(alloc, bytes)?;
+    match index.skipped() {
+        // What was left out: of which package, at which place, and why.
+        [skipped, ..] => Ok(skipped.package().normal() == "x" && skipped.place() == 1),
+        [] => Ok(false),
+    }
+}
+
+fn of_resolve(
+    alloc: Global,
+    lines: &ReqFile,
+    environment: &Environment,
+    index: &Snapshot,
+) -> Result<bool, AllocError> {
+    let problem = Problem::new(alloc, lines, environment, index, BTreeMap::new(alloc))?;
+    match Learning.refute(alloc, &problem)? {
+        Some(refutation) => Ok(check(&problem, &refutation)),
+        // There is a solution.
+        None => Ok(true),
+    }
+}
+
+fn of_pylock(alloc: Global, bytes: &[u8]) -> Result<bool, pylock::Fault> {
+    let lock = Lock::read(alloc, bytes)?;
+    Ok(rises(lock.entries()))
+}
+
+fn of_edits(alloc: Global, state: &State, index: &Snapshot) -> Result<bool, Refusal> {
+    let line = Text::copy_of(alloc, "d  # new")?;
+    let edited = edit(alloc, state, &Edit::Add(line), index, &Learning)?;
+    let back = edited.change.inverse(alloc)?;
+    Ok(back.apply(alloc, &edited.state)?.is_some())
+}
+
+fn of_journal(
+    alloc: Global,
+    lines: ReqFile,
+    environment: Environment,
+    index: &Snapshot,
+) -> Result<bool, Refusal> {
+    let mut session = Session::init(alloc, lines, environment, index, &Learning)?;
+    let add = Edit::Add(Text::copy_of(alloc, "d  # new")?);
+    let added = session.apply(alloc, &Command::Edit(add, index), &Learning);
+    let undone = session.apply(alloc, &Command::Undo, &Learning);
+    Ok(added == Reply::Done(1) && undone == Reply::Done(0))
+}
+
+fn of_commands(alloc: Global) -> Result<bool, RequestFault> {
+    let words = ["reqlock", "--dir", "web", "undo"];
+    let asked = request(alloc, &words)?;
+    Ok(asked.dir == "web" && matches!(asked.subcommand, Subcommand::Undo))
+}

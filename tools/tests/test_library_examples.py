@@ -1,0 +1,45 @@
+"""Tests that the examples at the heads of the libraries are those that the crate conformance runs."""
+
+import re
+import textwrap
+import unittest
+from pathlib import Path
+
+CRATES = Path(__file__).resolve().parent.parent.parent / "crates"
+CONFORMANCE = CRATES / "conformance"
+
+
+def head_of(library):
+    """The example in the comment at the head of a library; None where it has none."""
+    lines = []
+    for line in (CRATES / library / "src/lib.rt").read_text(encoding="utf-8").splitlines():
+        if not line.startswith("//!"):
+            break
+        lines.append(line.removeprefix("//!").removeprefix(" "))
+    found = re.search(r"^```rust\n(.*?)^```$", "\n".join(lines), re.DOTALL | re.MULTILINE)
+    return found and found[1]
+
+
+def bodies():
+    """The body of each example that conformance has, by the library's name."""
+    source = (CONFORMANCE / "src/examples.rt").read_text(encoding="utf-8")
+    found = re.findall(r"^fn of_(\w+)\b[^{]*\{\n(.*?)^\}", source, re.DOTALL | re.MULTILINE)
+    return {name: textwrap.dedent(body) for name, body in found if name != "states"}
+
+
+class Examples(unittest.TestCase):
+    def test_are_those_that_are_run(self):
+        ran = bodies()
+        self.assertEqual(len(ran), 10)
+        for library, body in ran.items():
+            self.assertEqual(head_of(library), body, library)
+
+    def test_come_out_true(self):
+        rows = (CONFORMANCE / "stdin").read_text(encoding="utf-8").splitlines()
+        answers = (CONFORMANCE / "stdout").read_text(encoding="utf-8").splitlines()
+        answered = {row: answers[place] for place, row in enumerate(rows) if row.startswith("example | ")}
+        self.assertEqual(answered, {f"example | {library}": "true" for library in bodies()})
+
+
+if __name__ == "__main__":
+    unittest.main()
