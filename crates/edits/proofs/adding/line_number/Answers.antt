@@ -1,5 +1,6 @@
-use Rattle.std.proofs.Common.{rules}
+use Rattle.std.proofs.Common.{arith}
+use Rattle.std.proofs.lemmas.Grind.{common_steps}
 use Rattle.edits.proofs.adding.line_number.Goals as goal
 
 pub returns-then-is_on : goal.returns-then-is_on
-returns-then-is_on c = search rules
+returns-then-is_on c = grind (arith, common_steps)

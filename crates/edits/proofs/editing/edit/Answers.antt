@@ -1,4 +1,4 @@
-use Rattle.std.proofs.Common.{inr, refl}
+use Rattle.std.proofs.Common.{inr, refl, rules}
 use Rattle.edits.proofs.EditFacts.{IsAccepted, changes, not-so, nothing-changes}
 use Rattle.edits.proofs.editing.edit.Goals as goal
 
@@ -19,3 +19,6 @@ returns-clause-ok g c =
     let locked = rw (c.in_ok-environment.ensures.cases, c.environment.ensures) at c.in_ok-edited.ensures.ok.0 in
     changes c.args.state.now c.in_ok-edited.edited c.args.edit.now c.args.snapshot.now c.in_ok-lines.lines c.in_ok-kept.kept.entries accepted locked
     (λ lines lock. not-so (c.if-has_same.ensures.1 (lines, lock)))
+
+pub returns-in_err-edited-clause-err : goal.returns-in_err-edited-clause-err
+returns-in_err-edited-clause-err g c = search rules

@@ -1,4 +1,5 @@
-use Rattle.std.proofs.Common.{◌<◌, ℕ, List, length, subst}
+use Rattle.std.proofs.Common.{◌<◌, ℕ, List, length, subst, arith}
+use Rattle.std.proofs.lemmas.Grind.{common_steps}
 use Rattle.search.specs.Table.{name_of}
 use Rattle.resolve.specs.Problem.{releases_on}
 use Rattle.resolve.proofs.Solving.{name-read}
@@ -13,3 +14,6 @@ version_at-requires c =
     subst (λ name. c.args.decision.version < length (releases_on c.args.question.now name))
     (name-read names number c.index-as_slice-name_of.result within (rw (c.as_slice.ensures, c.name_of.ensures.name) at c.index-as_slice-name_of.is))
     (c.requires.pictured.within number c.args.decision.version c.requires.known.1)
+
+pub returns : goal.returns
+returns c = grind (arith, common_steps)

@@ -1,4 +1,4 @@
-use Rattle.std.proofs.Common.{◌∙◌, sym}
+use Rattle.std.proofs.Common.{◌∙◌, sym, rules}
 use Rattle.resolve.proofs.OnWay.{placed-followed, placed-waiting}
 use Rattle.resolve.proofs.walking.place.Goals as goal
 
@@ -12,3 +12,6 @@ returns-in_ok-follow_all-in-Some c =
     let some = rw (c.in-Some.is, c.name.ensures) at c.get.ensures.value in
     λ _. placed-followed c.args.question.now c.args.taken.now.entries c.args.waiting.now.entries c.args.followed.now c.follow_all.new.followed c.args.wanted.now c.in-Some.version.now c.args.asks.now c.follow_all.new.asks (sym some)
     (sym c.admits.ensures ∙ c.if-not-admits.false) c.in_ok-follow_all-in-Some.ensures
+
+pub returns-then-not-admits : goal.returns-then-not-admits
+returns-then-not-admits c = search rules

@@ -1,5 +1,5 @@
 use Rattle.std.proofs.Common.{rules}
-use Rattle.edits.proofs.upgrading.not_locked.Goals as goal
+use Rattle.resolve.proofs.choice.order.ChoiceOrd.cmp.Goals as goal
 
 pub returns : goal.returns
 returns c = search rules
