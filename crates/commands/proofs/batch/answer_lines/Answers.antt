@@ -1,3 +1,4 @@
+use Rattle.std.proofs.Common.{rules}
 use Rattle.std.proofs.lemmas.Result.{err_from_is_err_and}
 use Rattle.commands.proofs.Batches.{ends_in_reading, ends_in_writing, reads_piece}
 use Rattle.commands.proofs.batch.answer_lines.Goals as goal
@@ -14,3 +15,9 @@ returns-in_err-answer_piece-clause-left g c =
     let p = err_from_is_err_and c.from_residual.result c.from_residual.ensures.1 in
     rw (p.1, p.2, c.in_err-answer_piece.ensures.fault.0)
     (ends_in_writing _ _ _ _ c.pieces.pending _ _ _ _ c.pieces.invariant c.in-Ok.ensures.bytes c.in_err-answer_piece.ensures.breaks)
+
+pub returns-then-count-eq0-clause-fault : goal.returns-then-count-eq0-clause-fault
+returns-then-count-eq0-clause-fault g c = search rules
+
+pub returns-then-count-eq0-clause-left : goal.returns-then-count-eq0-clause-left
+returns-then-count-eq0-clause-left g c = search rules

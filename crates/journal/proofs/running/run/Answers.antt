@@ -1,4 +1,5 @@
 use Rattle.std.proofs.Common.{arith}
+use Rattle.std.proofs.lemmas.Grind.{common_steps}
 use Rattle.journal.specs.Commands.{asked_of}
 use Rattle.journal.proofs.Runs.{Run-more}
 use Rattle.journal.proofs.running.run.Goals as goal
@@ -10,3 +11,6 @@ loop-command-preserved g c = record {
   len = omega arith;
   room = omega arith;
 }
+
+pub returns-clause-run : goal.returns-clause-run
+returns-clause-run g c = grind (arith, common_steps)

@@ -1,4 +1,4 @@
-use Rattle.std.proofs.Common.{◌≡◌, ◌+◌, ◌<◌, length, Some, arith, refl, sym}
+use Rattle.std.proofs.Common.{◌≡◌, ◌+◌, ◌<◌, length, Some, arith, refl, sym, rules}
 use Rattle.std.proofs.lemmas.Option.{slice_get_read}
 use Rattle.std.specs.Prelude.{slice_get}
 use Rattle.journal.specs.Neighbours.{states_of}
@@ -38,3 +38,12 @@ returns-clause-redone c =
     let whole = AreSteps-count states c.self.inside.changes.items c.self.invariant.steps in
     let follows : c.self.inside.cursor + 1 < length states = omega (arith, within, whole) in
     rw (sym c.self.view_is) (follows, λ i. record { states = moved.same i; cursor = c.self.inside.cursor + 1 })
+
+pub invariant_of-self : goal.invariant_of-self
+invariant_of-self c = search rules
+
+pub returns-then-self-count-clause-kept : goal.returns-then-self-count-clause-kept
+returns-then-self-count-clause-kept c = search rules
+
+pub returns-in_err-carry-clause-kept : goal.returns-in_err-carry-clause-kept
+returns-in_err-carry-clause-kept c = search rules
