@@ -1,11 +1,14 @@
 -- Lists of what is asked for.
 use Rattle.std.proofs.Common.{◌≡◌, ◌∙◌, ℕ, zero, suc, ◌+◌, ◌<◌, Bool, true, false, List, [], ◌∷◌, ◌++◌, filter, get_or, length, map, take, arith, refl, ap, sym, append_assoc, append-nil}
 use Rattle.std.proofs.lemmas.List.{map-append, take_more}
-use Rattle.resolve.proofs.Growing.{filter-next}
+use Rattle.std.proofs.lemmas.List.Elements.{filter-append}
 
 -- one more of what is taken over
 pub taken-more : {A : Type 0} (mid new xs : List A) (place : ℕ) (x : A) → place < length xs → x ≡ get_or xs place x → mid ≡ take place xs → new ≡ mid ++ x ∷ [] → new ≡ take (place + 1) xs
 taken-more mid new xs place x within is front pushed = pushed ∙ ap (λ ys. ys ++ x ∷ []) front ∙ ap (λ y. take place xs ++ y ∷ []) is ∙ sym (take_more xs place x within)
+
+filter-next : {A : Type 0} (test : A → Bool) (xs : List A) (place : ℕ) (x : A) → place < length xs → x ≡ get_or xs place x → filter test (take (place + 1) xs) ≡ filter test (take place xs) ++ filter test (x ∷ [])
+filter-next test xs place x within is = ap (filter test) (take_more xs place x within) ∙ filter-append test (take place xs) (get_or xs place x ∷ []) ∙ ap (λ y. filter test (take place xs) ++ filter test (y ∷ [])) (sym is)
 
 -- one more that counts
 pub counted-kept : {A : Type 0} (test : A → Bool) (old mid new xs : List A) (place : ℕ) (x : A) → place < length xs → x ≡ get_or xs place x → test x ≡ true → mid ≡ old ++ filter test (take place xs) → new ≡ mid ++ x ∷ []

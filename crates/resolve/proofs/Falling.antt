@@ -11,9 +11,9 @@ use Rattle.pep440.specs.Tied.OrderLaws.{version_total}
 use Rattle.pep440.specs.Version.{VersionParts}
 use Rattle.snapshot.specs.Release.{Release}
 use Rattle.snapshot.specs.Releases.{newer_cmp}
-use Rattle.resolve.specs.Admission.{has_version}
+use Rattle.problems.specs.Admission.{has_version}
+use Rattle.problems.specs.Refutations.{same_version}
 use Rattle.resolve.specs.Places.{version_at}
-use Rattle.resolve.specs.Refutations.{same_version}
 
 -- what each element of a list meets, the one at a place meets
 met-at : (P : Release → Type 0) (rs : List Release) (place : ℕ) (r : Release) → AllByRecursion P rs → slice_get rs place ≡ Some r → P r

@@ -14,15 +14,15 @@ use Rattle.lists.proofs.Members.{Contains-cons_cases, Contains-filter, Contains-
 use Rattle.pep440.specs.Order.{version_cmp}
 use Rattle.pep440.specs.Version.{VersionParts}
 use Rattle.pep508.specs.Requirement.{RequirementParts}
+use Rattle.search.specs.Conflicts.{IsVersionEquality}
 use Rattle.search.specs.FirstWalk.{IsFirst}
 use Rattle.snapshot.specs.Release.{Release}
 use Rattle.snapshot.specs.Releases.{newer_cmp}
-use Rattle.resolve.specs.Admission.{admits, release_at}
+use Rattle.problems.specs.Admission.{admits, release_at}
+use Rattle.problems.specs.Problem.{ProblemParts, releases_on}
+use Rattle.problems.specs.Refutations.{same_version}
+use Rattle.problems.specs.Rules.{kept_version, preferring, rules_of, versions_of}
 use Rattle.resolve.specs.Choosing.{IsNewest, IsRefusedBy}
-use Rattle.resolve.specs.Problem.{ProblemParts, releases_on}
-use Rattle.resolve.specs.Refutations.{same_version}
-use Rattle.resolve.specs.Rules.{kept_version, preferring, rules_of, versions_of}
-use Rattle.resolve.proofs.Equals.{equal-versions}
 use Rattle.resolve.proofs.Falling.{same-itself}
 use Rattle.resolve.proofs.Preferring.{lookup-get}
 
@@ -35,8 +35,8 @@ refused-by given (wanted ∷ asks) version h = elim (cases_Bool (admits given wa
 ]
 
 -- versions that are one are admitted alike
-admit-alike : (given : ProblemParts) (asks : List RequirementParts) (v w : VersionParts) → same_version v w ≡ true → list_all (λ wanted. admits given wanted v) asks ≡ list_all (λ wanted. admits given wanted w) asks
-admit-alike given asks v w same = ap (λ test. list_all test asks) (λ i (wanted : RequirementParts). (equal-versions given).admits wanted v w same i)
+admit-alike : (given : ProblemParts) → IsVersionEquality (rules_of given) same_version → (asks : List RequirementParts) (v w : VersionParts) → same_version v w ≡ true → list_all (λ wanted. admits given wanted v) asks ≡ list_all (λ wanted. admits given wanted w) asks
+admit-alike given equal asks v w same = ap (λ test. list_all test asks) (λ i (wanted : RequirementParts). equal.admits wanted v w same i)
 
 met-by : {A : Type 0} (P : A → Type 0) (xs : List A) (x : A) → AllByRecursion P xs → Contains xs x → P x
 met-by P [] x all i = absurd (Contains-nil x i)
@@ -133,12 +133,12 @@ first-kept given name asks version some =
     }
 
 -- the kept version is refused
-pub first-behind : (given : ProblemParts) (name : List ℕ) (asks : List RequirementParts) (kept version : VersionParts) → kept_version given name ≡ Some kept → list_all (λ wanted. admits given wanted kept) asks ≡ false → IsNewest given name asks version
+pub first-behind : (given : ProblemParts) → IsVersionEquality (rules_of given) same_version → (name : List ℕ) (asks : List RequirementParts) (kept version : VersionParts) → kept_version given name ≡ Some kept → list_all (λ wanted. admits given wanted kept) asks ≡ false → IsNewest given name asks version
     → IsFirst (rules_of given) (IsRefusedBy given asks) name version
-first-behind given name asks kept version some refused n =
+first-behind given equal name asks kept version some refused n =
     let other : VersionParts → Bool = λ v. not (is_eq (version_cmp kept v)) in
     let apart : other version ≡ true = elim (cases_Bool (is_eq (version_cmp kept version))) [
-      | inl one ↦ absurd (let k : list_all (λ wanted. admits given wanted kept) asks ≡ true = admit-alike given asks kept version one ∙ n.admitted in cc)
+      | inl one ↦ absurd (let k : list_all (λ wanted. admits given wanted kept) asks ≡ true = admit-alike given equal asks kept version one ∙ n.admitted in cc)
       | inr two ↦ rw two refl
     ] in
     let here : filter other (version ∷ n.back) ≡ version ∷ filter other n.back = rw apart refl in

@@ -6,12 +6,12 @@ use Rattle.std.proofs.lemmas.Slice.Zip.{all_zipped_more}
 use Rattle.pep508.specs.Requirement.{RequirementParts}
 use Rattle.search.specs.Table.{asked_nodes}
 use Rattle.search.specs.declared.parts.Requirement.{Requirement as Entry}
-use Rattle.resolve.specs.Admission.{admits_release}
+use Rattle.problems.specs.Admission.{admits_release}
+use Rattle.problems.specs.Problem.{ProblemParts, releases_on}
+use Rattle.problems.specs.Rules.{bare, nodes_of, wants_of, with_extra}
+use Rattle.problems.specs.Standing.{AllStand, IsLonger, Stands}
+use Rattle.problems.specs.declared.node.Node.{Node}
 use Rattle.resolve.specs.Building.{AreEntries, AreWants, Gathered, IsEntry, IsGrown, IsWanted}
-use Rattle.resolve.specs.Problem.{ProblemParts, releases_on}
-use Rattle.resolve.specs.Rules.{bare, nodes_of, wants_of, with_extra}
-use Rattle.resolve.specs.Standing.{AllStand, IsLonger, Stands}
-use Rattle.resolve.specs.declared.node.Node.{Node}
 use Rattle.resolve.proofs.Standing.{AllStand-longer, AllZip-more_same, AllZip-weaker, Stands-longer, length-longer, longer-same, longer-then, take-longer}
 
 IsEntry-longer : (given : ProblemParts) (old new : List Node) → IsLonger old new → (entry : Entry) (wanted : RequirementParts) → IsEntry given old entry wanted → IsEntry given new entry wanted

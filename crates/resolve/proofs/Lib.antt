@@ -1,9 +1,6 @@
 pub mod Falling
 pub mod Preferring
-pub mod Admitting
 pub mod Standing
-pub mod Growing
-pub mod Closing
 pub mod Gathered
 pub mod Picturing
 pub mod PictureOf
@@ -14,9 +11,3 @@ pub mod Walked
 pub mod FirstAdmitted
 pub mod Asking
 pub mod OnWay
-pub mod Deciding
-pub mod Equals
-pub mod EqualChoices
-pub mod Checked
-pub mod Counting
-pub mod Grounded

@@ -1,5 +1,5 @@
 -- The first walk of a problem, over the entries of maps.
-use Rattle.std.proofs.Common.{◌≡◌, ◌≢◌, ◌⊎◌, inl, inr, ◌∙◌, ℕ, suc, ◌+◌, ◌<◌, ◌≤◌, Bool, true, false, cond, List, [], ◌∷◌, ◌++◌, Option, Some, None, Result, Ok, Err, IfOk, is_some, Contains, Ordering, drop, filter, get_or, length, length-append, map, take, arith, refl, sym, ap, subst, append_assoc, append-nil}
+use Rattle.std.proofs.Common.{◌≡◌, ◌≢◌, ◌⊎◌, inl, inr, ◌∙◌, ℕ, zero, suc, ◌+◌, ◌<◌, ◌≤◌, Bool, true, false, cond, List, [], ◌∷◌, ◌++◌, Option, Some, None, Result, Ok, Err, IfOk, is_some, Contains, Ordering, drop, filter, get_or, length, length-append, map, take, arith, refl, sym, ap, subst, append_assoc, append-nil}
 use Rattle.std.specs.BTreeMap.{BTreeMap, IsLowerBound, Updates, is_at}
 use Rattle.std.specs.Cmp.Lexicographic.{slice_cmp}
 use Rattle.std.specs.Option.{option_map_or}
@@ -10,25 +10,31 @@ use Rattle.std.proofs.lemmas.List.{drop-append-le, drop_all}
 use Rattle.pep440.specs.Version.{VersionParts}
 use Rattle.pep508.specs.Requirement.{RequirementParts}
 use Rattle.search.specs.FirstWalk.{IsFirst, IsFirstWalk, IsComplete}
+use Rattle.search.specs.Rules.{IsLawful}
 use Rattle.search.specs.Solutions.{IsBest, Pin, version_pinned}
 use Rattle.snapshot.specs.Release.{Release}
-use Rattle.resolve.specs.Admission.{admits, release_at}
-use Rattle.resolve.specs.Checking.{dependencies_at}
+use Rattle.lists.proofs.Members.{Contains-here, Contains-there}
+use Rattle.problems.specs.Admission.{admits, release_at}
+use Rattle.problems.specs.Checking.{dependencies_at}
+use Rattle.problems.specs.Problem.{ProblemParts}
+use Rattle.problems.specs.Rules.{counts, nodes_of, rules_of, wants, wants_of}
+use Rattle.problems.specs.Solutions.{version_for}
+use Rattle.problems.specs.Standing.{IsWith, Stands}
+use Rattle.problems.specs.declared.node.Node.{Node}
 use Rattle.resolve.specs.Choosing.{IsRefusedBy}
-use Rattle.resolve.specs.Problem.{ProblemParts}
-use Rattle.resolve.specs.Resolves.{version_for}
-use Rattle.resolve.specs.Rules.{counts, nodes_of, rules_of, wants, wants_of}
-use Rattle.resolve.specs.Standing.{IsWith, Stands}
 use Rattle.resolve.specs.Walking.{Follow, IsOnWay, IsPlaced, IsTurn, IsWaiting, value_at}
-use Rattle.resolve.specs.declared.node.Node.{Node}
 use Rattle.resolve.proofs.Asking.{map-more}
-use Rattle.resolve.proofs.Equals.{lawful-rules}
-use Rattle.resolve.proofs.Growing.{Contains-standing}
 use Rattle.resolve.proofs.Preferring.{lookup-get}
 use Rattle.resolve.proofs.Solving.{drop-at}
 use Rattle.resolve.proofs.Walked.{followed-none, followed-then, followed-known, followed-new, walked-complete, walked-meet, walked-start, walked-take, walked-wait}
 
 -- ---- nodes that are followed
+
+-- what stands at a place is there
+Contains-standing : (nodes : List Node) (place : ℕ) (node : Node) → Stands nodes place node → Contains nodes node
+Contains-standing [] place node stands = absurd cc
+Contains-standing (x ∷ nodes) zero node stands = let e : x ≡ node = cc in subst (λ y. Contains (x ∷ nodes) y) e (Contains-here x nodes)
+Contains-standing (x ∷ nodes) (suc place) node stands = Contains-there x nodes node (Contains-standing nodes place node stands)
 
 -- the dependencies that count at a node are what is wanted there
 pub wants-counted : (given : ProblemParts) (node : Node) (version : VersionParts) → filter (counts given.environment node.extra) (dependencies_at given node.name version) ≡ wants given node version
@@ -98,22 +104,22 @@ row-same old before rs (inr none) e = absurd (let k : Some rs ≡ None = sym e �
 
 -- ---- requirements that are placed
 
-pub placed-waiting : (given : ProblemParts) (taken : List (List ℕ × VersionParts)) (waiting waiting_new : List (List ℕ × List RequirementParts)) (followed : List Node) (wanted : RequirementParts) (asks : List RequirementParts) → value_at taken wanted.name ≡ None
+pub placed-waiting : (given : ProblemParts) → IsLawful (rules_of given) → (taken : List (List ℕ × VersionParts)) (waiting waiting_new : List (List ℕ × List RequirementParts)) (followed : List Node) (wanted : RequirementParts) (asks : List RequirementParts) → value_at taken wanted.name ≡ None
     → IsWaiting waiting waiting_new wanted → IsPlaced given taken waiting waiting_new followed followed wanted asks asks
-placed-waiting given taken waiting waiting_new followed wanted asks none w = (
+placed-waiting given lawful taken waiting waiting_new followed wanted asks none w = (
   [],
   sym (append-nil asks),
   λ left way. subst (IsOnWay given taken waiting_new followed) (sym (append-nil left))
-      (walked-wait (rules_of given) (lawful-rules given) (value_at taken) (value_at waiting) (value_at waiting_new) followed wanted left w.before way none (row-known (value_at waiting wanted.name) w.before w.row) w.updates
+      (walked-wait (rules_of given) lawful (value_at taken) (value_at waiting) (value_at waiting_new) followed wanted left w.before way none (row-known (value_at waiting wanted.name) w.before w.row) w.updates
       (λ rs e. row-same (value_at waiting wanted.name) w.before rs w.row e)),
 )
 
-pub placed-followed : (given : ProblemParts) (taken : List (List ℕ × VersionParts)) (waiting : List (List ℕ × List RequirementParts)) (followed followed_new : List Node) (wanted : RequirementParts) (version : VersionParts) (asks asks_new : List RequirementParts)
+pub placed-followed : (given : ProblemParts) → IsLawful (rules_of given) → (taken : List (List ℕ × VersionParts)) (waiting : List (List ℕ × List RequirementParts)) (followed followed_new : List Node) (wanted : RequirementParts) (version : VersionParts) (asks asks_new : List RequirementParts)
     → value_at taken wanted.name ≡ Some version → admits given wanted version ≡ true → Follow given version (nodes_of wanted) followed followed_new asks asks_new → IsPlaced given taken waiting waiting followed followed_new wanted asks asks_new
-placed-followed given taken waiting followed followed_new wanted version asks asks_new some admitted f = (
+placed-followed given lawful taken waiting followed followed_new wanted version asks asks_new some admitted f = (
   f.0,
   f.1,
-  λ left way. walked-meet (rules_of given) (lawful-rules given) (value_at taken) (value_at waiting) followed followed_new wanted version left f.0 way some admitted f.2,
+  λ left way. walked-meet (rules_of given) lawful (value_at taken) (value_at waiting) followed followed_new wanted version left f.0 way some admitted f.2,
 )
 
 -- one of those that are left is placed
@@ -146,10 +152,10 @@ turn-of given taken old new followed name asks way row least out = record {
   leaves = out.0;
 }
 
-pub turn-taken : (given : ProblemParts) (old new : BTreeMap (List ℕ) VersionParts) (waiting : List (List ℕ × List RequirementParts)) (followed : List Node) (name : List ℕ) (asks : List RequirementParts) (version : VersionParts) → IsTurn given old.entries waiting followed name asks
+pub turn-taken : (given : ProblemParts) → IsLawful (rules_of given) → (old new : BTreeMap (List ℕ) VersionParts) (waiting : List (List ℕ × List RequirementParts)) (followed : List Node) (name : List ℕ) (asks : List RequirementParts) (version : VersionParts) → IsTurn given old.entries waiting followed name asks
     → IsFirst (rules_of given) (IsRefusedBy given asks) name version → Updates (slice_cmp nat_cmp) old new name (Some version) → IsOnWay given new.entries waiting followed asks
-turn-taken given old new waiting followed name asks version t first updates =
-    walked-take (rules_of given) (lawful-rules given) (value_at old.entries) (value_at new.entries) (value_at t.before) (value_at waiting) followed name version asks t.way t.row t.least first updates.0 t.leaves
+turn-taken given lawful old new waiting followed name asks version t first updates =
+    walked-take (rules_of given) lawful (value_at old.entries) (value_at new.entries) (value_at t.before) (value_at waiting) followed name version asks t.way t.row t.least first updates.0 t.leaves
 
 -- its name had no version
 pub turn-free : (given : ProblemParts) (taken : List (List ℕ × VersionParts)) (waiting : List (List ℕ × List RequirementParts)) (followed : List Node) (name : List ℕ) (asks : List RequirementParts) → IsTurn given taken waiting followed name asks → value_at taken name ≡ None
@@ -181,10 +187,10 @@ way-start given taken waiting followed lines no_versions none nowhere is =
 abbrev pub WalkLaw : ProblemParts → Type 0
 WalkLaw given = (pins : List (Pin (List ℕ) VersionParts)) → IsFirstWalk (rules_of given) [] pins → IsComplete (rules_of given) (version_pinned (slice_cmp nat_cmp) pins) → IsBest (rules_of given) (version_pinned (slice_cmp nat_cmp) pins)
 
-pub way-end : (given : ProblemParts) (taken : List (List ℕ × VersionParts)) (waiting : List (List ℕ × List RequirementParts)) (followed : List Node) → WalkLaw given → IsOnWay given taken waiting followed [] → waiting ≡ [] → IsBest (rules_of given) (version_for taken)
-way-end given taken waiting followed law way none =
+pub way-end : (given : ProblemParts) → IsLawful (rules_of given) → (taken : List (List ℕ × VersionParts)) (waiting : List (List ℕ × List RequirementParts)) (followed : List Node) → WalkLaw given → IsOnWay given taken waiting followed [] → waiting ≡ [] → IsBest (rules_of given) (version_for taken)
+way-end given lawful taken waiting followed law way none =
     let nothing : (name : List ℕ) → value_at waiting name ≡ None = λ name. ap (λ (entries : List (List ℕ × List RequirementParts)). value_at entries name) none in
-    let complete : IsComplete (rules_of given) (value_at taken) = walked-complete (rules_of given) (lawful-rules given) (value_at taken) (value_at waiting) followed way nothing in
+    let complete : IsComplete (rules_of given) (value_at taken) = walked-complete (rules_of given) lawful (value_at taken) (value_at waiting) followed way nothing in
     let along : value_at taken ≡ version_pinned (slice_cmp nat_cmp) way.pins = λ i name. way.same name i in
     let found : version_pinned (slice_cmp nat_cmp) way.pins ≡ version_for taken = λ i name. (sym (way.same name) ∙ sym (lookup-get name taken)) i in
     subst (λ s. IsBest (rules_of given) s) found (law way.pins way.walk (subst (λ s. IsComplete (rules_of given) s) along complete))

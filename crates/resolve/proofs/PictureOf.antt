@@ -13,14 +13,14 @@ use Rattle.search.specs.Rules.{IsOrder}
 use Rattle.search.specs.Table.{TableParts, candidates_of, name_of, asked_nodes, requirement_at}
 use Rattle.snapshot.specs.Release.{Release}
 use Rattle.snapshot.specs.Releases.{newer_cmp}
-use Rattle.resolve.specs.Admission.{admits, admits_release, has_version}
+use Rattle.problems.specs.Admission.{admits, admits_release, has_version}
+use Rattle.problems.specs.Problem.{ProblemParts, releases_on}
+use Rattle.problems.specs.Rules.{bare, nodes_of, wants, wants_of}
+use Rattle.problems.specs.Standing.{AllStand, Stands}
+use Rattle.problems.specs.declared.node.Node.{Node}
 use Rattle.resolve.specs.Building.{Gathered, IsEntry, IsWanted}
-use Rattle.resolve.specs.Problem.{ProblemParts, releases_on}
 use Rattle.resolve.specs.Pictured.{AreListed, IsListed, IsPictured, name_at}
 use Rattle.resolve.specs.Places.{version_at}
-use Rattle.resolve.specs.Rules.{bare, nodes_of, wants, wants_of}
-use Rattle.resolve.specs.Standing.{AllStand, Stands}
-use Rattle.resolve.specs.declared.node.Node.{Node}
 use Rattle.resolve.proofs.Falling.{release_at-place, same-itself, version_at-apart, version_at-get, version_at-one}
 use Rattle.resolve.proofs.Standing.{length-map}
 use Rattle.resolve.proofs.Picturing.{AllStand-map, AllZip-at, AllZip-length, Rising, order-places}

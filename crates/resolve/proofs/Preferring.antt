@@ -21,10 +21,10 @@ use Rattle.pep440.specs.Tied.OrderLaws.{version_total}
 use Rattle.pep440.specs.Version.{VersionParts}
 use Rattle.snapshot.specs.Release.{Release}
 use Rattle.snapshot.specs.Releases.{newer_cmp}
-use Rattle.resolve.specs.Admission.{has_version}
-use Rattle.resolve.specs.Problem.{ProblemParts, releases_on}
+use Rattle.problems.specs.Admission.{has_version}
+use Rattle.problems.specs.Problem.{ProblemParts, releases_on}
+use Rattle.problems.specs.Rules.{kept_version, preferring, versions_of}
 use Rattle.resolve.specs.Places.{AreCandidates, version_at}
-use Rattle.resolve.specs.Rules.{kept_version, preferring, versions_of}
 use Rattle.resolve.proofs.Falling.{version_at-tie}
 
 -- a look-up by bytes is the look-up of a map

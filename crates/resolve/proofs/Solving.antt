@@ -12,12 +12,12 @@ use Rattle.search.specs.Solutions.{IsBest, version_pinned}
 use Rattle.search.specs.Table.{IsAscending, TableParts, place_in, rules_of as rules_of_table}
 use Rattle.search.specs.declared.parts.Choice.{Choice}
 use Rattle.snapshot.specs.Release.{Release}
-use Rattle.resolve.specs.Problem.{ProblemParts, releases_on}
+use Rattle.problems.specs.Problem.{ProblemParts, releases_on}
+use Rattle.problems.specs.Rules.{rules_of}
+use Rattle.problems.specs.Solutions.{HasSolution, version_for}
+use Rattle.problems.specs.declared.node.Node.{Node}
 use Rattle.resolve.specs.Pictured.{AreKnown, IsKnown, IsPictured, chosen, name_at, picture_of}
 use Rattle.resolve.specs.Places.{version_at}
-use Rattle.resolve.specs.Resolves.{HasSolution, version_for}
-use Rattle.resolve.specs.Rules.{rules_of}
-use Rattle.resolve.specs.declared.node.Node.{Node}
 use Rattle.resolve.proofs.Falling.{version_at-get}
 use Rattle.resolve.proofs.PictureOf.{within-member}
 use Rattle.resolve.proofs.Picturing.{nat_cmp-less}

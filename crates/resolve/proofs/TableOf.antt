@@ -2,11 +2,11 @@
 use Rattle.std.proofs.Common.{◌≡◌, ◌∙◌, ℕ, List, Option, Some, None, map, if◌then◌else◌, sym, ap, subst}
 use Rattle.std.specs.List.{AllZip}
 use Rattle.search.specs.Table.{TableParts, in_range}
+use Rattle.problems.specs.Problem.{ProblemParts}
+use Rattle.problems.specs.Standing.{AllStand}
+use Rattle.problems.specs.declared.node.Node.{Node}
 use Rattle.resolve.specs.Building.{AreEntries, Gathered, IsEntry, IsGrown, IsWanted}
-use Rattle.resolve.specs.Problem.{ProblemParts}
 use Rattle.resolve.specs.Pictured.{AreListed, IsPictured}
-use Rattle.resolve.specs.Standing.{AllStand}
-use Rattle.resolve.specs.declared.node.Node.{Node}
 use Rattle.resolve.proofs.InRange.{is-in_range}
 use Rattle.resolve.proofs.PictureOf.{IsGathered, is-pictured}
 use Rattle.resolve.proofs.Picturing.{Rising}

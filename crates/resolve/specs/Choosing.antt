@@ -4,9 +4,9 @@ use Rattle.std.specs.Prelude.{◌≡◌, ℕ, true, false, List, ◌∷◌, ◌+
 use Rattle.std.specs.List.{Contains, list_all}
 use Rattle.pep440.specs.Version.{VersionParts}
 use Rattle.pep508.specs.Requirement.{RequirementParts}
-use Rattle.resolve.specs.Admission.{admits}
-use Rattle.resolve.specs.Problem.{ProblemParts, releases_on}
-use Rattle.resolve.specs.Rules.{versions_of}
+use Rattle.problems.specs.Admission.{admits}
+use Rattle.problems.specs.Problem.{ProblemParts, releases_on}
+use Rattle.problems.specs.Rules.{versions_of}
 
 -- one of the requirements doesn't admit the version
 abbrev pub IsRefusedBy : ProblemParts → List RequirementParts → VersionParts → Type 0

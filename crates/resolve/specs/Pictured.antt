@@ -14,11 +14,11 @@ use Rattle.search.specs.Table.{TableParts, candidates_of}
 use Rattle.search.specs.declared.conflict.NodeChoice.{NodeChoice}
 use Rattle.search.specs.declared.parts.Choice.{Choice}
 use Rattle.snapshot.specs.Releases.{newer_cmp}
-use Rattle.resolve.specs.Problem.{ProblemParts, releases_on}
+use Rattle.problems.specs.Problem.{ProblemParts, releases_on}
+use Rattle.problems.specs.Refutations.{ChoiceParts, same_version}
+use Rattle.problems.specs.Rules.{bare, rules_of}
+use Rattle.problems.specs.declared.node.Node.{Node}
 use Rattle.resolve.specs.Places.{AreCandidates, version_at}
-use Rattle.resolve.specs.Refutations.{ChoiceParts, same_version}
-use Rattle.resolve.specs.Rules.{bare, rules_of}
-use Rattle.resolve.specs.declared.node.Node.{Node}
 
 abbrev pub name_at : List (List ℕ) → ℕ → List ℕ
 name_at names n = slice_index_or names n []

@@ -4,8 +4,8 @@ use Rattle.std.specs.Prelude.{◌≡◌, ℕ, ◌<◌, List, [], None, length, m
 use Rattle.std.specs.List.{Contains, slice_index_or}
 use Rattle.pep440.specs.Version.{VersionParts}
 use Rattle.snapshot.specs.Release.{Release}
-use Rattle.resolve.specs.Problem.{ProblemParts, releases_on}
-use Rattle.resolve.specs.Rules.{candidates, versions_of}
+use Rattle.problems.specs.Problem.{ProblemParts, releases_on}
+use Rattle.problems.specs.Rules.{candidates, versions_of}
 
 -- the version of the release at a place; what stands for none is that of no release
 abbrev pub version_at : List Release → ℕ → VersionParts

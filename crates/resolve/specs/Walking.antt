@@ -12,9 +12,9 @@ use Rattle.pep508.specs.Requirement.{RequirementParts}
 use Rattle.search.specs.FirstWalk.{IsAskedFor, IsFirstWalk}
 use Rattle.search.specs.Rules.{Rules}
 use Rattle.search.specs.Solutions.{Pin, version_pinned}
-use Rattle.resolve.specs.Problem.{ProblemParts}
-use Rattle.resolve.specs.Rules.{rules_of, wants}
-use Rattle.resolve.specs.declared.node.Node.{Node}
+use Rattle.problems.specs.Problem.{ProblemParts}
+use Rattle.problems.specs.Rules.{rules_of, wants}
+use Rattle.problems.specs.declared.node.Node.{Node}
 
 -- its name has a version that it admits and its nodes are followed, or it waits with its name, or it is left to be placed
 abbrev pub IsHeld : {N X V R : Type 0} → Rules N X V R → (N → Option V) → (N → Option (List R)) → List X → List R → R → Type 0

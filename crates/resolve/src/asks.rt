@@ -3,14 +3,12 @@
 ghost use Rattle.std.specs.Prelude.{◌≡◌, ◌<◌, ◌++◌, ◌∷◌, [], IfOk, OnOk, get_or, length};
 ghost use Rattle.std.specs.List.{filter, list_all};
 ghost use Rattle.std.specs.Option.{option_copied};
-ghost use Rattle.resolve.specs.Admission.{admits};
-ghost use Rattle.resolve.specs.Rules.{counts};
+ghost use Rattle.problems.specs.Admission.{admits};
+ghost use Rattle.problems.specs.Rules.{counts};
 
-use crate::admission::admits;
-use crate::question::Question;
-use crate::releases::counts;
 use pep440::Version;
 use pep508::{Environment, Name, Requirement};
+use problems::parts::{Question, admits, counts};
 use std::alloc::{AllocError, Global};
 use std::marker::Model;
 

@@ -3,16 +3,15 @@
 ghost use Rattle.std.specs.Prelude.{◌≡◌, ◌<◌, IfOk, IfSome, length};
 ghost use Rattle.std.specs.List.{position};
 ghost use Rattle.std.specs.Option.{option_map, option_to_list};
-ghost use Rattle.resolve.specs.Admission.{has_version};
-ghost use Rattle.resolve.specs.Problem.{releases_on};
+ghost use Rattle.problems.specs.Admission.{has_version};
+ghost use Rattle.problems.specs.Problem.{releases_on};
+ghost use Rattle.problems.specs.Rules.{kept_version};
 ghost use Rattle.resolve.specs.Places.{AreCandidates, version_at};
-ghost use Rattle.resolve.specs.Rules.{kept_version};
 
-use crate::question::Question;
-use crate::releases::has_version;
 use lists::Seq;
 use pep440::Version;
 use pep508::Name;
+use problems::parts::{Question, has_version};
 use snapshot::Release;
 use std::alloc::{AllocError, Global};
 

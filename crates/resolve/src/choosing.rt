@@ -4,14 +4,15 @@ ghost use Rattle.std.specs.Prelude.{◌≡◌, IfSome, find};
 ghost use Rattle.std.specs.List.{list_all};
 ghost use Rattle.std.specs.Option.{option_copied, option_map};
 ghost use Rattle.search.specs.FirstWalk.{IsFirst};
-ghost use Rattle.resolve.specs.Admission.{admits};
+ghost use Rattle.problems.specs.Admission.{admits};
+ghost use Rattle.problems.specs.Rules.{kept_version, rules_of};
 ghost use Rattle.resolve.specs.Choosing.{IsNewest, IsRefusedBy};
-ghost use Rattle.resolve.specs.Rules.{kept_version, rules_of};
 
 use crate::asks::Asks;
-use crate::question::Question;
 use pep440::Version;
 use pep508::Name;
+use problems::laws::equal_versions_are_alike;
+use problems::parts::Question;
 use snapshot::Release;
 
 /// The release that has the version kept for a name.
@@ -65,6 +66,7 @@ pub(crate) fn first_admitted<'q>(
         (λ version. IsFirst (rules_of question.now) (IsRefusedBy question.now asks.now) name.now
         version.now) }
 {
+    equal_versions_are_alike();
     match kept(question, name) {
         None => newest_admitted(question, name, asks),
         Some(release) => {

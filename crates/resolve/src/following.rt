@@ -2,14 +2,13 @@
 
 ghost use Rattle.std.specs.Prelude.{◌∷◌, [], IfOk, map};
 ghost use Rattle.std.specs.Option.{option_copied};
-ghost use Rattle.resolve.specs.Rules.{nodes_of, with_extra};
+ghost use Rattle.problems.specs.Rules.{nodes_of, with_extra};
 ghost use Rattle.resolve.specs.Walking.{Follow};
 
 use crate::asks::Asks;
-use crate::nodes::Nodes;
-use crate::question::Question;
 use pep440::Version;
 use pep508::{Name, Requirement};
+use problems::parts::{Nodes, Question};
 use std::alloc::{AllocError, Global};
 
 /// Follows a node whose name has this version to what is wanted there, where it wasn't followed yet.

@@ -3,17 +3,14 @@
 ghost use Rattle.std.specs.Prelude.{◌≡◌, ◌<◌, [], length, map, IfOk};
 ghost use Rattle.std.specs.List.{AllZip};
 ghost use Rattle.std.specs.Option.{option_copied};
+ghost use Rattle.problems.specs.Rules.{wants_of, with_extra};
+ghost use Rattle.problems.specs.Standing.{AllStand, IsLonger, Stands};
 ghost use Rattle.resolve.specs.Building.{AreEntries, AreWants, IsGrown, IsWanted};
-ghost use Rattle.resolve.specs.Rules.{wants_of, with_extra};
-ghost use Rattle.resolve.specs.Standing.{AllStand, IsLonger, Stands};
 
-use crate::admission::admissions;
-use crate::node::Node;
-use crate::nodes::Nodes;
-use crate::question::Question;
-use crate::releases::counts;
 use lists::Seq;
 use pep508::{Name, Requirement};
+use problems::Node;
+use problems::parts::{Nodes, Question, admissions, counts};
 use search::Requirement as Entry;
 use snapshot::Release;
 use std::alloc::{AllocError, Global};

@@ -1,35 +1,8 @@
 //! Laws of problems and their solutions, each the contract of a function that does nothing.
 
-ghost use Rattle.std.specs.Prelude.{List};
-ghost use Rattle.std.specs.List.{Contains};
-ghost use Rattle.search.specs.Conflicts.{IsRefutation, LiesInNone};
-ghost use Rattle.search.specs.Solutions.{HasNoSolution};
-ghost use Rattle.resolve.specs.Laws.{AdmissionForgetsKeptVersions};
-ghost use Rattle.resolve.specs.Problem.{ProblemParts};
-ghost use Rattle.resolve.specs.Refutations.{ChoiceParts, same_version};
-ghost use Rattle.resolve.specs.Rules.{rules_of};
-
-use crate::node::Node;
-use pep440::Version;
-use pep508::{Name, Requirement};
-pub use search::laws::{
-    a_picture_keeps_the_best_solution, the_best_solution_is_unique,
+pub use problems::laws::{
+    admission_forgets_kept_versions, an_accepted_refutation_leaves_no_solution,
+    equal_versions_are_alike, the_best_solution_is_unique, the_rules_of_a_problem_are_lawful,
     what_follows_lies_in_no_solution,
 };
-
-/// Which versions a requirement admits doesn't depend on the versions that an earlier lock has.
-pub fn admission_forgets_kept_versions()
-    ensures law { AdmissionForgetsKeptVersions }
-{}
-
-/// Where a list is a refutation of a problem, the problem has no solution, and each conflict of the
-/// list lies in none.
-pub fn an_accepted_refutation_leaves_no_solution()
-    ensures none { (given : ProblemParts) (conflicts : List (List ChoiceParts))
-        → IsRefutation (rules_of given) same_version conflicts → HasNoSolution (rules_of given) }
-    ensures each { (given : ProblemParts) (conflicts : List (List ChoiceParts))
-        → IsRefutation (rules_of given) same_version conflicts → (conflict : List ChoiceParts)
-        → Contains conflicts conflict → LiesInNone (rules_of given) same_version conflict }
-{
-    what_follows_lies_in_no_solution::<Name, Node, Version, Requirement>();
-}
+pub use search::laws::a_picture_keeps_the_best_solution;

@@ -5,11 +5,11 @@ ghost use Rattle.std.specs.Cmp.Lexicographic.{slice_cmp};
 ghost use Rattle.std.specs.List.{Contains};
 ghost use Rattle.std.specs.List.Sorted.{IsStrictlySortedBy};
 ghost use Rattle.std.specs.Ordering.{nat_cmp};
-ghost use Rattle.resolve.specs.Standing.{AllStand, Stands};
+ghost use Rattle.problems.specs.Standing.{AllStand, Stands};
 
-use crate::node::Node;
 use lists::Seq;
 use pep508::Name;
+use problems::Node;
 use std::alloc::{AllocError, Global};
 
 /// The name of each node.

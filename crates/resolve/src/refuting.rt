@@ -4,18 +4,16 @@ ghost use Rattle.std.specs.Prelude.{◌≡◌, ◌<◌, ℕ, IfOk, length, map};
 ghost use Rattle.std.specs.List.{Contains};
 ghost use Rattle.search.specs.Known.{AreKnown, IsKnown};
 ghost use Rattle.search.specs.declared.conflict.NodeChoice.{NodeChoice};
+ghost use Rattle.problems.specs.Problem.{releases_on};
 ghost use Rattle.resolve.specs.Pictured.{IsPictured, choice_at};
 ghost use Rattle.resolve.specs.Places.{version_at};
-ghost use Rattle.resolve.specs.Problem.{releases_on};
 
-use crate::choice::Choice;
-use crate::nodes::copy_of;
-use crate::question::Question;
-use crate::refutation::Refutation;
 use crate::tabling::Tabled;
 use lists::Seq;
 use pep440::Version;
 use pep508::Name;
+use problems::parts::{Question, copy_of};
+use problems::{Choice, Refutation};
 use search::Decision;
 use std::alloc::{AllocError, Global};
 

@@ -2,18 +2,17 @@
 
 ghost use Rattle.std.specs.Prelude.{IfOk, MatchOption};
 ghost use Rattle.search.specs.Conflicts.{IsRefutation};
-ghost use Rattle.resolve.specs.Refutations.{same_version};
-ghost use Rattle.resolve.specs.Resolves.{HasSolution, Resolves};
-ghost use Rattle.resolve.specs.Rules.{rules_of};
+ghost use Rattle.problems.specs.Refutations.{same_version};
+ghost use Rattle.problems.specs.Rules.{rules_of};
+ghost use Rattle.problems.specs.Solutions.{HasSolution};
+ghost use Rattle.resolve.specs.Resolves.{Resolves};
 
 use crate::answer::Answer;
-use crate::cutting::cut;
 use crate::method::Method;
-use crate::problem::Problem;
-use crate::question::Question;
-use crate::refutation::Refutation;
 use crate::searching::{best, refuted};
 use crate::walking::first_walk;
+use problems::parts::{Question, cut};
+use problems::{Problem, Refutation};
 use std::alloc::{AllocError, Global};
 
 /// What finds the best solution of each problem, or tells that it has none.

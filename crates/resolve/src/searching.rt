@@ -2,21 +2,21 @@
 
 ghost use Rattle.std.specs.Prelude.{IfOk, MatchOption};
 ghost use Rattle.search.specs.Conflicts.{IsRefutation};
+ghost use Rattle.problems.specs.Refutations.{same_version};
+ghost use Rattle.problems.specs.Rules.{rules_of};
+ghost use Rattle.problems.specs.Solutions.{HasSolution};
 ghost use Rattle.resolve.specs.Pictured.{IsPictured};
-ghost use Rattle.resolve.specs.Refutations.{same_version};
-ghost use Rattle.resolve.specs.Resolves.{HasSolution, Resolves};
-ghost use Rattle.resolve.specs.Rules.{rules_of};
+ghost use Rattle.resolve.specs.Resolves.{Resolves};
 
 use crate::answer::Answer;
 use crate::method::Method;
-use crate::node::Node;
-use crate::question::Question;
-use crate::refutation::Refutation;
 use crate::refuting::refutation_of;
 use crate::solution::versions_of;
 use crate::tabling::{Tabled, table_of};
 use pep440::Version;
 use pep508::{Name, Requirement};
+use problems::parts::Question;
+use problems::{Node, Refutation};
 use search::{Found, laws, learned_or_refuted};
 use std::alloc::{AllocError, Global};
 

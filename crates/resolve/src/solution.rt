@@ -4,14 +4,14 @@ ghost use Rattle.std.specs.Prelude.{◌≡◌, ℕ, List, Some, IfOk, OnOk};
 ghost use Rattle.std.specs.BTreeMap.{Updates};
 ghost use Rattle.std.specs.Cmp.Lexicographic.{slice_cmp};
 ghost use Rattle.std.specs.Ordering.{nat_cmp};
-ghost use Rattle.resolve.specs.Problem.{releases_on};
+ghost use Rattle.problems.specs.Problem.{releases_on};
+ghost use Rattle.problems.specs.Solutions.{version_for};
 ghost use Rattle.resolve.specs.Pictured.{AreKnown, IsKnown, chosen, name_at};
 ghost use Rattle.resolve.specs.Places.{version_at};
-ghost use Rattle.resolve.specs.Resolves.{version_for};
 
-use crate::question::Question;
 use pep440::Version;
 use pep508::Name;
+use problems::parts::Question;
 use search::Choice;
 use std::alloc::{AllocError, Global};
 use std::collections::BTreeMap;

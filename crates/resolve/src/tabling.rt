@@ -6,10 +6,10 @@ ghost use Rattle.resolve.specs.Pictured.{AreListed, IsListed, IsPictured};
 use crate::candidates::candidates;
 use crate::gathering::Gathering;
 use crate::names::{names_of, numbers_of};
-use crate::node::Node;
-use crate::question::Question;
 use lists::Seq;
 use pep508::Name;
+use problems::Node;
+use problems::parts::Question;
 use search::Table;
 use std::alloc::{AllocError, Global};
 

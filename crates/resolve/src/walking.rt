@@ -4,19 +4,18 @@
 
 ghost use Rattle.std.specs.Prelude.{◌≡◌, ◌<◌, ◌+◌, ◌^◌, [], IfOk, IfSome, length, true};
 ghost use Rattle.search.specs.Solutions.{IsBest};
-ghost use Rattle.resolve.specs.Resolves.{version_for};
-ghost use Rattle.resolve.specs.Rules.{rules_of};
+ghost use Rattle.problems.specs.Rules.{rules_of};
+ghost use Rattle.problems.specs.Solutions.{version_for};
 ghost use Rattle.resolve.specs.Walking.{IsOnWay, IsPlaced, IsTurn, IsWaiting};
 
-use crate::admission::admits;
 use crate::asks::Asks;
 use crate::choosing::first_admitted;
 use crate::following::follow_all;
-use crate::node::Node;
-use crate::nodes::Nodes;
-use crate::question::Question;
 use pep440::Version;
 use pep508::{Name, Requirement};
+use problems::Node;
+use problems::laws::the_rules_of_a_problem_are_lawful;
+use problems::parts::{Nodes, Question, admits};
 use search::laws;
 use std::alloc::{AllocError, Global};
 use std::collections::BTreeMap;
@@ -55,6 +54,7 @@ fn place<'q>(
         → IsPlaced question.now taken.now.entries waiting.old.entries waiting.new.entries
         followed.old followed.new wanted.now asks.old asks.new) }
 {
+    the_rules_of_a_problem_are_lawful();
     match taken.get(wanted.name()) {
         None => {
             wait(alloc, waiting, wanted)?;
@@ -116,6 +116,7 @@ fn take<'q>(
         → length taken.new.entries ≡ length taken.old.entries + 1) }
     ensures small { length taken.old.entries < 2 ^ 63 }
 {
+    the_rules_of_a_problem_are_lawful();
     let _count = taken.len();
     let Some(version) = first_admitted(question, &name, &asks) else {
         return Ok(false);
@@ -134,6 +135,7 @@ pub(crate) fn first_walk(
         (λ found. IfSome found
         (λ versions. IsBest (rules_of question.now) (version_for versions.entries))) }
 {
+    the_rules_of_a_problem_are_lawful();
     laws::a_first_walk_finds_the_best_solution::<Name, Node, Version, Requirement>();
     let mut taken = BTreeMap::new(alloc);
     let mut waiting = BTreeMap::new(alloc);

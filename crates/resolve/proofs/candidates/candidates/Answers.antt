@@ -1,5 +1,5 @@
 use Rattle.std.proofs.Common.{sym, ◌∙◌}
-use Rattle.resolve.specs.Problem.{releases_on}
+use Rattle.problems.specs.Problem.{releases_on}
 use Rattle.resolve.proofs.Preferring.{preferring-all, preferring-kept, preferring-other, preferring-start}
 use Rattle.resolve.proofs.candidates.candidates.Goals as goal
 use Rattle.resolve.proofs.candidates.candidates.Goals.{then-ne+in_ok-push, else-ne}

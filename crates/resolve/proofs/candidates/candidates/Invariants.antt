@@ -1,4 +1,4 @@
-use Rattle.resolve.specs.Problem.{releases_on}
+use Rattle.problems.specs.Problem.{releases_on}
 use Rattle.resolve.proofs.Preferring.{IsPreferring}
 use Rattle.resolve.proofs.candidates.candidates.Given as goal
 

@@ -1,5 +1,5 @@
 use Rattle.std.proofs.Common.{sym, ap}
-use Rattle.resolve.specs.Problem.{ProblemParts}
+use Rattle.problems.specs.Problem.{ProblemParts}
 use Rattle.resolve.proofs.Preferring.{kept-none, kept-some}
 use Rattle.resolve.proofs.candidates.kept_place.Goals as goal
 

@@ -1,9 +1,9 @@
 use Rattle.std.proofs.Common.{◌≡◌, ◌∙◌, false, sym, subst}
 use Rattle.std.specs.List.{list_all}
 use Rattle.search.specs.FirstWalk.{IsFirst}
-use Rattle.resolve.specs.Admission.{admits}
+use Rattle.problems.specs.Admission.{admits}
+use Rattle.problems.specs.Rules.{rules_of}
 use Rattle.resolve.specs.Choosing.{IsRefusedBy}
-use Rattle.resolve.specs.Rules.{rules_of}
 use Rattle.resolve.proofs.FirstAdmitted.{first-behind, first-kept, some-more}
 use Rattle.resolve.proofs.choosing.first_admitted.Goals as goal
 
@@ -17,4 +17,4 @@ pub returns-else-admit : goal.returns-else-admit
 returns-else-admit c =
     let kept = rw c.in-Some.is at c.kept.ensures in
     let refused = subst (λ v. list_all (λ wanted. admits c.args.question.now wanted v) c.args.asks.now ≡ false) c.version.ensures (sym c.admit.ensures ∙ c.if-admit.false) in
-    some-more _ _ c.newest_admitted-else-admit.result (λ v newest. first-behind c.args.question.now c.args.name.now c.args.asks.now c.in-Some.release.now.version v.now (sym kept) refused newest) c.newest_admitted-else-admit.ensures
+    some-more _ _ c.newest_admitted-else-admit.result (λ v newest. first-behind c.args.question.now (c.equal_versions_are_alike.ensures c.args.question.now) c.args.name.now c.args.asks.now c.in-Some.release.now.version v.now (sym kept) refused newest) c.newest_admitted-else-admit.ensures

@@ -1,7 +1,7 @@
 use Rattle.std.proofs.Common.{◌∙◌, ap, sym}
 use Rattle.std.specs.Option.{option_map}
 use Rattle.snapshot.specs.Release.{Release}
-use Rattle.resolve.specs.Problem.{ProblemParts}
+use Rattle.problems.specs.Problem.{ProblemParts}
 use Rattle.resolve.proofs.FirstAdmitted.{kept-at}
 use Rattle.resolve.proofs.Preferring.{kept-none}
 use Rattle.resolve.proofs.choosing.kept.Goals as goal

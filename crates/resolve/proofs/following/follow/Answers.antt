@@ -1,6 +1,6 @@
 use Rattle.std.proofs.Common.{ap, option_copied}
-use Rattle.resolve.specs.Problem.{ProblemParts}
-use Rattle.resolve.specs.declared.node.Node.{Node}
+use Rattle.problems.specs.Problem.{ProblemParts}
+use Rattle.problems.specs.declared.node.Node.{Node}
 use Rattle.resolve.proofs.OnWay.{follow-grown, follow-stayed}
 use Rattle.resolve.proofs.following.follow.Goals as goal
 

@@ -1,5 +1,5 @@
 use Rattle.std.proofs.Common.{◌∷◌, [], map}
-use Rattle.resolve.specs.Rules.{bare, with_extra}
+use Rattle.problems.specs.Rules.{bare, with_extra}
 use Rattle.resolve.proofs.OnWay.{follow-then}
 use Rattle.resolve.proofs.following.follow_all.Goals as goal
 

@@ -1,4 +1,4 @@
-use Rattle.resolve.specs.Rules.{with_extra}
+use Rattle.problems.specs.Rules.{with_extra}
 use Rattle.resolve.proofs.OnWay.{follow-more, follow-none}
 use Rattle.resolve.proofs.following.follow_extras.Goals as goal
 

@@ -1,5 +1,5 @@
 use Rattle.std.proofs.Common.{map, take}
-use Rattle.resolve.specs.Rules.{with_extra}
+use Rattle.problems.specs.Rules.{with_extra}
 use Rattle.resolve.specs.Walking.{Follow}
 use Rattle.resolve.proofs.following.follow_extras.Given as goal
 

@@ -1,7 +1,7 @@
 use Rattle.std.proofs.Common.{map, take, subst}
+use Rattle.problems.specs.Rules.{with_extra}
+use Rattle.problems.specs.Standing.{Stands}
 use Rattle.resolve.proofs.Standing.{AllStand-longer, AllZip-more, longer-then}
-use Rattle.resolve.specs.Rules.{with_extra}
-use Rattle.resolve.specs.Standing.{Stands}
 use Rattle.resolve.proofs.gathering.extras_of.Goals as goal
 
 pub loop-extra-preserved : goal.loop-extra-preserved

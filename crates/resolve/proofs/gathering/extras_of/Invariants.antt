@@ -1,6 +1,6 @@
 use Rattle.std.proofs.Common.{map, take}
-use Rattle.resolve.specs.Rules.{with_extra}
-use Rattle.resolve.specs.Standing.{AllStand, IsLonger}
+use Rattle.problems.specs.Rules.{with_extra}
+use Rattle.problems.specs.Standing.{AllStand, IsLonger}
 use Rattle.resolve.proofs.gathering.extras_of.Given as goal
 
 abbrev pub invariant-loop-extra : goal.invariant-loop-extra

@@ -6,7 +6,7 @@ use Rattle.std.proofs.lemmas.Map.Text.{is_eq-slice_cmp}
 use Rattle.std.specs.Cmp.Lexicographic.{nat_list_cmp_total, nat_list_eq_equiv, slice_cmp}
 use Rattle.std.specs.List.Sorted.{IsStrictlySortedBy}
 use Rattle.std.specs.Ordering.{nat_cmp}
-use Rattle.resolve.specs.declared.node.Node.{Node}
+use Rattle.problems.specs.declared.node.Node.{Node}
 use Rattle.resolve.proofs.Picturing.{same-bytes}
 use Rattle.resolve.proofs.Standing.{Contains-mapped}
 use Rattle.resolve.proofs.names.names_of.Goals as goal

@@ -1,6 +1,6 @@
+use Rattle.problems.specs.Standing.{Stands}
+use Rattle.problems.specs.declared.node.Node.{Node}
 use Rattle.resolve.proofs.Standing.{AllZip-more}
-use Rattle.resolve.specs.Standing.{Stands}
-use Rattle.resolve.specs.declared.node.Node.{Node}
 use Rattle.resolve.proofs.names.numbers_of.Goals as goal
 
 pub loop-node-preserved : goal.loop-node-preserved

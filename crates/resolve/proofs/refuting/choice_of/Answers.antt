@@ -1,7 +1,7 @@
 use Rattle.std.proofs.Common.{◌<◌, ℕ, List, length, subst, arith}
 use Rattle.std.proofs.lemmas.Grind.{common_steps}
 use Rattle.search.specs.Table.{name_of}
-use Rattle.resolve.specs.Problem.{releases_on}
+use Rattle.problems.specs.Problem.{releases_on}
 use Rattle.resolve.proofs.Solving.{name-read}
 use Rattle.resolve.proofs.refuting.choice_of.Goals as goal
 

@@ -2,9 +2,9 @@ use Rattle.std.proofs.Common.{◌≡◌, List, ℕ, sym, subst}
 use Rattle.search.specs.Solutions.{HasNoSolution, IsBest}
 use Rattle.search.specs.Table.{IsAscending, place_in, rules_of as rules_of_table}
 use Rattle.search.specs.declared.parts.Choice.{Choice}
+use Rattle.problems.specs.Rules.{rules_of}
+use Rattle.problems.specs.Solutions.{version_for}
 use Rattle.resolve.specs.Pictured.{AreKnown, chosen, picture_of}
-use Rattle.resolve.specs.Resolves.{version_for}
-use Rattle.resolve.specs.Rules.{rules_of}
 use Rattle.resolve.proofs.PictureOf.{bytes-order}
 use Rattle.resolve.proofs.Solving.{best-known, best-same}
 use Rattle.resolve.proofs.searching.best_in.Goals as goal

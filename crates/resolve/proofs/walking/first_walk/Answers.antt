@@ -1,7 +1,6 @@
 use Rattle.std.proofs.Common.{◌∙◌, ap}
-use Rattle.resolve.specs.Problem.{ProblemParts}
-use Rattle.resolve.specs.Rules.{rules_of}
-use Rattle.resolve.proofs.Equals.{lawful-rules}
+use Rattle.problems.specs.Problem.{ProblemParts}
+use Rattle.problems.specs.Rules.{rules_of}
 use Rattle.resolve.proofs.OnWay.{empty-list, way-end, way-start}
 use Rattle.resolve.proofs.walking.first_walk.Goals as goal
 
@@ -12,5 +11,5 @@ settle-requires c =
 
 pub returns : goal.returns
 returns c =
-    way-end c.args.question.now c.turns.taken.entries c.turns.waiting.entries c.turns.followed (λ pins. c.a_first_walk_finds_the_best_solution.ensures (rules_of c.args.question.now) (lawful-rules c.args.question.now) pins) c.turns.invariant
+    way-end c.args.question.now (c.the_rules_of_a_problem_are_lawful.ensures c.args.question.now) c.turns.taken.entries c.turns.waiting.entries c.turns.followed (λ pins. c.a_first_walk_finds_the_best_solution.ensures (rules_of c.args.question.now) (c.the_rules_of_a_problem_are_lawful.ensures c.args.question.now) pins) c.turns.invariant
     (empty-list c.turns.waiting.entries c.in_default.ensures.variant.1)

@@ -1,6 +1,6 @@
 use Rattle.std.proofs.Common.{◌≡◌, drop}
 use Rattle.std.specs.List.{list_all}
-use Rattle.resolve.specs.Admission.{admits}
+use Rattle.problems.specs.Admission.{admits}
 use Rattle.resolve.proofs.asks.Asks.admit.Given as goal
 
 abbrev pub invariant-loop-place : goal.invariant-loop-place

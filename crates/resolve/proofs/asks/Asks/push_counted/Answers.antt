@@ -1,6 +1,6 @@
 use Rattle.std.proofs.Common.{◌∙◌, sym}
 use Rattle.std.specs.Option.{option_copied}
-use Rattle.resolve.specs.Rules.{counts}
+use Rattle.problems.specs.Rules.{counts}
 use Rattle.resolve.proofs.Asking.{counted-kept, counted-skipped}
 use Rattle.resolve.proofs.asks.Asks.push_counted.Goals as goal
 use Rattle.resolve.proofs.asks.Asks.push_counted.Goals.{then-counts+in_ok-push, else-counts}

@@ -1,6 +1,6 @@
 use Rattle.std.proofs.Common.{◌≡◌, ◌++◌, filter, take}
 use Rattle.std.specs.Option.{option_copied}
-use Rattle.resolve.specs.Rules.{counts}
+use Rattle.problems.specs.Rules.{counts}
 use Rattle.resolve.proofs.asks.Asks.push_counted.Given as goal
 
 abbrev pub invariant-loop-wanted : goal.invariant-loop-wanted

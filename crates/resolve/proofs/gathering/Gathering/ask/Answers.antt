@@ -1,7 +1,7 @@
 use Rattle.std.proofs.Common.{◌≡◌, None, length, sym, subst, map, arith}
 use Rattle.search.specs.declared.parts.Requirement.{Requirement as Entry}
+use Rattle.problems.specs.Standing.{Stands}
 use Rattle.resolve.specs.Building.{AreEntries, Gathered, IsGrown}
-use Rattle.resolve.specs.Standing.{Stands}
 use Rattle.resolve.proofs.Gathered.{entries-more, entry-of}
 use Rattle.resolve.proofs.Standing.{map-pushed, Stands-last_map, longer-push_as, longer-then}
 use Rattle.resolve.proofs.gathering.Gathering.ask.Goals as goal

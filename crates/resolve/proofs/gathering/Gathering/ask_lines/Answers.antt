@@ -1,5 +1,5 @@
 use Rattle.std.proofs.Common.{take}
-use Rattle.resolve.specs.Standing.{Stands}
+use Rattle.problems.specs.Standing.{Stands}
 use Rattle.resolve.proofs.Standing.{AllStand-longer, AllZip-more_same}
 use Rattle.resolve.proofs.gathering.Gathering.ask_lines.Goals as goal
 

@@ -1,9 +1,9 @@
 use Rattle.std.proofs.Common.{◌≡◌, true, false, filter, subst, sym, take, option_copied}
+use Rattle.problems.specs.Problem.{ProblemParts}
+use Rattle.problems.specs.Rules.{counts}
+use Rattle.problems.specs.Standing.{Stands}
 use Rattle.resolve.proofs.Gathered.{grown-then}
 use Rattle.resolve.proofs.Standing.{AllStand-longer, AllZip-more_kept, AllZip-more_skipped}
-use Rattle.resolve.specs.Problem.{ProblemParts}
-use Rattle.resolve.specs.Rules.{counts}
-use Rattle.resolve.specs.Standing.{Stands}
 use Rattle.resolve.proofs.gathering.Gathering.ask_release.Goals as goal
 use Rattle.resolve.proofs.gathering.Gathering.ask_release.Goals.{then-counts+in_ok-number+in_ok-push, else-counts}
 

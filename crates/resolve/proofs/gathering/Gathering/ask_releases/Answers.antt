@@ -1,8 +1,8 @@
 use Rattle.std.proofs.Common.{map, subst, take}
+use Rattle.problems.specs.Rules.{wants_of}
+use Rattle.problems.specs.Standing.{AllStand}
 use Rattle.resolve.proofs.Gathered.{AreWants-longer, grown-then}
 use Rattle.resolve.proofs.Standing.{AllZip-more}
-use Rattle.resolve.specs.Rules.{wants_of}
-use Rattle.resolve.specs.Standing.{AllStand}
 use Rattle.resolve.proofs.gathering.Gathering.ask_releases.Goals as goal
 
 pub loop-release-preserved : goal.loop-release-preserved

@@ -1,0 +1,203 @@
+-- What is found in a list passes its test, and where nothing is found nothing passes.
+use Rattle.std.proofs.Common.{◌≡◌, ◌∙◌, inl, inr, ◌<◌, ◌+◌, ◌&&◌, ◌||◌, ℕ, zero, suc, Bool, true, false, List, [], ◌∷◌, Option, Some, None, MatchOption, Contains, drop, find, filter, get_or, length, map, refl, sym, ap, subst}
+use Rattle.std.specs.Bool.{Decides}
+use Rattle.std.specs.List.{list_all, list_any, slice_get}
+use Rattle.std.proofs.lemmas.Bool.{cases_Bool}
+use Rattle.std.proofs.lemmas.List.{at_drop_more}
+use Rattle.std.proofs.lemmas.Option.{slice_get_read}
+use Rattle.pep440.specs.Version.{VersionParts}
+use Rattle.pep508.specs.Requirement.{RequirementParts}
+use Rattle.problems.specs.Admission.{release_at}
+use Rattle.search.specs.Conflicts.{ChoicesClash, Completes, Follows, LineRefuses, NoneLeft, VersionsDiffer}
+use Rattle.problems.specs.Checking.{completes, dependencies_at, differ, is_within, none_left, refuses}
+use Rattle.problems.specs.Grounds.{IsGround}
+use Rattle.problems.specs.Problem.{ProblemParts}
+use Rattle.problems.specs.Refutations.{ChoiceParts, same_version}
+use Rattle.problems.specs.Rules.{bare, counts, nodes_of, rules_of, wants, with_extra}
+use Rattle.problems.specs.declared.ground.Ground.{Ground}
+use Rattle.problems.specs.declared.node.Node.{Node}
+use Rattle.problems.proofs.Checked.{by_choice-decides, by_line-decides, clash-decides, completes-decides, differ-decides, exhausted-decides, line-decides, none-cases, refuses-decides, versions-decide}
+use Rattle.problems.proofs.Counting.{counted}
+use Rattle.problems.proofs.Deciding.{any-mapped}
+use Rattle.lists.proofs.Members.{Contains-here, Contains-map_of, Contains-there}
+
+-- ---- a loop over places
+
+pub any-past : {X : Type 0} (p : X → Bool) (xs : List X) (k : ℕ) (x : X) → k < length xs → x ≡ get_or xs k x → p x ≡ false
+    → list_any p xs ≡ list_any p (drop k xs) → list_any p xs ≡ list_any p (drop (k + 1) xs)
+any-past p xs k x within is fails so_far = so_far ∙ at_drop_more (list_any p) xs k x within ∙ ap (λ b. b || list_any p (drop (k + 1) xs)) (ap p (sym is) ∙ fails)
+
+pub placed : {X : Type 0} (xs : List X) (k : ℕ) (x : X) → k < length xs → x ≡ get_or xs k x → slice_get xs k ≡ Some x
+placed xs k x within is = slice_get_read xs (length xs) k x refl within is
+
+-- ---- what is found
+
+pub found-is : {X : Type 0} (p : X → Bool) (xs : List X) (x : X) → find p xs ≡ Some x → Contains xs x × (p x ≡ true)
+found-is p [] x e = absurd cc
+found-is p (y ∷ ys) x e = elim (cases_Bool (p y)) [
+  | inl passes ↦
+      let k = rw passes at e in
+      let same : y ≡ x = cc in
+      (subst (λ z. Contains (y ∷ ys) z) same (Contains-here y ys), subst (λ z. p z ≡ true) same passes)
+  | inr fails ↦ let k = found-is p ys x (rw fails at e) in (Contains-there y ys x k.0, k.1)
+]
+
+pub found-none : {X : Type 0} (p : X → Bool) (xs : List X) → find p xs ≡ None → list_any p xs ≡ false
+found-none p [] e = refl
+found-none p (y ∷ ys) e = elim (cases_Bool (p y)) [
+  | inl passes ↦ (let k = rw passes at e in absurd cc)
+  | inr fails ↦ rw fails (found-none p ys (rw fails at e))
+]
+
+find-filtered : {X : Type 0} (p q : X → Bool) (xs : List X) → find (λ x. q x && p x) xs ≡ find p (filter q xs)
+find-filtered p q [] = refl
+find-filtered p q (x ∷ xs) = elim (cases_Bool (q x)) [
+  | inl passes ↦ rw passes (elim (cases_Bool (p x)) [ inl h ↦ rw h refl | inr f ↦ rw f (find-filtered p q xs) ])
+  | inr fails ↦ rw fails (find-filtered p q xs)
+]
+
+pub find-wanted : (p : RequirementParts → Bool) (given : ProblemParts) (node : Node) (version : VersionParts)
+    → find (λ wanted. counts given.environment node.extra wanted && p wanted) (dependencies_at given node.name version) ≡ find p (wants given node version)
+find-wanted p given node version =
+    find-filtered p (counts given.environment node.extra) (dependencies_at given node.name version) ∙ ap (find p) (counted given node (release_at given node.name version))
+
+-- ---- deciding
+
+pub never : {P : Type 0} (b : Bool) → Decides b P → b ≡ false → P → ⊥
+never b d e p = let t = d.1 p in absurd cc
+
+pub found-fails : {X : Type 0} (p : X → Bool) (xs : List X) (x : X) → find p xs ≡ Some x → p x ≡ false → ⊥
+found-fails p xs x e f = let t = (found-is p xs x e).1 in absurd cc
+
+slice_get-there : {X : Type 0} (xs : List X) (k : ℕ) (x : X) → slice_get xs k ≡ Some x → Contains xs x
+slice_get-there [] k x e = absurd cc
+slice_get-there (y ∷ ys) zero x e = let same : y ≡ x = cc in subst (λ z. Contains (y ∷ ys) z) same (Contains-here y ys)
+slice_get-there (y ∷ ys) (suc k) x e = Contains-there y ys x (slice_get-there ys k x e)
+
+-- ---- a line refuses a choice
+
+pub unrefused : (given : ProblemParts) (lines : List RequirementParts) (conflict : List ChoiceParts) → lines ≡ given.active
+    → find (λ choice. list_any (λ line. refuses given line choice) lines) conflict ≡ None → LineRefuses (rules_of given) conflict → ⊥
+unrefused given lines conflict active none = never _ (line-decides given conflict)
+    (subst (λ ls. list_any (λ choice. list_any (λ line. refuses given line choice) ls) conflict ≡ false) active (found-none _ conflict none))
+
+pub line-ground : (given : ProblemParts) (lines : List RequirementParts) (conflict : List ChoiceParts) (choice : ChoiceParts) (place : ℕ) → lines ≡ given.active
+    → find (λ choice. list_any (λ line. refuses given line choice) lines) conflict ≡ Some choice
+    → ((line : RequirementParts) × (slice_get lines place ≡ Some line) × (refuses given line choice ≡ true))
+    → (case : LineRefuses (rules_of given) conflict) × (case.choice ≡ choice) × (slice_get given.active place ≡ Some case.line)
+line-ground given lines conflict choice place active found k =
+    let refused = (refuses-decides given k.0 choice).0 k.2 in
+    let at : slice_get given.active place ≡ Some k.0 = subst (λ ls. slice_get ls place ≡ Some k.0) active k.1 in (
+      record { choice = choice; there = (found-is _ conflict choice found).0; line = k.0; active = slice_get-there given.active place k.0 at; named = refused.0; refused = refused.1 },
+      refl,
+      at,
+    )
+
+-- ---- two choices clash
+
+pub unclashed : (given : ProblemParts) (conflict : List ChoiceParts)
+    → find (λ one. list_any (λ wanted. list_any (refuses given wanted) conflict) (wants given one.node one.version)) conflict ≡ None → ChoicesClash (rules_of given) conflict → ⊥
+unclashed given conflict none = never _ (clash-decides given conflict) (found-none _ conflict none)
+
+pub clash-ground : (given : ProblemParts) (conflict : List ChoiceParts) (one : ChoiceParts) (wanted : RequirementParts) (other : ChoiceParts)
+    → find (λ one. list_any (λ wanted. list_any (refuses given wanted) conflict) (wants given one.node one.version)) conflict ≡ Some one
+    → find (λ wanted. list_any (refuses given wanted) conflict) (wants given one.node one.version) ≡ Some wanted
+    → find (refuses given wanted) conflict ≡ Some other
+    → (case : ChoicesClash (rules_of given) conflict) × (case.one ≡ one) × (case.wanted ≡ wanted) × (case.other ≡ other)
+clash-ground given conflict one wanted other found found_wanted found_other =
+    let k = found-is (refuses given wanted) conflict other found_other in
+    let refused = (refuses-decides given wanted other).0 k.1 in (
+      record {
+        one = one;
+        other = other;
+        there = (found-is _ conflict one found).0;
+        there_too = k.0;
+        wanted = wanted;
+        counts = (found-is _ (wants given one.node one.version) wanted found_wanted).0;
+        named = refused.0;
+        refused = refused.1;
+      },
+      refl,
+      refl,
+      refl,
+    )
+
+-- ---- two versions differ
+
+pub undiffering : (given : ProblemParts) (conflict : List ChoiceParts) → find (λ one. list_any (differ one) conflict) conflict ≡ None → VersionsDiffer (rules_of given) same_version conflict → ⊥
+undiffering given conflict none = never _ (versions-decide given conflict) (found-none _ conflict none)
+
+pub differ-ground : (given : ProblemParts) (conflict : List ChoiceParts) (one other : ChoiceParts) → find (λ one. list_any (differ one) conflict) conflict ≡ Some one → find (differ one) conflict ≡ Some other
+    → (case : VersionsDiffer (rules_of given) same_version conflict) × (case.one ≡ one) × (case.other ≡ other)
+differ-ground given conflict one other found found_other =
+    let k = found-is (differ one) conflict other found_other in
+    let apart = (differ-decides one other).0 k.1 in
+    (record { one = one; other = other; there = (found-is _ conflict one found).0; there_too = k.0; named = apart.0; differ = apart.1 }, refl, refl)
+
+-- ---- none is left
+
+pub choice-ground : (given : ProblemParts) (earlier : List (List ChoiceParts)) (conflict : List ChoiceParts) (one : ChoiceParts) (wanted : RequirementParts) (node : Node)
+    → find (λ one. list_any (λ wanted. list_any (none_left given earlier conflict) (nodes_of wanted)) (wants given one.node one.version)) conflict ≡ Some one
+    → find (λ wanted. list_any (none_left given earlier conflict) (nodes_of wanted)) (wants given one.node one.version) ≡ Some wanted
+    → Contains (nodes_of wanted) node → none_left given earlier conflict node ≡ true
+    → (case : NoneLeft (rules_of given) same_version earlier conflict) × (case.node ≡ node)
+    × Contains conflict one × Contains (wants given one.node one.version) wanted × Contains (nodes_of wanted) case.node
+choice-ground given earlier conflict one wanted node found found_wanted needed none =
+    let there = (found-is _ conflict one found).0 in
+    let counts = (found-is _ (wants given one.node one.version) wanted found_wanted).0 in
+    (record { node = node; needs = inr (one, wanted, there, counts, needed); each = (exhausted-decides given earlier conflict node).0 none }, refl, there, counts, needed)
+
+pub needy-ground : (given : ProblemParts) (earlier : List (List ChoiceParts)) (conflict : List ChoiceParts) (line : RequirementParts) (place : ℕ) (node : Node)
+    → slice_get given.active place ≡ Some line → Contains (nodes_of line) node → none_left given earlier conflict node ≡ true
+    → (case : NoneLeft (rules_of given) same_version earlier conflict) × (case.node ≡ node)
+    × (line : RequirementParts) × (slice_get given.active place ≡ Some line) × Contains (nodes_of line) case.node
+needy-ground given earlier conflict line place node at needed none =
+    let there = slice_get-there given.active place line at in
+    (record { node = node; needs = inl (line, there, needed); each = (exhausted-decides given earlier conflict node).0 none }, refl, line, at, needed)
+
+pub unexhausted : (given : ProblemParts) (earlier : List (List ChoiceParts)) (conflict : List ChoiceParts)
+    → list_any (λ one. list_any (λ wanted. list_any (none_left given earlier conflict) (nodes_of wanted)) (wants given one.node one.version)) conflict ≡ false
+    → list_any (λ line. list_any (none_left given earlier conflict) (nodes_of line)) given.active ≡ false
+    → NoneLeft (rules_of given) same_version earlier conflict → ⊥
+unexhausted given earlier conflict by_choice by_line none = elim (none-cases given earlier conflict none) [
+  | inl line ↦ never _ (by_line-decides given earlier conflict) by_line line
+  | inr choice ↦ never _ (by_choice-decides given earlier conflict) by_choice choice
+]
+
+-- the extra that was found for a requirement, or the name alone
+pub extra-found : (test : Node → Bool) (wanted : RequirementParts) (found : Option (List ℕ)) → list_any test (nodes_of wanted) ≡ true → test (bare wanted.name) ≡ false
+    → found ≡ find (λ extra. test (with_extra wanted.name extra)) wanted.extras
+    → Contains (nodes_of wanted) (record { name = wanted.name; extra = found }) × (test (record { name = wanted.name; extra = found }) ≡ true)
+extra-found test wanted None some bare_left e =
+    let rest : list_any test (map (with_extra wanted.name) wanted.extras) ≡ false = sym (any-mapped test (with_extra wanted.name) wanted.extras) ∙ found-none _ wanted.extras (sym e) in
+    absurd (let k = rw (bare_left, rest) at some in cc)
+extra-found test wanted (Some extra) some bare_left e =
+    let k = found-is _ wanted.extras extra (sym e) in
+    (Contains-there (bare wanted.name) (map (with_extra wanted.name) wanted.extras) (with_extra wanted.name extra) (Contains-map_of (with_extra wanted.name) wanted.extras extra k.0), k.1)
+
+pub exhausted-last : (given : ProblemParts) (earlier : List (List ChoiceParts)) (conflict : List ChoiceParts) (found : Option Ground)
+    → list_any (λ one. list_any (λ wanted. list_any (none_left given earlier conflict) (nodes_of wanted)) (wants given one.node one.version)) conflict ≡ false
+    → MatchOption found (list_any (λ line. list_any (none_left given earlier conflict) (nodes_of line)) given.active ≡ false) (IsGround given earlier conflict)
+    → MatchOption found (NoneLeft (rules_of given) same_version earlier conflict → ⊥) (IsGround given earlier conflict)
+exhausted-last given earlier conflict None by_choice by_line = unexhausted given earlier conflict by_choice by_line
+exhausted-last given earlier conflict (Some found) by_choice ground_is = ground_is
+
+pub ground-last : (given : ProblemParts) (earlier : List (List ChoiceParts)) (conflict : List ChoiceParts) (found : Option Ground)
+    → (LineRefuses (rules_of given) conflict → ⊥) → (ChoicesClash (rules_of given) conflict → ⊥) → (VersionsDiffer (rules_of given) same_version conflict → ⊥)
+    → MatchOption found (NoneLeft (rules_of given) same_version earlier conflict → ⊥) (IsGround given earlier conflict)
+    → MatchOption found (Follows (rules_of given) same_version earlier conflict → ⊥) (IsGround given earlier conflict)
+ground-last given earlier conflict None line clash differs none = λ f. elim f [
+  | inl a ↦ line a
+  | inr (inl b) ↦ clash b
+  | inr (inr (inl d)) ↦ differs d
+  | inr (inr (inr e)) ↦ none e
+]
+ground-last given earlier conflict (Some found) line clash differs ground_is = ground_is
+
+-- ---- an earlier conflict is completed
+
+pub completed-place : (earlier : List (List ChoiceParts)) (conflict : List ChoiceParts) (choice : ChoiceParts) (found : Option ℕ)
+    → MatchOption found (completes earlier conflict choice ≡ false) (λ place. (old : List ChoiceParts) × (slice_get earlier place ≡ Some old) × (list_all (is_within conflict choice) old ≡ true))
+    → MatchOption found (Completes same_version earlier conflict choice → ⊥) (λ place. (old : List ChoiceParts) × (slice_get earlier place ≡ Some old) × Completes same_version (old ∷ []) conflict choice)
+completed-place earlier conflict choice None none = never _ (completes-decides earlier conflict choice) none
+completed-place earlier conflict choice (Some place) k = (k.0, k.1, (completes-decides (k.0 ∷ []) conflict choice).0 (rw k.2 refl))

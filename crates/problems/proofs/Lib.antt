@@ -1,0 +1,9 @@
+pub mod Admitting
+pub mod Growing
+pub mod Closing
+pub mod Deciding
+pub mod Equals
+pub mod EqualChoices
+pub mod Checked
+pub mod Counting
+pub mod Grounded

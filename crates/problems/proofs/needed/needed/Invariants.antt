@@ -1,0 +1,14 @@
+use Rattle.std.proofs.Common.{◌-◌, ◌^◌, ◌≤◌, length}
+use Rattle.problems.proofs.Closing.{IsClosing}
+use Rattle.problems.proofs.needed.needed.Given as goal
+use Rattle.problems.specs.Solutions.{version_for}
+
+abbrev pub invariant-loop-at : goal.invariant-loop-at
+invariant-loop-at l = record {
+  closing : IsClosing l.question (version_for l.versions.entries) l.nodes l.at;
+  within : l.at ≤ length l.nodes;
+}
+
+-- the places that a list may still have
+abbrev pub decreases-loop-at : goal.decreases-loop-at
+decreases-loop-at l = 2 ^ 64 - l.at

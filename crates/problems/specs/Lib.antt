@@ -1,0 +1,13 @@
+pub mod Problem
+pub mod Admission
+pub mod Rules
+pub mod Solutions
+pub mod Refutations
+pub mod Choices
+pub mod Grounds
+pub mod Laws
+pub mod ChoiceLaws
+pub mod Checking
+pub mod Growing
+pub mod NodeEquality
+pub mod Standing

@@ -1,0 +1,15 @@
+-- What the conflicts of a problem are made of, over which `search` says when one follows from others.
+use Rattle.std.specs.Prelude.{Bool}
+use Rattle.std.specs.Ordering.{is_eq}
+use Rattle.pep440.specs.Order.{version_cmp}
+use Rattle.pep440.specs.Version.{VersionParts}
+use Rattle.search.specs.declared.conflict.NodeChoice.{NodeChoice}
+use Rattle.problems.specs.declared.node.Node.{Node}
+
+-- a node with a version, which may be that of no release
+abbrev pub ChoiceParts : Type 0
+ChoiceParts = NodeChoice Node VersionParts
+
+-- versions are one where neither is less
+abbrev pub same_version : VersionParts → VersionParts → Bool
+same_version v w = is_eq (version_cmp v w)

@@ -1,0 +1,82 @@
+// Whether a list of conflicts is a refutation of a problem. None of it has a refusal.
+
+ghost use Rattle.std.specs.Prelude.{◌≡◌, ◌↔◌, ◌++◌, ◌∷◌, [], IsTrue, List};
+ghost use Rattle.search.specs.Conflicts.{EachFollows, Follows, IsRefutation};
+ghost use Rattle.search.specs.Solutions.{HasNoSolution};
+ghost use Rattle.problems.specs.Refutations.{ChoiceParts, same_version};
+ghost use Rattle.problems.specs.Rules.{rules_of};
+
+pub(crate) mod clashes;
+pub(crate) mod exhausted;
+pub(crate) mod refusing;
+pub(crate) mod versions;
+
+use crate::checking::clashes::choices_clash;
+use crate::checking::exhausted::none_left;
+use crate::checking::refusing::line_refuses;
+use crate::checking::versions::versions_differ;
+use crate::choice::Choice;
+use crate::laws;
+use crate::problem::Problem;
+use crate::question::Question;
+use crate::refutation::Refutation;
+use lists::Seq;
+
+/// Whether a conflict follows from earlier ones.
+fn follows(question: &Question<'_>, earlier: &[Seq<Choice>], conflict: &[Choice]) -> bool
+    ensures { IsTrue result
+        ↔ Follows (rules_of question.now) same_version earlier.now conflict.now }
+{
+    if line_refuses(question, conflict) {
+        return true;
+    }
+    if choices_clash(question, conflict) {
+        return true;
+    }
+    if versions_differ(conflict) {
+        return true;
+    }
+    none_left(question, earlier, conflict)
+}
+
+/// Whether each conflict follows from those before it.
+fn each_follows(question: &Question<'_>, conflicts: &[Seq<Choice>]) -> bool
+    ensures { IsTrue result
+        ↔ EachFollows (rules_of question.now) same_version [] conflicts.now }
+{
+    for place in 0..conflicts.len() {
+        if !follows(question, &conflicts[..place], conflicts[place].as_slice()) {
+            return false;
+        }
+    }
+    true
+}
+
+/// Whether the last conflict is empty.
+fn ends_empty(conflicts: &[Seq<Choice>]) -> bool
+    ensures { IsTrue result ↔ ((front : List (List ChoiceParts)) × (conflicts.now
+        ≡ front ++ [] ∷ [])) }
+{
+    match conflicts.last() {
+        Some(last) => last.is_empty(),
+        None => false,
+    }
+}
+
+/// Whether these conflicts are a refutation of what is asked.
+fn is_refutation(question: &Question<'_>, conflicts: &[Seq<Choice>]) -> bool
+    ensures { IsTrue result ↔ IsRefutation (rules_of question.now) same_version conflicts.now }
+{
+    ends_empty(conflicts) && each_follows(question, conflicts)
+}
+
+/// Whether each conflict follows from those before it and the last one is empty, whoever made the
+/// list. Then the problem has no solution.
+pub fn check(problem: &Problem<'_>, refutation: &Refutation) -> bool
+    ensures accepted { IsTrue result
+        ↔ IsRefutation (rules_of problem.now) same_version refutation.now }
+    ensures none { IsTrue result → HasNoSolution (rules_of problem.now) }
+{
+    laws::an_accepted_refutation_leaves_no_solution();
+    is_refutation(problem.question(), refutation.conflicts())
+}

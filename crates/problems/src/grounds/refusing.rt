@@ -1,0 +1,59 @@
+// The line that doesn't admit a choice.
+
+ghost use Rattle.std.specs.Prelude.{◌≡◌, List, MatchOption, Some, find, false, true};
+ghost use Rattle.std.specs.List.{list_any, slice_get};
+ghost use Rattle.std.specs.Option.{option_copied};
+ghost use Rattle.search.specs.Conflicts.{LineRefuses};
+ghost use Rattle.pep508.specs.Requirement.{RequirementParts};
+ghost use Rattle.problems.specs.Checking as spec;
+ghost use Rattle.problems.specs.Grounds.{IsGround};
+ghost use Rattle.problems.specs.Refutations.{ChoiceParts};
+ghost use Rattle.problems.specs.Rules.{rules_of};
+
+use crate::checking::refusing::{refuses, some_line_refuses};
+use crate::choice::Choice;
+use crate::ground::Ground;
+use crate::question::Question;
+use pep508::Requirement;
+
+/// The place of the first of the lines that refuses a choice.
+fn place_refusing(question: &Question<'_>, lines: &[Requirement], choice: &Choice) -> Option<usize>
+    ensures { MatchOption result
+        (list_any (λ line. spec.refuses question.now line choice.now) lines.now ≡ false)
+        (λ place. (line : RequirementParts) × (slice_get lines.now place ≡ Some line)
+        × (spec.refuses question.now line choice.now ≡ true)) }
+{
+    for place in 0..lines.len() {
+        if refuses(question, &lines[place], choice) {
+            return Some(place);
+        }
+    }
+    None
+}
+
+/// The first of the choices that one of the lines refuses.
+fn choice_refused<'a>(
+    question: &Question<'_>,
+    lines: &[Requirement],
+    conflict: &'a [Choice],
+) -> Option<&'a Choice>
+    ensures { option_copied result ≡ find
+        (λ choice. list_any (λ line. spec.refuses question.now line choice) lines.now)
+        conflict.now }
+{
+    conflict
+        .iter()
+        .find(|choice| some_line_refuses(question, lines, choice))
+}
+
+/// The active line on its name that doesn't admit one of the choices.
+pub(crate) fn refused<'a>(question: &Question<'_>, conflict: &'a [Choice]) -> Option<Ground<'a>>
+    ensures { MatchOption result (LineRefuses (rules_of question.now) conflict.now → ⊥)
+        (λ found. (earlier : List (List ChoiceParts))
+        → IsGround question.now earlier conflict.now found) }
+{
+    let lines = question.active.as_slice();
+    let choice = choice_refused(question, lines, conflict)?;
+    let place = place_refusing(question, lines, choice)?;
+    Some(Ground::LineRefuses(place, choice))
+}

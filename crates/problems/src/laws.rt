@@ -1,0 +1,44 @@
+//! Laws of problems and their solutions, each the contract of a function that does nothing.
+
+ghost use Rattle.std.specs.Prelude.{List};
+ghost use Rattle.std.specs.List.{Contains};
+ghost use Rattle.search.specs.Conflicts.{IsRefutation, IsVersionEquality, LiesInNone};
+ghost use Rattle.search.specs.Rules.{IsLawful};
+ghost use Rattle.search.specs.Solutions.{HasNoSolution};
+ghost use Rattle.problems.specs.Laws.{AdmissionForgetsKeptVersions};
+ghost use Rattle.problems.specs.Problem.{ProblemParts};
+ghost use Rattle.problems.specs.Refutations.{ChoiceParts, same_version};
+ghost use Rattle.problems.specs.Rules.{rules_of};
+
+use crate::node::Node;
+use pep440::Version;
+use pep508::{Name, Requirement};
+pub use search::laws::{the_best_solution_is_unique, what_follows_lies_in_no_solution};
+
+/// Which versions a requirement admits doesn't depend on the versions that an earlier lock has.
+pub fn admission_forgets_kept_versions()
+    ensures law { AdmissionForgetsKeptVersions }
+{}
+
+/// The rules of a problem are lawful: names are ordered by their bytes, each requirement needs a node, and
+/// the nodes that it needs are on its name.
+pub fn the_rules_of_a_problem_are_lawful()
+    ensures { (given : ProblemParts) → IsLawful (rules_of given) }
+{}
+
+/// The rules of a problem don't tell versions apart that are equal in their order.
+pub fn equal_versions_are_alike()
+    ensures { (given : ProblemParts) → IsVersionEquality (rules_of given) same_version }
+{}
+
+/// Where a list is a refutation of a problem, the problem has no solution, and each conflict of the
+/// list lies in none.
+pub fn an_accepted_refutation_leaves_no_solution()
+    ensures none { (given : ProblemParts) (conflicts : List (List ChoiceParts))
+        → IsRefutation (rules_of given) same_version conflicts → HasNoSolution (rules_of given) }
+    ensures each { (given : ProblemParts) (conflicts : List (List ChoiceParts))
+        → IsRefutation (rules_of given) same_version conflicts → (conflict : List ChoiceParts)
+        → Contains conflicts conflict → LiesInNone (rules_of given) same_version conflict }
+{
+    what_follows_lies_in_no_solution::<Name, Node, Version, Requirement>();
+}

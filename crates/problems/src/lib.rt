@@ -1,0 +1,35 @@
+//! The problem of a lock: what a solution is, and what shows that there is none.
+//!
+//! Whether a list of conflicts, whoever made it, shows that a problem has no solution:
+//!
+//! ```rust
+//! let problem = Problem::new(alloc, lines, environment, index, BTreeMap::new(alloc))?;
+//! // A list without conflicts shows nothing.
+//! let nothing = Refutation::new(Seq::from_vec(Vec::new(alloc)));
+//! Ok(!check(&problem, &nothing))
+//! ```
+#![tactic(auto)]
+
+mod admission;
+mod checking;
+mod choice;
+mod cutting;
+mod ground;
+mod grounds;
+pub mod laws;
+mod needed;
+mod node;
+mod nodes;
+pub mod parts;
+mod problem;
+mod question;
+mod refutation;
+mod releases;
+
+pub use crate::checking::check;
+pub use crate::choice::Choice;
+pub use crate::ground::{Ground, Need};
+pub use crate::grounds::{completed, ground_of};
+pub use crate::node::Node;
+pub use crate::problem::Problem;
+pub use crate::refutation::Refutation;

@@ -1,0 +1,120 @@
+// The nodes that are needed under what is chosen.
+
+ghost use Rattle.std.specs.Prelude.{IfOk, map};
+ghost use Rattle.std.specs.List.{filter};
+ghost use Rattle.std.specs.Option.{option_copied};
+ghost use Rattle.problems.specs.Growing.{Grows, nodes_asked, nodes_linked};
+ghost use Rattle.problems.specs.Rules.{counts, nodes_of, with_extra};
+ghost use Rattle.problems.specs.Solutions.{AreNeeded, version_for};
+
+use crate::node::Node;
+use crate::nodes::Nodes;
+use crate::question::Question;
+use crate::releases::counts;
+use lists::Seq;
+use pep440::Version;
+use pep508::{Environment, Name, Requirement};
+use std::alloc::{AllocError, Global};
+use std::collections::BTreeMap;
+
+/// Adds the nodes of a name with each of the extras.
+fn add_extras(
+    alloc: Global,
+    nodes: &mut Nodes,
+    name: &Name,
+    extras: &[Name],
+) -> Result<(), AllocError>
+    ensures { IfOk result (λ _. Grows nodes.old nodes.new (map (with_extra name.now) extras.now)) }
+{
+    for extra in extras {
+        nodes.number_of(alloc, name, Some(extra))?;
+    }
+    Ok(())
+}
+
+/// Adds the nodes that a requirement needs.
+fn add_nodes(alloc: Global, nodes: &mut Nodes, wanted: &Requirement) -> Result<(), AllocError>
+    ensures { IfOk result (λ _. Grows nodes.old nodes.new (nodes_of wanted.now)) }
+{
+    nodes.number_of(alloc, wanted.name(), None)?;
+    add_extras(alloc, nodes, wanted.name(), wanted.extras())?;
+    Ok(())
+}
+
+/// Adds the nodes that the active requirements need.
+fn add_lines(alloc: Global, nodes: &mut Nodes, lines: &[Requirement]) -> Result<(), AllocError>
+    ensures { IfOk result (λ _. Grows nodes.old nodes.new (nodes_asked lines.now)) }
+{
+    for wanted in lines {
+        add_nodes(alloc, nodes, wanted)?;
+    }
+    Ok(())
+}
+
+/// Adds the nodes that the dependencies need which count with an extra or none.
+fn add_dependencies(
+    alloc: Global,
+    nodes: &mut Nodes,
+    environment: &Environment,
+    extra: Option<&Name>,
+    dependencies: &[Requirement],
+) -> Result<(), AllocError>
+    ensures { IfOk result
+        (λ _. Grows nodes.old nodes.new (nodes_asked (filter (counts environment.now (option_copied
+        extra.entry)) dependencies.now))) }
+{
+    for wanted in dependencies {
+        if counts(environment, extra, wanted) {
+            add_nodes(alloc, nodes, wanted)?;
+        }
+    }
+    Ok(())
+}
+
+/// Adds the nodes that a node leads to.
+fn follow(
+    alloc: Global,
+    question: &Question<'_>,
+    versions: &BTreeMap<Name, Version>,
+    nodes: &mut Nodes,
+    node: &Node,
+) -> Result<(), AllocError>
+    ensures { IfOk result
+        (λ _. Grows nodes.old nodes.new (nodes_linked question.now node.now (version_for
+        versions.now.entries node.now.name))) }
+{
+    let Some(version) = versions.get(&node.name) else {
+        return Ok(());
+    };
+    let Some(release) = question.release(&node.name, version) else {
+        return Ok(());
+    };
+    let extra = node.extra.as_ref();
+    add_dependencies(
+        alloc,
+        nodes,
+        &question.environment,
+        extra,
+        release.dependencies(),
+    )?;
+    Ok(())
+}
+
+/// The nodes that are needed where these versions are chosen.
+pub(crate) fn needed(
+    alloc: Global,
+    question: &Question<'_>,
+    versions: &BTreeMap<Name, Version>,
+) -> Result<Seq<Node>, AllocError>
+    ensures { IfOk result (AreNeeded question.now (version_for versions.now.entries)) }
+{
+    let mut nodes = Nodes::new(alloc);
+    add_lines(alloc, &mut nodes, question.active.as_slice())?;
+    let mut at = 0;
+    while at < nodes.as_slice().len() {
+        let node = nodes.as_slice()[at].clone()?;
+        follow(alloc, question, versions, &mut nodes, &node)?;
+        at += 1;
+    }
+    Ok(nodes.into_seq())
+}

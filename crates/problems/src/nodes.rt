@@ -1,0 +1,211 @@
+// Nodes and their numbers.
+
+ghost use Rattle.std.specs.Prelude.{◌≡◌, [], false, IfOk, IfSome};
+ghost use Rattle.std.specs.List.{slice_get};
+ghost use Rattle.std.specs.Option.{option_copied, option_map_or};
+ghost use Rattle.problems.specs.NodeEquality.{is_asked, is_node};
+ghost use Rattle.problems.specs.Standing.{IsLonger, IsWith, Stands};
+
+use crate::node::Node;
+use lists::Seq;
+use pep508::Name;
+use std::alloc::{AllocError, Global};
+use std::collections::BTreeMap;
+use std::marker::Model;
+
+/// Where a name's nodes stand: the one without an extra, and those with one.
+struct Numbers {
+    bare: Option<usize>,
+    by_extra: BTreeMap<Name, usize>,
+}
+
+impl Drop for Numbers {
+    fn drop(self) {
+        let Numbers {
+            bare: _,
+            by_extra: _,
+        } = self;
+    }
+}
+
+impl Numbers {
+    /// The number of the node with this extra or none.
+    fn of(&self, extra: Option<&Name>) -> Option<usize> {
+        match extra {
+            Some(extra) => self.by_extra.get(extra).copied(),
+            None => self.bare,
+        }
+    }
+
+    fn list(&mut self, extra: Option<&Name>, number: usize) -> Result<(), AllocError> {
+        match extra {
+            Some(extra) => {
+                self.by_extra.insert(extra.clone()?, number)?;
+            }
+            None => self.bare = Some(number),
+        }
+        Ok(())
+    }
+}
+
+/// A list of nodes, in which the number of a node is its place. A node is found by its name and then by
+/// its extra; that it is what was looked for is seen of the node itself.
+pub struct Nodes {
+    nodes: Vec<Node>,
+    by_name: BTreeMap<Name, Numbers>,
+}
+
+impl Drop for Nodes {
+    fn drop(self) {
+        let Nodes {
+            nodes: _,
+            by_name: _,
+        } = self;
+    }
+}
+
+impl Model for Nodes {
+    ghost use Rattle.std.specs.Prelude.{List};
+    ghost use Rattle.problems.specs.declared.node.Node.{Node};
+
+    ghost Value = { List Node };
+
+    ghost view = { λ n. n.nodes.items };
+}
+
+/// Whether the extra that may be there is the one that is asked for.
+pub(crate) fn is_asked(extra: Option<&Name>, asked: Option<&Name>) -> bool
+    ensures { result ≡ is_asked (option_copied extra.entry) (option_copied asked.entry) }
+{
+    match (extra, asked) {
+        (None, None) => true,
+        (Some(extra), Some(asked)) => extra.normal() == asked.normal(),
+        _ => false,
+    }
+}
+
+/// Whether a node is the one of this name with this extra or none.
+fn is_node(node: &Node, name: &Name, extra: Option<&Name>) -> bool
+    ensures { result ≡ is_node node.now name.now (option_copied extra.entry) }
+{
+    node.name.normal() == name.normal() && is_asked(node.extra.as_ref(), extra)
+}
+
+/// A copy of a name that may be there.
+pub fn copy_of(name: Option<&Name>) -> Result<Option<Name>, AllocError>
+    ensures { IfOk result (λ copy. copy ≡ option_copied name.entry) }
+{
+    match name {
+        Some(name) => Ok(Some(name.clone()?)),
+        None => Ok(None),
+    }
+}
+
+impl Nodes {
+    /// No nodes.
+    pub fn new(alloc: Global) -> Nodes
+        ensures { result ≡ [] }
+    {
+        Nodes {
+            nodes: Vec::new(alloc),
+            by_name: BTreeMap::new(alloc),
+        }
+    }
+
+    /// The nodes, in the order of their numbers.
+    pub fn into_seq(self) -> Seq<Node>
+        ensures { result ≡ self }
+    {
+        let Nodes { nodes, by_name: _ } = self;
+        Seq::from_vec(nodes)
+    }
+
+    /// The nodes, lent in the order of their numbers.
+    pub fn as_slice(&self) -> &[Node]
+        ensures { result.now ≡ self.now }
+    {
+        self.nodes.as_slice()
+    }
+
+    /// Whether the node of this number is the one that is looked for.
+    fn is_at(&self, number: usize, name: &Name, extra: Option<&Name>) -> bool
+        ensures { result ≡ option_map_or
+            (λ node. is_node node name.now (option_copied extra.entry)) (slice_get self.now number)
+            false }
+    {
+        match self.nodes.get(number) {
+            Some(node) => is_node(node, name, extra),
+            None => false,
+        }
+    }
+
+    /// The number of a node that is there.
+    fn find(&self, name: &Name, extra: Option<&Name>) -> Option<usize>
+        ensures { IfSome result
+            (λ number. Stands self.now number (record {
+              name = name.now;
+              extra = option_copied
+                  extra.entry;
+            })) }
+    {
+        let number = self.by_name.get(name)?.of(extra)?;
+        if self.is_at(number, name, extra) {
+            return Some(number);
+        }
+        None
+    }
+
+    /// Lets a node be found by its name and its extra.
+    fn list_by_name(
+        &mut self,
+        alloc: Global,
+        name: &Name,
+        extra: Option<&Name>,
+        number: usize,
+    ) -> Result<(), AllocError>
+        ensures { self.new ≡ self.old }
+    {
+        match self.by_name.get_mut(name) {
+            Some(numbers) => numbers.list(extra, number)?,
+            None => {
+                let mut numbers = Numbers {
+                    bare: None,
+                    by_extra: BTreeMap::new(alloc),
+                };
+                numbers.list(extra, number)?;
+                self.by_name.insert(name.clone()?, numbers)?;
+            }
+        }
+        Ok(())
+    }
+
+    /// The number of a node, which is put behind the others where it isn't there.
+    pub fn number_of(
+        &mut self,
+        alloc: Global,
+        name: &Name,
+        extra: Option<&Name>,
+    ) -> Result<usize, AllocError>
+        ensures longer { IfOk result (λ _. IsLonger self.old self.new) }
+        ensures number { IfOk result
+            (λ number. Stands self.new number (record {
+              name = name.now;
+              extra = option_copied
+                  extra.entry;
+            })) }
+        ensures only { IfOk result
+            (λ _. IsWith (record { name = name.now; extra = option_copied extra.entry }) self.old
+            self.new) }
+    {
+        if let Some(number) = self.find(name, extra) {
+            return Ok(number);
+        }
+        let number = self.nodes.len();
+        self.list_by_name(alloc, name, extra, number)?;
+        self.nodes.push(Node {
+            name: name.clone()?,
+            extra: copy_of(extra)?,
+        })?;
+        Ok(number)
+    }
+}

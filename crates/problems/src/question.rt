@@ -1,0 +1,141 @@
+// What a problem asks, without what is worked out of it.
+
+ghost use Rattle.std.specs.Prelude.{◌≡◌, IfOk};
+ghost use Rattle.std.specs.List.Sorted.{IsStrictlySortedBy};
+ghost use Rattle.std.specs.Option.{option_copied, option_to_list};
+ghost use Rattle.pep508.specs.Requirement.{requirement_of};
+ghost use Rattle.snapshot.specs.Releases.{newer_cmp};
+ghost use Rattle.problems.specs.Admission.{release_at};
+ghost use Rattle.problems.specs.Checking.{dependencies_at};
+ghost use Rattle.problems.specs.Problem.{active_in, releases_on, requirements};
+
+use crate::releases;
+use lists::Seq;
+use pep440::Version;
+use pep508::{Environment, Line, Name, ReqFile, Requirement};
+use snapshot::{Release, Snapshot};
+use std::alloc::{AllocError, Global};
+use std::collections::BTreeMap;
+use std::marker::Model;
+
+/// The requirements of the active lines, the environment, the index, and the versions that an earlier
+/// lock has. In a clause it is the problem.
+pub struct Question<'a> {
+    pub active: Seq<Requirement>,
+    pub environment: Environment,
+    pub snapshot: &'a Snapshot,
+    pub kept: BTreeMap<Name, Version>,
+}
+
+impl<'a> Drop for Question<'a> {
+    fn drop(self) {
+        let Question {
+            active: _,
+            environment: _,
+            snapshot: _,
+            kept: _,
+        } = self;
+    }
+}
+
+impl<'a> Model for Question<'a> {
+    ghost use Rattle.std.specs.Coded.{codes};
+    ghost use Rattle.markers.specs.Tied.MarkerCode.{tree_code};
+    ghost use Rattle.problems.specs.Problem.{ProblemParts};
+
+    ghost Value = { ProblemParts };
+
+    ghost coded = { Prim.hlevel (codes, tree_code) };
+
+    ghost view = { λ q. record {
+      active = q.active;
+      environment = q.environment;
+      index = q.snapshot.now;
+      kept = q.kept.entries;
+    } };
+}
+
+/// What a line asks for, where it counts in the environment.
+fn active<'l>(environment: &Environment, line: &'l Line) -> Option<&'l Requirement>
+    ensures { option_to_list (option_copied result)
+        ≡ active_in environment.now (requirement_of line.now) }
+{
+    let requirement = line.requirement()?;
+    if requirement.is_active(environment) {
+        Some(requirement)
+    } else {
+        None
+    }
+}
+
+/// The requirements of the active lines.
+fn requirements(
+    alloc: Global,
+    environment: &Environment,
+    lines: &[Line],
+) -> Result<Seq<Requirement>, AllocError>
+    ensures { IfOk result (λ active. active ≡ requirements environment.now lines.now) }
+{
+    let mut kept = Vec::new(alloc);
+    for line in lines {
+        if let Some(requirement) = active(environment, line) {
+            kept.push(requirement.clone()?)?;
+        }
+    }
+    Ok(Seq::from_vec(kept))
+}
+
+impl<'a> Question<'a> {
+    /// What is asked of the lines in the environment over the index.
+    pub(crate) fn new(
+        alloc: Global,
+        lines: &ReqFile,
+        environment: &Environment,
+        snapshot: &'a Snapshot,
+        kept: BTreeMap<Name, Version>,
+    ) -> Result<Question<'a>, AllocError>
+        ensures { IfOk result
+            (λ question. question
+            ≡ record {
+              active = requirements environment.now lines.now;
+              environment =
+                  environment.now;
+              index = snapshot.now;
+              kept = kept.entries;
+            }) }
+    {
+        let active = requirements(alloc, environment, lines.lines())?;
+        let environment = environment.clone()?;
+        Ok(Question {
+            active,
+            environment,
+            snapshot,
+            kept,
+        })
+    }
+
+    /// The releases of a name, newest first.
+    pub fn releases(&self, name: &Name) -> &[Release]
+        ensures listed { result.now ≡ releases_on self.now name.now }
+        ensures fall { IsStrictlySortedBy newer_cmp result.now }
+    {
+        self.snapshot.releases(name)
+    }
+
+    /// The release of a name with a version that equals this one, if the index has one.
+    pub fn release(&self, name: &Name, version: &Version) -> Option<&Release>
+        ensures { option_copied result ≡ release_at self.now name.now version.now }
+    {
+        releases::release_at(self.releases(name), version)
+    }
+
+    /// The dependencies of the release with that version; none where the index has no such release.
+    pub fn dependencies(&self, name: &Name, version: &Version) -> &[Requirement]
+        ensures { result.now ≡ dependencies_at self.now name.now version.now }
+    {
+        match self.release(name, version) {
+            Some(release) => release.dependencies(),
+            None => &[],
+        }
+    }
+}

@@ -1,5 +1,0 @@
-use Rattle.std.proofs.Common.{rules}
-use Rattle.resolve.proofs.admission.admits_release.Goals as goal
-
-pub returns-else-not-yanked : goal.returns-else-not-yanked
-returns-else-not-yanked c = search rules

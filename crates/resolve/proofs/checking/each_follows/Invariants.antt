@@ -1,8 +1,0 @@
-use Rattle.std.proofs.Common.{[], take}
-use Rattle.search.specs.Conflicts.{EachFollows}
-use Rattle.resolve.specs.Refutations.{same_version}
-use Rattle.resolve.specs.Rules.{rules_of}
-use Rattle.resolve.proofs.checking.each_follows.Given as goal
-
-abbrev pub invariant-loop-place : goal.invariant-loop-place
-invariant-loop-place l = EachFollows (rules_of l.question) same_version [] (take l.place l.conflicts)

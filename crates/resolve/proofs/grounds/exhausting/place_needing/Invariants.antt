@@ -1,9 +1,0 @@
-use Rattle.std.proofs.Common.{◌≡◌, drop}
-use Rattle.std.specs.List.{list_any}
-use Rattle.resolve.specs.Checking.{none_left}
-use Rattle.resolve.specs.Rules.{nodes_of}
-use Rattle.resolve.proofs.grounds.exhausting.place_needing.Given as goal
-
-abbrev pub invariant-loop-place : goal.invariant-loop-place
-invariant-loop-place l = list_any (λ line. list_any (none_left l.question l.earlier l.conflict) (nodes_of line)) l.lines
-    ≡ list_any (λ line. list_any (none_left l.question l.earlier l.conflict) (nodes_of line)) (drop l.place l.lines)

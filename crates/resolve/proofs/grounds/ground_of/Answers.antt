@@ -1,4 +1,0 @@
-use Rattle.resolve.proofs.grounds.ground_of.Goals as goal
-
-pub returns : goal.returns
-returns c = rw c.question.ensures at c.ground_in.ensures

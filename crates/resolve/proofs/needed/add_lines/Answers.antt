@@ -1,8 +1,0 @@
-use Rattle.resolve.specs.Rules.{nodes_of}
-use Rattle.resolve.proofs.Growing.{Grows-more}
-use Rattle.resolve.proofs.needed.add_lines.Goals as goal
-
-pub loop-wanted-preserved : goal.loop-wanted-preserved
-loop-wanted-preserved c =
-    Grows-more nodes_of c.args.nodes.now c.loop-wanted.nodes c.add_nodes.new.nodes c.args.lines.now c.loop-wanted.wanted-index c.wanted-item.result c.loop-wanted-test.true c.wanted-item.is
-    c.loop-wanted.invariant c.in_ok-add_nodes.ensures

@@ -1,6 +1,0 @@
-use Rattle.std.proofs.Common.{take}
-use Rattle.resolve.specs.Growing.{Grows, nodes_asked}
-use Rattle.resolve.proofs.needed.add_lines.Given as goal
-
-abbrev pub invariant-loop-wanted : goal.invariant-loop-wanted
-invariant-loop-wanted l = Grows l.fn.nodes l.nodes (nodes_asked (take l.wanted-index l.lines))
