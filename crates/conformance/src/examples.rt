@@ -11,6 +11,7 @@ use pep508::{ReqFile, Requirement};
 use pylock::{Lock, rises};
 use resolve::{Learning, Problem, check};
 use snapshot::Snapshot;
+use states::{change_between, locked};
 use std::alloc::{AllocError, Global};
 use std::collections::BTreeMap;
 
@@ -23,18 +24,19 @@ pub fn example(alloc: Global, library: &str) -> Option<String> {
         "pep508" => of_pep508(alloc, &data::environment(alloc)?).ok()?,
         "snapshot" => of_snapshot(alloc, data::index_text(alloc)?.as_bytes()).ok()?,
         "commands" => of_commands(alloc).ok()?,
-        _ => of_states(alloc, library)?,
+        _ => over_index(alloc, library)?,
     };
     format!(in alloc; "{is_true}").ok()
 }
 
 /// Whether the example of a library over an index comes out true.
-fn of_states(alloc: Global, library: &str) -> Option<bool> {
+fn over_index(alloc: Global, library: &str) -> Option<bool> {
     let index = data::read_indexes(alloc)?;
     let state = data::state(alloc, &index)?;
     match library {
         "resolve" => of_resolve(alloc, state.lines(), state.environment(), &index.now).ok(),
         "pylock" => of_pylock(alloc, state.lock().print(alloc).ok()?.as_bytes()).ok(),
+        "states" => of_states(alloc, &state, &index.later).ok(),
         "edits" => of_edits(alloc, &state, &index.now).ok(),
         "journal" => {
             let environment = data::environment(alloc)?;
@@ -93,6 +95,19 @@ fn of_resolve(
 fn of_pylock(alloc: Global, bytes: &[u8]) -> Result<bool, pylock::Fault> {
     let lock = Lock::read(alloc, bytes)?;
     Ok(rises(lock.entries()))
+}
+
+fn of_states(alloc: Global, state: &State, later: &Snapshot) -> Result<bool, AllocError> {
+    let kept = state.kept(alloc)?;
+    let (lines, environment, _) = state.clone()?.into_parts();
+    match locked(alloc, lines, environment, later, kept, &Learning)? {
+        // What changes is the digest of the index, and no line.
+        Some(next) => {
+            let change = change_between(alloc, state, &next)?;
+            Ok(change.digests().is_some() && change.splices().is_empty())
+        }
+        None => Ok(false),
+    }
 }
 
 fn of_edits(alloc: Global, state: &State, index: &Snapshot) -> Result<bool, Refusal> {
