@@ -3,9 +3,9 @@
 
 learning_model.py INDEX REQUIREMENTS    prints the steps of the search, the conflicts recorded and kept; or `solvable`
 
-It is a copy of the search and of the cut of `resolve`, for files without extras, markers and pre-releases, whose versions are
-whole numbers, as `planted.py` writes them. No call of the library tells what was recorded, and so it is worked out here; what
-is kept has to be as long as what the library prints.
+It is a copy of the search that learns, of `search`, and of the cut of `problems`, for files without extras, markers and
+pre-releases, whose versions are whole numbers, as `planted.py` writes them. No call of the library tells what was recorded, and
+so it is worked out here; what is kept has to be as long as what the library prints.
 """
 import json
 import re

@@ -24,13 +24,13 @@ def bodies():
     """The body of each example that conformance has, by the library's name."""
     source = (CONFORMANCE / "src/examples.rt").read_text(encoding="utf-8")
     found = re.findall(r"^fn of_(\w+)\b[^{]*\{\n(.*?)^\}", source, re.DOTALL | re.MULTILINE)
-    return {name: textwrap.dedent(body) for name, body in found if name != "states"}
+    return {name: textwrap.dedent(body) for name, body in found}
 
 
 class Examples(unittest.TestCase):
     def test_are_those_that_are_run(self):
         ran = bodies()
-        self.assertEqual(len(ran), 10)
+        self.assertEqual(len(ran), 12)
         for library, body in ran.items():
             self.assertEqual(head_of(library), body, library)
 

@@ -4,13 +4,14 @@ use crate::scenarios::data;
 use commands::request::{RequestFault, Subcommand, request};
 use edits::{Edit, Refusal, State, edit};
 use journal::{Command, Reply, Session};
-use lists::{Text, trim_end};
+use lists::{Seq, Text, trim_end};
 use markers::{Environment, Marker, Name};
 use pep440::{SpecifierSet, Version};
 use pep508::{ReqFile, Requirement};
 use pylock::{Lock, rises};
-use resolve::{Learning, Problem, check};
+use resolve::{Learning, Problem, Refutation, check};
 use snapshot::Snapshot;
+use states::{change_between, locked};
 use std::alloc::{AllocError, Global};
 use std::collections::BTreeMap;
 
@@ -23,18 +24,24 @@ pub fn example(alloc: Global, library: &str) -> Option<String> {
         "pep508" => of_pep508(alloc, &data::environment(alloc)?).ok()?,
         "snapshot" => of_snapshot(alloc, data::index_text(alloc)?.as_bytes()).ok()?,
         "commands" => of_commands(alloc).ok()?,
-        _ => of_states(alloc, library)?,
+        _ => over_index(alloc, library)?,
     };
     format!(in alloc; "{is_true}").ok()
 }
 
 /// Whether the example of a library over an index comes out true.
-fn of_states(alloc: Global, library: &str) -> Option<bool> {
+fn over_index(alloc: Global, library: &str) -> Option<bool> {
     let index = data::read_indexes(alloc)?;
     let state = data::state(alloc, &index)?;
     match library {
-        "resolve" => of_resolve(alloc, state.lines(), state.environment(), &index.now).ok(),
+        "problems" => of_problems(alloc, state.lines(), state.environment(), &index.now).ok(),
+        "resolve" => {
+            // `a` 2 needs `b-b<2`, and `c` needs `b-b>=2`.
+            let lines = ReqFile::read(alloc, "a>=2\nc".as_bytes()).ok()?;
+            of_resolve(alloc, &lines, state.environment(), &index.now).ok()
+        }
         "pylock" => of_pylock(alloc, state.lock().print(alloc).ok()?.as_bytes()).ok(),
+        "states" => of_states(alloc, &state, &index.later).ok(),
         "edits" => of_edits(alloc, &state, &index.now).ok(),
         "journal" => {
             let environment = data::environment(alloc)?;
@@ -76,6 +83,18 @@ fn of_snapshot(alloc: Global, bytes: &[u8]) -> Result<bool, snapshot::Fault> {
     }
 }
 
+fn of_problems(
+    alloc: Global,
+    lines: &ReqFile,
+    environment: &Environment,
+    index: &Snapshot,
+) -> Result<bool, AllocError> {
+    let problem = Problem::new(alloc, lines, environment, index, BTreeMap::new(alloc))?;
+    // A list without conflicts shows nothing.
+    let nothing = Refutation::new(Seq::from_vec(Vec::new(alloc)));
+    Ok(!check(&problem, &nothing))
+}
+
 fn of_resolve(
     alloc: Global,
     lines: &ReqFile,
@@ -93,6 +112,19 @@ fn of_resolve(
 fn of_pylock(alloc: Global, bytes: &[u8]) -> Result<bool, pylock::Fault> {
     let lock = Lock::read(alloc, bytes)?;
     Ok(rises(lock.entries()))
+}
+
+fn of_states(alloc: Global, state: &State, later: &Snapshot) -> Result<bool, AllocError> {
+    let kept = state.kept(alloc)?;
+    let (lines, environment, _) = state.clone()?.into_parts();
+    match locked(alloc, lines, environment, later, kept, &Learning)? {
+        // What changes is the digest of the index, and no line.
+        Some(next) => {
+            let change = change_between(alloc, state, &next)?;
+            Ok(change.digests().is_some() && change.splices().is_empty())
+        }
+        None => Ok(false),
+    }
 }
 
 fn of_edits(alloc: Global, state: &State, index: &Snapshot) -> Result<bool, Refusal> {

@@ -8,7 +8,7 @@ pub mod data;
 mod histories;
 mod readings;
 mod sessions;
-mod states;
+mod state_calls;
 mod told;
 mod told_commands;
 
@@ -32,7 +32,7 @@ fn play<W: Write>(alloc: Global, out: &mut W, scenario: &str) -> Option<()> {
         "read" => readings::read(alloc, out, rest),
         "compare" => readings::compare(alloc, out),
         "clone" => clones::clones(alloc, out, rest),
-        "state" => states::states(alloc, out, rest),
+        "state" => state_calls::states(alloc, out, rest),
         "change" => changes::changes(alloc, out, rest),
         "apply" => sessions::apply(alloc, out, rest),
         "run" => sessions::run(alloc, out, rest),

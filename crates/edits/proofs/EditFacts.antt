@@ -1,11 +1,10 @@
 -- What an edit leads to, from the state that its lines were locked as.
-use Rattle.std.proofs.Common.{◌≡◌, ℕ, false, List, Some, None, Ok, Err, refl, ap, subst, inr}
-use Rattle.std.specs.Prelude.{IsTrue}
+use Rattle.std.proofs.Common.{◌≡◌, ℕ, List, Some, None, Ok, Err, refl, ap, subst, inr}
 use Rattle.pep440.specs.Version.{VersionParts}
 use Rattle.snapshot.specs.Packages.{Index}
-use Rattle.edits.specs.StateParts.{StateParts}
-use Rattle.edits.specs.Edits.{EditResult, IsLocked, IsNew, given_of, kept_pins, lines_after}
-use Rattle.edits.specs.Locking.{versions_of}
+use Rattle.states.specs.StateParts.{StateParts}
+use Rattle.states.specs.Locking.{IsLocked, given_of, versions_of}
+use Rattle.edits.specs.Edits.{EditResult, IsNew, kept_pins, lines_after}
 use Rattle.edits.specs.Refused.{or_refused, refused_by_lines, refused_by_lock}
 use Rattle.edits.specs.declared.request.Edit.{Edit}
 use Rattle.edits.specs.declared.refusal.Refusal.TheVariants.{NothingChanges}
@@ -39,7 +38,3 @@ pub changes : (state edited : StateParts) (edit : Edit) (index : Index) (lines :
 changes state edited edit index lines kept a locked other =
     let k = accepted (refused_by_lines state.lines edit) (lines_after state.lines edit) lines a.lines_are in
     rw (k.0, a.lock, k.1, ← a.kept_are) (locked, other-state state edited other)
-
--- what is false isn't so
-pub not-so : IsTrue false → ⊥
-not-so h = cc h

@@ -1,5 +1,5 @@
 -- What an added line makes of the lines. All of it is reqlock's own rule.
-use Rattle.std.specs.Prelude.{ℕ, ◌+◌, ◌==◌, List, [], ◌∷◌, ◌++◌, length, Option, None, if◌then◌else◌}
+use Rattle.std.specs.Prelude.{ℕ, ◌==◌, List, [], ◌∷◌, ◌++◌, length, Option, None, if◌then◌else◌}
 use Rattle.std.specs.List.{list_any, position_from}
 use Rattle.pep508.specs.Parts.{ended, ending_of}
 use Rattle.pep508.specs.Requirement.{RequirementParts}

@@ -9,27 +9,17 @@ use Rattle.pep440.specs.Version.{VersionParts}
 use Rattle.pep508.specs.Parts.{trim}
 use Rattle.snapshot.specs.Packages.{Index}
 use Rattle.search.specs.Solutions.{HasNoSolution}
-use Rattle.resolve.specs.Problem.{ProblemParts, requirements}
-use Rattle.resolve.specs.Rules.{rules_of}
+use Rattle.problems.specs.Problem.{ProblemParts}
+use Rattle.problems.specs.Rules.{rules_of}
+use Rattle.states.specs.StateParts.{StateParts}
+use Rattle.states.specs.Locking.{IsLocked, given_of, versions_of}
 use Rattle.edits.specs.Adding.{with_line}
-use Rattle.edits.specs.StateParts.{StateParts}
-use Rattle.edits.specs.Locking.{IsLockOf, versions_of}
 use Rattle.edits.specs.Naming.{with_set_on, without_line}
 use Rattle.edits.specs.Refused.{refused_by_lines, refused_by_lock}
 use Rattle.edits.specs.declared.request.Edit.{Edit}
 use Rattle.edits.specs.declared.request.Edit.TheVariants.{Add, Constrain, Remove, Upgrade, UpgradeAll}
 use Rattle.edits.specs.declared.refusal.Refusal.{Refusal}
 use Rattle.edits.specs.declared.refusal.Refusal.TheVariants.{NoSolution, NothingChanges}
-
--- the problem of lines in an environment over an index, with the versions that are kept
-abbrev pub given_of : List (List ℕ) → Texts → Index → List (List ℕ × VersionParts) → ProblemParts
-given_of lines environment index kept = record { active = requirements environment lines; environment = environment; index = index; kept = kept }
-
--- the state of these lines, this environment and this index with the lock of their problem
-pub record IsLocked (given : ProblemParts) (lines : List (List ℕ)) (state : StateParts) : Type 0 where
-  pub lines_are : state.lines ≡ lines
-  pub environment : state.environment ≡ given.environment
-  pub lock : IsLockOf given state.lock
 
 -- the new state is another than the old one
 abbrev pub IsNew : Option StateParts → StateParts → Type 0

@@ -1,13 +1,5 @@
 pub mod Asking
 pub mod Adding
-pub mod StateParts
-pub mod Locking
-pub mod Dependencies
-pub mod Entries
-pub mod State
-pub mod Changes
 pub mod Naming
 pub mod Refused
 pub mod Edits
-pub mod Laws
-pub mod Tied

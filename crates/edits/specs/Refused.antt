@@ -4,9 +4,9 @@ use Rattle.std.specs.List.{list_all}
 use Rattle.markers.specs.Names.{is_name, normal_of}
 use Rattle.pep508.specs.Requirement.{RequirementParts}
 use Rattle.pylock.specs.Packages.{EntryParts}
-use Rattle.resolve.specs.Resolves.{version_for}
+use Rattle.problems.specs.Solutions.{version_for}
+use Rattle.states.specs.Locking.{versions_of}
 use Rattle.edits.specs.Adding.{asked_by, line_number}
-use Rattle.edits.specs.Locking.{versions_of}
 use Rattle.edits.specs.Naming.{count_on, is_specifier}
 use Rattle.edits.specs.declared.request.Edit.{Edit}
 use Rattle.edits.specs.declared.request.Edit.TheVariants.{Add, Constrain, Remove, Upgrade}

@@ -2,36 +2,31 @@
 
 ghost use Rattle.lists.specs.Answers.{Answers};
 ghost use Rattle.std.specs.Prelude.{◌≡◌, ◌⊎◌, ◌≤◌, length, IfOk, IfErr, None, Some, Ok, Err};
-ghost use Rattle.edits.specs.Changes.{After, IsMinimal};
 ghost use Rattle.edits.specs.Edits.{
   EditResult,
   InitResult,
   Locks,
-  given_of,
   kept_pins,
   lines_after,
   problem_after,
   refusal_of,
 };
-ghost use Rattle.edits.specs.Locking.{versions_of};
 ghost use Rattle.edits.specs.Refused.{or_refused, refused_by_lines, refused_by_lock};
 ghost use Rattle.edits.specs.declared.refusal.Refusal.TheVariants.{OutOfMemory};
+ghost use Rattle.states.specs.Changes.{After, IsMinimal};
+ghost use Rattle.states.specs.Locking.{given_of, versions_of};
 
 use crate::adding::added;
-use crate::change::between::change_between;
 use crate::constraining::constrained;
-use crate::locking::lock_of;
 use crate::refusal::Refusal;
 use crate::removing::removed;
 use crate::request::{Edit, Edited};
-use crate::same::has_same;
-use crate::state::State;
 use crate::upgrading::upgraded;
 use pep440::Version;
-use pep440::laws::equal_versions_match_alike;
 use pep508::{Environment, Name, ReqFile};
-use resolve::{Answer, Problem, Resolver};
+use resolve::{Problem, Resolver};
 use snapshot::Snapshot;
+use states::{State, change_between, has_same, locked};
 use std::alloc::Global;
 use std::collections::BTreeMap;
 
@@ -49,16 +44,9 @@ fn with_lock<R: Resolver>(
     ensures err { IfErr result (λ refusal. (refusal ≡ OutOfMemory)
         ⊎ Locks None (given_of lines environment snapshot.now kept.entries) lines (Err refusal)) }
 {
-    equal_versions_match_alike();
-    lines.is_lawful();
-    let problem = Problem::new(alloc, &lines, &environment, snapshot, kept)?;
-    match resolver.resolve(alloc, &problem)? {
-        Answer::Solution(versions) => {
-            let lock = lock_of(alloc, &problem, &environment, snapshot, &versions)?;
-            lock.is_lawful();
-            Ok(State::from_lawful(lines, environment, lock))
-        }
-        Answer::NoSolution => Err(Refusal::NoSolution),
+    match locked(alloc, lines, environment, snapshot, kept, resolver)? {
+        Some(state) => Ok(state),
+        None => Err(Refusal::NoSolution),
     }
 }
 

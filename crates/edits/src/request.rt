@@ -1,8 +1,7 @@
 // What is asked of a state, and what it leads to.
 
-use crate::change::Change;
-use crate::state::State;
 use lists::{Seq, Text};
+use states::{Change, State};
 
 /// An edit of the requirements file. Names, lines and specifiers are texts that are read when the edit
 /// is made.

@@ -6,17 +6,17 @@ ghost use Rattle.std.specs.List.{list_all, list_any};
 ghost use Rattle.std.specs.Option.{option_copied};
 ghost use Rattle.std.specs.Str.{bytes_eq};
 ghost use Rattle.edits.specs.Edits.{without_pins};
-ghost use Rattle.edits.specs.Locking.{versions_of};
 ghost use Rattle.edits.specs.Refused.{is_locked, refused_upgrade};
 ghost use Rattle.edits.specs.declared.refusal.Refusal.TheVariants.{BadText, OutOfMemory};
 ghost use Rattle.markers.specs.Names.{is_name, normal_of};
+ghost use Rattle.states.specs.Locking.{versions_of};
 
 use crate::naming::name_in;
 use crate::refusal::Refusal;
-use crate::state::State;
 use lists::{Seq, Text};
 use pep440::Version;
 use pep508::Name;
+use states::State;
 use std::alloc::{AllocError, Global};
 use std::collections::BTreeMap;
 

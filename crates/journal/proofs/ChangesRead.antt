@@ -7,11 +7,11 @@ use Rattle.markers.specs.Names.{is_normal}
 use Rattle.pylock.specs.Locks.{IsLock, LockParts}
 use Rattle.pylock.specs.Packages.{EntryParts, IsPackage}
 use Rattle.pylock.proofs.PackageFacts.{parts}
-use Rattle.edits.specs.Changes.{ChangeParts, ChangesDigest, Exchanges, IsEntryChange, IsMinimal, entry_on}
-use Rattle.edits.specs.declared.change.parts.DigestChange.{DigestChange}
-use Rattle.edits.specs.declared.change.parts.EntryChange.{EntryChange}
-use Rattle.edits.specs.State.{IsState}
-use Rattle.edits.proofs.EntryFacts.{entry-from}
+use Rattle.states.specs.Changes.{ChangeParts, ChangesDigest, Exchanges, IsEntryChange, IsMinimal, entry_on}
+use Rattle.states.specs.declared.change.parts.DigestChange.{DigestChange}
+use Rattle.states.specs.declared.change.parts.EntryChange.{EntryChange}
+use Rattle.states.specs.State.{IsState}
+use Rattle.states.proofs.EntryFacts.{entry-from}
 use Rattle.journal.specs.Values.{State}
 use Rattle.journal.specs.Changes.{AreSteps, IsChange}
 use Rattle.journal.specs.Format.Lines.{step_in}

@@ -1,7 +1,7 @@
 -- Histories with the change of each step.
 use Rattle.std.proofs.Common.{◌≡◌, ℕ, suc, zero, ◌+◌, ◌-◌, ◌<◌, List, [], ◌∷◌, ◌++◌, length, take, Option, Some, None, refl, subst, add-one, arith}
 use Rattle.std.specs.Prelude.{IsSomeAnd, slice_get}
-use Rattle.edits.specs.Changes.{ChangeParts}
+use Rattle.states.specs.Changes.{ChangeParts}
 use Rattle.journal.specs.Values.{State}
 use Rattle.journal.specs.Past.{Past}
 use Rattle.journal.specs.Changes.{AreSteps, IsChange, IsStepOf}

@@ -3,8 +3,8 @@ use Rattle.std.proofs.Common.{◌≡◌, ℕ, zero, suc, ◌+◌, ◌≤◌, Lis
 use Rattle.std.specs.Prelude.{reverse, slice_get}
 use Rattle.std.specs.List.{AllByRecursion}
 use Rattle.std.proofs.lemmas.List.{length-append, length-reverse, length-take-le}
-use Rattle.edits.specs.Changes.{ChangeParts, IsMinimal}
-use Rattle.edits.specs.State.{IsState}
+use Rattle.states.specs.Changes.{ChangeParts, IsMinimal}
+use Rattle.states.specs.State.{IsState}
 use Rattle.edits.specs.declared.refusal.Refusal.TheVariants.{JournalBroken}
 use Rattle.journal.specs.Values.{State, Refusal}
 use Rattle.journal.specs.Neighbours.{IsHistory, states_of}

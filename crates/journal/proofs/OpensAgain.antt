@@ -16,9 +16,9 @@ use Rattle.pylock.specs.Reading.{lock_in, lock_in_text, toml_of}
 use Rattle.pylock.specs.Tables.{table_of}
 use Rattle.serde_json.specs.Data.{Data}
 use Rattle.serde_json.specs.Written.{compact_text}
-use Rattle.edits.specs.Changes.{ChangeParts}
-use Rattle.edits.specs.Laws.{AChangeLeadsToOneState}
-use Rattle.edits.specs.State.{IsState}
+use Rattle.states.specs.Changes.{ChangeParts}
+use Rattle.states.specs.Laws.{AChangeLeadsToOneState}
+use Rattle.states.specs.State.{IsState}
 use Rattle.journal.specs.Values.{State}
 use Rattle.journal.specs.Past.{Past}
 use Rattle.journal.specs.Format.Forms.{json_of}

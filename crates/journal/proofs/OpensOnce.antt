@@ -2,8 +2,8 @@
 use Rattle.std.proofs.Common.{◌≡◌, ℕ, zero, suc, ◌+◌, List, [], ◌∷◌, ◌++◌, drop, reverse, take, Option, Some, Result, Ok, Err, sym, ap, subst, ◌∙◌, inl, inr}
 use Rattle.pep508.specs.Requirement.{file_of}
 use Rattle.pylock.specs.Reading.{lock_in_text}
-use Rattle.edits.specs.Changes.{ChangeParts, Leads, inverse}
-use Rattle.edits.specs.Laws.{AChangeLeadsToOneState}
+use Rattle.states.specs.Changes.{ChangeParts, Leads, inverse}
+use Rattle.states.specs.Laws.{AChangeLeadsToOneState}
 use Rattle.journal.specs.Values.{State, Refusal}
 use Rattle.journal.specs.Format.Lines.{cut_line, header_of_line, step_of_line}
 use Rattle.journal.specs.Opening.{Asks, BeginsWith, Finds, IsAnswer, GoesOn, Opens, PastOf, Present, PresentParts, StatesBefore, StatesBehind, StepAt, StepLines, Then}

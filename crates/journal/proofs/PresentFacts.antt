@@ -1,6 +1,6 @@
 -- The present state that a journal's header and two files stand for.
 use Rattle.std.proofs.Common.{◌≡◌, List, ℕ, Result, Ok, Err, ap, refl, subst, inl, inr}
-use Rattle.edits.specs.State.{IsState}
+use Rattle.states.specs.State.{IsState}
 use Rattle.edits.specs.declared.refusal.Refusal.TheVariants.{FilesDisagree}
 use Rattle.edits.specs.declared.refusal.SavedFile.TheVariants.{Lock}
 use Rattle.journal.specs.Values.{State, Refusal}

@@ -1,7 +1,7 @@
 -- The states that the steps of a journal lead to, one after the other.
 use Rattle.std.proofs.Common.{◌≡◌, ◌⊎◌, ℕ, ◌+◌, ◌<◌, ◌≤◌, List, [], ◌∷◌, ◌++◌, length, get_or, drop, Result, Ok, Err, refl, sym, ap, subst, ◌∙◌, inl, inr, arith}
 use Rattle.std.proofs.lemmas.List.{append-nil, drop_all, drop_more}
-use Rattle.edits.specs.Changes.{ChangeParts, Leads}
+use Rattle.states.specs.Changes.{ChangeParts, Leads}
 use Rattle.edits.specs.declared.refusal.Refusal.TheVariants.{JournalBroken}
 use Rattle.journal.specs.Values.{State, Refusal, OutOfMemory}
 use Rattle.journal.specs.Opening.{StatesBehind}

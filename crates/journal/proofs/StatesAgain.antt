@@ -4,9 +4,9 @@ use Rattle.std.specs.Prelude.{slice_get}
 use Rattle.std.specs.List.{AllByRecursion}
 use Rattle.std.proofs.lemmas.List.{drop_more, reverse-append, take-append-drop, take_more}
 use Rattle.std.proofs.lemmas.Option.{get_or_from_slice_get, slice_get_within}
-use Rattle.edits.specs.Changes.{After, ChangeParts, Leads, inverse}
-use Rattle.edits.specs.State.{IsState}
-use Rattle.edits.proofs.ChangeFacts.{After-inverse}
+use Rattle.states.specs.Changes.{After, ChangeParts, Leads, inverse}
+use Rattle.states.specs.State.{IsState}
+use Rattle.states.proofs.ChangeFacts.{After-inverse}
 use Rattle.journal.specs.Values.{State}
 use Rattle.journal.specs.Past.{Past, present}
 use Rattle.journal.specs.Changes.{AreSteps}

@@ -1,8 +1,8 @@
 -- The states that changes lead to are lawful.
 use Rattle.std.proofs.Common.{◌≡◌, ℕ, ◌+◌, List, [], ◌∷◌, ◌++◌, length, Result, Ok, Err, sym, subst, inl, inr}
 use Rattle.std.specs.List.{AllByRecursion}
-use Rattle.edits.specs.Changes.{ChangeParts}
-use Rattle.edits.specs.State.{IsState}
+use Rattle.states.specs.Changes.{ChangeParts}
+use Rattle.states.specs.State.{IsState}
 use Rattle.edits.specs.declared.refusal.Refusal.TheVariants.{JournalBroken}
 use Rattle.journal.specs.Values.{State, Refusal}
 use Rattle.journal.specs.Opening.{IsAnswer, GoesOn, StatesBefore, StatesBehind}

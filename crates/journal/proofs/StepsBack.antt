@@ -17,10 +17,10 @@ use Rattle.pylock.proofs.PackageFacts.{parts}
 use Rattle.serde_json.specs.Data.{Data, string}
 use Rattle.serde_json.specs.Find.{as_null}
 use Rattle.serde_json.specs.View.{items_of}
-use Rattle.edits.specs.Changes.{ChangeParts}
-use Rattle.edits.specs.declared.change.parts.DigestChange.{DigestChange}
-use Rattle.edits.specs.declared.change.parts.EntryChange.{EntryChange}
-use Rattle.edits.specs.declared.change.parts.Splice.{Splice}
+use Rattle.states.specs.Changes.{ChangeParts}
+use Rattle.states.specs.declared.change.parts.DigestChange.{DigestChange}
+use Rattle.states.specs.declared.change.parts.EntryChange.{EntryChange}
+use Rattle.states.specs.declared.change.parts.Splice.{Splice}
 use Rattle.journal.specs.declared.format.flaw.Flaw.{Flaw}
 use Rattle.journal.specs.Format.Entries.{digest_in, entry_in, file_in, name_in, version_in}
 use Rattle.journal.specs.Format.Forms.{each, or_null, text_of}

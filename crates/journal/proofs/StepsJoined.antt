@@ -3,9 +3,9 @@ use Rattle.std.proofs.Common.{◌≡◌, ℕ, zero, suc, ◌+◌, List, [], ◌�
 use Rattle.std.specs.Prelude.{reverse}
 use Rattle.std.specs.List.{AllByRecursion}
 use Rattle.std.proofs.lemmas.List.{reverse-append, reverse-reverse, take-append-drop}
-use Rattle.edits.specs.Changes.{After, ChangeParts, IsMinimal, inverse}
+use Rattle.states.specs.Changes.{After, ChangeParts, IsMinimal, inverse}
 use Rattle.edits.specs.declared.refusal.Refusal.TheVariants.{JournalBroken}
-use Rattle.edits.proofs.ChangeFacts.{After-inverse, inverse-inverse}
+use Rattle.states.proofs.ChangeFacts.{After-inverse, inverse-inverse}
 use Rattle.journal.specs.Values.{State, Refusal}
 use Rattle.journal.specs.Changes.{AreSteps, IsChange}
 use Rattle.journal.specs.Opening.{IsAnswer, GoesOn, StatesBefore, StatesBehind}

@@ -7,10 +7,10 @@ use Rattle.std.specs.Prelude.{OnOk, slice_get}
 use Rattle.std.specs.Str.{is_utf8}
 use Rattle.pylock.specs.declared.file.FileEntry.{FileEntry}
 use Rattle.pylock.specs.Packages.{EntryParts}
-use Rattle.edits.specs.Changes.{ChangeParts}
-use Rattle.edits.specs.declared.change.parts.DigestChange.{DigestChange}
-use Rattle.edits.specs.declared.change.parts.EntryChange.{EntryChange}
-use Rattle.edits.specs.declared.change.parts.Splice.{Splice}
+use Rattle.states.specs.Changes.{ChangeParts}
+use Rattle.states.specs.declared.change.parts.DigestChange.{DigestChange}
+use Rattle.states.specs.declared.change.parts.EntryChange.{EntryChange}
+use Rattle.states.specs.declared.change.parts.Splice.{Splice}
 use Rattle.serde_json.specs.Data.{Data, string}
 use Rattle.serde_json.specs.View.{items_of}
 use Rattle.serde_json.specs.Read.{read}

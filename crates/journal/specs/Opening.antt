@@ -4,8 +4,8 @@ use Rattle.markers.specs.Environment.{marker_text}
 use Rattle.pep508.specs.Requirement.{file_of}
 use Rattle.pylock.specs.Reading.{lock_in_text}
 use Rattle.sha2.specs.Sha256.{sha256}
-use Rattle.edits.specs.Changes.{ChangeParts, Leads, inverse}
-use Rattle.edits.specs.State.{IsState}
+use Rattle.states.specs.Changes.{ChangeParts, Leads, inverse}
+use Rattle.states.specs.State.{IsState}
 use Rattle.edits.specs.declared.refusal.Refusal.TheVariants.{FilesDisagree, JournalBroken}
 use Rattle.edits.specs.declared.refusal.SavedFile.TheVariants.{Lock, Requirements}
 use Rattle.journal.specs.Values.{State, Refusal, OutOfMemory}

@@ -4,7 +4,7 @@ use Rattle.std.specs.List.{concat}
 use Rattle.sha2.specs.Sha256.{sha256}
 use Rattle.toml.specs.Parse.{parse_document}
 use Rattle.pylock.specs.Tables.{table_of}
-use Rattle.edits.specs.Changes.{ChangeParts}
+use Rattle.states.specs.Changes.{ChangeParts}
 use Rattle.journal.specs.Values.{State, Refusal}
 use Rattle.journal.specs.Past.{Past, present}
 use Rattle.journal.specs.Changes.{AreSteps}

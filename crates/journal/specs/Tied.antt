@@ -5,7 +5,7 @@ use Rattle.std.specs.Str.{is_utf8}
 use Rattle.serde_json.specs.Data.{Data}
 use Rattle.serde_json.specs.Read.{read}
 use Rattle.serde_json.specs.Written.{compact_text}
-use Rattle.edits.specs.Changes.{ChangeParts}
+use Rattle.states.specs.Changes.{ChangeParts}
 use Rattle.journal.specs.Format.Written.{header_data, step_data}
 use Rattle.journal.specs.declared.format.header.Header.{Header}
 use Rattle.journal.specs.Values.{Refusal, OutOfMemory}

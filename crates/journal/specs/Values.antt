@@ -1,5 +1,5 @@
 -- The values of the crates below that a history speaks of.
-pub use Rattle.edits.specs.declared.state.State.{State}
+pub use Rattle.states.specs.declared.state.State.{State}
 pub use Rattle.edits.specs.declared.request.Edit.{Edit}
 pub use Rattle.edits.specs.declared.refusal.Refusal.{Refusal}
 pub use Rattle.edits.specs.declared.refusal.Refusal.TheVariants.{NothingChanges, NothingToUndo, NothingToRedo, OutOfMemory}

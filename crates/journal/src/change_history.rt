@@ -2,7 +2,7 @@
 
 ghost use Rattle.std.specs.Prelude.{◌≡◌, ◌+◌, ◌-◌, ◌<◌, ◌≤◌, [], length, OnOk, OnErr, IfOk};
 ghost use Rattle.std.specs.List.{AllByRecursion};
-ghost use Rattle.edits.specs.State.{IsState};
+ghost use Rattle.states.specs.State.{IsState};
 ghost use Rattle.journal.specs.Changes.{AreSteps, with_change};
 ghost use Rattle.journal.specs.Neighbours.{IsHistory, states_of};
 ghost use Rattle.journal.specs.Past.{starts};

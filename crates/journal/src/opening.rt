@@ -4,13 +4,13 @@ ghost use Rattle.std.specs.Result.{result_map_both};
 ghost use Rattle.journal.specs.Opening.{Opens, Tells};
 
 mod present;
-mod states;
 mod steps;
+mod walking;
 
 use crate::change_history::ChangeHistory;
 use crate::opening::present::{Begin, begin_of, present_of};
-use crate::opening::states::history_of;
 use crate::opening::steps::steps_of;
+use crate::opening::walking::history_of;
 use edits::Refusal;
 use std::alloc::Global;
 

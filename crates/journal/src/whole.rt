@@ -2,7 +2,7 @@
 
 ghost use Rattle.std.specs.Prelude.{◌≡◌, ◌+◌, ◌-◌, ◌<◌, [], IfOk};
 ghost use Rattle.std.specs.List.{AllByRecursion};
-ghost use Rattle.edits.specs.State.{IsState};
+ghost use Rattle.states.specs.State.{IsState};
 ghost use Rattle.journal.specs.Changes.{AreSteps};
 ghost use Rattle.journal.specs.Past.{starts};
 
@@ -32,7 +32,7 @@ impl Drop for WholeHistory {
 impl Model for WholeHistory {
     ghost use Rattle.std.specs.Prelude.{◌≡◌, ◌+◌, ◌<◌, vec_len};
     ghost use Rattle.std.specs.List.{AllByRecursion};
-    ghost use Rattle.edits.specs.State.{IsState};
+    ghost use Rattle.states.specs.State.{IsState};
     ghost use Rattle.journal.specs.Changes.{AreSteps, Kept};
 
     ghost Value = { Kept };

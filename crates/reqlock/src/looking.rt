@@ -2,9 +2,9 @@
 
 ghost use Rattle.std.specs.Prelude.{IfOk, MatchOption};
 ghost use Rattle.search.specs.Conflicts.{IsRefutation};
-ghost use Rattle.resolve.specs.Refutations.{same_version};
-ghost use Rattle.resolve.specs.Resolves.{HasSolution};
-ghost use Rattle.resolve.specs.Rules.{rules_of};
+ghost use Rattle.problems.specs.Refutations.{same_version};
+ghost use Rattle.problems.specs.Rules.{rules_of};
+ghost use Rattle.problems.specs.Solutions.{HasSolution};
 
 use crate::explaining::{Told, explanation};
 use crate::folder_lock::{LockFile, lock_to_read};

@@ -1,9 +1,9 @@
 -- The lines of a journal (reqlock's own format).
 use Rattle.std.specs.Prelude.{◌≡◌, ℕ, ◌+◌, ◌==◌, ◌&&◌, nat_le, List, [], ◌∷◌, codes, drop, map, take, position, Option, option_map, Result, Ok, Err}
-use Rattle.edits.specs.Changes.{ChangeParts, IsMinimal}
-use Rattle.edits.specs.declared.change.parts.DigestChange.{DigestChange}
-use Rattle.edits.specs.declared.change.parts.EntryChange.{EntryChange}
-use Rattle.edits.specs.declared.change.parts.Splice.{Splice}
+use Rattle.states.specs.Changes.{ChangeParts, IsMinimal}
+use Rattle.states.specs.declared.change.parts.DigestChange.{DigestChange}
+use Rattle.states.specs.declared.change.parts.EntryChange.{EntryChange}
+use Rattle.states.specs.declared.change.parts.Splice.{Splice}
 use Rattle.markers.specs.Environment.{Texts, all_variables, texts_in}
 use Rattle.markers.specs.Variables.{variable_name}
 use Rattle.markers.specs.declared.fault.Cause.{Cause}

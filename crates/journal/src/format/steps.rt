@@ -1,7 +1,7 @@
 // The steps of a journal.
 
 ghost use Rattle.std.specs.Prelude.{◌≡◌, ◌⊎◌, IfErr, IfOk};
-ghost use Rattle.edits.specs.Changes.{ChangeParts};
+ghost use Rattle.states.specs.Changes.{ChangeParts};
 ghost use Rattle.journal.specs.Format.Forms.{Gives};
 ghost use Rattle.journal.specs.Format.Lines.{IsStepLine, digests_in, entry_change_in, splice_in, step_in, step_of_line};
 ghost use Rattle.journal.specs.declared.format.flaw.Flaw.TheVariants as flaws;

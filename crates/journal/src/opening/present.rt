@@ -6,7 +6,7 @@ ghost use Rattle.markers.specs.Environment.{marker_text};
 ghost use Rattle.pep508.specs.Requirement.{file_of};
 ghost use Rattle.pylock.specs.Reading.{lock_in_text};
 ghost use Rattle.sha2.specs.Sha256.{sha256};
-ghost use Rattle.edits.specs.State.{IsState};
+ghost use Rattle.states.specs.State.{IsState};
 ghost use Rattle.edits.specs.declared.refusal.Refusal.TheVariants as refusals;
 ghost use Rattle.edits.specs.declared.refusal.SavedFile.TheVariants as files;
 ghost use Rattle.journal.specs.Format.Lines.{cut_line};

@@ -4,3 +4,9 @@ use Rattle.edits.proofs.adding.line_number.Goals as goal
 
 pub returns-then-is_on : goal.returns-then-is_on
 returns-then-is_on c = grind (arith, common_steps)
+
+pub loop-place-preserved : goal.loop-place-preserved
+loop-place-preserved c = grind (arith, common_steps)
+
+pub returns : goal.returns
+returns c = grind (arith, common_steps)

@@ -1,4 +1,5 @@
-use Rattle.std.proofs.Common.{◌≡◌, [], ◌∙◌, length, append-nil, rules, refl, sym, ap}
+use Rattle.std.proofs.Common.{◌≡◌, [], ◌∙◌, length, append-nil, rules, refl, sym, ap, arith}
+use Rattle.std.proofs.lemmas.Grind.{common_steps}
 use Rattle.std.proofs.lemmas.List.{nil_from_length, take_all}
 use Rattle.edits.specs.Adding.{last_ended, usual_ending}
 use Rattle.edits.proofs.Additions.{last_ended-push}
@@ -21,3 +22,6 @@ returns c =
           rw (w.after-is, popped, bare) refl
     ] in
     rw (c.from_vec.ensures, c.in_ok-push-3.ensures.items, c.in_ok-ended-2.ensures, c.usual_ending-ending.ensures.ending, ended_lines) refl
+
+pub loop-old-preserved : goal.loop-old-preserved
+loop-old-preserved c = grind (arith, common_steps)

@@ -1,5 +1,5 @@
 use Rattle.std.proofs.Common.{inr, refl, rules}
-use Rattle.edits.proofs.EditFacts.{IsAccepted, changes, not-so, nothing-changes}
+use Rattle.edits.proofs.EditFacts.{IsAccepted, changes, nothing-changes}
 use Rattle.edits.proofs.editing.edit.Goals as goal
 
 pub returns-then-has_same-clause-err : goal.returns-then-has_same-clause-err
@@ -18,7 +18,7 @@ returns-clause-ok g c =
     record { lines_are = rw c.lines.ensures at c.in_ok-lines.ensures; lock = kept.0; kept_are = kept.1 } in
     let locked = rw (c.in_ok-environment.ensures.cases, c.environment.ensures) at c.in_ok-edited.ensures.ok.0 in
     changes c.args.state.now c.in_ok-edited.edited c.args.edit.now c.args.snapshot.now c.in_ok-lines.lines c.in_ok-kept.kept.entries accepted locked
-    (λ lines lock. not-so (c.if-has_same.ensures.1 (lines, lock)))
+    (λ lines lock. let same = c.if-has_same.ensures.1 (lines, lock) in cc same)
 
 pub returns-in_err-edited-clause-err : goal.returns-in_err-edited-clause-err
 returns-in_err-edited-clause-err g c = search rules

@@ -1,3 +1,5 @@
+use Rattle.std.proofs.Common.{arith}
+use Rattle.std.proofs.lemmas.Grind.{common_steps}
 use Rattle.std.proofs.lemmas.Result.{err_from_is_err_and}
 use Rattle.edits.proofs.NamesRead.{all-on, names-on, names-refused}
 use Rattle.edits.proofs.upgrading.names_in.Goals as goal
@@ -16,3 +18,6 @@ loop-text-preserved c = record {
   all = all-on c.args.texts.now c.loop-text.text-index c.text-item.result c.in_ok-name_in.field-0 c.loop-text-test.true c.text-item.is
       c.in_ok-name_in.ensures c.loop-text.invariant.all;
 }
+
+pub returns : goal.returns
+returns c = grind (arith, common_steps)

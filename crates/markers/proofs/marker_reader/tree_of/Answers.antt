@@ -1,4 +1,5 @@
-use Rattle.std.proofs.Common.{◌≡◌, [], ◌∷◌, false, Some, Err, sym, ◌∙◌}
+use Rattle.std.proofs.Common.{◌≡◌, [], ◌∷◌, false, Some, Err, sym, ◌∙◌, arith}
+use Rattle.std.proofs.lemmas.Grind.{common_steps}
 use Rattle.std.specs.Prelude.{ok_or}
 use Rattle.std.proofs.lemmas.Result.{err_from_is_err_and}
 use Rattle.lists.specs.Answers.{Answers}
@@ -53,3 +54,7 @@ returns c =
     let ends : c.tokens.left.now ≡ [] = c.in_default.ensures in
     let here : finished c.tokens.reader ≡ tree_of c.args.text.now = rw ends at c.tokens.invariant in
     rw (← here) c.finished.ensures
+
+pub tokens-smaller : goal.tokens-smaller
+unfolding tree_of
+tokens-smaller c = grind (arith, common_steps)

@@ -1,4 +1,5 @@
-use Rattle.std.proofs.Common.{◌∙◌, sym, ap, Ok, List, ℕ}
+use Rattle.std.proofs.Common.{◌∙◌, sym, ap, Ok, List, ℕ, arith}
+use Rattle.std.proofs.lemmas.Grind.{common_steps}
 use Rattle.pep440.specs.declared.parts.LocalPart.{LocalPart}
 use Rattle.std.proofs.lemmas.Result.{err_from_is_err_and}
 use Rattle.pep440.specs.Tied.Reading.{parts_in}
@@ -26,3 +27,15 @@ invariant_of-result c = version-lawful (span_view c.args.spans.now) _ c.requires
 
 pub returns : goal.returns
 returns c = version-made (span_view c.args.spans.now) _ (read c)
+
+pub returns-in_err-pre : goal.returns-in_err-pre
+returns-in_err-pre c = grind (arith, common_steps)
+
+pub returns-in_err-post : goal.returns-in_err-post
+returns-in_err-post c = grind (arith, common_steps)
+
+pub returns-in_err-dev : goal.returns-in_err-dev
+returns-in_err-dev c = grind (arith, common_steps)
+
+pub returns-in_err-release : goal.returns-in_err-release
+returns-in_err-release c = grind (arith, common_steps)

@@ -1,4 +1,5 @@
 use Rattle.std.proofs.Common.{◌≡◌, ◌+◌, sym, arith, vec_len, Ok, drop, take}
+use Rattle.std.proofs.lemmas.Grind.{common_steps}
 use Rattle.std.proofs.lemmas.Result.{err_from_is_err_and}
 use Rattle.pep440.specs.Tied.Sets.{clause_of, clauses_from}
 use Rattle.pep440.specs.Text.{pieces, trim_blank}
@@ -40,3 +41,6 @@ returns c =
     let read : clause_of (vec_len c.pieces.clauses + 1) (trim_blank c.pieces.rest.now) ≡ Ok c.in_ok-last.last = rw (← c.len-place.ensures, ← c.trim_blank-2.ensures) c.in_ok-last.ensures in
     rw c.in_ok-push-2.ensures.items (ends_clause c.pieces.clauses.items (vec_len c.pieces.clauses + 1) c.pieces.rest.now c.in_ok-last.last (clauses_from 1 (pieces c.args.text.now))
     (rw (← c.len-place.ensures) (sym c.if-is_end.ensures)) c.in_default.ensures.none read c.pieces.invariant)
+
+pub pieces-smaller : goal.pieces-smaller
+pieces-smaller c = grind (arith, common_steps)

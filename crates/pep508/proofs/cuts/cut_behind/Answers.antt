@@ -1,4 +1,5 @@
 use Rattle.std.proofs.Common.{◌≡◌, ◌<◌, length, arith}
+use Rattle.std.proofs.lemmas.Grind.{common_steps}
 use Rattle.std.proofs.lemmas.Str.{IsCharBoundary-after_ascii}
 use Rattle.pep508.proofs.Places.{place_of-stands, place_of-within}
 use Rattle.pep508.specs.Parts.{place_of}
@@ -14,3 +15,6 @@ split_at-requires-2 c =
     let place : c.place_of-place.result ≡ place_of c.args.byte c.args.text.now = rw c.as_bytes.ensures.value at c.place_of-place.ensures in
     let within : place_of c.args.byte c.args.text.now < length c.args.text.now = omega (arith, place_of-within c.args.byte c.args.text.now) in
     rw place (IsCharBoundary-after_ascii c.args.text.now _ c.utf8.text within (omega (arith, place_of-stands c.args.byte c.args.text.now within)))
+
+pub returns-then-place-text : goal.returns-then-place-text
+returns-then-place-text c = grind (arith, common_steps)

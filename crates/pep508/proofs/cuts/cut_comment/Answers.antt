@@ -1,4 +1,5 @@
 use Rattle.std.proofs.Common.{arith, rules, ◌≡◌, ◌&&◌, ◌==◌, ap, get_or, drop, true, false}
+use Rattle.std.proofs.lemmas.Grind.{common_steps}
 use Rattle.std.proofs.lemmas.Bool.Decides.{nat_tests}
 use Rattle.pep508.specs.Parts.{comment_place, is_space_or_tab}
 use Rattle.pep508.proofs.Places.{comment_place-more, comment_place-here}
@@ -22,3 +23,6 @@ loop-place-preserved c =
     let more = comment_place-more c.loop-place.at_start c.as_bytes-bytes.result.now c.loop-place.place c.loop-place-test.true no_comment in
     let space : c.is_space_or_tab-at_start.result ≡ is_space_or_tab (get_or c.as_bytes-bytes.result.now c.loop-place.place 0) = c.is_space_or_tab-at_start.ensures in
     rw space (omega (arith, c.loop-place.invariant, more))
+
+pub returns : goal.returns
+returns c = grind (arith, common_steps)

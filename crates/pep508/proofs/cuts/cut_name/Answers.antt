@@ -1,4 +1,5 @@
 use Rattle.std.proofs.Common.{arith, sym, ◌∙◌, ◌≡◌, get_or, true}
+use Rattle.std.proofs.lemmas.Grind.{common_steps}
 use Rattle.std.proofs.lemmas.List.Sums.{prefix_len-drop_yes}
 use Rattle.std.proofs.lemmas.Str.{IsCharBoundary-after_ascii, IsCharBoundary-start}
 use Rattle.markers.specs.Names.{is_name_byte}
@@ -18,3 +19,6 @@ loop-end-preserved c =
       counted = omega (arith, more);
       cut = IsCharBoundary-after_ascii _ c.loop-end.end c.as_bytes-bytes.ensures.utf8 c.loop-end-test.true ascii;
     }
+
+pub returns : goal.returns
+returns c = grind (arith, common_steps)

@@ -1,4 +1,5 @@
 use Rattle.std.proofs.Common.{Option, Some, None, MatchOption, ℕ, List, [], ◌∷◌, ◌++◌, ◌≡◌, ◌<◌, ◌+◌, ◌∙◌, Contains, length, get_or, sym, ap, subst, arith, append_assoc}
+use Rattle.std.proofs.lemmas.Grind.{common_steps}
 use Rattle.std.proofs.lemmas.List.Elements.{Contains-get_or}
 use Rattle.search.proofs.LearnedSearch.{IsLearning-pop}
 use Rattle.search.proofs.Learns.{trial-refused, trial-known, last-new, within-front, within-last, nothing-held}
@@ -94,3 +95,6 @@ loop-held-preserved c =
 pub returns-clause-none : goal.returns-clause-none
 returns-clause-none c = nothing-held (get_or c.args.conflicts.now.list.items c.args.at [])
     (λ d i. subst (λ (xs : List Held). Contains (decisions_of xs) d) (all-popped c.loop-held.partial.held.items c.pop.new.self.held.items c.in_ok-held.field-0 c.in_default.is c.in_ok-held.ensures.popped) (c.loop-held.invariant.within d i))
+
+pub loop-held-smaller : goal.loop-held-smaller
+loop-held-smaller c = grind (arith, common_steps)

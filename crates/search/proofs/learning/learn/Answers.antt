@@ -1,4 +1,5 @@
 use Rattle.std.proofs.Common.{ℕ, List, [], ◌≡◌, ◌∙◌, Contains, length, get_or, sym, subst, arith}
+use Rattle.std.proofs.lemmas.Grind.{common_steps}
 use Rattle.std.proofs.lemmas.Option.{MatchOption-at_none}
 use Rattle.search.proofs.Learns.{exhausted-learned, exhausted-within, last-recorded, recorded-refutation}
 use Rattle.search.specs.declared.conflict.NodeChoice.{NodeChoice}
@@ -25,3 +26,6 @@ returns-in-None-clause-stands c =
     let last : get_or c.record.new.self.list.items c.len-at.result [] ≡ conflict = last-recorded cs c.record.new.self.list.items conflict c.len-at.result c.in_ok-record.ensures size in
     let learned : IsLearned c.args.table.now c.args.partial.now c.record.new.self.list.items = exhausted-learned c.args.table.now c.requires.table c.args.partial.now cs c.record.new.self.list.items c.args.trial conflict c.requires.learned c.requires.trial c.in_ok-conflict.ensures c.requires.none c.in_ok-record.ensures in
     (recorded-refutation (rules_of c.args.table.now) cs c.record.new.self.list.items conflict learned.follows c.in_ok-record.ensures (sym last ∙ MatchOption-at_none _ _ c.in-None.is c.in_ok-cut_back.ensures.none), learned.known)
+
+pub cut_back-requires-clause-at : goal.cut_back-requires-clause-at
+cut_back-requires-clause-at c = grind (arith, common_steps)

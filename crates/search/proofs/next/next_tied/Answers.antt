@@ -1,4 +1,5 @@
-use Rattle.std.proofs.Common.{ℕ, List, Option, ◌++◌, ◌∷◌, [], ◌≡◌, ◌-◌, ◌∙◌, Contains, length, take, map, refl, sym, ap, subst}
+use Rattle.std.proofs.Common.{ℕ, List, Option, ◌++◌, ◌∷◌, [], ◌≡◌, ◌-◌, ◌∙◌, Contains, length, take, map, refl, sym, ap, subst, arith}
+use Rattle.std.proofs.lemmas.Grind.{common_steps}
 use Rattle.search.proofs.Rows.{last-left, row-from, rowed-same, vec-size}
 use Rattle.search.proofs.Watching.{none-loose, tied-row, watched-settled}
 use Rattle.search.specs.declared.agenda.Agenda.{Agenda}
@@ -49,3 +50,6 @@ loop-name-preserved c =
 
 pub returns-clause-found : goal.returns-clause-found
 returns-clause-found c = none-loose c.args.table.now c.loop-name.agenda c.args.taken.now (map choice_at c.args.choices.now.entries) c.loop-name.invariant.watched (sym c.as_slice.ensures.value ∙ c.in_default.ensures)
+
+pub loop-name-smaller : goal.loop-name-smaller
+loop-name-smaller c = grind (arith, common_steps)

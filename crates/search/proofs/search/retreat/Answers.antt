@@ -1,4 +1,5 @@
-use Rattle.std.proofs.Common.{◌++◌, ◌∷◌, ◌+◌, [], sym, ◌∙◌, ap, subst, false, append_assoc}
+use Rattle.std.proofs.Common.{◌++◌, ◌∷◌, ◌+◌, [], sym, ◌∙◌, ap, subst, false, append_assoc, arith}
+use Rattle.std.proofs.lemmas.Grind.{common_steps}
 use Rattle.search.proofs.Steps.{retreat-found, retreat-none}
 use Rattle.search.specs.Table.{rules_of}
 use Rattle.search.specs.Search.{pins_of, IsSearch, IsRefuted}
@@ -27,3 +28,6 @@ loop-last-preserved c =
       search = k.0;
       refuted = k.1;
     }
+
+pub returns-then-branch-clause-forward : goal.returns-then-branch-clause-forward
+returns-then-branch-clause-forward c = grind (arith, common_steps)

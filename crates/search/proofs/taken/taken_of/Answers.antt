@@ -23,3 +23,6 @@ loop-frame-preserved c =
 
 pub loop-frame-init : goal.loop-frame-init
 loop-frame-init c = grind (arith, common_steps)
+
+pub returns-clause-same : goal.returns-clause-same
+returns-clause-same c = grind (arith, common_steps)

@@ -1,6 +1,6 @@
 use Rattle.std.proofs.Common.{◌≡◌, ◌+◌, [], ◌∷◌, ◌++◌, take, arith, rules, sym}
 use Rattle.std.proofs.lemmas.Grind.{common_steps}
-use Rattle.edits.specs.State.{IsState}
+use Rattle.states.specs.State.{IsState}
 use Rattle.journal.proofs.Histories.{AreSteps-pushed}
 use Rattle.journal.proofs.StepsJoined.{all-append, all-take}
 use Rattle.journal.proofs.whole.WholeHistoryHistory.push.Goals as goal

@@ -1,4 +1,5 @@
-use Rattle.std.proofs.Common.{◌≡◌, true, false, filter, subst, sym, take, option_copied}
+use Rattle.std.proofs.Common.{◌≡◌, true, false, filter, subst, sym, take, option_copied, arith}
+use Rattle.std.proofs.lemmas.Grind.{common_steps}
 use Rattle.problems.specs.Problem.{ProblemParts}
 use Rattle.problems.specs.Rules.{counts}
 use Rattle.problems.specs.Standing.{Stands}
@@ -26,3 +27,6 @@ loop-wanted-preserved c =
             (subst (λ (given : ProblemParts). counts given.environment (option_copied c.args.extra) c.wanted-item.result ≡ false) c.question.view_is (sym w.if-counts.ensures)) c.loop-wanted.invariant.2,
       )
     ]
+
+pub returns : goal.returns
+returns c = grind (arith, common_steps)

@@ -1,4 +1,5 @@
-use Rattle.std.proofs.Common.{ℕ, List, Option, Some, None, MatchOption, Contains, Bool, true, false, not, is_some, map, ◌≡◌, ◌∷◌, [], ◌∙◌, inl, inr, sym, ap, subst}
+use Rattle.std.proofs.Common.{ℕ, List, Option, Some, None, MatchOption, Contains, Bool, true, false, not, is_some, map, ◌≡◌, ◌∷◌, [], ◌∙◌, inl, inr, sym, ap, subst, arith}
+use Rattle.std.proofs.lemmas.Grind.{common_steps}
 use Rattle.std.proofs.lemmas.List.Elements.{Contains-append_left, Contains-push}
 use Rattle.std.specs.BTreeSet.{keys, insert_key}
 use Rattle.std.specs.Ordering.{nat_cmp}
@@ -54,3 +55,6 @@ returns-else-is_some-clause-watched c =
     (λ m i. subst (λ v. Contains v.items m) (sym c.in_ok-list.ensures.loose) i)
     (λ none. absurd (is-some c.first_on.result (not-off (is_some c.first_on.result) c.is_none.result c.is_none.ensures c.if-is_none.false) (c.first_on.ensures ∙ ap (first_at c.args.taken.now) c.name_asked-name.ensures ∙ none)))
     (λ d node some k. inl (all node k))
+
+pub list-requires-clause-room : goal.list-requires-clause-room
+list-requires-clause-room c = grind (arith, common_steps)

@@ -1,8 +1,0 @@
-use Rattle.std.proofs.Common.{◌≡◌, drop}
-use Rattle.edits.specs.Dependencies.{names_wanted, with_names}
-use Rattle.edits.proofs.dependencies.add_names.Given as goal
-
-abbrev pub invariant-loop-dependency : goal.invariant-loop-dependency
-invariant-loop-dependency l =
-    with_names l.names.keys (names_wanted l.problem.environment l.node (drop l.dependency-index l.dependencies))
-    ≡ with_names l.initial.names.keys (names_wanted l.problem.environment l.node l.dependencies)

@@ -1,9 +1,0 @@
-use Rattle.std.proofs.Common.{◌≡◌, ℕ, List, [], drop}
-use Rattle.resolve.specs.Resolves.{version_for}
-use Rattle.edits.specs.Dependencies.{names_in, names_over, with_names}
-use Rattle.edits.proofs.dependencies.gather.Given as goal
-
-abbrev pub invariant-loop-node : goal.invariant-loop-node
-invariant-loop-node l = (own : List ℕ) →
-    with_names (names_in l.gathered own) (names_over l.problem (version_for l.versions.entries) own (drop l.node-index l.nodes))
-    ≡ with_names [] (names_over l.problem (version_for l.versions.entries) own l.nodes)

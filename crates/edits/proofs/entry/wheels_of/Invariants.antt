@@ -1,6 +1,0 @@
-use Rattle.std.proofs.Common.{◌≡◌, map, take}
-use Rattle.edits.specs.Locking.{listed}
-use Rattle.edits.proofs.entry.wheels_of.Given as goal
-
-abbrev pub invariant-loop-file : goal.invariant-loop-file
-invariant-loop-file l = l.wheels.items ≡ map listed (take l.file-index l.files)

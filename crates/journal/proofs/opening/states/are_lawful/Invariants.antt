@@ -1,7 +1,0 @@
-use Rattle.std.proofs.Common.{take}
-use Rattle.std.specs.List.{AllByRecursion}
-use Rattle.edits.specs.Changes.{IsMinimal}
-use Rattle.journal.proofs.opening.states.are_lawful.Given as goal
-
-abbrev pub invariant-loop-place : goal.invariant-loop-place
-invariant-loop-place l = AllByRecursion IsMinimal (take l.place l.changes)

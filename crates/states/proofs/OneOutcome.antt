@@ -1,0 +1,45 @@
+-- A change leads to one state.
+use Rattle.std.proofs.Common.{◌≡◌, ◌++◌, ◌+◌, ◌-◌, ℕ, List, [], ◌∷◌, length, Option, Some, None, sym, ◌∙◌, subst, arith}
+use Rattle.pylock.specs.Locks.{LockParts}
+use Rattle.states.specs.Changes.{After, ChangeParts, ChangesDigest, ChangesLock, Splices}
+use Rattle.states.specs.StateParts.{StateParts}
+use Rattle.states.specs.declared.change.parts.DigestChange.{DigestChange}
+use Rattle.states.specs.declared.change.parts.Splice.{Splice}
+use Rattle.states.proofs.ExchangeFacts.{ChangesEntries-one}
+use Rattle.states.proofs.SplicedFacts.{parts_of}
+
+-- splices lead to one list of lines
+Splices-one : (from : ℕ) (splices : List Splice) (old one another : List (List ℕ)) → Splices from splices old one → Splices from splices old another → one ≡ another
+Splices-one from [] old one another is also = sym is ∙ also
+Splices-one from (splice ∷ rest) old one another is also =
+    let place = is.place in
+    let place_too = also.place in
+    let size : splice.place - from ≡ length is.kept = omega arith in
+    let size_too : splice.place - from ≡ length also.kept = omega arith in
+    let parts = parts_of (splice.place - from) old is.kept splice.old is.old_rest size is.stood in
+    let parts_too = parts_of (splice.place - from) old also.kept splice.old also.old_rest size_too also.stood in
+    let kept : is.kept ≡ also.kept = sym parts.0 ∙ parts_too.0 in
+    let behind : also.old_rest ≡ is.old_rest = sym parts_too.2 ∙ parts.2 in
+    let more : is.new_rest ≡ also.new_rest =
+    Splices-one (splice.place + length splice.old) rest is.old_rest is.new_rest also.new_rest is.rest
+    (subst (λ (l : List (List ℕ)). Splices (splice.place + length splice.old) rest l also.new_rest) behind also.rest) in
+    is.stands ∙ (λ i. kept i ++ splice.new ++ more i) ∙ sym also.stands
+
+-- and the change of a digest to one digest
+ChangesDigest-one : (digests : Option DigestChange) (old one another : List ℕ) → ChangesDigest digests old one → ChangesDigest digests old another → one ≡ another
+ChangesDigest-one None old one another is also = is ∙ sym also
+ChangesDigest-one (Some d) old one another is also = is.1 ∙ sym also.1
+
+pub ChangesLock-one : (change : ChangeParts) (old one another : LockParts) → ChangesLock change old one → ChangesLock change old another → one ≡ another
+ChangesLock-one change old one another is also =
+    let entries = ChangesEntries-one change.entries old.entries one.entries another.entries is.entries also.entries in
+    let snapshot = ChangesDigest-one change.digests old.snapshot one.snapshot another.snapshot is.digest also.digest in
+    let environment : one.environment ≡ another.environment = is.environment ∙ sym also.environment in
+    λ i. record { environment = environment i; snapshot = snapshot i; entries = entries i }
+
+pub After-one : (change : ChangeParts) (old one another : StateParts) → After old change one → After old change another → one ≡ another
+After-one change old one another is also =
+    let lines = Splices-one 0 change.splices old.lines one.lines another.lines is.lines also.lines in
+    let lock = ChangesLock-one change old.lock one.lock another.lock is.lock also.lock in
+    let environment : one.environment ≡ another.environment = is.environment ∙ sym also.environment in
+    λ i. record { lines = lines i; environment = environment i; lock = lock i }

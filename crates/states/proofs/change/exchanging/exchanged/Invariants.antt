@@ -1,0 +1,5 @@
+use Rattle.states.proofs.ExchangeFacts.{IsExchangedAt}
+use Rattle.states.proofs.change.exchanging.exchanged.Given as goal
+
+abbrev pub invariant-loop-change : goal.invariant-loop-change
+invariant-loop-change l = IsExchangedAt l.changes l.change-index l.entries l.rest l.after.items

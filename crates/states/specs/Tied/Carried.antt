@@ -1,0 +1,45 @@
+-- The state that a change leads to, as a function of the state and the change.
+-- Tied to `After` by the law `a_change_leads_where_it_carries`; need not be read.
+use Rattle.std.specs.Prelude.{ℕ, ◌+◌, ◌-◌, List, [], ◌∷◌, ◌++◌, drop, length, take, Option, Some, None}
+use Rattle.std.specs.Option.{option_to_list}
+use Rattle.pylock.specs.Packages.{EntryParts}
+use Rattle.states.specs.Changes.{ChangeParts}
+use Rattle.states.specs.StateParts.{StateParts}
+use Rattle.states.specs.Tied.Exchanging.{count_below, entries_on}
+use Rattle.states.specs.declared.change.parts.Splice.{Splice}
+use Rattle.states.specs.declared.change.parts.EntryChange.{EntryChange}
+use Rattle.states.specs.declared.change.parts.DigestChange.{DigestChange}
+
+-- the lines, of which the first has this place in the file, after the splices
+abbrev pub carried_lines : ℕ → List Splice → List (List ℕ) → List (List ℕ)
+carried_lines from [] lines = lines
+carried_lines from (splice ∷ rest) lines =
+    take (splice.place - from) lines ++ splice.new ++ carried_lines (splice.place + length splice.old) rest (drop (splice.place - from + length splice.old) lines)
+
+-- the entries that aren't below a name
+abbrev pub from_name : List ℕ → List EntryParts → List EntryParts
+from_name name entries = drop (count_below name entries) entries
+
+-- the entries after the changes of some
+abbrev pub carried_entries : List EntryChange → List EntryParts → List EntryParts
+carried_entries [] entries = entries
+carried_entries (change ∷ rest) entries =
+    take (count_below change.name entries) entries ++ option_to_list change.new
+    ++ carried_entries rest (drop (entries_on change.name (from_name change.name entries)) (from_name change.name entries))
+
+-- the digest after its change
+abbrev pub carried_digest : Option DigestChange → List ℕ → List ℕ
+carried_digest None digest = digest
+carried_digest (Some digests) digest = digests.new
+
+-- the state after the change
+abbrev pub carried : StateParts → ChangeParts → StateParts
+carried state change = record {
+  lines = carried_lines 0 change.splices state.lines;
+  environment = state.environment;
+  lock = record {
+    environment = state.lock.environment;
+    snapshot = carried_digest change.digests state.lock.snapshot;
+    entries = carried_entries change.entries state.lock.entries;
+  };
+}

@@ -1,0 +1,40 @@
+// The change between two states.
+
+ghost use Rattle.std.specs.Prelude.{◌≡◌, ◌≢◌, ◌≤◌, length, IfOk, IfSome};
+ghost use Rattle.states.specs.Changes.{After, ChangesDigest};
+
+use crate::change::Change;
+use crate::change::between_entries::entries_between;
+use crate::change::between_lines::splices_between;
+use crate::change::parts::DigestChange;
+use crate::state::State;
+use std::alloc::{AllocError, Global};
+
+/// The change from one digest to the other; `None` where they are the same.
+fn digests_between(old: [u8; 32], new: [u8; 32]) -> Option<DigestChange>
+    ensures leads { ChangesDigest result old new }
+    ensures minimal { IfSome result (λ d. d.old ≢ d.new) }
+{
+    if old == new {
+        return None;
+    }
+    Some(DigestChange { old, new })
+}
+
+/// The change that leads from a state to another of the same environment.
+pub fn change_between(alloc: Global, old: &State, new: &State) -> Result<Change, AllocError>
+    requires { new.now.environment ≡ old.now.environment }
+    ensures change { IfOk result (λ change. After old.now change new.now) }
+    ensures one_splice { IfOk result (λ change. length change.splices ≤ 1) }
+{
+    old.is_lawful();
+    new.is_lawful();
+    let splices = splices_between(alloc, old.lines().lines(), new.lines().lines())?;
+    let entries = entries_between(alloc, old.lock().entries(), new.lock().entries())?;
+    let digests = digests_between(old.digest(), new.digest());
+    Ok(Change {
+        splices,
+        entries,
+        digests,
+    })
+}

@@ -1,0 +1,94 @@
+// The names of other packages that packages need.
+
+ghost use Rattle.std.specs.Prelude.{◌≡◌, ℕ, List, [], IfOk, OnOk};
+ghost use Rattle.std.specs.Option.{option_copied};
+ghost use Rattle.problems.specs.Solutions.{version_for};
+ghost use Rattle.states.specs.Dependencies.{leads_away, names_at, names_in, names_over, names_wanted, release_chosen, with_names};
+
+use pep440::Version;
+use pep508::{Name, Requirement};
+use resolve::{Node, Problem};
+use snapshot::Release;
+use std::alloc::{AllocError, Global};
+use std::collections::{BTreeMap, BTreeSet};
+
+/// Whether the dependency counts at the node and is on another name.
+fn leads_away(problem: &Problem<'_>, node: &Node, dependency: &Requirement) -> bool
+    ensures { result ≡ leads_away problem.now.environment node.now dependency.now }
+{
+    problem.does_count(node, dependency) && node.name.normal() != dependency.name().normal()
+}
+
+/// Puts the names of the dependencies that lead away from the node to the names.
+fn add_names(
+    problem: &Problem<'_>,
+    node: &Node,
+    dependencies: &[Requirement],
+    names: &mut BTreeSet<Name>,
+) -> Result<(), AllocError>
+    ensures { OnOk result (names.new.keys
+        ≡ with_names names.old.keys
+        (names_wanted problem.now.environment node.now dependencies.now)) }
+{
+    for dependency in dependencies {
+        if leads_away(problem, node, dependency) {
+            names.insert(dependency.name().clone()?)?;
+        }
+    }
+    Ok(())
+}
+
+/// The release of the version that is chosen for the name.
+fn release_chosen<'a>(
+    problem: &'a Problem<'_>,
+    versions: &BTreeMap<Name, Version>,
+    name: &Name,
+) -> Option<&'a Release>
+    ensures { option_copied result
+        ≡ release_chosen problem.now (version_for versions.now.entries) name.now }
+{
+    let version = versions.get(name)?;
+    problem.release(name, version)
+}
+
+/// Puts what the package of the node needs there to what is gathered for it.
+fn add_node(
+    alloc: Global,
+    problem: &Problem<'_>,
+    versions: &BTreeMap<Name, Version>,
+    node: &Node,
+    gathered: &mut BTreeMap<Name, BTreeSet<Name>>,
+) -> Result<(), AllocError>
+    ensures { OnOk result ((own : List ℕ) → names_in gathered.new own
+        ≡ with_names (names_in gathered.old own)
+        (names_at problem.now (version_for versions.now.entries) own node.now)) }
+{
+    let Some(release) = release_chosen(problem, versions, &node.name) else {
+        return Ok(());
+    };
+    let mut names = match gathered.remove(&node.name) {
+        Some(names) => names,
+        None => BTreeSet::new(alloc),
+    };
+    add_names(problem, node, release.dependencies(), &mut names)?;
+    let name = node.name.clone()?;
+    gathered.insert(name, names)?;
+    Ok(())
+}
+
+/// The names of other packages that each package needs at the nodes, by the package's name.
+pub(crate) fn gather(
+    alloc: Global,
+    problem: &Problem<'_>,
+    versions: &BTreeMap<Name, Version>,
+    nodes: &[Node],
+) -> Result<BTreeMap<Name, BTreeSet<Name>>, AllocError>
+    ensures { IfOk result (λ gathered. (own : List ℕ) → names_in gathered own
+        ≡ with_names [] (names_over problem.now (version_for versions.now.entries) own nodes.now)) }
+{
+    let mut gathered = BTreeMap::new(alloc);
+    for node in nodes {
+        add_node(alloc, problem, versions, node, &mut gathered)?;
+    }
+    Ok(gathered)
+}

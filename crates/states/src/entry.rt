@@ -1,0 +1,110 @@
+// Entries of a lock, each made of a release.
+
+ghost use Rattle.std.specs.Prelude.{◌≡◌, IfOk, IsSome, true};
+ghost use Rattle.problems.specs.Admission.{release_at};
+ghost use Rattle.pylock.specs.Packages.{are_dependencies};
+ghost use Rattle.snapshot.specs.Lawful.{IsRelease};
+ghost use Rattle.states.specs.Entries.{HasRelease, entry_with};
+ghost use Rattle.states.specs.Locking.{listed, python_text, sdist_of, wheels_of};
+
+use lists::{Seq, Text};
+use pep440::Version;
+use pep508::Name;
+use pylock::{Entry, FileEntry};
+use resolve::Problem;
+use snapshot::{Release, ReleaseFile};
+use std::alloc::{AllocError, Global};
+
+/// The text of what the release asks of Python.
+fn python_text(alloc: Global, release: &Release) -> Result<Option<Text>, AllocError>
+    ensures { IfOk result (λ text. text ≡ python_text (Some release.now)) }
+{
+    match release.requires_python() {
+        Some(python) => Ok(Some(Text::copy_of(alloc, python.text())?)),
+        None => Ok(None),
+    }
+}
+
+/// The file as a lock lists it.
+fn listed(alloc: Global, file: &ReleaseFile) -> Result<FileEntry, AllocError>
+    ensures { IfOk result (λ entry. entry ≡ listed file.now) }
+{
+    let name = Text::copy_of(alloc, file.name())?;
+    let url = Text::copy_of(alloc, file.url())?;
+    let sha256 = Text::copy_of(alloc, file.sha256())?;
+    Ok(FileEntry {
+        name,
+        url,
+        size: file.size(),
+        sha256,
+    })
+}
+
+/// The source distribution of the release.
+fn sdist_of(alloc: Global, release: &Release) -> Result<Option<FileEntry>, AllocError>
+    ensures { IfOk result (λ sdist. sdist ≡ sdist_of (Some release.now)) }
+{
+    match release.sdist() {
+        Some(file) => Ok(Some(listed(alloc, file)?)),
+        None => Ok(None),
+    }
+}
+
+/// The wheels of the release.
+fn wheels_of(alloc: Global, release: &Release) -> Result<Seq<FileEntry>, AllocError>
+    ensures { IfOk result (λ wheels. wheels ≡ wheels_of (Some release.now)) }
+{
+    let files = release.wheels();
+    let mut wheels = Vec::with_capacity(alloc, files.len())?;
+    for file in files {
+        wheels.push(listed(alloc, file)?)?;
+    }
+    Ok(Seq::from_vec(wheels))
+}
+
+/// The entry of the release of that name and version, with these dependencies.
+fn entry_with(
+    alloc: Global,
+    release: &Release,
+    name: Name,
+    version: Version,
+    dependencies: Seq<Name>,
+) -> Result<Entry, AllocError>
+    requires { are_dependencies name dependencies ≡ true }
+    ensures entry { IfOk result
+        (λ entry. entry ≡ entry_with (name, version) dependencies (Some release.now)) }
+    ensures lawful { IfOk result (λ _. IsRelease release.now) }
+{
+    name.is_lawful();
+    release.is_lawful();
+    let python = python_text(alloc, release)?;
+    let sdist = sdist_of(alloc, release)?;
+    let wheels = wheels_of(alloc, release)?;
+    match Entry::new(alloc, name, version, python, dependencies, sdist, wheels)? {
+        Some(entry) => Ok(entry),
+        None => unreachable!(),
+    }
+}
+
+/// The entry of the name at the version, which is that of a release, with these dependencies.
+pub(crate) fn entry(
+    alloc: Global,
+    problem: &Problem<'_>,
+    name: &Name,
+    version: &Version,
+    dependencies: Seq<Name>,
+) -> Result<Entry, AllocError>
+    requires released { IsSome (release_at problem.now name.now version.now) }
+    requires dependencies { are_dependencies name.now dependencies ≡ true }
+    ensures entry { IfOk result (λ entry. entry
+        ≡ entry_with (name.now, version.now) dependencies
+        (release_at problem.now name.now version.now)) }
+    ensures release { IfOk result (λ _. HasRelease problem.now name.now version.now) }
+{
+    let Some(release) = problem.release(name, version) else {
+        unreachable!();
+    };
+    let name = name.clone()?;
+    let version = version.clone()?;
+    entry_with(alloc, release, name, version, dependencies)
+}

@@ -1,0 +1,146 @@
+// The lock of a solution, and the state of lines with the lock of their problem.
+
+ghost use Rattle.std.specs.Prelude.{◌≡◌, ℕ, List, IfOk, IsSome, MatchOption, Some, map, true};
+ghost use Rattle.std.specs.Cmp.Lexicographic.{slice_cmp};
+ghost use Rattle.std.specs.List.{Contains, list_all};
+ghost use Rattle.std.specs.List.Sorted.{IsStrictlySortedBy};
+ghost use Rattle.std.specs.Map.{keys_of};
+ghost use Rattle.std.specs.Ordering.{nat_cmp};
+ghost use Rattle.markers.specs.Environment.{marker_text};
+ghost use Rattle.markers.specs.Names.{is_normal};
+ghost use Rattle.pep440.specs.Version.{VersionParts};
+ghost use Rattle.problems.specs.Admission.{release_at};
+ghost use Rattle.problems.specs.Problem.{ProblemParts};
+ghost use Rattle.problems.specs.Rules.{rules_of};
+ghost use Rattle.problems.specs.Solutions.{version_for};
+ghost use Rattle.pylock.specs.Packages.{EntryParts};
+ghost use Rattle.search.specs.Solutions.{HasNoSolution, IsBest};
+ghost use Rattle.states.specs.Dependencies.{names_in, names_of};
+ghost use Rattle.states.specs.Entries.{AreEntries, AreNeeds, HasRelease, entry_for};
+ghost use Rattle.states.specs.Locking.{IsLocked, given_of};
+
+use crate::dependencies::gather;
+use crate::entry::entry;
+use crate::state::State;
+use lists::Seq;
+use pep440::Version;
+use pep440::laws::equal_versions_match_alike;
+use pep508::{Environment, Name, ReqFile};
+use pylock::{Entry, Lock};
+use resolve::{Answer, Problem, Resolver};
+use snapshot::Snapshot;
+use std::alloc::{AllocError, Global};
+use std::collections::{BTreeMap, BTreeSet};
+
+/// The names in their order.
+fn in_order(alloc: Global, names: BTreeSet<Name>) -> Result<Seq<Name>, AllocError>
+    ensures names { IfOk result (λ ordered. ordered ≡ names.keys) }
+    ensures normal { IfOk result (λ ordered. list_all is_normal ordered ≡ true) }
+{
+    let mut ordered = Vec::new(alloc);
+    for name in names {
+        name.is_lawful();
+        ordered.push(name)?;
+    }
+    Ok(Seq::from_vec(ordered))
+}
+
+/// The names of the set, none where there is no set.
+fn dependencies(alloc: Global, names: Option<BTreeSet<Name>>) -> Result<Seq<Name>, AllocError>
+    ensures names { IfOk result (λ ordered. ordered ≡ names_of names) }
+    ensures normal { IfOk result (λ ordered. list_all is_normal ordered ≡ true) }
+{
+    match names {
+        Some(names) => in_order(alloc, names),
+        None => Ok(Seq::new(alloc)),
+    }
+}
+
+/// The entry of each name, given what each needs.
+fn entries(
+    alloc: Global,
+    problem: &Problem<'_>,
+    versions: &BTreeMap<Name, Version>,
+    mut gathered: BTreeMap<Name, BTreeSet<Name>>,
+) -> Result<Seq<Entry>, AllocError>
+    requires released { (name : List ℕ) (version : VersionParts)
+        → version_for versions.now.entries name ≡ Some version
+        → IsSome (release_at problem.now name version) }
+    requires needs { (own : List ℕ) → AreNeeds own (names_in gathered own) }
+    ensures entries { IfOk result (λ lock. lock
+        ≡ map (entry_for problem.now (names_in gathered)) versions.now.entries) }
+    ensures rising { IfOk result
+        (λ _. IsStrictlySortedBy (slice_cmp nat_cmp) (keys_of versions.now.entries)) }
+    ensures releases { IfOk result (λ lock. (e : EntryParts) → Contains lock e
+        → HasRelease problem.now e.name e.version) }
+{
+    let mut lock = Vec::new(alloc);
+    for (name, version) in versions {
+        let dependencies = dependencies(alloc, gathered.remove(name))?;
+        lock.push(entry(alloc, problem, name, version, dependencies)?)?;
+    }
+    Ok(Seq::from_vec(lock))
+}
+
+/// The entry of each name of a solution of the problem.
+fn entries_of(
+    alloc: Global,
+    problem: &Problem<'_>,
+    versions: &BTreeMap<Name, Version>,
+) -> Result<Seq<Entry>, AllocError>
+    requires { IsBest (rules_of problem.now) (version_for versions.now.entries) }
+    ensures { IfOk result (λ lock. AreEntries problem.now versions.now.entries lock) }
+{
+    let nodes = problem.needed(alloc, versions)?;
+    let gathered = gather(alloc, problem, versions, nodes.as_slice())?;
+    entries(alloc, problem, versions, gathered)
+}
+
+/// The lock of a solution of the problem in the environment over the index.
+fn lock_of(
+    alloc: Global,
+    problem: &Problem<'_>,
+    environment: &Environment,
+    snapshot: &Snapshot,
+    versions: &BTreeMap<Name, Version>,
+) -> Result<Lock, AllocError>
+    requires { IsBest (rules_of problem.now) (version_for versions.now.entries) }
+    ensures entries { IfOk result
+        (λ lock. AreEntries problem.now versions.now.entries lock.entries) }
+    ensures environment { IfOk result (λ lock. lock.environment ≡ marker_text environment.now) }
+    ensures snapshot { IfOk result (λ lock. lock.snapshot ≡ snapshot.now.digest) }
+{
+    let entries = entries_of(alloc, problem, versions)?;
+    let environment = environment.marker_text(alloc)?;
+    match Lock::new(environment, snapshot.digest(), entries) {
+        Some(lock) => Ok(lock),
+        None => unreachable!(),
+    }
+}
+
+/// The state of the lines with the lock of their problem, over the index, where these versions are
+/// kept; `None` where the problem has no solution.
+pub fn locked<R: Resolver>(
+    alloc: Global,
+    lines: ReqFile,
+    environment: Environment,
+    snapshot: &Snapshot,
+    kept: BTreeMap<Name, Version>,
+    resolver: &R,
+) -> Result<Option<State>, AllocError>
+    ensures { IfOk result (λ made.
+        let given : ProblemParts = given_of lines environment snapshot.now kept.entries in
+        MatchOption made (HasNoSolution (rules_of given)) (IsLocked given lines)) }
+{
+    equal_versions_match_alike();
+    lines.is_lawful();
+    let problem = Problem::new(alloc, &lines, &environment, snapshot, kept)?;
+    match resolver.resolve(alloc, &problem)? {
+        Answer::Solution(versions) => {
+            let lock = lock_of(alloc, &problem, &environment, snapshot, &versions)?;
+            lock.is_lawful();
+            Ok(Some(State::from_lawful(lines, environment, lock)))
+        }
+        Answer::NoSolution => Ok(None),
+    }
+}
