@@ -4,8 +4,9 @@
 usage: tools/gate_times.py COMMAND..    as in tools/gate_times.py ./check
 
 The command's output comes as it is. A table in Markdown follows, on standard error, in processor minutes; the last row counts
-everything, what is no check of a crate too. Behind it stand the ten dearest edits, in processor seconds. The status is the
-command's. The edits are those of the folder that it is called in.
+everything, what is no check of a crate too. Behind it stand the ten dearest edits, in processor seconds, and what one piece of work
+took, that is done every half minute: by it the figures of two machines compare, or of two hours. The status is the command's. The
+edits are those of the folder that it is called in.
 """
 
 import os
@@ -17,6 +18,9 @@ import time
 
 KINDS = "proofs", "tests", "second proofs", "edits"
 DEAREST = 10
+# How often the piece of work is done that tells how fast the processors are, in seconds, and over how many keys it goes.
+PACE_EVERY = 30
+PACE_KEYS = 400_009
 
 
 def replacements(edit):
@@ -78,12 +82,22 @@ def processes():
         yield (number, fields[19]), words, folder, (int(fields[11]) + int(fields[12])) / tick
 
 
+def pace():
+    """The processor seconds that a piece of work takes which is always the same: it goes through a large table out of order."""
+    start, table = time.thread_time(), {}
+    for number in range(PACE_KEYS):
+        table[number * 7919 % PACE_KEYS] = number
+    return time.thread_time() - start
+
+
 class Watch:
-    """Samples the processes until it is stopped; `used` has the seconds of each crate and kind, `edits` those of each edit."""
+    """Samples the processes until it is stopped; `used` has the seconds of each crate and kind, `edits` those of each edit, and
+    `paces` those of the piece of work, each time that it was done."""
 
     def __init__(self):
         self.known = {}
         self.seen = {}
+        self.paces = []
         self.is_over = threading.Event()
 
     def name(self, key, crate, folder):
@@ -104,8 +118,12 @@ class Watch:
                 self.seen[key] = found, seconds
 
     def run(self):
+        next_pace = time.monotonic()
         while not self.is_over.wait(0.3):
             self.look()
+            if time.monotonic() >= next_pace:
+                self.paces.append(pace())
+                next_pace += PACE_EVERY
 
     def used(self):
         used = {}
@@ -139,6 +157,14 @@ def dearest(spent):
     return [f"{seconds:.0f} s {crate} {name}" for (crate, name), seconds in found]
 
 
+def told_pace(paces):
+    """The line on the piece of work; none where it was never done."""
+    if not paces:
+        return []
+    mean = sum(paces) / len(paces)
+    return [f"the same piece of work took {mean:.2f} s on average, {min(paces):.2f} to {max(paces):.2f} s, {len(paces)} times"]
+
+
 def main(words):
     if not words:
         print(__doc__.split("\n\n")[1], file=sys.stderr)
@@ -154,7 +180,7 @@ def main(words):
         sampling.join()
     spent = resource.getrusage(resource.RUSAGE_CHILDREN)
     lines = table(watch.used(), spent.ru_utime + spent.ru_stime, time.monotonic() - start)
-    print(*lines, *dearest(watch.edits()), sep="\n", file=sys.stderr)
+    print(*lines, *dearest(watch.edits()), *told_pace(watch.paces), sep="\n", file=sys.stderr)
     return status
 
 

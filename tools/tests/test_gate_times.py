@@ -40,6 +40,14 @@ class Times(unittest.TestCase):
         lines = gate_times.dearest(spent)
         self.assertEqual((lines[:3], len(lines)), (["61 s b two", "20 s a one", "8 s c 8"], 10))
 
+    def test_the_pace_of_the_processors_is_told(self):
+        self.assertEqual(gate_times.told_pace([]), [])
+        self.assertEqual(
+            gate_times.told_pace([0.2, 0.1, 0.15]),
+            ["the same piece of work took 0.15 s on average, 0.10 to 0.20 s, 3 times"],
+        )
+        self.assertGreater(gate_times.pace(), 0)
+
     def test_an_edit_is_known_by_the_copy_that_it_is_made_in(self):
         here = os.getcwd()
         with tempfile.TemporaryDirectory() as folder:
@@ -69,6 +77,7 @@ class Times(unittest.TestCase):
             )
         self.assertEqual((done.returncode, done.stdout), (3, "done\n"))
         self.assertRegex(done.stderr, r"\| lists \| 0\.0 \| 0\.0 \| 0\.0 \| 0\.0 \| 0\.0 \|")
+        self.assertRegex(done.stderr, r"the same piece of work took \d\.\d\d s on average")
 
 
 if __name__ == "__main__":

@@ -2,7 +2,7 @@
 
 use crate::background::Background;
 use crate::batch_rows::{self, Case};
-use crate::notation::{expanded, shown};
+use crate::notation::{expanded, owned, shown};
 use crate::{
     command_rows, conflicts, environment_rows, examples, index_rows, line_rows, lock_rows,
     marker_rows, problem_rows, requirement_rows, saved_rows, session_rows, specifier_rows,
@@ -20,7 +20,7 @@ const SAID: &str = " | => ";
 /// the row can't be read, memory is refused, or calls that should agree do not.
 pub fn answer_to(alloc: Global, background: &mut Background, row: &str) -> Option<String> {
     if row.is_empty() || row.starts_with('#') {
-        return String::from_str(alloc, row).ok();
+        return owned(alloc, row);
     }
     match row.split_once(SAID) {
         Some((question, said)) => {
@@ -34,7 +34,7 @@ pub fn answer_to(alloc: Global, background: &mut Background, row: &str) -> Optio
 /// The answer, or that it is as the row says.
 fn compared(alloc: Global, answer: String, said: String) -> Option<String> {
     if answer == said {
-        return String::from_str(alloc, "as said").ok();
+        return owned(alloc, "as said");
     }
     shown(alloc, answer.as_str())
 }
@@ -42,13 +42,19 @@ fn compared(alloc: Global, answer: String, said: String) -> Option<String> {
 /// The answer to a row as it is.
 fn answer_of(alloc: Global, background: &mut Background, row: &str) -> Option<String> {
     let (kind, rest) = row.split_once(BAR).unwrap_or((row, ""));
+    let texts = texts_of(alloc, rest)?;
+    of_versions(alloc, background, kind, texts.as_slice())
+}
+
+/// The texts of a row behind its word.
+fn texts_of(alloc: Global, rest: &str) -> Option<Vec<String>> {
     let mut texts = Vec::new(alloc);
     if !rest.is_empty() {
         for text in rest.split(BAR) {
             texts.push(expanded(alloc, text)?).ok()?;
         }
     }
-    of_versions(alloc, background, kind, texts.as_slice())
+    Some(texts)
 }
 
 /// The text at a place; the empty one where there is none.
@@ -158,10 +164,7 @@ fn of_histories(
         "empty reads" => batch_rows::reads(alloc, background, &case_of(texts, false)?),
         "failing writes" => batch_rows::writes(alloc, background, &case_of(texts, true)?),
         "empty writes" => batch_rows::writes(alloc, background, &case_of(texts, false)?),
-        "do" => {
-            let histories = background.histories.as_mut()?;
-            session_rows::done(alloc, background.index.as_ref()?, histories, first)
-        }
+        "do" => session_rows::done(alloc, background, first),
         _ => of_history(alloc, background, kind, first, second, text_at(texts, 2)),
     }
 }
@@ -178,7 +181,7 @@ fn of_history(
     let histories = background.histories.as_ref()?;
     match kind {
         "lines" => session_rows::lines(alloc, histories),
-        "files" => session_rows::files(alloc, background.index.as_ref()?, histories),
+        "files" => session_rows::files(alloc, background, histories),
         "change" => session_rows::change(alloc, histories),
         "saved" => saved_rows::saved(alloc, &histories.session),
         "altered" => saved_rows::altered(alloc, &histories.session, first, second, third),

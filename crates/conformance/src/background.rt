@@ -60,4 +60,14 @@ impl Background {
             lock: String::new(alloc),
         }
     }
+
+    /// The environment, which an earlier row has set.
+    pub fn environment(&self) -> Option<&Environment> {
+        self.environment.as_ref()
+    }
+
+    /// The index, which an earlier row has set.
+    pub fn index(&self) -> Option<&Snapshot> {
+        self.index.as_ref()
+    }
 }

@@ -3,8 +3,9 @@
 use crate::background::Background;
 use crate::session_rows::session_of;
 use crate::streams::{Narrow, Pieces};
+use crate::telling::Telling;
 use commands::Counted;
-use commands::batch::batch;
+use commands::batch::{BatchFault, batch};
 use journal::Session;
 use std::alloc::Global;
 
@@ -33,11 +34,19 @@ impl<'a> Drop for Case<'a> {
     }
 }
 
-/// Where a session stands, and its lines.
-fn place(alloc: Global, session: &Session) -> Option<String> {
+/// What a batch comes to, what it writes, where the session stands, and its lines.
+fn told(
+    alloc: Global,
+    done: &Result<(), BatchFault>,
+    written: Vec<u8>,
+    session: &Session,
+) -> Option<String> {
+    let written = String::from_utf8(written).ok()?;
     let (cursor, steps) = (session.cursor(), session.steps());
     let lines = session.state().lines().bytes(alloc).ok()?;
-    format!(in alloc; "{cursor} of {steps} {lines:?}").ok()
+    let mut text = Telling::new(alloc);
+    write!(text, "{done:?} {written:?} {cursor} of {steps} {lines:?}");
+    text.told()
 }
 
 /// What a batch comes to whose reader stops behind so many calls, and whether it did.
@@ -56,11 +65,9 @@ fn read_once(
         has_stopped: false,
     });
     let mut sink = Counted::new(Vec::new(alloc));
-    let index = background.index.as_ref()?;
+    let index = background.index()?;
     let done = batch(alloc, &mut source, &mut sink, &mut session, index);
-    let written = String::from_utf8(sink.into_inner()).ok()?;
-    let place = place(alloc, &session)?;
-    let text = format!(in alloc; "{done:?} {written:?} {place}").ok()?;
+    let text = told(alloc, &done, sink.into_inner(), &session)?;
     Some((text, source.into_inner().has_stopped))
 }
 
@@ -80,7 +87,7 @@ fn write_once(
         fails: case.fails,
         has_stopped: false,
     });
-    let index = background.index.as_ref()?;
+    let index = background.index()?;
     let done = batch(alloc, &mut source, &mut sink, &mut session, index);
     let Narrow {
         taken,
@@ -89,36 +96,33 @@ fn write_once(
         fails: _,
         has_stopped,
     } = sink.into_inner();
-    let written = String::from_utf8(taken).ok()?;
-    let place = place(alloc, &session)?;
-    let text = format!(in alloc; "{done:?} {written:?} {place}").ok()?;
-    Some((text, has_stopped))
+    Some((told(alloc, &done, taken, &session)?, has_stopped))
 }
 
 /// What each batch comes to, until the reader of one doesn't stop.
 pub fn reads(alloc: Global, background: &Background, case: &Case<'_>) -> Option<String> {
-    let mut answers = String::new(alloc);
+    let mut answers = Telling::new(alloc);
     for calls in 0..MANY {
         let (answer, has_stopped) = read_once(alloc, background, case, calls)?;
-        answers.push_str(answer.as_str()).ok()?;
+        answers.push_str(answer.as_str());
         if !has_stopped {
-            return Some(answers);
+            return answers.told();
         }
-        answers.push_str("; ").ok()?;
+        answers.push_str("; ");
     }
     None
 }
 
 /// What each batch comes to, until the writer of one doesn't stop.
 pub fn writes(alloc: Global, background: &Background, case: &Case<'_>) -> Option<String> {
-    let mut answers = String::new(alloc);
+    let mut answers = Telling::new(alloc);
     for calls in 0..MANY {
         let (answer, has_stopped) = write_once(alloc, background, case, calls)?;
-        answers.push_str(answer.as_str()).ok()?;
+        answers.push_str(answer.as_str());
         if !has_stopped {
-            return Some(answers);
+            return answers.told();
         }
-        answers.push_str("; ").ok()?;
+        answers.push_str("; ");
     }
     None
 }

@@ -1,70 +1,79 @@
 // Rows of command lines.
 
 use crate::environment_rows::bytes_of;
+use crate::notation::owned;
+use crate::telling::Telling;
 use commands::request::{Inputs, Invocation, NeededOption, RequestFault, Subcommand, request};
 use commands::{Item, read_item};
 use edits::Edit;
-use lists::Text;
 use std::alloc::Global;
 
-/// The words of an upgrade, each behind a bar.
-fn upgraded(alloc: Global, names: &[Text]) -> Option<String> {
-    let mut text = String::from_str(alloc, "(upgrade)").ok()?;
-    for name in names {
-        write!(text, "|{name}").ok()?;
-    }
-    Some(text)
-}
-
-/// An edit, as a short text.
-fn edit_text(alloc: Global, edit: &Edit) -> Option<String> {
+/// Pushes an edit, as a short text.
+fn push_edit(text: &mut Telling, edit: &Edit) {
     match edit {
-        Edit::Add(text) => format!(in alloc; "(add)|{text}").ok(),
-        Edit::Remove(name) => format!(in alloc; "(remove)|{name}").ok(),
-        Edit::Constrain(name, set) => format!(in alloc; "(constrain)|{name}|{set}").ok(),
-        Edit::Upgrade(names) => upgraded(alloc, names.as_slice()),
-        Edit::UpgradeAll => String::from_str(alloc, "(upgrade)").ok(),
-        Edit::Relock => String::from_str(alloc, "(relock)").ok(),
+        Edit::Add(line) => write!(text, "(add)|{line}"),
+        Edit::Remove(name) => write!(text, "(remove)|{name}"),
+        Edit::Constrain(name, set) => write!(text, "(constrain)|{name}|{set}"),
+        Edit::Upgrade(names) => {
+            text.push_str("(upgrade)");
+            for name in names.as_slice() {
+                write!(text, "|{name}");
+            }
+        }
+        Edit::UpgradeAll => text.push_str("(upgrade)"),
+        Edit::Relock => text.push_str("(relock)"),
     }
 }
 
 /// What a line of a batch asks for.
 pub fn command(alloc: Global, line: &str, is_ended: bool) -> Option<String> {
+    let mut text = Telling::new(alloc);
     match read_item(alloc, bytes_of(alloc, line)?.as_slice(), is_ended).ok()? {
-        None => String::from_str(alloc, "(nothing)").ok(),
-        Some(Item::Edit(edit)) => edit_text(alloc, &edit),
-        Some(Item::Undo) => String::from_str(alloc, "(undo)").ok(),
-        Some(Item::Redo) => String::from_str(alloc, "(redo)").ok(),
-        Some(Item::BadCommand) => String::from_str(alloc, "(bad)").ok(),
+        None => text.push_str("(nothing)"),
+        Some(Item::Edit(edit)) => push_edit(&mut text, &edit),
+        Some(Item::Undo) => text.push_str("(undo)"),
+        Some(Item::Redo) => text.push_str("(redo)"),
+        Some(Item::BadCommand) => text.push_str("(bad)"),
+    }
+    text.told()
+}
+
+/// Pushes what words ask for.
+fn push_subcommand(text: &mut Telling, subcommand: Subcommand<'_>) {
+    match subcommand {
+        Subcommand::Init(Inputs { index, environment }) => {
+            write!(text, "init {index} {environment}");
+        }
+        Subcommand::Edit(edit, index) => {
+            push_edit(text, &edit);
+            write!(text, " {index}");
+        }
+        Subcommand::Undo => text.push_str("undo"),
+        Subcommand::Redo => text.push_str("redo"),
+        Subcommand::Batch(index) => write!(text, "batch {index}"),
+        Subcommand::Try(Inputs { index, environment }) => {
+            write!(text, "try {index} {environment}");
+        }
+        Subcommand::Show => text.push_str("show"),
+        Subcommand::Log => text.push_str("log"),
+        Subcommand::Check => text.push_str("check"),
+        Subcommand::Skipped(index) => write!(text, "skipped {index}"),
+        Subcommand::Why(edit, index, explains) => {
+            text.push_str("why ");
+            push_edit(text, &edit);
+            let how = if explains { " in sentences" } else { "" };
+            write!(text, " {index}{how}");
+        }
     }
 }
 
 /// What words ask for, in a folder.
-fn subcommand_text(alloc: Global, dir: &str, subcommand: Subcommand<'_>) -> Option<String> {
-    match subcommand {
-        Subcommand::Init(Inputs { index, environment }) => {
-            format!(in alloc; "{dir} init {index} {environment}").ok()
-        }
-        Subcommand::Edit(edit, index) => {
-            let text = edit_text(alloc, &edit)?;
-            format!(in alloc; "{dir} {text} {index}").ok()
-        }
-        Subcommand::Undo => format!(in alloc; "{dir} undo").ok(),
-        Subcommand::Redo => format!(in alloc; "{dir} redo").ok(),
-        Subcommand::Batch(index) => format!(in alloc; "{dir} batch {index}").ok(),
-        Subcommand::Try(Inputs { index, environment }) => {
-            format!(in alloc; "{dir} try {index} {environment}").ok()
-        }
-        Subcommand::Show => format!(in alloc; "{dir} show").ok(),
-        Subcommand::Log => format!(in alloc; "{dir} log").ok(),
-        Subcommand::Check => format!(in alloc; "{dir} check").ok(),
-        Subcommand::Skipped(index) => format!(in alloc; "{dir} skipped {index}").ok(),
-        Subcommand::Why(edit, index, explains) => {
-            let text = edit_text(alloc, &edit)?;
-            let how = if explains { " in sentences" } else { "" };
-            format!(in alloc; "{dir} why {text} {index}{how}").ok()
-        }
-    }
+fn invocation_text(alloc: Global, invocation: Invocation<'_>) -> Option<String> {
+    let Invocation { dir, subcommand } = invocation;
+    let mut text = Telling::new(alloc);
+    write!(text, "{dir} ");
+    push_subcommand(&mut text, subcommand);
+    text.told()
 }
 
 /// What words behind the name of the program ask for.
@@ -75,16 +84,11 @@ pub fn words(alloc: Global, told: &[String]) -> Option<String> {
         words.push(word.as_str()).ok()?;
     }
     match request(alloc, words.as_slice()) {
-        Ok(Invocation { dir, subcommand }) => subcommand_text(alloc, dir, subcommand),
-        Err(RequestFault::Needed(NeededOption::Index)) => {
-            String::from_str(alloc, "needs index").ok()
-        }
-        Err(RequestFault::Needed(NeededOption::Environment)) => {
-            String::from_str(alloc, "needs env").ok()
-        }
+        Ok(invocation) => invocation_text(alloc, invocation),
+        Err(RequestFault::Needed(NeededOption::Index)) => owned(alloc, "needs index"),
+        Err(RequestFault::Needed(NeededOption::Environment)) => owned(alloc, "needs env"),
         Err(RequestFault::Usage(error)) => {
-            let text = if error.use_stderr() { "usage" } else { "help" };
-            String::from_str(alloc, text).ok()
+            owned(alloc, if error.use_stderr() { "usage" } else { "help" })
         }
         Err(RequestFault::OutOfMemory) => None,
     }

@@ -11,23 +11,35 @@ fn are_same(alloc: Global, one: &State, other: &State) -> Option<bool> {
     Some(whole_text(alloc, one)? == whole_text(alloc, other)?)
 }
 
+/// Whether a change leads from one state to another.
+fn leads(alloc: Global, change: &Change, before: &State, after: &State) -> Option<bool> {
+    match change.apply(alloc, before).ok()? {
+        Some(state) => are_same(alloc, &state, after),
+        None => Some(false),
+    }
+}
+
 /// Whether a change leads from one state to another, and its inverse back.
 fn is_between(alloc: Global, change: &Change, before: &State, after: &State) -> Option<bool> {
-    let forth = change.apply(alloc, before).ok()??;
-    let back = change.inverse(alloc).ok()?.apply(alloc, after).ok()??;
-    Some(are_same(alloc, &forth, after)? && are_same(alloc, &back, before)?)
+    let back = change.inverse(alloc).ok()?;
+    Some(leads(alloc, change, before, after)? && leads(alloc, &back, after, before)?)
+}
+
+/// The lock of a state, read back from its text, and that from its table.
+fn lock_read_back(alloc: Global, state: &State) -> Option<Lock> {
+    let text = state.lock().print(alloc).ok()?;
+    let lock = Lock::read(alloc, text.as_bytes()).ok()?;
+    let table = lock.to_table(alloc).ok()?;
+    Lock::from_table(alloc, &table).ok()
 }
 
 /// Whether a state is made of its parts again, and its lock is read back from its text and from its table.
 fn is_made_again(alloc: Global, state: &State) -> Option<bool> {
-    let text = state.lock().print(alloc).ok()?;
-    let lock = Lock::read(alloc, text.as_bytes()).ok()?;
-    let table = lock.to_table(alloc).ok()?;
-    let lock = Lock::from_table(alloc, &table).ok()?;
+    let lock = lock_read_back(alloc, state)?;
     let lines = state.lines().clone().ok()?;
     let environment = state.environment().clone().ok()?;
-    let made = State::new(alloc, lines, environment, lock).ok()??;
-    are_same(alloc, &made, state)
+    let again = State::new(alloc, lines, environment, lock).ok()??;
+    are_same(alloc, &again, state)
 }
 
 /// Whether the versions of a state are those that solve a problem.
@@ -60,10 +72,7 @@ fn is_answer(
 /// Whether the change of a history's last step leads from this state to the present one.
 fn is_last_change(alloc: Global, before: &State, whole: &WholeHistory) -> Option<bool> {
     let steps = whole.steps();
-    if steps == 0 {
-        return Some(false);
-    }
-    is_between(alloc, whole.change(steps), before, whole.state())
+    Some(steps > 0 && is_between(alloc, whole.change(steps), before, whole.state())?)
 }
 
 /// Whether all that is said of an edit agrees.
@@ -86,7 +95,7 @@ fn is_confirmed(
     }
 }
 
-/// The reply of a history of whole states; nothing where another call says otherwise.
+/// The reply of a history of whole states, with which all other calls agree.
 pub fn tried(alloc: Global, whole: &mut WholeHistory, command: &Command<'_>) -> Option<Reply> {
     let before = whole.state().clone().ok()?;
     let reply = apply(alloc, whole, command, &Plain);

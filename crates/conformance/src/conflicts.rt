@@ -1,5 +1,6 @@
 // Conflicts as rows write them.
 
+use crate::telling::Telling;
 use lists::Seq;
 use markers::Name;
 use pep440::Version;
@@ -8,22 +9,26 @@ use std::alloc::Global;
 use std::cmp::Ordering;
 use std::collections::BTreeSet;
 
+fn name_of(alloc: Global, told: &str) -> Option<Name> {
+    Name::parse(alloc, told).ok()
+}
+
 /// The choice that a text such as `x[e]==1` tells.
 fn choice_of(alloc: Global, told: &str) -> Option<Choice> {
     let (node, version) = told.split_once("==")?;
-    let (name, extra) = match node.split_once('[') {
-        Some((name, extra)) => (name, Some(extra.trim_end_matches(']'))),
-        None => (node, None),
-    };
-    let extra = match extra {
-        Some(extra) => Some(Name::parse(alloc, extra).ok()?),
-        None => None,
-    };
-    Some(Choice {
-        name: Name::parse(alloc, name).ok()?,
-        extra,
-        version: Version::parse(alloc, version).ok()?,
-    })
+    let version = Version::parse(alloc, version).ok()?;
+    match node.split_once('[') {
+        Some((name, extra)) => Some(Choice {
+            name: name_of(alloc, name)?,
+            extra: Some(name_of(alloc, extra.trim_end_matches(']'))?),
+            version,
+        }),
+        None => Some(Choice {
+            name: name_of(alloc, node)?,
+            extra: None,
+            version,
+        }),
+    }
 }
 
 /// How two choices are ordered, which equality agrees with.
@@ -40,29 +45,32 @@ fn sign(one: &Choice, other: &Choice) -> Option<&'static str> {
     }
 }
 
+fn text_of(alloc: Global, choice: &Choice) -> Option<String> {
+    choice.text(alloc).ok()
+}
+
 /// Choices, and between each two how they are ordered.
 pub fn choices(alloc: Global, told: &[String]) -> Option<String> {
-    let mut text = String::new(alloc);
+    let mut text = Telling::new(alloc);
     let mut before = None;
     for one in told {
         let choice = choice_of(alloc, one.as_str())?;
         if let Some(earlier) = before.as_ref() {
-            text.push_str(sign(earlier, &choice)?).ok()?;
+            text.push_str(sign(earlier, &choice)?);
         }
-        text.push_str(choice.text(alloc).ok()?.as_str()).ok()?;
+        text.push_str(text_of(alloc, &choice)?.as_str());
         before = Some(choice);
     }
-    Some(text)
+    text.told()
 }
 
 /// The choices between spaces; none for `-`.
 fn conflict_of(alloc: Global, told: &str) -> Option<Seq<Choice>> {
     let mut choices = Seq::new(alloc);
-    if told == "-" {
-        return Some(choices);
-    }
-    for choice in told.split(' ') {
-        choices.push(choice_of(alloc, choice)?).ok()?;
+    if told != "-" {
+        for choice in told.split(' ') {
+            choices.push(choice_of(alloc, choice)?).ok()?;
+        }
     }
     Some(choices)
 }
@@ -76,23 +84,25 @@ pub fn refutation_of(alloc: Global, told: &[String]) -> Option<Refutation> {
     Some(Refutation::new(conflicts))
 }
 
-/// Pushes a conflict: its choices in the order of their bytes, or `-`.
-fn push_conflict(alloc: Global, text: &mut String, conflict: &[Choice]) -> Option<()> {
-    if conflict.is_empty() {
-        return text.push_str("-").ok();
-    }
+/// The texts of the choices, in the order of their bytes.
+fn texts_of(alloc: Global, conflict: &[Choice]) -> Option<BTreeSet<String>> {
     let mut choices = BTreeSet::new(alloc);
     for choice in conflict {
-        choices.insert(choice.text(alloc).ok()?).ok()?;
+        choices.insert(text_of(alloc, choice)?).ok()?;
     }
-    push_all(text, choices)
+    Some(choices)
 }
 
-fn push_all(text: &mut String, choices: BTreeSet<String>) -> Option<()> {
+/// Pushes a conflict: its choices in the order of their bytes, or `-`.
+fn push_conflict(alloc: Global, text: &mut Telling, conflict: &[Choice]) -> Option<()> {
+    if conflict.is_empty() {
+        text.push_str("-");
+        return Some(());
+    }
     let mut is_first = true;
-    for choice in choices {
-        text.push_str(if is_first { "" } else { " " }).ok()?;
-        text.push_str(choice.as_str()).ok()?;
+    for choice in texts_of(alloc, conflict)? {
+        text.push_str(if is_first { "" } else { " " });
+        text.push_str(choice.as_str());
         is_first = false;
     }
     Some(())
@@ -100,12 +110,12 @@ fn push_all(text: &mut String, choices: BTreeSet<String>) -> Option<()> {
 
 /// The conflicts of a refutation, with a bar between two.
 pub fn refutation_text(alloc: Global, refutation: &Refutation) -> Option<String> {
-    let mut text = String::new(alloc);
+    let mut text = Telling::new(alloc);
     let mut separator = "";
     for conflict in refutation.conflicts() {
-        text.push_str(separator).ok()?;
+        text.push_str(separator);
         push_conflict(alloc, &mut text, conflict.as_slice())?;
         separator = " | ";
     }
-    Some(text)
+    text.told()
 }

@@ -2,7 +2,8 @@
 
 use crate::background::Background;
 use crate::marker_rows::told_fault;
-use crate::notation::agreed;
+use crate::notation::{agreed, owned};
+use crate::telling::Telling;
 use markers::{Environment, Fault, Variable};
 use std::alloc::Global;
 
@@ -41,7 +42,7 @@ fn parts(
     environment: &Environment,
     earlier: Option<&Environment>,
 ) -> Option<String> {
-    let mut text = String::new(alloc);
+    let mut text = Telling::new(alloc);
     let mut separator = "";
     for variable in &VARIABLES {
         let value = environment.text(*variable);
@@ -51,29 +52,34 @@ fn parts(
             continue;
         }
         let name = variable.name();
-        write!(text, "{separator}{name} == \"{value}\"").ok()?;
+        write!(text, "{separator}{name} == \"{value}\"");
         separator = " and ";
     }
-    Some(text)
+    text.told()
+}
+
+/// Whether a variable has one text by all calls, and the form for debugging shows it.
+fn has_one_text(
+    alloc: Global,
+    environment: &Environment,
+    shown: &str,
+    variable: Variable,
+) -> Option<bool> {
+    let text = environment.text(variable);
+    let quoted = format!(in alloc; "{text:?}").ok()?;
+    Some(environment.value(variable.name()) == Some(text) && shown.contains(quoted.as_str()))
 }
 
 /// Whether each variable has one text by all calls, the marker and the form for debugging among them.
 fn is_of_one_text(alloc: Global, environment: &Environment) -> Option<bool> {
     let marker = environment.marker_text(alloc).ok()?;
-    if parts(alloc, environment, None)?.as_str() != marker.as_str() {
-        return Some(false);
-    }
     let shown = format!(in alloc; "{environment:?}").ok()?;
     for variable in &VARIABLES {
-        let text = environment.text(*variable);
-        let quoted = format!(in alloc; "{text:?}").ok()?;
-        if environment.value(variable.name()) != Some(text)
-            || !shown.as_str().contains(quoted.as_str())
-        {
+        if !has_one_text(alloc, environment, shown.as_str(), *variable)? {
             return Some(false);
         }
     }
-    Some(true)
+    Some(parts(alloc, environment, None)?.as_str() == marker.as_str())
 }
 
 /// The version of an environment and the parts of its marker.
@@ -106,7 +112,7 @@ pub fn environment(alloc: Global, background: &mut Background, json: &str) -> Op
     let read = Environment::read(alloc, bytes_of(alloc, json)?.as_slice());
     let answer = answer(alloc, &read, None)?;
     if let Ok(environment) = read {
-        background.json = String::from_str(alloc, json).ok()?;
+        background.json = owned(alloc, json)?;
         background.environment = Some(environment);
     }
     Some(answer)
@@ -114,19 +120,19 @@ pub fn environment(alloc: Global, background: &mut Background, json: &str) -> Op
 
 /// The environment with a new text in the place of an old one of its JSON text, or why there is none.
 pub fn changed(alloc: Global, background: &Background, old: &str, new: &str) -> Option<String> {
-    let json = &background.json;
-    if !json.as_str().contains(old) {
+    let json = background.json.as_str();
+    if !json.contains(old) {
         return None;
     }
-    let json = json.as_str().replace(alloc, old, new).ok()?;
+    let json = json.replace(alloc, old, new).ok()?;
     let read = Environment::read(alloc, json.as_str().as_bytes());
-    answer(alloc, &read, Some(background.environment.as_ref()?))
+    answer(alloc, &read, Some(background.environment()?))
 }
 
 /// The value of a variable of the environment, in quotes, or `none`.
 pub fn value(alloc: Global, background: &Background, name: &str) -> Option<String> {
-    match background.environment.as_ref()?.value(name) {
+    match background.environment()?.value(name) {
         Some(value) => format!(in alloc; "\"{value}\"").ok(),
-        None => String::from_str(alloc, "none").ok(),
+        None => owned(alloc, "none"),
     }
 }

@@ -3,24 +3,25 @@
 use crate::background::Background;
 use crate::environment_rows::bytes_of;
 use crate::short_form::json_of;
+use crate::telling::Telling;
 use markers::Name;
 use snapshot::{Fault, Release, ReleaseFile, Snapshot};
 use std::alloc::Global;
 
 /// What is left out of an index: each release by its package, its place and the cause.
 fn left_out(alloc: Global, index: &Snapshot) -> Option<String> {
-    let mut text = String::new(alloc);
+    let mut text = Telling::new(alloc);
     let mut separator = "";
     for skipped in index.skipped() {
         let (package, place) = (skipped.package().normal(), skipped.place());
         let cause = skipped.cause();
-        write!(text, "{separator}{package} {place} {cause:?}").ok()?;
+        write!(text, "{separator}{package} {place} {cause:?}");
         separator = "; ";
     }
     if text.is_empty() {
-        text.push_str("whole").ok()?;
+        text.push_str("whole");
     }
-    Some(text)
+    text.told()
 }
 
 /// Reads an index, over which later rows lock: what is left out of it, or why there is none.
@@ -48,68 +49,67 @@ pub fn packages(alloc: Global, background: &mut Background, packages: &str) -> O
 
 /// The digest of the index.
 pub fn digest(alloc: Global, background: &Background) -> Option<String> {
-    let digest = background.index.as_ref()?.digest();
+    let digest = background.index()?.digest();
     format!(in alloc; "{digest:?}").ok()
 }
 
-fn push_file(text: &mut String, file: &ReleaseFile) -> Option<()> {
+fn push_file(text: &mut Telling, file: &ReleaseFile) {
     let (name, url, size, sha256) = (file.name(), file.url(), file.size(), file.sha256());
-    write!(text, " {name} {url} {size} {sha256}").ok()
+    write!(text, " {name} {url} {size} {sha256}");
 }
 
 /// Pushes a release: its version, what it asks of Python, what it needs, whether it is yanked, and its files.
-fn push_release(text: &mut String, release: &Release) -> Option<()> {
+fn push_release(text: &mut Telling, release: &Release) {
     let version = release.version();
-    write!(text, "{version}").ok()?;
+    write!(text, "{version}");
     if let Some(python) = release.requires_python() {
         let python = python.text();
-        write!(text, " {python:?}").ok()?;
+        write!(text, " {python:?}");
     }
     for needed in release.dependencies() {
         let name = needed.name().normal();
-        write!(text, " >{name}").ok()?;
+        write!(text, " >{name}");
     }
     if release.yanked() {
-        text.push_str(" yanked").ok()?;
+        text.push_str(" yanked");
     }
-    if let Some(sdist) = release.sdist() {
-        push_file(text, sdist)?;
-    }
-    push_wheels(text, release)
+    push_files(text, release);
 }
 
-fn push_wheels(text: &mut String, release: &Release) -> Option<()> {
-    for wheel in release.wheels() {
-        push_file(text, wheel)?;
+fn push_files(text: &mut Telling, release: &Release) {
+    if let Some(sdist) = release.sdist() {
+        push_file(text, sdist);
     }
-    Some(())
+    for wheel in release.wheels() {
+        push_file(text, wheel);
+    }
 }
 
 /// The releases of a name.
 pub fn releases(alloc: Global, background: &Background, name: &str) -> Option<String> {
     let name = Name::parse(alloc, name).ok()?;
-    let mut text = String::new(alloc);
+    let mut text = Telling::new(alloc);
     let mut separator = "";
-    for release in background.index.as_ref()?.releases(&name) {
-        text.push_str(separator).ok()?;
-        push_release(&mut text, release)?;
+    for release in background.index()?.releases(&name) {
+        text.push_str(separator);
+        push_release(&mut text, release);
         separator = "; ";
     }
     if text.is_empty() {
-        text.push_str("none").ok()?;
+        text.push_str("none");
     }
-    Some(text)
+    text.told()
 }
 
 /// The versions of a name.
 pub fn versions(alloc: Global, background: &Background, name: &str) -> Option<String> {
     let name = Name::parse(alloc, name).ok()?;
-    let mut text = String::new(alloc);
+    let mut text = Telling::new(alloc);
     let mut separator = "";
-    for release in background.index.as_ref()?.releases(&name) {
+    for release in background.index()?.releases(&name) {
         let version = release.version();
-        write!(text, "{separator}{version}").ok()?;
+        write!(text, "{separator}{version}");
         separator = " ";
     }
-    Some(text)
+    text.told()
 }

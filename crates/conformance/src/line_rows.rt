@@ -3,8 +3,9 @@
 use crate::background::Background;
 use crate::environment_rows::bytes_of;
 use crate::marker_rows::told_fault;
-use crate::notation::agreed;
+use crate::notation::{agreed, owned};
 use crate::requirement_rows;
+use crate::telling::Telling;
 use pep508::{Line, ReqFile, ReqLine, Requirement, SpecifierText};
 use std::alloc::Global;
 
@@ -16,13 +17,13 @@ fn asked(
 ) -> Option<String> {
     match requirement {
         Some(requirement) => requirement_rows::told(alloc, background, requirement),
-        None => String::from_str(alloc, "nothing").ok(),
+        None => owned(alloc, "nothing"),
     }
 }
 
 /// The slices of a line, each with a bar behind it.
 fn slices(alloc: Global, line: &ReqLine<'_>) -> Option<String> {
-    let mut text = String::new(alloc);
+    let mut text = Telling::new(alloc);
     for slice in [
         line.lead(),
         line.name(),
@@ -36,19 +37,25 @@ fn slices(alloc: Global, line: &ReqLine<'_>) -> Option<String> {
         line.comment(),
         line.end(),
     ] {
-        text.push_str(slice).ok()?;
-        text.push_str("|").ok()?;
+        text.push_str(slice);
+        text.push_str("|");
     }
-    Some(text)
+    text.told()
 }
 
 /// What a line asks for that is kept with its text and this ending.
 fn kept(alloc: Global, background: &Background, text: &str, ending: &str) -> Option<String> {
-    let line = Line::read(alloc, text).ok()?.clone().ok()?;
+    let line = line_of(alloc, text)?;
     if line.text() != text || line.ending() != ending {
         return None;
     }
     asked(alloc, background, line.requirement())
+}
+
+/// A clone of the line of a text.
+fn line_of(alloc: Global, text: &str) -> Option<Line> {
+    let line = Line::read(alloc, text).ok()?;
+    line.clone().ok()
 }
 
 /// The slices of a line and what it asks for, or why there is none.
@@ -68,7 +75,7 @@ pub fn line(alloc: Global, background: &Background, text: &str) -> Option<String
 
 /// A line that gets endings, one after the other.
 pub fn ended(alloc: Global, text: &str, endings: &[String]) -> Option<String> {
-    let mut line = Line::read(alloc, text).ok()?.clone().ok()?;
+    let mut line = line_of(alloc, text)?;
     for ending in endings {
         line = match ending.as_str() {
             "\n" => line.ended("\n").ok()?,
@@ -82,16 +89,20 @@ pub fn ended(alloc: Global, text: &str, endings: &[String]) -> Option<String> {
 
 /// The line with other specifiers, or why these are none.
 pub fn constrained(alloc: Global, line: &str, specifiers: &str) -> Option<String> {
-    let specifiers = match SpecifierText::parse(alloc, specifiers) {
-        Ok(specifiers) => specifiers,
-        Err(fault) => return told_fault(alloc, fault, Some(fault.cause)),
-    };
+    match SpecifierText::parse(alloc, specifiers) {
+        Ok(specifiers) => with_specifier(alloc, line, &specifiers),
+        Err(fault) => told_fault(alloc, fault, Some(fault.cause)),
+    }
+}
+
+/// The line with other specifiers.
+fn with_specifier(alloc: Global, line: &str, specifiers: &SpecifierText) -> Option<String> {
     let line = ReqLine::read(alloc, line).ok()?;
     if line.name().is_empty() {
         return None;
     }
-    let text = line.with_specifier(alloc, &specifiers).ok()?;
-    String::from_str(alloc, text.as_str()).ok()
+    let text = line.with_specifier(alloc, specifiers).ok()?;
+    owned(alloc, text.as_str())
 }
 
 /// How many lines a file has, or why it is none.

@@ -1,6 +1,7 @@
 // Rows of locks as texts.
 
 use crate::background::Background;
+use crate::notation::owned;
 use pylock::{Fault, Lock};
 use std::alloc::Global;
 
@@ -18,7 +19,7 @@ fn answer(alloc: Global, text: &str) -> Option<String> {
 
 /// A lock, which later rows alter.
 pub fn lock(alloc: Global, background: &mut Background, text: &str) -> Option<String> {
-    background.lock = String::from_str(alloc, text).ok()?;
+    background.lock = owned(alloc, text)?;
     answer(alloc, text)
 }
 

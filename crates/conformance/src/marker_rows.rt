@@ -1,7 +1,8 @@
 // Rows of names and markers.
 
 use crate::background::Background;
-use crate::notation::{agreed, mark};
+use crate::notation::{agreed, mark, owned};
+use crate::telling::Telling;
 use markers::{Cause, Environment, Fault, Marker, Name, VersionFault};
 use std::alloc::Global;
 
@@ -27,7 +28,7 @@ fn normal(alloc: Global, name: &Name) -> Option<String> {
     if again != *name || name.clone().ok()? != *name {
         return None;
     }
-    String::from_str(alloc, name.normal()).ok()
+    owned(alloc, name.normal())
 }
 
 /// Whether a marker holds with each of the extras, `none` for no extra; or why there is none.
@@ -37,7 +38,7 @@ pub fn marker(
     text: &str,
     extras: &[String],
 ) -> Option<String> {
-    let environment = background.environment.as_ref()?;
+    let environment = background.environment()?;
     match Marker::parse(alloc, text) {
         Ok(marker) => agreed(
             marks(alloc, &marker, environment, extras)?,
@@ -54,12 +55,11 @@ fn marks(
     environment: &Environment,
     extras: &[String],
 ) -> Option<String> {
-    let mut marks = String::new(alloc);
+    let mut marks = Telling::new(alloc);
     for extra in extras {
-        let holds = holds(alloc, marker, environment, extra.as_str())?;
-        marks.push(mark(holds)).ok()?;
+        marks.push(mark(holds(alloc, marker, environment, extra.as_str())?));
     }
-    Some(marks)
+    marks.told()
 }
 
 /// Whether a marker holds with an extra.

@@ -1,5 +1,6 @@
 // Texts as rows write them, and answers as they are printed.
 
+use crate::telling::Telling;
 use std::alloc::Global;
 
 /// What a repetition begins with.
@@ -7,52 +8,54 @@ const REPETITION: &str = "\\{";
 
 /// The text that a row writes so.
 pub fn expanded(alloc: Global, written: &str) -> Option<String> {
-    let mut text = String::new(alloc);
+    let mut text = Telling::new(alloc);
     let mut parts = written.split(REPETITION);
     push_plain(&mut text, parts.next()?, 0)?;
     for part in parts {
         push_repeated(&mut text, part)?;
     }
-    Some(text)
+    text.told()
 }
 
 /// Pushes a repetition such as `200*.7}` or `100..120*p\#}`, and what stands behind it.
-fn push_repeated(text: &mut String, part: &str) -> Option<()> {
+fn push_repeated(text: &mut Telling, part: &str) -> Option<()> {
     let (repetition, behind) = part.split_once('}')?;
     let (rounds, repeated) = repetition.split_once('*')?;
     let (first, end) = rounds.split_once("..").unwrap_or(("0", rounds));
     for number in first.parse::<usize>().ok()?..end.parse::<usize>().ok()? {
         push_plain(text, repeated, number)?;
     }
-    push_plain(text, behind, 0)
+    push_plain(text, behind, 0)?;
+    Some(())
 }
 
 /// Pushes a text that has no repetition, in the round of this number.
-fn push_plain(text: &mut String, written: &str, number: usize) -> Option<()> {
+fn push_plain(text: &mut Telling, written: &str, number: usize) -> Option<()> {
     let mut rest = written;
     for _ in 0..written.len() {
         let Some((plain, behind)) = rest.split_once('\\') else {
             break;
         };
-        text.push_str(plain).ok()?;
+        text.push_str(plain);
         rest = push_marked(text, behind, number)?;
     }
-    text.push_str(rest).ok()
+    text.push_str(rest);
+    Some(())
 }
 
 /// Pushes what stands behind a backslash, and gives what is left.
-fn push_marked<'a>(text: &mut String, behind: &'a str, number: usize) -> Option<&'a str> {
+fn push_marked<'a>(text: &mut Telling, behind: &'a str, number: usize) -> Option<&'a str> {
     let mut letters = behind.chars();
     let mark = letters.next()?;
     let rest = letters.as_str();
     match mark {
         'u' => push_numbered(text, rest),
         '#' => {
-            write!(text, "{number}").ok()?;
+            write!(text, "{number}");
             Some(rest)
         }
         _ => {
-            text.push_str(meant_by(mark)?).ok()?;
+            text.push_str(meant_by(mark)?);
             Some(rest)
         }
     }
@@ -73,34 +76,39 @@ fn meant_by(mark: char) -> Option<&'static str> {
 }
 
 /// Pushes the letter of a number such as `{85}`, and gives what is left.
-fn push_numbered<'a>(text: &mut String, behind: &'a str) -> Option<&'a str> {
+fn push_numbered<'a>(text: &mut Telling, behind: &'a str) -> Option<&'a str> {
     let (code, rest) = behind.strip_prefix('{')?.split_once('}')?;
     let code = u32::from_str_radix(code, 16).ok()?;
-    text.push(char::from_u32(code)?).ok()?;
+    text.push(char::from_u32(code)?);
     Some(rest)
 }
 
 /// The answer in printable ASCII.
 pub fn shown(alloc: Global, answer: &str) -> Option<String> {
-    let mut line = String::new(alloc);
+    let mut line = Telling::new(alloc);
     for letter in answer.chars() {
-        push_shown(&mut line, letter)?;
+        push_shown(&mut line, letter);
     }
-    Some(line)
+    line.told()
 }
 
-fn push_shown(line: &mut String, letter: char) -> Option<()> {
+fn push_shown(line: &mut Telling, letter: char) {
     match letter {
-        '\n' => line.push_str("\\n").ok(),
-        '\r' => line.push_str("\\r").ok(),
-        '\t' => line.push_str("\\t").ok(),
-        '\\' => line.push_str("\\\\").ok(),
-        ' '..='~' => line.push(letter).ok(),
+        '\n' => line.push_str("\\n"),
+        '\r' => line.push_str("\\r"),
+        '\t' => line.push_str("\\t"),
+        '\\' => line.push_str("\\\\"),
+        ' '..='~' => line.push(letter),
         _ => {
             let code = u32::from(letter);
-            write!(line, "\\u{{{code:x}}}").ok()
+            write!(line, "\\u{{{code:x}}}");
         }
     }
+}
+
+/// A text of its own.
+pub fn owned(alloc: Global, text: &str) -> Option<String> {
+    String::from_str(alloc, text).ok()
 }
 
 /// The first answer, if the other is the same.

@@ -2,8 +2,10 @@
 
 use crate::background::Background;
 use crate::conflicts::{refutation_of, refutation_text};
-use crate::notation::agreed;
-use pep508::ReqFile;
+use crate::notation::{agreed, owned};
+use crate::telling::Telling;
+use pep440::Version;
+use pep508::{Name, ReqFile};
 use resolve::{Answer, Learning, Plain, Problem, Refutation, Resolver, check};
 use std::alloc::Global;
 use std::collections::BTreeMap;
@@ -14,31 +16,40 @@ pub const NONE: &str = "none";
 /// What lines ask for over the index, with no versions kept.
 fn problem_of<'a>(alloc: Global, background: &'a Background, lines: &str) -> Option<Problem<'a>> {
     let lines = ReqFile::read(alloc, lines.as_bytes()).ok()?;
-    let environment = background.environment.as_ref()?;
-    let index = background.index.as_ref()?;
     let kept = BTreeMap::new(alloc);
+    let (environment, index) = (background.environment()?, background.index()?);
     Problem::new(alloc, &lines, environment, index, kept).ok()
 }
 
-/// The solution that a resolver finds: how many nodes are needed, and each name with its version.
-fn solution<R: Resolver>(alloc: Global, problem: &Problem<'_>, resolver: &R) -> Option<String> {
-    let Answer::Solution(versions) = resolver.resolve(alloc, problem).ok()? else {
-        return String::from_str(alloc, NONE).ok();
-    };
-    let count = problem.needed(alloc, &versions).ok()?.len();
-    let mut text = format!(in alloc; "{count} nodes:").ok()?;
-    for (name, version) in &versions {
+/// A solution: how many nodes are needed, and each name with its version.
+fn solution_text(
+    alloc: Global,
+    problem: &Problem<'_>,
+    versions: &BTreeMap<Name, Version>,
+) -> Option<String> {
+    let count = problem.needed(alloc, versions).ok()?.len();
+    let mut text = Telling::new(alloc);
+    write!(text, "{count} nodes:");
+    for (name, version) in versions {
         let name = name.normal();
-        write!(text, " {name}={version}").ok()?;
+        write!(text, " {name}={version}");
     }
-    Some(text)
+    text.told()
+}
+
+/// The solution that a resolver finds, if there is one.
+fn solution<R: Resolver>(alloc: Global, problem: &Problem<'_>, resolver: &R) -> Option<String> {
+    match resolver.resolve(alloc, problem).ok()? {
+        Answer::Solution(versions) => solution_text(alloc, problem, &versions),
+        Answer::NoSolution => owned(alloc, NONE),
+    }
 }
 
 /// The refutation that is found, which is accepted, if there is one.
 fn refuted(alloc: Global, problem: &Problem<'_>) -> Option<Option<Refutation>> {
     match Learning.refute(alloc, problem).ok()? {
         Some(refutation) if !check(problem, &refutation) => None,
-        found => Some(found),
+        refutation => Some(refutation),
     }
 }
 
@@ -70,7 +81,7 @@ pub fn learn(alloc: Global, background: &Background, lines: &str) -> Option<Stri
 pub fn refute(alloc: Global, background: &Background, lines: &str) -> Option<String> {
     match refuted(alloc, &problem_of(alloc, background, lines)?)? {
         Some(refutation) => refutation_text(alloc, &refutation),
-        None => String::from_str(alloc, "solvable").ok(),
+        None => owned(alloc, "solvable"),
     }
 }
 
@@ -83,5 +94,5 @@ pub fn accepted(
 ) -> Option<String> {
     let problem = problem_of(alloc, background, lines)?;
     let is_accepted = check(&problem, &refutation_of(alloc, told)?);
-    String::from_str(alloc, if is_accepted { "accepted" } else { "refused" }).ok()
+    owned(alloc, if is_accepted { "accepted" } else { "refused" })
 }

@@ -4,24 +4,25 @@ use crate::background::Background;
 use crate::marker_rows::told_fault;
 use crate::notation::agreed;
 use crate::specifier_rows::marks_of;
+use crate::telling::Telling;
 use pep508::{Cause, Requirement};
 use std::alloc::Global;
 
 /// The extras of a requirement.
 fn extras(alloc: Global, requirement: &Requirement) -> Option<String> {
-    let mut text = String::new(alloc);
+    let mut text = Telling::new(alloc);
     let mut separator = "";
     for extra in requirement.extras() {
         let name = extra.normal();
-        write!(text, "{separator}{name}").ok()?;
+        write!(text, "{separator}{name}");
         separator = ",";
     }
-    Some(text)
+    text.told()
 }
 
 /// Whether a requirement counts in the environment: `-` where it has no marker.
 fn activity(background: &Background, requirement: &Requirement) -> Option<&'static str> {
-    let is_active = requirement.is_active(background.environment.as_ref()?);
+    let is_active = requirement.is_active(background.environment()?);
     match (requirement.marker().is_some(), is_active) {
         (true, true) => Some("1"),
         (true, false) => Some("0"),
@@ -39,7 +40,9 @@ pub fn told(alloc: Global, background: &Background, requirement: &Requirement) -
     let count = set.clauses().len();
     let marks = marks_of(alloc, set, background.candidates.as_slice(), "")?;
     let activity = activity(background, requirement)?;
-    format!(in alloc; "{name} [{extras}] {count} {marks} {activity}").ok()
+    let mut text = Telling::new(alloc);
+    write!(text, "{name} [{extras}] {count} {marks} {activity}");
+    text.told()
 }
 
 /// A requirement, or why there is none.
@@ -55,14 +58,13 @@ pub fn requirement(alloc: Global, background: &Background, text: &str) -> Option
 
 /// `1` for each text that is a requirement, and `0` for each that is refused.
 pub fn requirements(alloc: Global, texts: &[String]) -> Option<String> {
-    let mut marks = String::new(alloc);
+    let mut marks = Telling::new(alloc);
     for text in texts {
-        let mark = match Requirement::read(alloc, text.as_str()) {
-            Ok(_) => '1',
-            Err(Cause::OutOfMemory) => return None,
-            Err(_) => '0',
-        };
-        marks.push(mark).ok()?;
+        match Requirement::read(alloc, text.as_str()) {
+            Ok(_) => marks.push('1'),
+            Err(Cause::OutOfMemory) => marks.miss(),
+            Err(_) => marks.push('0'),
+        }
     }
-    Some(marks)
+    marks.told()
 }

@@ -1,5 +1,6 @@
 // Rows of saved histories.
 
+use crate::notation::owned;
 use crate::state_texts::whole_text;
 use edits::Refusal;
 use journal::{Saved, Session};
@@ -18,9 +19,11 @@ fn opened(
 
 /// Whether what was saved of a session stands for it.
 fn stands_for(alloc: Global, session: &Session, again: &Session) -> Option<bool> {
-    let one = whole_text(alloc, session.state())?;
-    let other = whole_text(alloc, again.state())?;
-    Some(session.cursor() == again.cursor() && session.steps() == again.steps() && one == other)
+    Some(
+        session.cursor() == again.cursor()
+            && session.steps() == again.steps()
+            && whole_text(alloc, session.state())? == whole_text(alloc, again.state())?,
+    )
 }
 
 /// Saves the session, and opens what was saved: its place among the steps, and the lines of the journal.
@@ -64,28 +67,22 @@ pub fn altered(
     let saved = session.save(alloc).ok()?;
     let (requirements, lock) = (saved.requirements.as_str(), saved.lock.as_str());
     let journal = saved.journal.as_str();
-    let found = match file {
-        "requirements" => opened(
-            alloc,
-            altered_text(alloc, requirements, old, new)?.as_str(),
-            lock,
-            journal,
-        ),
-        "lock" => opened(
-            alloc,
-            requirements,
-            altered_text(alloc, lock, old, new)?.as_str(),
-            journal,
-        ),
-        _ => opened(
-            alloc,
-            requirements,
-            lock,
-            altered_text(alloc, journal, old, new)?.as_str(),
-        ),
+    let answer = match file {
+        "requirements" => {
+            let altered = altered_text(alloc, requirements, old, new)?;
+            opened(alloc, altered.as_str(), lock, journal)
+        }
+        "lock" => {
+            let altered = altered_text(alloc, lock, old, new)?;
+            opened(alloc, requirements, altered.as_str(), journal)
+        }
+        _ => {
+            let altered = altered_text(alloc, journal, old, new)?;
+            opened(alloc, requirements, lock, altered.as_str())
+        }
     };
-    match found {
-        Ok(_) => String::from_str(alloc, "opens").ok(),
+    match answer {
+        Ok(_) => owned(alloc, "opens"),
         Err(refusal) => format!(in alloc; "{refusal}").ok(),
     }
 }

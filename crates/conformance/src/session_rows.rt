@@ -2,51 +2,58 @@
 
 use crate::background::{Background, Histories};
 use crate::confirmations::tried;
-use crate::notation::agreed;
-use crate::state_texts::{change_text, files_text, lock_text, whole_text};
+use crate::notation::{agreed, owned};
+use crate::state_texts::{change_text, files_text, lock_text, push_lock, whole_text};
+use crate::telling::Telling;
 use commands::{Item, ReplyText, read_item};
-use edits::{Refusal, ReqFile, Snapshot, State, init};
+use edits::{Change, Refusal, ReqFile, Snapshot, State, init};
 use journal::{Command, History, Learning, Plain, Reply, Session, WholeHistory};
 use std::alloc::Global;
 
-/// A reply, as a program prints it, and behind a refusal how it is told.
-fn reply_text(alloc: Global, reply: &Reply) -> Option<String> {
+/// A reply, as a program prints it without the LF.
+fn printed(alloc: Global, reply: &Reply) -> Option<String> {
     let mut printed = ReplyText::new(alloc).ok()?;
     printed.set(reply);
-    let mut text = String::from_utf8(Vec::from_slice(alloc, printed.as_bytes()).ok()?).ok()?;
+    let bytes = Vec::from_slice(alloc, printed.as_bytes()).ok()?;
+    let mut text = String::from_utf8(bytes).ok()?;
     text.pop();
-    if let Reply::Refused(refusal) = reply {
-        write!(text, " ({refusal})").ok()?;
-    }
     Some(text)
+}
+
+/// Pushes a reply as it is printed, and behind a refusal how it is told.
+fn push_reply(alloc: Global, text: &mut Telling, reply: &Reply) -> Option<()> {
+    text.push_str(printed(alloc, reply)?.as_str());
+    if let Reply::Refused(refusal) = reply {
+        write!(text, " ({refusal})");
+    }
+    Some(())
 }
 
 /// Replies that no row leads to.
 pub fn others(alloc: Global) -> Option<String> {
-    let mut text = String::new(alloc);
+    let mut text = Telling::new(alloc);
     for reply in [
         Reply::Done(usize::MAX),
         Reply::Refused(Refusal::NothingChanges),
         Reply::Refused(Refusal::OutOfMemory),
         Reply::Refused(Refusal::BadCommand),
     ] {
-        text.push_str(reply_text(alloc, &reply)?.as_str()).ok()?;
-        text.push_str(";").ok()?;
+        push_reply(alloc, &mut text, &reply)?;
+        text.push_str(";");
     }
-    Some(text)
+    text.told()
+}
+
+/// The file of these lines.
+fn file_of(alloc: Global, lines: &str) -> Option<ReqFile> {
+    ReqFile::read(alloc, lines.as_bytes()).ok()
 }
 
 /// The first state of the lines over the index.
 fn begun(alloc: Global, background: &Background, lines: &str) -> Option<Result<State, Refusal>> {
-    let lines = ReqFile::read(alloc, lines.as_bytes()).ok()?;
-    let environment = background.environment.as_ref()?.clone().ok()?;
-    Some(init(
-        alloc,
-        lines,
-        environment,
-        background.index.as_ref()?,
-        &Plain,
-    ))
+    let environment = background.environment()?.clone().ok()?;
+    let index = background.index()?;
+    Some(init(alloc, file_of(alloc, lines)?, environment, index, &Plain))
 }
 
 /// A session of the lines over the index.
@@ -55,10 +62,9 @@ pub fn session_of(
     background: &Background,
     lines: &str,
 ) -> Option<Result<Session, Refusal>> {
-    let lines = ReqFile::read(alloc, lines.as_bytes()).ok()?;
-    let environment = background.environment.as_ref()?.clone().ok()?;
-    let index = background.index.as_ref()?;
-    Some(Session::init(alloc, lines, environment, index, &Learning))
+    let environment = background.environment()?.clone().ok()?;
+    let index = background.index()?;
+    Some(Session::init(alloc, file_of(alloc, lines)?, environment, index, &Learning))
 }
 
 /// Keeps one history in both ways: what its first state locks.
@@ -82,25 +88,28 @@ fn refused(alloc: Global, refusal: Refusal, other: Refusal) -> Option<String> {
     if refusal != other {
         return None;
     }
-    reply_text(alloc, &Reply::Refused(refusal))
+    let mut text = Telling::new(alloc);
+    push_reply(alloc, &mut text, &Reply::Refused(refusal))?;
+    text.told()
 }
 
 /// Begins a history of the lines: what is locked, or why there is none.
 pub fn begin(alloc: Global, background: &mut Background, lines: &str) -> Option<String> {
     let session = session_of(alloc, background, lines)?;
-    match begun(alloc, background, lines)? {
-        Ok(state) => kept(alloc, background, session.ok()?, state),
-        Err(refusal) => refused(alloc, refusal, session.err()?),
+    match (session, begun(alloc, background, lines)?) {
+        (Ok(session), Ok(state)) => kept(alloc, background, session, state),
+        (Err(other), Err(refusal)) => refused(alloc, refusal, other),
+        _ => None,
     }
 }
 
 /// The command that a line tells.
 fn command_of<'a>(alloc: Global, index: &'a Snapshot, line: &str) -> Option<Command<'a>> {
-    match read_item(alloc, line.as_bytes(), true).ok()?? {
-        Item::Edit(edit) => Some(Command::Edit(edit, index)),
-        Item::Undo => Some(Command::Undo),
-        Item::Redo => Some(Command::Redo),
-        Item::BadCommand => None,
+    match read_item(alloc, line.as_bytes(), true).ok()? {
+        Some(Item::Edit(edit)) => Some(Command::Edit(edit, index)),
+        Some(Item::Undo) => Some(Command::Undo),
+        Some(Item::Redo) => Some(Command::Redo),
+        Some(Item::BadCommand) | None => None,
     }
 }
 
@@ -126,6 +135,11 @@ fn all_tried(
     Some(replies)
 }
 
+/// A change in its form for debugging.
+fn form_of(alloc: Global, change: &Change) -> Option<String> {
+    format!(in alloc; "{change:?}").ok()
+}
+
 /// Whether both histories have the same steps.
 fn have_same_steps(alloc: Global, histories: &Histories) -> Option<bool> {
     let Histories { session, whole } = histories;
@@ -134,9 +148,7 @@ fn have_same_steps(alloc: Global, histories: &Histories) -> Option<bool> {
         return Some(false);
     }
     for step in 0..steps {
-        let one = session.change(step + 1);
-        let other = whole.change(step + 1);
-        if format!(in alloc; "{one:?}").ok()? != format!(in alloc; "{other:?}").ok()? {
+        if form_of(alloc, session.change(step + 1))? != form_of(alloc, whole.change(step + 1))? {
             return Some(false);
         }
     }
@@ -146,38 +158,35 @@ fn have_same_steps(alloc: Global, histories: &Histories) -> Option<bool> {
 /// Whether both histories are the same.
 fn are_same(alloc: Global, histories: &Histories) -> Option<bool> {
     let Histories { session, whole } = histories;
-    let one = whole_text(alloc, session.state())?;
-    let other = whole_text(alloc, whole.state())?;
-    Some(session.cursor() == whole.cursor() && one == other && have_same_steps(alloc, histories)?)
+    Some(
+        session.cursor() == whole.cursor()
+            && whole_text(alloc, session.state())? == whole_text(alloc, whole.state())?
+            && have_same_steps(alloc, histories)?,
+    )
 }
 
 /// The replies, and what is locked behind the last.
 fn replies_text(alloc: Global, replies: &[Reply], state: &State) -> Option<String> {
-    let mut text = String::new(alloc);
+    let mut text = Telling::new(alloc);
     let mut separator = "";
     for reply in replies {
-        text.push_str(separator).ok()?;
-        text.push_str(reply_text(alloc, reply)?.as_str()).ok()?;
+        text.push_str(separator);
+        push_reply(alloc, &mut text, reply)?;
         separator = "; ";
     }
-    text.push_str(":").ok()?;
-    text.push_str(lock_text(alloc, state)?.as_str()).ok()?;
-    Some(text)
+    text.push_str(":");
+    push_lock(&mut text, state);
+    text.told()
 }
 
 /// Does the commands of the lines on both histories.
-pub fn done(
-    alloc: Global,
-    index: &Snapshot,
-    histories: &mut Histories,
-    lines: &str,
-) -> Option<String> {
+pub fn done(alloc: Global, background: &mut Background, lines: &str) -> Option<String> {
+    let index = background.index.as_ref()?;
+    let histories = background.histories.as_mut()?;
     let commands = commands_of(alloc, index, lines)?;
     let replies = all_tried(alloc, &mut histories.whole, commands.as_slice())?;
-    let run = histories
-        .session
-        .run(alloc, commands.as_slice(), &Learning)
-        .ok()?;
+    let session = &mut histories.session;
+    let run = session.run(alloc, commands.as_slice(), &Learning).ok()?;
     if run.as_slice() != replies.as_slice() || !are_same(alloc, histories)? {
         return None;
     }
@@ -191,37 +200,42 @@ pub fn lines(alloc: Global, histories: &Histories) -> Option<String> {
 }
 
 /// The files of the present lock, whose digest is that of the index.
-pub fn files(alloc: Global, index: &Snapshot, histories: &Histories) -> Option<String> {
+pub fn files(alloc: Global, background: &Background, histories: &Histories) -> Option<String> {
     let state = histories.session.state();
-    if state.digest() != index.digest() {
+    if state.digest() != background.index()?.digest() {
         return None;
     }
     files_text(alloc, state)
 }
 
 /// The change of the last step.
-pub fn change(alloc: Global, histories: &Histories) -> Option<String> {
-    let steps = histories.whole.steps();
+fn last_change(whole: &WholeHistory) -> Option<&Change> {
+    let steps = whole.steps();
     if steps == 0 {
         return None;
     }
-    change_text(alloc, histories.whole.change(steps))
+    Some(whole.change(steps))
+}
+
+/// What the change of the last step is told as.
+pub fn change(alloc: Global, histories: &Histories) -> Option<String> {
+    change_text(alloc, last_change(&histories.whole)?)
+}
+
+/// The lines of a state, and what it locks.
+fn state_text(alloc: Global, state: &State) -> Option<String> {
+    let lines = state.lines().bytes(alloc).ok()?;
+    let lock = lock_text(alloc, state)?;
+    format!(in alloc; "{lines:?}{lock}").ok()
 }
 
 /// What the change of the last step leads to from the first state of other lines.
 pub fn applied(alloc: Global, background: &Background, lines: &str) -> Option<String> {
     let state = begun(alloc, background, lines)?.ok()?;
-    let whole = &background.histories.as_ref()?.whole;
-    let steps = whole.steps();
-    if steps == 0 {
-        return None;
-    }
-    match whole.change(steps).apply(alloc, &state).ok()? {
-        Some(state) => {
-            let lines = state.lines().bytes(alloc).ok()?;
-            let lock = lock_text(alloc, &state)?;
-            format!(in alloc; "{lines:?}{lock}").ok()
-        }
-        None => String::from_str(alloc, "nowhere").ok(),
+    let histories = background.histories.as_ref()?;
+    let change = last_change(&histories.whole)?;
+    match change.apply(alloc, &state).ok()? {
+        Some(state) => state_text(alloc, &state),
+        None => owned(alloc, "nowhere"),
     }
 }

@@ -1,5 +1,6 @@
 // Indexes in a short form.
 
+use crate::telling::Telling;
 use std::alloc::Global;
 
 /// The file of each release, behind its other parts.
@@ -7,71 +8,74 @@ const FILES: &str = r#","files":[{"name":"w.whl","url":"https://files.example/w.
     "sha256":"0000000000000000000000000000000000000000000000000000000000000000"}]}"#;
 
 /// Pushes texts that have bars between them as JSON strings.
-fn push_texts(json: &mut String, texts: &str) -> Option<()> {
+fn push_texts(json: &mut Telling, texts: &str) {
     let mut is_first = true;
     for text in texts.split('|') {
-        json.push_str(if is_first { "\"" } else { "\",\"" }).ok()?;
-        json.push_str(text).ok()?;
+        json.push_str(if is_first { "\"" } else { "\",\"" });
+        json.push_str(text);
         is_first = false;
     }
-    json.push_str("\"").ok()
+    json.push_str("\"");
 }
 
 /// Pushes a version, and what its release asks of Python.
-fn push_version(json: &mut String, version: &str) -> Option<()> {
+fn push_version(json: &mut Telling, version: &str) {
     match version.split_once('@') {
         Some((version, python)) => {
-            push_texts(json, version)?;
-            json.push_str(",\"requires_python\":").ok()?;
-            push_texts(json, python)
+            push_texts(json, version);
+            json.push_str(",\"requires_python\":");
+            push_texts(json, python);
         }
         None => push_texts(json, version),
     }
 }
 
 /// Pushes a release.
-fn push_release(json: &mut String, release: &str) -> Option<()> {
-    json.push_str("{\"version\":").ok()?;
+fn push_release(json: &mut Telling, release: &str) {
+    json.push_str("{\"version\":");
     match release.split_once('|') {
         Some((version, dependencies)) => {
-            push_version(json, version.trim_start_matches('!'))?;
-            json.push_str(",\"requires_dist\":[").ok()?;
-            push_texts(json, dependencies)?;
-            json.push_str("]").ok()?;
+            push_version(json, version.trim_start_matches('!'));
+            json.push_str(",\"requires_dist\":[");
+            push_texts(json, dependencies);
+            json.push_str("]");
         }
-        None => push_version(json, release.trim_start_matches('!'))?,
+        None => push_version(json, release.trim_start_matches('!')),
     }
     if release.starts_with('!') {
-        json.push_str(",\"yanked\":true").ok()?;
+        json.push_str(",\"yanked\":true");
     }
-    json.push_str(FILES).ok()
+    json.push_str(FILES);
 }
 
 /// Pushes a package: its name and its releases.
-fn push_package(json: &mut String, package: &str) -> Option<()> {
-    let (name, releases) = package.split_once(' ')?;
-    json.push_str("{\"name\":").ok()?;
-    push_texts(json, name)?;
-    json.push_str(",\"releases\":[").ok()?;
+fn push_package(json: &mut Telling, package: &str) {
+    let Some((name, releases)) = package.split_once(' ') else {
+        return json.miss();
+    };
+    json.push_str("{\"name\":");
+    push_texts(json, name);
+    json.push_str(",\"releases\":[");
     let mut is_first = true;
     for release in releases.split(' ') {
-        json.push_str(if is_first { "" } else { "," }).ok()?;
-        push_release(json, release)?;
+        json.push_str(if is_first { "" } else { "," });
+        push_release(json, release);
         is_first = false;
     }
-    json.push_str("]}").ok()
+    json.push_str("]}");
 }
 
 /// The JSON text of an index of packages with slashes between them. In `a 1@>=3.8 2|b<2/b 1 !2` the first
 /// release asks for Python `>=3.8`, the second depends on `b<2`, and the last is yanked.
 pub fn json_of(alloc: Global, packages: &str) -> Option<String> {
-    let mut json = String::from_str(alloc, "{\"snapshot\":1,\"packages\":[").ok()?;
+    let mut json = Telling::new(alloc);
+    json.push_str("{\"snapshot\":1,\"packages\":[");
     let mut is_first = true;
     for package in packages.split('/') {
-        json.push_str(if is_first { "" } else { "," }).ok()?;
-        push_package(&mut json, package)?;
+        json.push_str(if is_first { "" } else { "," });
+        push_package(&mut json, package);
         is_first = false;
     }
-    json.push_str("]}").ok()?;
-    Some(json)
+    json.push_str("]}");
+    json.told()
 }

@@ -2,22 +2,23 @@
 
 use crate::background::Background;
 use crate::notation::{agreed, mark};
+use crate::telling::Telling;
 use crate::version_rows::told_fault;
 use pep440::{SpecifierSet, Version};
 use std::alloc::Global;
 
 /// The clauses of a set, how many they are, and which properties it has.
 fn told(alloc: Global, set: &SpecifierSet) -> Option<String> {
-    let mut text = String::new(alloc);
+    let mut text = Telling::new(alloc);
     for clause in set.clauses() {
         let operator = clause.operator;
         let version = &clause.version;
-        write!(text, "{operator:?} {version}; ").ok()?;
+        write!(text, "{operator:?} {version}; ");
     }
     let count = set.clauses().len();
     let (names_pre, pins) = (set.names_pre(), set.pins());
-    write!(text, "{count} clauses, names_pre {names_pre}, pins {pins}").ok()?;
-    Some(text)
+    write!(text, "{count} clauses, names_pre {names_pre}, pins {pins}");
+    text.told()
 }
 
 /// A set, or why there is none.
@@ -30,13 +31,14 @@ pub fn set(alloc: Global, text: &str) -> Option<String> {
 
 /// The mark of each of the versions.
 pub fn matched(alloc: Global, set: &str, versions: &[String]) -> Option<String> {
-    let set = SpecifierSet::parse(alloc, set).ok()?.clone().ok()?;
-    let mut marks = String::new(alloc);
+    let set = SpecifierSet::parse(alloc, set).ok()?;
+    let set = set.clone().ok()?;
+    let mut marks = Telling::new(alloc);
     for version in versions {
         let version = Version::parse(alloc, version.as_str()).ok()?;
-        marks.push(mark(set.matches(&version))).ok()?;
+        marks.push(mark(set.matches(&version)));
     }
-    Some(marks)
+    marks.told()
 }
 
 /// The mark that all of these versions have.
@@ -57,15 +59,15 @@ pub fn marks_of(
     candidates: &[Vec<Version>],
     left_out: &str,
 ) -> Option<String> {
-    let mut marks = String::new(alloc);
+    let mut marks = Telling::new(alloc);
     for (place, versions) in candidates.iter().enumerate() {
         let mark = match left_out.as_bytes().get(place) {
             Some(b'-') => '-',
             _ => mark_of_all(set, versions.as_slice())?,
         };
-        marks.push(mark).ok()?;
+        marks.push(mark);
     }
-    Some(marks)
+    marks.told()
 }
 
 /// The marks of the candidates.

@@ -1,7 +1,8 @@
 // Rows of versions.
 
 use crate::background::Background;
-use crate::notation::agreed;
+use crate::notation::{agreed, owned};
+use crate::telling::Telling;
 use pep440::{Fault, Version};
 use std::alloc::Global;
 use std::cmp::Ordering;
@@ -15,16 +16,22 @@ pub fn told_fault(alloc: Global, fault: Fault) -> Option<String> {
     }
 }
 
-/// The canonical text of a version, and whether it is a pre-release and a post-release.
-fn told(alloc: Global, version: &Version) -> Option<String> {
-    let mut text = version.canonical(alloc).ok()?;
+/// Tells the canonical text of a version, and whether it is a pre-release and a post-release.
+fn tell(alloc: Global, text: &mut Telling, version: &Version) -> Option<()> {
+    text.push_str(version.canonical(alloc).ok()?.as_str());
     if version.is_pre() {
-        text.push_str(" pre").ok()?;
+        text.push_str(" pre");
     }
     if version.is_post() {
-        text.push_str(" post").ok()?;
+        text.push_str(" post");
     }
-    Some(text)
+    Some(())
+}
+
+fn told(alloc: Global, version: &Version) -> Option<String> {
+    let mut text = Telling::new(alloc);
+    tell(alloc, &mut text, version)?;
+    text.told()
 }
 
 /// A version, or why there is none.
@@ -35,16 +42,26 @@ pub fn version(alloc: Global, text: &str) -> Option<String> {
     }
 }
 
+/// The version that a text is.
+fn version_of(alloc: Global, text: &str) -> Option<Version> {
+    Version::parse(alloc, text).ok()
+}
+
 /// Each part of a version, and its form for debugging.
 pub fn parts(alloc: Global, text: &str) -> Option<String> {
-    let version = Version::parse(alloc, text).ok()?;
+    let version = version_of(alloc, text)?;
     let copy = version.clone().ok()?;
     if copy != version {
         return None;
     }
     let (epoch, release, pre) = (copy.epoch(), copy.release(), copy.pre());
     let (post, dev, local) = (copy.post(), copy.dev(), copy.local());
-    format!(in alloc; "{epoch} {release:?} {pre:?} {post:?} {dev:?} {local:?} {copy:?}").ok()
+    let mut text = Telling::new(alloc);
+    write!(
+        text,
+        "{epoch} {release:?} {pre:?} {post:?} {dev:?} {local:?} {copy:?}"
+    );
+    text.told()
 }
 
 fn hash_of(version: &Version) -> u64 {
@@ -65,8 +82,8 @@ fn is_above(version: &Version, other: &Version) -> bool {
 
 /// How the first version stands to the second.
 pub fn compare(alloc: Global, first: &str, second: &str) -> Option<String> {
-    let first = Version::parse(alloc, first).ok()?;
-    let second = Version::parse(alloc, second).ok()?;
+    let first = version_of(alloc, first)?;
+    let second = version_of(alloc, second)?;
     let (holds, sign) = match first.cmp(&second) {
         Ordering::Less => (is_above(&second, &first), "<"),
         Ordering::Equal => (are_equal(&first, &second), "="),
@@ -75,7 +92,7 @@ pub fn compare(alloc: Global, first: &str, second: &str) -> Option<String> {
     if !holds {
         return None;
     }
-    String::from_str(alloc, sign).ok()
+    owned(alloc, sign)
 }
 
 /// The same as `above`, with no earlier candidates.
@@ -84,21 +101,35 @@ pub fn lowest(alloc: Global, background: &mut Background, texts: &[String]) -> O
     above(alloc, background, texts)
 }
 
-/// Makes equal versions candidates, above the earlier ones, and tells each of them.
-pub fn above(alloc: Global, background: &mut Background, texts: &[String]) -> Option<String> {
+/// The versions that texts are.
+fn versions_of(alloc: Global, texts: &[String]) -> Option<Vec<Version>> {
     let mut versions = Vec::new(alloc);
-    let mut answer = String::new(alloc);
-    let mut separator = "";
     for text in texts {
-        let version = Version::parse(alloc, text.as_str()).ok()?;
-        answer.push_str(separator).ok()?;
-        answer.push_str(told(alloc, &version)?.as_str()).ok()?;
-        versions.push(version).ok()?;
+        versions.push(version_of(alloc, text.as_str())?).ok()?;
+    }
+    Some(versions)
+}
+
+/// Each of the versions, and whether they stand above the earlier candidates.
+fn all_told(alloc: Global, versions: &[Version], is_in_order: bool) -> Option<String> {
+    let mut text = Telling::new(alloc);
+    let mut separator = "";
+    for version in versions {
+        text.push_str(separator);
+        tell(alloc, &mut text, version)?;
         separator = "; ";
     }
-    if !are_next(versions.as_slice(), background.candidates.as_slice()) {
-        answer.push_str(" out of order").ok()?;
+    if !is_in_order {
+        text.push_str(" out of order");
     }
+    text.told()
+}
+
+/// Makes equal versions candidates, above the earlier ones, and tells each of them.
+pub fn above(alloc: Global, background: &mut Background, texts: &[String]) -> Option<String> {
+    let versions = versions_of(alloc, texts)?;
+    let is_in_order = are_next(versions.as_slice(), background.candidates.as_slice());
+    let answer = all_told(alloc, versions.as_slice(), is_in_order)?;
     background.candidates.push(versions).ok()?;
     Some(answer)
 }

@@ -1,6 +1,7 @@
 // A call in which growths of memory may be refused.
 
 use crate::scenarios::told::Told;
+use crate::telling::Telling;
 use edits::Refusal;
 use std::alloc::Global;
 use std::fmt::Display;
@@ -49,10 +50,11 @@ pub fn surely<T>(answer: T) -> Result<T, Refusal> {
 
 /// Tells what stands there, if anything.
 fn show<S: Told, W: Write>(alloc: Global, out: &mut W, word: &str, subject: &S) -> Option<()> {
-    let mut text = String::from_str(alloc, word).ok()?;
-    subject.tell(alloc, &mut text)?;
-    if text.len() > word.len() {
-        write_line(out, &mut text)?;
+    let mut text = Telling::new(alloc);
+    subject.tell(alloc, &mut text);
+    if !text.is_empty() {
+        out.write_all(word.as_bytes()).ok()?;
+        write_line(out, text.told()?)?;
     }
     Some(())
 }
@@ -64,17 +66,19 @@ fn answered<T: Told, E: Display + Drop, W: Write>(
     answer: Result<T, E>,
 ) -> Option<bool> {
     out.write_all(ANSWER).ok()?;
-    let mut text = String::new(alloc);
+    let mut text = Telling::new(alloc);
     match answer {
-        Ok(value) => value.tell(alloc, &mut text)?,
-        Err(fault) => write!(text, "{fault}").ok()?,
+        Ok(value) => value.tell(alloc, &mut text),
+        Err(fault) => write!(text, "{fault}"),
     }
+    let text = text.told()?;
     let is_refused = REFUSED.contains(&text.as_str());
-    write_line(out, &mut text)?;
+    write_line(out, text)?;
     Some(is_refused)
 }
 
-fn write_line<W: Write>(out: &mut W, text: &mut String) -> Option<()> {
-    text.push_str("\n").ok()?;
-    out.write_all(text.as_bytes()).ok()
+fn write_line<W: Write>(out: &mut W, text: String) -> Option<()> {
+    out.write_all(text.as_bytes()).ok()?;
+    out.write_all(b"\n").ok()?;
+    Some(())
 }

@@ -4,7 +4,7 @@ use crate::scenarios::calls::play;
 use crate::scenarios::clones::cloned;
 use crate::scenarios::data::{read_indexes, state};
 use crate::scenarios::told_commands::edit_of;
-use edits::{Change, State};
+use edits::{Change, State, edit};
 use journal::Plain;
 use std::alloc::{AllocError, Global};
 use std::io::Write;
@@ -13,10 +13,15 @@ use std::io::Write;
 pub fn changes<W: Write>(alloc: Global, out: &mut W, told: &str) -> Option<()> {
     let (what, rest) = told.split_once(' ')?;
     let indexes = read_indexes(alloc)?;
-    let edit = edit_of(alloc, rest)?;
     let mut state = state(alloc, &indexes)?;
-    let edited = edits::edit(alloc, &state, &edit, &indexes.later, &Plain).ok()?;
-    let change = edited.change;
+    let edited = edit(
+        alloc,
+        &state,
+        &edit_of(alloc, rest)?,
+        &indexes.later,
+        &Plain,
+    );
+    let change = edited.ok()?.change;
     match what {
         "clone" => cloned(alloc, out, change),
         "inverse" => turned(alloc, out, change),

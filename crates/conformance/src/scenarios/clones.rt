@@ -3,7 +3,7 @@
 use crate::scenarios::calls::play;
 use crate::scenarios::data::{read_indexes, state};
 use crate::scenarios::told::Told;
-use edits::{FileEntry, Requirement};
+use edits::{FileEntry, Requirement, State};
 use pep440::{SpecifierSet, Version};
 use std::alloc::Global;
 use std::io::Write;
@@ -16,9 +16,8 @@ pub fn cloned<T: Told + Clone, W: Write>(alloc: Global, out: &mut W, mut value: 
 /// A requirement with extras, a set and a marker.
 const REQUIREMENT: &str = "B.b[x,y]>=1.0,!=2.* ; os_name=='posix'";
 
-/// The wheel of the first entry of the scenarios' state.
-fn wheel(alloc: Global) -> Option<FileEntry> {
-    let state = state(alloc, &read_indexes(alloc)?)?;
+/// The wheel of the first entry of a state.
+fn wheel(alloc: Global, state: &State) -> Option<FileEntry> {
     let entry = state.lock().entries().first()?;
     entry.wheels().first()?.clone().ok()
 }
@@ -29,7 +28,11 @@ pub fn clones<W: Write>(alloc: Global, out: &mut W, what: &str) -> Option<()> {
     match what {
         "state" => cloned(alloc, out, state(alloc, &read_indexes(alloc)?)?),
         "requirement" => cloned(alloc, out, Requirement::read(alloc, REQUIREMENT).ok()?),
-        "file" => cloned(alloc, out, wheel(alloc)?),
+        "file" => cloned(
+            alloc,
+            out,
+            wheel(alloc, &state(alloc, &read_indexes(alloc)?)?)?,
+        ),
         "set" => cloned(alloc, out, SpecifierSet::parse(alloc, ">=1.0,!=2.*").ok()?),
         _ => cloned(alloc, out, Version::parse(alloc, what).ok()?),
     }

@@ -1,6 +1,7 @@
 // What the scenarios begin with.
 
-use edits::{Environment, ReqFile, Snapshot, State};
+use crate::telling::Telling;
+use edits::{Environment, ReqFile, Snapshot, State, init};
 use journal::Plain;
 use std::alloc::Global;
 
@@ -40,17 +41,17 @@ impl Drop for Indexes {
 
 /// The text of the index.
 pub fn index_text(alloc: Global) -> Option<String> {
-    let mut text = String::new(alloc);
+    let mut text = Telling::new(alloc);
     for part in INDEX.split('@') {
         if !text.is_empty() {
-            text.push_str(FILES).ok()?;
+            text.push_str(FILES);
         }
-        text.push_str(part).ok()?;
+        text.push_str(part);
     }
-    Some(text)
+    text.told()
 }
 
-/// Both indexes, read; `None` where memory ran out.
+/// Both indexes, read.
 pub fn read_indexes(alloc: Global) -> Option<Indexes> {
     let mut text = index_text(alloc)?;
     let now = Snapshot::read(alloc, text.as_bytes()).ok()?;
@@ -59,24 +60,18 @@ pub fn read_indexes(alloc: Global) -> Option<Indexes> {
     Some(Indexes { now, later })
 }
 
-/// `LINES`, read; `None` where memory ran out.
+/// `LINES`, read.
 pub fn lines(alloc: Global) -> Option<ReqFile> {
     ReqFile::read(alloc, LINES.as_bytes()).ok()
 }
 
-/// `ENVIRONMENT`, read; `None` where memory ran out.
+/// `ENVIRONMENT`, read.
 pub fn environment(alloc: Global) -> Option<Environment> {
     Environment::read(alloc, ENVIRONMENT.as_bytes()).ok()
 }
 
 /// The state that a history of the lines begins with.
 pub fn state(alloc: Global, indexes: &Indexes) -> Option<State> {
-    edits::init(
-        alloc,
-        lines(alloc)?,
-        environment(alloc)?,
-        &indexes.now,
-        &Plain,
-    )
-    .ok()
+    let (lines, environment) = (lines(alloc)?, environment(alloc)?);
+    init(alloc, lines, environment, &indexes.now, &Plain).ok()
 }

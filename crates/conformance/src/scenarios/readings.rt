@@ -11,13 +11,21 @@ use std::io::Write;
 /// Reads a text of the command line, or where none is told the file, the environment or the index.
 pub fn read<W: Write>(alloc: Global, out: &mut W, told: &str) -> Option<()> {
     let (what, text) = told.split_once(' ').unwrap_or((told, ""));
-    let (file, environment) = (LINES.as_bytes(), ENVIRONMENT.as_bytes());
-    let index = index_text(alloc)?;
     match what {
         "version" => play(alloc, out, &mut (), |_| Version::parse(alloc, text)),
         "set" => play(alloc, out, &mut (), |_| SpecifierSet::parse(alloc, text)),
         "name" => play(alloc, out, &mut (), |_| Name::parse(alloc, text)),
         "line" => play(alloc, out, &mut (), |_| Line::read(alloc, text)),
+        _ => read_file(alloc, out, what),
+    }
+}
+
+/// Reads the file, the environment or the index.
+fn read_file<W: Write>(alloc: Global, out: &mut W, what: &str) -> Option<()> {
+    let (file, environment) = (LINES.as_bytes(), ENVIRONMENT.as_bytes());
+    let text = index_text(alloc)?;
+    let index = text.as_bytes();
+    match what {
         "file" => play(alloc, out, &mut (), |_| ReqFile::read(alloc, file)),
         "environment" => play(
             alloc,
@@ -25,12 +33,7 @@ pub fn read<W: Write>(alloc: Global, out: &mut W, told: &str) -> Option<()> {
             &mut (),
             |_| Environment::read(alloc, environment),
         ),
-        "index" => play(
-            alloc,
-            out,
-            &mut (),
-            |_| Snapshot::read(alloc, index.as_bytes()),
-        ),
+        "index" => play(alloc, out, &mut (), |_| Snapshot::read(alloc, index)),
         _ => None,
     }
 }

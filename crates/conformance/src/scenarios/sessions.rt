@@ -9,9 +9,9 @@ use std::io::Write;
 
 /// A session behind these commands.
 fn prepared(alloc: Global, indexes: &Indexes, commands: &[Command<'_>]) -> Option<Session> {
-    let lines = data::lines(alloc)?;
-    let environment = data::environment(alloc)?;
-    let mut session = Session::init(alloc, lines, environment, &indexes.now, &Learning).ok()?;
+    let (lines, environment) = (data::lines(alloc)?, data::environment(alloc)?);
+    let session = Session::init(alloc, lines, environment, &indexes.now, &Learning);
+    let mut session = session.ok()?;
     for command in commands {
         let _ = session.apply(alloc, command, &Learning);
     }

@@ -4,6 +4,7 @@ use crate::scenarios::calls::{play, surely};
 use crate::scenarios::data::{read_indexes, state};
 use crate::scenarios::told::Told;
 use crate::scenarios::told_commands::edit_of;
+use crate::telling::Telling;
 use edits::{Edit, Snapshot, State, problem_after};
 use journal::Learning;
 use resolve::{Problem, check};
@@ -15,23 +16,24 @@ use std::io::Write;
 pub fn states<W: Write>(alloc: Global, out: &mut W, told: &str) -> Option<()> {
     let (what, rest) = told.split_once(' ').unwrap_or((told, "relock"));
     let indexes = read_indexes(alloc)?;
-    let edit = edit_of(alloc, rest)?;
-    let mut state = state(alloc, &indexes)?;
+    let (edit, mut state) = (edit_of(alloc, rest)?, state(alloc, &indexes)?);
     match what {
-        "new" => made(alloc, out, &mut state),
+        "new" => again(alloc, out, &mut state),
         "problem" => asked(alloc, out, state, &edit, &indexes.now),
-        "refute" => refuted(
-            alloc,
-            out,
-            problem_after(alloc, &state, &edit, &indexes.now).ok()?,
-        ),
-        "check" => checked(
-            alloc,
-            out,
-            problem_after(alloc, &state, &edit, &indexes.now).ok()?,
-        ),
+        "refute" => refuted(alloc, out, problem_of(alloc, &state, &edit, &indexes.now)?),
+        "check" => checked(alloc, out, problem_of(alloc, &state, &edit, &indexes.now)?),
         _ => None,
     }
+}
+
+/// The problem of an edit.
+fn problem_of<'a>(
+    alloc: Global,
+    state: &State,
+    edit: &Edit,
+    index: &'a Snapshot,
+) -> Option<Problem<'a>> {
+    problem_after(alloc, state, edit, index).ok()
 }
 
 /// A state, and the problem of an edit of it once that is found.
@@ -50,14 +52,11 @@ impl<'a> Drop for Question<'a> {
 }
 
 impl<'a> Told for Question<'a> {
-    fn tell(&self, alloc: Global, text: &mut String) -> Option<()> {
-        self.state.tell(alloc, text)?;
-        match &self.problem {
-            Some(problem) => {
-                text.push_str(" ").ok()?;
-                problem.tell(alloc, text)
-            }
-            None => Some(()),
+    fn tell(&self, alloc: Global, text: &mut Telling) {
+        self.state.tell(alloc, text);
+        if let Some(problem) = &self.problem {
+            text.push_str(" ");
+            problem.tell(alloc, text);
         }
     }
 }
@@ -81,7 +80,7 @@ fn asked<W: Write>(
     })
 }
 
-fn made<W: Write>(alloc: Global, out: &mut W, state: &mut State) -> Option<()> {
+fn again<W: Write>(alloc: Global, out: &mut W, state: &mut State) -> Option<()> {
     play(alloc, out, state, |state| {
         let lines = state.lines().clone()?;
         let environment = state.environment().clone()?;

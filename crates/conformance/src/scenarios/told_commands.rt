@@ -9,12 +9,16 @@ use std::alloc::Global;
 /// Two steps, of which one is undone.
 pub const BEFORE: &str = "add d/constrain a <2/undo";
 
+fn text_of(alloc: Global, told: &str) -> Option<Text> {
+    Text::copy_of(alloc, told).ok()
+}
+
 /// The edit that a word and what stands behind it tell.
 pub fn edit_of(alloc: Global, told: &str) -> Option<Edit> {
     let (word, rest) = told.split_once(' ').unwrap_or((told, ""));
     match word {
-        "add" => Some(Edit::Add(Text::copy_of(alloc, rest).ok()?)),
-        "remove" => Some(Edit::Remove(Text::copy_of(alloc, rest).ok()?)),
+        "add" => Some(Edit::Add(text_of(alloc, rest)?)),
+        "remove" => Some(Edit::Remove(text_of(alloc, rest)?)),
         "constrain" => constraint_of(alloc, rest),
         "upgrade" if rest.is_empty() => Some(Edit::UpgradeAll),
         "upgrade" => upgrade_of(alloc, rest),
@@ -25,14 +29,13 @@ pub fn edit_of(alloc: Global, told: &str) -> Option<Edit> {
 
 fn constraint_of(alloc: Global, told: &str) -> Option<Edit> {
     let (name, specifiers) = told.split_once(' ').unwrap_or((told, ""));
-    let name = Text::copy_of(alloc, name).ok()?;
-    Some(Edit::Constrain(name, Text::copy_of(alloc, specifiers).ok()?))
+    Some(Edit::Constrain(text_of(alloc, name)?, text_of(alloc, specifiers)?))
 }
 
 fn upgrade_of(alloc: Global, told: &str) -> Option<Edit> {
     let mut names = Seq::new(alloc);
     for word in told.split(' ') {
-        names.push(Text::copy_of(alloc, word).ok()?).ok()?;
+        names.push(text_of(alloc, word)?).ok()?;
     }
     Some(Edit::Upgrade(names))
 }
