@@ -7,6 +7,13 @@ from test_worked_examples import SHARED, UNMET_EXTRA, Calls
 # a release that is left out, since it asks for what can't be read
 LEFT_OUT = ("b", "1", ["c>1"]), ("b", "2", ["c @ https://c.example"]), ("c", "1", [])
 
+# the newer `a` has an extra that no release meets, and the older one needs a name that isn't there
+TWO_VERSIONS = ("a", "1", ["z"]), ("a", "2", ['y>=2; extra=="e"']), ("b", "1", ["a[e]"]), ("y", "1", [])
+
+# a dependency with each sign, which is told in normal form and without its marker
+SIGNS = ("a", "1", ["B[F_x, e] ~=2.0, ==2.0, ==2.*, !=3, !=3.*, <=2.5, >=2, <2.6, >1 ; os_name!='x'"]), ("b", "1", [])
+SIGNS_TOLD = "b[f-x,e]~=2.0,==2.0,==2.*,!=3,!=3.*,<=2.5,>=2,<2.6,>1"
+
 
 class Why(Calls):
     """What `why` prints of problems with a solution and without one. It saves nothing."""
@@ -53,6 +60,22 @@ class Why(Calls):
             "1. x[e]==1 y==1: x[e]==1 needs y>=2, which doesn't admit y==1\n"
             "2. x[e]==1: x[e]==1 needs y>=2, and no release of y is left: 1 by 1\n"
             "3. -: the new line (x[e]) needs x[e], and no release of x[e] is left: 1 by 2\n",
+        ),
+        (
+            TWO_VERSIONS, b"a\n", ["--explain", "b"],
+            "1. a[e]==2 y==1: a[e]==2 needs y>=2, which doesn't admit y==1\n"
+            "2. a[e]==2: a[e]==2 needs y>=2, and no release of y is left: 1 by 1\n"
+            "3. a==2 a[e]==1: a can have one version only\n"
+            "4. a==2 b==1: b==1 needs a[e], and no release of a[e] is left: 2 by 2, 1 by 3\n"
+            "5. a==2: the new line (b) needs b, and no release of b is left: 1 by 4\n"
+            "6. a==1: a==1 needs z, and the index has no release of z\n"
+            "7. -: line 1 (a) needs a, and no release of a is left: 2 by 5, 1 by 6\n",
+        ),
+        (
+            SIGNS, b"", ["--explain", "a"],
+            f"1. a==1 b==1: a==1 needs {SIGNS_TOLD}, which doesn't admit b==1\n"
+            f"2. a==1: a==1 needs {SIGNS_TOLD}, and no release of b is left: 1 by 1\n"
+            "3. -: the new line (a) needs a, and no release of a is left: 1 by 2\n",
         ),
         (
             LEFT_OUT, b"", ["--explain", "b"],

@@ -83,6 +83,8 @@ TRIED = (
     (A_B, "", "relock\n", "same\n"),
 )
 
+# an index with two packages whose names are one
+TWICE = b'{"snapshot":1,"packages":[{"name":"A.b","releases":[]},{"name":"a-b","releases":[]}]}'
 # A requirements file, an index where it isn't that of `A_C`, and the fault.
 REFUSED = (
     (b"a\n-r more.txt\n", None, "requirements.txt: line 2: option-line"),
@@ -92,6 +94,7 @@ REFUSED = (
     (b"a\n", b"{", "index: not-json"),
     (b"a\n", b"[]", "index: shape"),
     (b"a\n", b'{"snapshot":2}', "index: shape /snapshot"),
+    (b"a\n", TWICE, "index: duplicate-package a-b"),
     (b"-e .\n", b"{", "requirements.txt: line 1: option-line"),
 )
 
