@@ -14,6 +14,9 @@ TWO_VERSIONS = ("a", "1", ["z"]), ("a", "2", ['y>=2; extra=="e"']), ("b", "1", [
 SIGNS = ("a", "1", ["B[F_x, e] ~=2.0, ==2.0, ==2.*, !=3, !=3.*, <=2.5, >=2, <2.6, >1 ; os_name!='x'"]), ("b", "1", [])
 SIGNS_TOLD = "b[f-x,e]~=2.0,==2.0,==2.*,!=3,!=3.*,<=2.5,>=2,<2.6,>1"
 
+# the search meets first that `a` 2 needs what isn't there, on which nothing rests
+CUT_AWAY = ("a", "1", []), ("a", "2", ["aa"]), ("b", "1", ["y"]), ("m", "1", ["a", "b"])
+
 
 class Why(Calls):
     """What `why` prints of problems with a solution and without one. It saves nothing."""
@@ -42,6 +45,7 @@ class Why(Calls):
         ([("a", "1", [])], b"a\n", ["z"], "-\n"),
         (SHARED, b"a==2\n", ["c"], "b==1 c==1\nb==1\na==2 b==2\na==2\na==1\n-\n"),
         (UNMET_EXTRA, b"", ["x[e]"], "x[e]==1 y==1\nx[e]==1\n-\n"),
+        (CUT_AWAY, b"", ["m"], "b==1\nm==1\n-\n"),
         (
             [("a", "1", [])], b"# web\na==1\n", ["--explain", "z"],
             "1. -: the new line (z) needs z, and the index has no release of z\n",
