@@ -1,3 +1,4 @@
+pub mod BitSets
 pub mod Members
 pub mod RisingItems
 pub mod SortedInserts

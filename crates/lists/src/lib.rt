@@ -12,12 +12,14 @@
 //! ```
 #![tactic(auto)]
 
+mod bits;
 mod copying;
 mod rising;
 mod seq;
 mod spaces;
 mod text;
 
+pub use crate::bits::Bits;
 pub use crate::copying::copied;
 pub use crate::rising::{Named, rises};
 pub use crate::seq::{Faithful, Seq};
