@@ -16,6 +16,7 @@ pub mod Fronts
 pub mod PictureFacts
 pub mod PictureLaw
 pub mod Refutations
+pub mod SetRefutations
 pub mod Sets
 pub mod Entries
 pub mod Holding
@@ -27,3 +28,4 @@ pub mod Needs
 pub mod Learns
 pub mod WhatIsLeftToLearn
 pub mod PicturedConflicts
+pub mod PicturedSets

@@ -14,14 +14,14 @@ use Rattle.search.specs.Table.{TableParts, rules_of, name_of, wants_at, candidat
 
 -- ---- what the rules say of what a known choice stands for
 
-named-pictured : {N X V R : Type 0} (t : TableParts) (picture : Picture N X V R) (rules : Rules N X V R) → IsPicture t picture rules → (r : ℕ) (c : NodeChoice ℕ ℕ) → r < length t.requirements → IsKnown t c → name_asked t r ≡ name_of t c.node → rules.name (picture.requirement r) ≡ rules.on (picture.node c.node)
+pub named-pictured : {N X V R : Type 0} (t : TableParts) (picture : Picture N X V R) (rules : Rules N X V R) → IsPicture t picture rules → (r : ℕ) (c : NodeChoice ℕ ℕ) → r < length t.requirements → IsKnown t c → name_asked t r ≡ name_of t c.node → rules.name (picture.requirement r) ≡ rules.on (picture.node c.node)
 named-pictured t picture rules h r c l k e = h.asked r l ∙ ap picture.name e ∙ sym (h.on c.node k.0)
 
-admits-pictured : {N X V R : Type 0} (t : TableParts) (picture : Picture N X V R) (rules : Rules N X V R) → IsPicture t picture rules → (r : ℕ) (c : NodeChoice ℕ ℕ) → r < length t.requirements → IsKnown t c → name_asked t r ≡ name_of t c.node → rules.admits (picture.requirement r) (picture.version (name_of t c.node) c.version) ≡ admits_at t r c.version
+pub admits-pictured : {N X V R : Type 0} (t : TableParts) (picture : Picture N X V R) (rules : Rules N X V R) → IsPicture t picture rules → (r : ℕ) (c : NodeChoice ℕ ℕ) → r < length t.requirements → IsKnown t c → name_asked t r ≡ name_of t c.node → rules.admits (picture.requirement r) (picture.version (name_of t c.node) c.version) ≡ admits_at t r c.version
 admits-pictured t picture rules h r c l k e =
     subst (λ n. Contains (candidates_of t n) c.version → rules.admits (picture.requirement r) (picture.version n c.version) ≡ admits_at t r c.version) e (h.admits r c.version l) k.1
 
-wants-pictured : {N X V R : Type 0} (t : TableParts) (picture : Picture N X V R) (rules : Rules N X V R) → IsPicture t picture rules → (c : NodeChoice ℕ ℕ) (r : ℕ) → IsKnown t c → Contains (wants_at t c.node c.version) r → Contains (rules.wants (picture.node c.node) (picture.version (name_of t c.node) c.version)) (picture.requirement r)
+pub wants-pictured : {N X V R : Type 0} (t : TableParts) (picture : Picture N X V R) (rules : Rules N X V R) → IsPicture t picture rules → (c : NodeChoice ℕ ℕ) (r : ℕ) → IsKnown t c → Contains (wants_at t c.node c.version) r → Contains (rules.wants (picture.node c.node) (picture.version (name_of t c.node) c.version)) (picture.requirement r)
 wants-pictured t picture rules h c r k w =
     subst (λ rs. Contains rs (picture.requirement r)) (sym (h.wants c.node c.version k.0 k.1)) (Contains-map_of picture.requirement (wants_at t c.node c.version) r w)
 
@@ -54,7 +54,7 @@ clash-pictured t picture rules known h conflict k f =
     }
 
 -- candidates at two places of one name stand for two versions
-apart-pictured : {N X V R : Type 0} (t : TableParts) (picture : Picture N X V R) (same : V → V → Bool) → AreApart t picture same → (n m p q : ℕ) → n ≡ m → Contains (candidates_of t n) p → Contains (candidates_of t m) q → places_eq p q ≡ false → same (picture.version n p) (picture.version m q) ≡ false
+pub apart-pictured : {N X V R : Type 0} (t : TableParts) (picture : Picture N X V R) (same : V → V → Bool) → AreApart t picture same → (n m p q : ℕ) → n ≡ m → Contains (candidates_of t n) p → Contains (candidates_of t m) q → places_eq p q ≡ false → same (picture.version n p) (picture.version m q) ≡ false
 apart-pictured t picture same a n m p q e i j differ =
     subst (λ x. Contains (candidates_of t x) q → same (picture.version n p) (picture.version x q) ≡ false) e
     (λ there. off-of (same (picture.version n p) (picture.version n q)) (λ one. let both : places_eq p q ≡ true = eq-eqb p q (a.apart n p q i there one) in absurd (cc)))

@@ -8,6 +8,7 @@ pub mod Asking
 pub mod Learning
 pub mod Found
 pub mod Conflicts
+pub mod SetConflicts
 pub mod Table
 pub mod Search
 pub mod FirstWalk

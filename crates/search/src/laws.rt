@@ -4,13 +4,15 @@ ghost use Rattle.std.specs.Prelude.{ℕ, ◌≡◌, List, [], Option, Bool, true
 ghost use Rattle.std.specs.List.{Contains};
 ghost use Rattle.search.specs.FirstWalk.{IsFirstWalk, IsComplete};
 ghost use Rattle.search.specs.Conflicts.{IsVersionEquality, LiesInNone, Follows, EachFollows, IsRefutation};
-ghost use Rattle.search.specs.Known.{AreKnown, AreApart, conflicts_pictured};
+ghost use Rattle.search.specs.Known.{AreKnown, AreApart, AreKnownSets, conflicts_pictured, sets_pictured};
 ghost use Rattle.search.specs.Picture.{Picture, IsPicture, pictured};
 ghost use Rattle.search.specs.Rules.{Rules, IsOrder, IsLawful};
+ghost use Rattle.search.specs.SetConflicts.{SetLiesInNone, SetFollows, EachSetFollows, IsSetRefutation};
 ghost use Rattle.search.specs.Solutions.{Pin, Solution, IsBest, IsBetter, HasNoSolution, version_pinned};
 ghost use Rattle.search.specs.Table.{TableParts, in_range, place_in, rules_of, places_eq};
 ghost use Rattle.search.specs.declared.conflict.NodeChoice.{NodeChoice};
 ghost use Rattle.search.specs.declared.parts.Choice.{Choice};
+ghost use Rattle.search.specs.declared.term.Term.{Term};
 
 /// There is at most one best solution, and no solution is better.
 pub fn the_best_solution_is_unique<N, X, V, R>()
@@ -61,6 +63,24 @@ pub fn what_follows_lies_in_no_solution<N, X, V, R>()
         → IsRefutation rules same conflicts → HasNoSolution rules }
 {}
 
+/// The same of conflicts of sets: what follows from conflicts which lie in no solution lies in none.
+/// So does each conflict of a list in which each follows from those before it, and where such a list
+/// ends in the empty conflict no solution exists.
+pub fn what_follows_from_sets_lies_in_no_solution<N, X, V, R>()
+    ensures follows { (rules : Rules N X V R) (same : V → V → Bool) → IsLawful rules
+        → IsVersionEquality rules same
+        → (earlier : List (List (Term X V))) (conflict : List (Term X V))
+        → ((old : List (Term X V)) → Contains earlier old → SetLiesInNone rules same old)
+        → SetFollows rules same earlier conflict → SetLiesInNone rules same conflict }
+    ensures each { (rules : Rules N X V R) (same : V → V → Bool) → IsLawful rules
+        → IsVersionEquality rules same → (conflicts : List (List (Term X V)))
+        → EachSetFollows rules same [] conflicts → (conflict : List (Term X V))
+        → Contains conflicts conflict → SetLiesInNone rules same conflict }
+    ensures none { (rules : Rules N X V R) (same : V → V → Bool) → IsLawful rules
+        → IsVersionEquality rules same → (conflicts : List (List (Term X V)))
+        → IsSetRefutation rules same conflicts → HasNoSolution rules }
+{}
+
 /// Where a table pictures other rules, and no two candidates of a name stand for equal versions, a
 /// list of conflicts over choices that the table knows, in which each follows from those before it,
 /// stands for such a list of the rules, and a refutation stands for a refutation.
@@ -75,4 +95,18 @@ pub fn a_picture_keeps_refutations<N, X, V, R>()
         → AreApart t picture same → (conflicts : List (List (NodeChoice ℕ ℕ)))
         → AreKnown t conflicts → IsRefutation (rules_of t) places_eq conflicts
         → IsRefutation rules same (conflicts_pictured t picture conflicts) }
+{}
+
+/// The same of conflicts of sets over terms that the table knows.
+pub fn a_picture_keeps_set_refutations<N, X, V, R>()
+    ensures each { (t : TableParts) (picture : Picture N X V R) (rules : Rules N X V R)
+        (same : V → V → Bool) → in_range t ≡ true → IsPicture t picture rules
+        → AreApart t picture same → (conflicts : List (List (Term ℕ ℕ)))
+        → AreKnownSets t conflicts → EachSetFollows (rules_of t) places_eq [] conflicts
+        → EachSetFollows rules same [] (sets_pictured t picture conflicts) }
+    ensures refutation { (t : TableParts) (picture : Picture N X V R) (rules : Rules N X V R)
+        (same : V → V → Bool) → in_range t ≡ true → IsPicture t picture rules
+        → AreApart t picture same → (conflicts : List (List (Term ℕ ℕ)))
+        → AreKnownSets t conflicts → IsSetRefutation (rules_of t) places_eq conflicts
+        → IsSetRefutation rules same (sets_pictured t picture conflicts) }
 {}

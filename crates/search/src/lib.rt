@@ -4,9 +4,10 @@
 //! whatever a name, a node, a version or a requirement is made of. A `Table` holds rules as
 //! numbers; `best` searches it plainly, and `learned_best` learns from its conflicts and finds the
 //! same. Where there is no solution, `learned_or_refuted` gives out its conflicts as a refutation.
-//! `specs/Conflicts` says what a conflict is and when it follows from others. `specs/Picture` says
-//! when the numbers of a table stand for other rules; `laws` carries the best solution over to
-//! those, and says that what follows from conflicts lies in no solution.
+//! `specs/Conflicts` says what a conflict is and when it follows from others, and `specs/SetConflicts`
+//! says it of conflicts of sets of versions. `specs/Picture` says when the numbers of a table stand for
+//! other rules; `laws` carries the best solution over to those, and says that what follows from
+//! conflicts lies in no solution.
 #![tactic(auto)]
 
 mod agenda;
@@ -26,6 +27,7 @@ mod refusal;
 mod search;
 mod table;
 mod taken;
+mod term;
 mod trial;
 
 pub use crate::conflict::{Decision, NodeChoice};
@@ -33,3 +35,4 @@ pub use crate::learning::{Found, learned_best, learned_or_refuted};
 pub use crate::parts::{Choice, Requirement};
 pub use crate::search::best;
 pub use crate::table::Table;
+pub use crate::term::Term;
