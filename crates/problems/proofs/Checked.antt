@@ -32,7 +32,7 @@ asked-decides (Some extra) (Some asked) = decides-onto (bytes_eq extra asked) (b
 asked-decides None (Some asked) = ((λ h. absurd cc), (λ e. absurd cc))
 asked-decides (Some extra) None = ((λ h. absurd cc), (λ e. absurd cc))
 
-node-decides : (node other : Node) → Decides (is_node node other.name other.extra) (node ≡ other)
+pub node-decides : (node other : Node) → Decides (is_node node other.name other.extra) (node ≡ other)
 node-decides node other = decides-onto (is_node node other.name other.extra)
     (decides-both (bytes_eq node.name other.name) (is_asked node.extra other.extra) (bytes_eq-Decides node.name other.name) (asked-decides node.extra other.extra))
     (λ k. λ i. record { name = k.0 i; extra = k.1 i })
@@ -112,7 +112,7 @@ completes-alike earlier conflict node v w h k = (
 )
 
 -- some release has the version
-abbrev IsReleased : List Release → VersionParts → Type 0
+abbrev pub IsReleased : List Release → VersionParts → Type 0
 IsReleased releases version = IsThere (λ (release : Release). release.version ≡ version) releases
 
 found-released : (test : Release → Bool) (releases : List Release) (version : VersionParts) → option_map (λ (release : Release). release.version) (find test releases) ≡ Some version → IsReleased releases version
@@ -122,7 +122,7 @@ found-released test (r ∷ rs) version e = elim (cases_Bool (test r)) [
   | inr fails ↦ there-more (λ (release : Release). release.version ≡ version) r rs (found-released test rs version (rw fails at e))
 ]
 
-kept-released : (releases : List Release) (kept : Option VersionParts) (version : VersionParts)
+pub kept-released : (releases : List Release) (kept : Option VersionParts) (version : VersionParts)
     → option_and_then (λ v. option_map (λ (release : Release). release.version) (find (has_version v) releases)) kept ≡ Some version → IsReleased releases version
 kept-released releases None version e = absurd cc
 kept-released releases (Some v) version e = found-released (has_version v) releases version e
@@ -130,7 +130,7 @@ kept-released releases (Some v) version e = found-released (has_version v) relea
 mapped-released : (releases : List Release) (version : VersionParts) → Contains (versions_of releases) version → IsReleased releases version
 mapped-released releases version there = let k = Contains-map (λ (release : Release). release.version) releases version there in record { item = k.0; there = k.1; is = k.2 }
 
-preferring-released : (releases : List Release) (kept : Option VersionParts) (version : VersionParts) → ((v : VersionParts) → kept ≡ Some v → IsReleased releases v)
+pub preferring-released : (releases : List Release) (kept : Option VersionParts) (version : VersionParts) → ((v : VersionParts) → kept ≡ Some v → IsReleased releases v)
     → Contains (preferring kept (versions_of releases)) version → IsReleased releases version
 preferring-released releases None version known there = mapped-released releases version there
 preferring-released releases (Some v) version known there =
@@ -141,7 +141,7 @@ preferring-released releases (Some v) version known there =
     ]
 
 -- what holds with each candidate holds with each release, where it doesn't tell equal versions apart
-preferring-all : (releases : List Release) (kept : Option VersionParts) (P : VersionParts → Type 0) → ((v w : VersionParts) → same_version v w ≡ true → P v → P w)
+pub preferring-all : (releases : List Release) (kept : Option VersionParts) (P : VersionParts → Type 0) → ((v w : VersionParts) → same_version v w ≡ true → P v → P w)
     → ((v : VersionParts) → Contains (preferring kept (versions_of releases)) v → P v) → (release : Release) → Contains releases release → P release.version
 preferring-all releases None P alike each release there = each release.version (Contains-map_of (λ (r : Release). r.version) releases release there)
 preferring-all releases (Some v) P alike each release there =

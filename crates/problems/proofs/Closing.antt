@@ -44,7 +44,7 @@ pub linked-released : (given : ProblemParts) (node : Node) (versions : List (Lis
     → release_at given node.name version ≡ Some release → nodes_asked (filter (counts given.environment node.extra) release.dependencies) ≡ nodes_linked given node (version_for versions node.name)
 linked-released given node versions version release some there = rw (lookup-get node.name versions, some, there) refl
 
-asked-from : (requirements : List RequirementParts) (wanted : RequirementParts) (node : Node) → Contains requirements wanted → Contains (nodes_of wanted) node → Contains (nodes_asked requirements) node
+pub asked-from : (requirements : List RequirementParts) (wanted : RequirementParts) (node : Node) → Contains requirements wanted → Contains (nodes_of wanted) node → Contains (nodes_asked requirements) node
 asked-from [] wanted node h i = absurd (Contains-nil wanted h)
 asked-from (first ∷ others) wanted node h i = elim (Contains-cons_cases first others wanted h) [
   | inl e ↦ Contains-append_left (nodes_of first) (nodes_asked others) node (subst (λ w. Contains (nodes_of w) node) (sym e) i)

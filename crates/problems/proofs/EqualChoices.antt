@@ -18,7 +18,7 @@ extras-tied None (Some other) = refl
 extras-tied (Some extra) None = refl
 extras-tied (Some extra) (Some other) = sym (is_eq-slice_cmp extra other)
 
-nodes-tied : (node other : Node) → is_node node other.name other.extra ≡ eq_by_cmp node_cmp node other
+pub nodes-tied : (node other : Node) → is_node node other.name other.extra ≡ eq_by_cmp node_cmp node other
 nodes-tied node other =
     (λ i. sym (is_eq-slice_cmp node.name other.name) i && extras-tied node.extra other.extra i)
     ∙ tied_then (slice_cmp nat_cmp node.name other.name) (option_cmp (slice_cmp nat_cmp) node.extra other.extra)

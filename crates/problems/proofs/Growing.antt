@@ -34,8 +34,8 @@ Grows-then old mid new first second g h = record {
 }
 
 with-more : (old new : List Node) (node : Node) → IsWith node old new → (more : List Node) × (new ≡ old ++ more) × ((x : Node) → Contains new x → Contains old x ⊎ Contains (node ∷ []) x)
-with-more old new node (inl e) = ([], e ∙ sym (append-nil old), λ x h. inl (subst (λ nodes. Contains nodes x) e h))
-with-more old new node (inr e) = (node ∷ [], e, λ x h. Contains-append_cases old (node ∷ []) x (subst (λ nodes. Contains nodes x) e h))
+with-more old new node (inl there) = ([], there.1 ∙ sym (append-nil old), λ x h. inl (subst (λ nodes. Contains nodes x) there.1 h))
+with-more old new node (inr apart) = (node ∷ [], apart.1, λ x h. Contains-append_cases old (node ∷ []) x (subst (λ nodes. Contains nodes x) apart.1 h))
 
 -- one node that is put behind the others, unless it is there
 pub Grows-one : (old new : List Node) (place : ℕ) (node : Node) → IsWith node old new → Stands new place node → Grows old new (node ∷ [])

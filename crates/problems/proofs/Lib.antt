@@ -5,5 +5,10 @@ pub mod Deciding
 pub mod Equals
 pub mod EqualChoices
 pub mod Checked
+pub mod WalkedLists
+pub mod SetsCompleted
+pub mod SetsChecked
 pub mod Counting
 pub mod Grounded
+pub mod NumbersFound
+pub mod NodesMet

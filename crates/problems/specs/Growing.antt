@@ -23,3 +23,11 @@ nodes_asked requirements = flat_map nodes_of requirements
 abbrev pub nodes_linked : ProblemParts → Node → Option VersionParts → List Node
 nodes_linked given node None = []
 nodes_linked given node (Some version) = nodes_asked (wants given node version)
+
+-- the requirements of the active lines, and the dependencies of all releases of the index
+abbrev pub requirements_met : ProblemParts → List RequirementParts
+requirements_met given = given.active ++ flat_map (λ p. flat_map (λ release. release.dependencies) p.releases) given.index.packages
+
+-- the nodes that these need: a walk meets no others
+abbrev pub nodes_met : ProblemParts → List Node
+nodes_met given = nodes_asked (requirements_met given)

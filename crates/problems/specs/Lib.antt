@@ -3,11 +3,14 @@ pub mod Admission
 pub mod Rules
 pub mod Solutions
 pub mod Refutations
+pub mod SetRefutations
 pub mod Choices
 pub mod Grounds
 pub mod Laws
 pub mod ChoiceLaws
 pub mod Checking
+pub mod SetChecking
 pub mod Growing
 pub mod NodeEquality
 pub mod Standing
+pub mod NodeNumbers

@@ -9,11 +9,13 @@ ghost use Rattle.problems.specs.Rules.{rules_of};
 pub(crate) mod clashes;
 pub(crate) mod exhausted;
 pub(crate) mod refusing;
+mod sets;
 pub(crate) mod versions;
 
 use crate::checking::clashes::choices_clash;
 use crate::checking::exhausted::none_left;
 use crate::checking::refusing::line_refuses;
+pub use crate::checking::sets::check_sets;
 use crate::checking::versions::versions_differ;
 use crate::choice::Choice;
 use crate::laws;

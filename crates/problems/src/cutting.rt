@@ -7,10 +7,11 @@ ghost use Rattle.problems.specs.Rules.{rules_of};
 
 use crate::checking::check;
 use crate::checking::clashes::choices_clash;
-use crate::checking::exhausted::{is_within, none_left_at, none_left_behind, none_left_for};
+use crate::checking::exhausted::is_within;
 use crate::checking::refusing::line_refuses;
 use crate::checking::versions::versions_differ;
 use crate::choice::Choice;
+use crate::nodes::copy_of;
 use crate::problem::Problem;
 use crate::question::Question;
 use crate::refutation::Refutation;
@@ -18,8 +19,8 @@ use crate::releases::counts;
 use lists::Seq;
 use pep440::Version;
 use pep508::{Name, Requirement};
-use snapshot::Release;
 use std::alloc::{AllocError, Global};
+use std::collections::BTreeMap;
 
 /// Whether a place is marked.
 fn is_marked(marks: &[bool], place: usize) -> bool {
@@ -33,136 +34,258 @@ fn mark(marks: &mut [bool], place: usize) {
     }
 }
 
-/// The first earlier conflict that the conflict with the version at the node contains.
-fn completed(
-    earlier: &[Seq<Choice>],
-    conflict: &[Choice],
-    name: &Name,
-    extra: Option<&Name>,
-    version: &Version,
-) -> Option<usize> {
-    earlier.iter().position(|old| is_within(old.as_slice(), conflict, name, extra, version))
-}
-
-/// Marks, for each release at the node, an earlier conflict that the conflict with it contains.
-fn mark_completed(
-    marks: &mut [bool],
-    releases: &[Release],
-    earlier: &[Seq<Choice>],
-    conflict: &[Choice],
-    name: &Name,
-    extra: Option<&Name>,
-) {
-    for release in releases {
-        if let Some(place) = completed(earlier, conflict, name, extra, release.version()) {
-            mark(marks, place);
+/// Puts the place of a conflict behind those that have the choice.
+fn list_choice(
+    alloc: Global,
+    places: &mut BTreeMap<Choice, Vec<usize>>,
+    choice: &Choice,
+    place: usize,
+) -> Result<(), AllocError> {
+    match places.get_mut(choice) {
+        Some(listed) => listed.push(place)?,
+        None => {
+            let mut listed = Vec::new(alloc);
+            listed.push(place)?;
+            places.insert(choice.clone()?, listed)?;
         }
     }
+    Ok(())
 }
 
-/// The first of the extras with which no release of the name is left.
-fn exhausted_extra<'n>(
-    question: &Question<'_>,
-    earlier: &[Seq<Choice>],
+/// The same for each choice of the conflict.
+fn list_conflict(
+    alloc: Global,
+    places: &mut BTreeMap<Choice, Vec<usize>>,
     conflict: &[Choice],
-    name: &Name,
-    extras: &'n [Name],
-) -> Option<&'n Name> {
-    extras.iter().find(|extra| none_left_at(question, earlier, conflict, name, Some(extra)))
+    place: usize,
+) -> Result<(), AllocError> {
+    for choice in conflict {
+        list_choice(alloc, places, choice, place)?;
+    }
+    Ok(())
 }
 
-/// The first dependency that counts and needs a node for which no release is left.
-fn exhausted_dependency<'d>(
-    question: &Question<'_>,
-    earlier: &[Seq<Choice>],
-    conflict: &[Choice],
-    extra: Option<&Name>,
-    dependencies: &'d [Requirement],
-) -> Option<&'d Requirement> {
-    dependencies.iter().find(|wanted| {
-        counts(&question.environment, extra, wanted)
-            && none_left_for(question, earlier, conflict, wanted)
+/// For each choice the places of the conflicts that have it, from the first one on.
+fn places_of(
+    alloc: Global,
+    conflicts: &[Seq<Choice>],
+) -> Result<BTreeMap<Choice, Vec<usize>>, AllocError> {
+    let mut places = BTreeMap::new(alloc);
+    for place in 0..conflicts.len() {
+        list_conflict(alloc, &mut places, conflicts[place].as_slice(), place)?;
+    }
+    Ok(places)
+}
+
+/// The choice of a version at a node.
+fn choice_at(name: &Name, extra: Option<&Name>, version: &Version) -> Result<Choice, AllocError> {
+    Ok(Choice {
+        name: name.clone()?,
+        extra: copy_of(extra)?,
+        version: version.clone()?,
     })
 }
 
-/// The first line that needs a node for which no release is left.
-fn exhausted_line<'l>(
-    question: &Question<'_>,
-    earlier: &[Seq<Choice>],
-    conflict: &[Choice],
-    lines: &'l [Requirement],
-) -> Option<&'l Requirement> {
-    lines
-        .iter()
-        .find(|line| none_left_for(question, earlier, conflict, line))
-}
-
-/// The first of the choices that wants something for which no release is left.
-fn exhausted_choice<'c>(
-    question: &Question<'_>,
-    earlier: &[Seq<Choice>],
+/// A conflict of a list, and what stands before it. An earlier conflict is looked up by the choice with
+/// which it is contained; one that is contained without it isn't found.
+struct Cited<'p, 'c> {
+    places: &'p BTreeMap<Choice, Vec<usize>>,
+    earlier: &'c [Seq<Choice>],
     conflict: &'c [Choice],
-) -> Option<&'c Choice> {
-    conflict
-        .iter()
-        .find(|one| none_left_behind(question, earlier, conflict, one))
 }
 
-/// A line, or else what a choice wants, that needs a node for which no release is left.
-fn exhausted<'q>(
-    question: &'q Question<'_>,
-    earlier: &[Seq<Choice>],
-    conflict: &[Choice],
-) -> Option<&'q Requirement> {
-    let lines = question.active.as_slice();
-    if let Some(line) = exhausted_line(question, earlier, conflict, lines) {
-        return Some(line);
+impl<'p, 'c> Drop for Cited<'p, 'c> {
+    fn drop(self) {
+        let Cited {
+            places: _,
+            earlier: _,
+            conflict: _,
+        } = self;
     }
-    let one = exhausted_choice(question, earlier, conflict)?;
-    let dependencies = question.dependencies(&one.name, &one.version);
-    exhausted_dependency(
-        question,
-        earlier,
-        conflict,
-        one.extra.as_ref(),
-        dependencies,
-    )
+}
+
+impl<'p, 'c> Cited<'p, 'c> {
+    /// Whether the conflict with the choice contains the earlier one of the place.
+    fn contains(&self, choice: &Choice, place: usize) -> bool {
+        let extra = choice.extra.as_ref();
+        match self.earlier.get(place) {
+            Some(old) => {
+                is_within(
+                    old.as_slice(),
+                    self.conflict,
+                    &choice.name,
+                    extra,
+                    &choice.version,
+                )
+            }
+            None => false,
+        }
+    }
+
+    /// The first earlier conflict that the conflict with the choice contains.
+    fn completed(&self, choice: &Choice) -> Option<usize> {
+        for place in self.places.get(choice)? {
+            if self.contains(choice, *place) {
+                return Some(*place);
+            }
+        }
+        None
+    }
+
+    /// For each release at a node an earlier conflict that the conflict with it contains, where there is
+    /// one for each.
+    fn without(
+        &self,
+        alloc: Global,
+        question: &Question<'_>,
+        name: &Name,
+        extra: Option<&Name>,
+    ) -> Result<Option<Vec<usize>>, AllocError> {
+        let mut places = Vec::new(alloc);
+        for release in question.releases(name) {
+            let choice = choice_at(name, extra, release.version())?;
+            match self.completed(&choice) {
+                Some(place) => places.push(place)?,
+                None => return Ok(None),
+            }
+        }
+        Ok(Some(places))
+    }
+
+    /// The same for the first of the extras for which no release is left.
+    fn without_extra(
+        &self,
+        alloc: Global,
+        question: &Question<'_>,
+        name: &Name,
+        extras: &[Name],
+    ) -> Result<Option<Vec<usize>>, AllocError> {
+        for extra in extras {
+            let places = self.without(alloc, question, name, Some(extra))?;
+            if places.is_some() {
+                return Ok(places);
+            }
+        }
+        Ok(None)
+    }
+
+    /// The same for a node that a requirement needs.
+    fn without_wanted(
+        &self,
+        alloc: Global,
+        question: &Question<'_>,
+        wanted: &Requirement,
+    ) -> Result<Option<Vec<usize>>, AllocError> {
+        let places = self.without_extra(alloc, question, wanted.name(), wanted.extras())?;
+        if places.is_some() {
+            return Ok(places);
+        }
+        self.without(alloc, question, wanted.name(), None)
+    }
+
+    /// The same for the first of the lines that needs such a node.
+    fn without_line(
+        &self,
+        alloc: Global,
+        question: &Question<'_>,
+    ) -> Result<Option<Vec<usize>>, AllocError> {
+        for line in question.active.as_slice() {
+            let places = self.without_wanted(alloc, question, line)?;
+            if places.is_some() {
+                return Ok(places);
+            }
+        }
+        Ok(None)
+    }
+
+    /// The same for the first dependency of a choice that counts and needs such a node.
+    fn without_dependency(
+        &self,
+        alloc: Global,
+        question: &Question<'_>,
+        one: &Choice,
+    ) -> Result<Option<Vec<usize>>, AllocError> {
+        for wanted in question.dependencies(&one.name, &one.version) {
+            if counts(&question.environment, one.extra.as_ref(), wanted) {
+                let places = self.without_wanted(alloc, question, wanted)?;
+                if places.is_some() {
+                    return Ok(places);
+                }
+            }
+        }
+        Ok(None)
+    }
+
+    /// The same for the first of the choices that needs such a node.
+    fn without_choice(
+        &self,
+        alloc: Global,
+        question: &Question<'_>,
+    ) -> Result<Option<Vec<usize>>, AllocError> {
+        for one in self.conflict {
+            let places = self.without_dependency(alloc, question, one)?;
+            if places.is_some() {
+                return Ok(places);
+            }
+        }
+        Ok(None)
+    }
+
+    /// The places of the earlier conflicts that the conflict rests on, if there are any.
+    fn grounds(
+        &self,
+        alloc: Global,
+        question: &Question<'_>,
+    ) -> Result<Option<Vec<usize>>, AllocError> {
+        if line_refuses(question, self.conflict)
+            || choices_clash(question, self.conflict)
+            || versions_differ(self.conflict)
+        {
+            return Ok(None);
+        }
+        let places = self.without_line(alloc, question)?;
+        if places.is_some() {
+            return Ok(places);
+        }
+        self.without_choice(alloc, question)
+    }
 }
 
 /// Marks the earlier conflicts that a conflict rests on.
 fn mark_grounds(
+    alloc: Global,
     marks: &mut [bool],
     question: &Question<'_>,
-    earlier: &[Seq<Choice>],
-    conflict: &[Choice],
-) {
-    if line_refuses(question, conflict)
-        || choices_clash(question, conflict)
-        || versions_differ(conflict)
-    {
-        return;
+    cited: &Cited<'_, '_>,
+) -> Result<(), AllocError> {
+    if let Some(places) = cited.grounds(alloc, question)? {
+        for place in places {
+            mark(marks, place);
+        }
     }
-    if let Some(wanted) = exhausted(question, earlier, conflict) {
-        let name = wanted.name();
-        let extra = exhausted_extra(question, earlier, conflict, name, wanted.extras());
-        let releases = question.releases(name);
-        mark_completed(marks, releases, earlier, conflict, name, extra);
-    }
+    Ok(())
 }
 
 /// Marks, from the last conflict back, what each marked one rests on.
-fn mark_back(marks: &mut [bool], question: &Question<'_>, conflicts: &[Seq<Choice>]) {
+fn mark_back(
+    alloc: Global,
+    marks: &mut [bool],
+    question: &Question<'_>,
+    conflicts: &[Seq<Choice>],
+) -> Result<(), AllocError> {
+    let places = places_of(alloc, conflicts)?;
     for behind in 0..conflicts.len() {
         let place = conflicts.len() - 1 - behind;
         if is_marked(marks, place) {
-            mark_grounds(
-                marks,
-                question,
-                &conflicts[..place],
-                conflicts[place].as_slice(),
-            );
+            let cited = Cited {
+                places: &places,
+                earlier: &conflicts[..place],
+                conflict: conflicts[place].as_slice(),
+            };
+            mark_grounds(alloc, marks, question, &cited)?;
         }
     }
+    Ok(())
 }
 
 /// The conflicts at the marked places.
@@ -190,7 +313,7 @@ fn needed(
     if !conflicts.is_empty() {
         mark(&mut marks, conflicts.len() - 1);
     }
-    mark_back(&mut marks, question, conflicts);
+    mark_back(alloc, &mut marks, question, conflicts)?;
     kept(alloc, &marks, conflicts)
 }
 

@@ -46,8 +46,7 @@ fn ground_in<'a>(
     exhausted(question, earlier, conflict)
 }
 
-/// The ground by which a conflict follows from earlier ones, or nothing where it doesn't follow. Of
-/// several, the first of the four cases is answered.
+/// A ground by which a conflict follows from earlier ones, or nothing where it doesn't follow.
 pub fn ground_of<'a>(
     problem: &'a Problem<'_>,
     earlier: &[Seq<Choice>],
@@ -60,7 +59,7 @@ pub fn ground_of<'a>(
     ground_in(problem.question(), earlier, conflict)
 }
 
-/// The place of the first of the earlier conflicts that the conflict contains with the version at the
+/// The place of one of the earlier conflicts that the conflict contains with the version at the
 /// node put to it, from 0.
 pub fn completed(
     earlier: &[Seq<Choice>],

@@ -1,19 +1,29 @@
 //! Laws of problems and their solutions, each the contract of a function that does nothing.
 
-ghost use Rattle.std.specs.Prelude.{List};
+ghost use Rattle.std.specs.Prelude.{◌≤◌, ℕ, List, Option, length};
 ghost use Rattle.std.specs.List.{Contains};
+ghost use Rattle.pep440.specs.Version.{VersionParts};
+ghost use Rattle.pep508.specs.Requirement.{RequirementParts};
 ghost use Rattle.search.specs.Conflicts.{IsRefutation, IsVersionEquality, LiesInNone};
 ghost use Rattle.search.specs.Rules.{IsLawful};
-ghost use Rattle.search.specs.Solutions.{HasNoSolution};
+ghost use Rattle.search.specs.SetConflicts.{IsSetRefutation, SetLiesInNone};
+ghost use Rattle.search.specs.Solutions.{HasNoSolution, Needed};
+ghost use Rattle.snapshot.specs.Release.{Release};
+ghost use Rattle.problems.specs.Growing.{nodes_met, requirements_met};
 ghost use Rattle.problems.specs.Laws.{AdmissionForgetsKeptVersions};
-ghost use Rattle.problems.specs.Problem.{ProblemParts};
+ghost use Rattle.problems.specs.Problem.{ProblemParts, releases_on};
 ghost use Rattle.problems.specs.Refutations.{ChoiceParts, same_version};
-ghost use Rattle.problems.specs.Rules.{rules_of};
+ghost use Rattle.problems.specs.SetRefutations.{TermParts};
+ghost use Rattle.problems.specs.Rules.{rules_of, wants};
+ghost use Rattle.problems.specs.declared.node.Node.{Node};
 
 use crate::node::Node;
 use pep440::Version;
 use pep508::{Name, Requirement};
-pub use search::laws::{the_best_solution_is_unique, what_follows_lies_in_no_solution};
+pub use search::laws::{
+    the_best_solution_is_unique, what_follows_from_sets_lies_in_no_solution,
+    what_follows_lies_in_no_solution,
+};
 
 /// Which versions a requirement admits doesn't depend on the versions that an earlier lock has.
 pub fn admission_forgets_kept_versions()
@@ -24,6 +34,19 @@ pub fn admission_forgets_kept_versions()
 /// the nodes that it needs are on its name.
 pub fn the_rules_of_a_problem_are_lawful()
     ensures { (given : ProblemParts) → IsLawful (rules_of given) }
+{}
+
+/// Whatever is chosen, the nodes that are needed are among those that the active lines and the releases
+/// of the index ask for. What a release of the index depends on is among what these ask for, so no node
+/// wants more than that.
+pub fn what_is_needed_can_be_met()
+    ensures needed { (given : ProblemParts) (chosen : List ℕ → Option VersionParts) (node : Node)
+        → Needed (rules_of given) chosen node → Contains (nodes_met given) node }
+    ensures dependencies { (given : ProblemParts) (name : List ℕ) (release : Release)
+        (wanted : RequirementParts) → Contains (releases_on given name) release
+        → Contains release.dependencies wanted → Contains (requirements_met given) wanted }
+    ensures few { (given : ProblemParts) (node : Node) (version : VersionParts)
+        → length (wants given node version) ≤ length (requirements_met given) }
 {}
 
 /// The rules of a problem don't tell versions apart that are equal in their order.
@@ -41,4 +64,17 @@ pub fn an_accepted_refutation_leaves_no_solution()
         → Contains conflicts conflict → LiesInNone (rules_of given) same_version conflict }
 {
     what_follows_lies_in_no_solution::<Name, Node, Version, Requirement>();
+}
+
+/// Where a list is a set refutation of a problem, the problem has no solution, and each conflict of
+/// the list lies in none.
+pub fn an_accepted_set_refutation_leaves_no_solution()
+    ensures none { (given : ProblemParts) (conflicts : List (List TermParts))
+        → IsSetRefutation (rules_of given) same_version conflicts
+        → HasNoSolution (rules_of given) }
+    ensures each { (given : ProblemParts) (conflicts : List (List TermParts))
+        → IsSetRefutation (rules_of given) same_version conflicts → (conflict : List TermParts)
+        → Contains conflicts conflict → SetLiesInNone (rules_of given) same_version conflict }
+{
+    what_follows_from_sets_lies_in_no_solution::<Name, Node, Version, Requirement>();
 }

@@ -25,11 +25,13 @@ mod problem;
 mod question;
 mod refutation;
 mod releases;
+mod set_refutation;
 
-pub use crate::checking::check;
+pub use crate::checking::{check, check_sets};
 pub use crate::choice::Choice;
 pub use crate::ground::{Ground, Need};
 pub use crate::grounds::{completed, ground_of};
 pub use crate::node::Node;
 pub use crate::problem::Problem;
 pub use crate::refutation::Refutation;
+pub use crate::set_refutation::{SetRefutation, SetTerm};

@@ -111,7 +111,7 @@ pub(crate) fn needed(
     let mut nodes = Nodes::new(alloc);
     add_lines(alloc, &mut nodes, question.active.as_slice())?;
     let mut at = 0;
-    while at < nodes.as_slice().len() {
+    while at < nodes.len() {
         let node = nodes.as_slice()[at].clone()?;
         follow(alloc, question, versions, &mut nodes, &node)?;
         at += 1;

@@ -1,10 +1,12 @@
 // Nodes and their numbers.
 
-ghost use Rattle.std.specs.Prelude.{◌≡◌, [], false, IfOk, IfSome};
-ghost use Rattle.std.specs.List.{slice_get};
+ghost use Rattle.std.specs.Prelude.{◌≡◌, ◌≢◌, [], false, length, IfOk, MatchOption, OnErr, OnOk, Some};
+ghost use Rattle.std.specs.List.{Contains, slice_get};
 ghost use Rattle.std.specs.Option.{option_copied, option_map_or};
 ghost use Rattle.problems.specs.NodeEquality.{is_asked, is_node};
-ghost use Rattle.problems.specs.Standing.{IsLonger, IsWith, Stands};
+ghost use Rattle.problems.specs.NodeNumbers.{number_at, number_in};
+ghost use Rattle.problems.specs.Standing.{IsLonger, IsOnce, IsWith, Stands};
+ghost use Rattle.problems.specs.declared.node.Node.{Node};
 
 use crate::node::Node;
 use lists::Seq;
@@ -30,14 +32,22 @@ impl Drop for Numbers {
 
 impl Numbers {
     /// The number of the node with this extra or none.
-    fn of(&self, extra: Option<&Name>) -> Option<usize> {
+    fn of(&self, extra: Option<&Name>) -> Option<usize>
+        ensures { result ≡ number_in self.now (option_copied extra.entry) }
+    {
         match extra {
             Some(extra) => self.by_extra.get(extra).copied(),
             None => self.bare,
         }
     }
 
-    fn list(&mut self, extra: Option<&Name>, number: usize) -> Result<(), AllocError> {
+    /// Lets the number of the node with this extra or none be found.
+    fn list(&mut self, extra: Option<&Name>, number: usize) -> Result<(), AllocError>
+        ensures listed { OnOk result
+            (number_in self.new (option_copied extra.entry) ≡ Some number) }
+        ensures others { (other : _) → other ≢ option_copied extra.entry
+            → number_in self.new other ≡ number_in self.old other }
+    {
         match extra {
             Some(extra) => {
                 self.by_extra.insert(extra.clone()?, number)?;
@@ -66,11 +76,14 @@ impl Drop for Nodes {
 
 impl Model for Nodes {
     ghost use Rattle.std.specs.Prelude.{List};
+    ghost use Rattle.problems.specs.NodeNumbers.{AreListed};
     ghost use Rattle.problems.specs.declared.node.Node.{Node};
 
     ghost Value = { List Node };
 
     ghost view = { λ n. n.nodes.items };
+
+    ghost invariant = { λ n. AreListed n.by_name n.nodes.items };
 }
 
 /// Whether the extra that may be there is the one that is asked for.
@@ -101,6 +114,35 @@ pub fn copy_of(name: Option<&Name>) -> Result<Option<Name>, AllocError>
     }
 }
 
+/// Lets a node be found by its name and its extra.
+fn list(
+    by_name: &mut BTreeMap<Name, Numbers>,
+    alloc: Global,
+    name: &Name,
+    extra: Option<&Name>,
+    number: usize,
+) -> Result<(), AllocError>
+    ensures listed { OnOk result
+        (number_at by_name.new (record { name = name.now; extra = option_copied extra.entry })
+        ≡ Some number) }
+    ensures others { (other : Node)
+        → other ≢ record { name = name.now; extra = option_copied extra.entry }
+        → number_at by_name.new other ≡ number_at by_name.old other }
+{
+    match by_name.get_mut(name) {
+        Some(numbers) => numbers.list(extra, number)?,
+        None => {
+            let mut numbers = Numbers {
+                bare: None,
+                by_extra: BTreeMap::new(alloc),
+            };
+            numbers.list(extra, number)?;
+            by_name.insert(name.clone()?, numbers)?;
+        }
+    }
+    Ok(())
+}
+
 impl Nodes {
     /// No nodes.
     pub fn new(alloc: Global) -> Nodes
@@ -127,6 +169,14 @@ impl Nodes {
         self.nodes.as_slice()
     }
 
+    /// How many nodes there are. None is there twice.
+    pub fn len(&self) -> usize
+        ensures count { result ≡ length self.now }
+        ensures once { IsOnce self.now }
+    {
+        self.nodes.len()
+    }
+
     /// Whether the node of this number is the one that is looked for.
     fn is_at(&self, number: usize, name: &Name, extra: Option<&Name>) -> bool
         ensures { result ≡ option_map_or
@@ -141,7 +191,8 @@ impl Nodes {
 
     /// The number of a node that is there.
     fn find(&self, name: &Name, extra: Option<&Name>) -> Option<usize>
-        ensures { IfSome result
+        ensures { MatchOption result
+            (Contains self.now (record { name = name.now; extra = option_copied extra.entry }) → ⊥)
             (λ number. Stands self.now number (record {
               name = name.now;
               extra = option_copied
@@ -153,30 +204,6 @@ impl Nodes {
             return Some(number);
         }
         None
-    }
-
-    /// Lets a node be found by its name and its extra.
-    fn list_by_name(
-        &mut self,
-        alloc: Global,
-        name: &Name,
-        extra: Option<&Name>,
-        number: usize,
-    ) -> Result<(), AllocError>
-        ensures { self.new ≡ self.old }
-    {
-        match self.by_name.get_mut(name) {
-            Some(numbers) => numbers.list(extra, number)?,
-            None => {
-                let mut numbers = Numbers {
-                    bare: None,
-                    by_extra: BTreeMap::new(alloc),
-                };
-                numbers.list(extra, number)?;
-                self.by_name.insert(name.clone()?, numbers)?;
-            }
-        }
-        Ok(())
     }
 
     /// The number of a node, which is put behind the others where it isn't there.
@@ -196,12 +223,13 @@ impl Nodes {
         ensures only { IfOk result
             (λ _. IsWith (record { name = name.now; extra = option_copied extra.entry }) self.old
             self.new) }
+        ensures refused { OnErr result (self.new ≡ self.old) }
     {
         if let Some(number) = self.find(name, extra) {
             return Ok(number);
         }
         let number = self.nodes.len();
-        self.list_by_name(alloc, name, extra, number)?;
+        list(&mut self.by_name, alloc, name, extra, number)?;
         self.nodes.push(Node {
             name: name.clone()?,
             extra: copy_of(extra)?,

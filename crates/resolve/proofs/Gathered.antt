@@ -1,27 +1,69 @@
 -- Requirements that are put behind those that were gathered.
-use Rattle.std.proofs.Common.{◌≡◌, ◌<◌, ◌≤◌, ◌+◌, ℕ, List, [], ◌∷◌, ◌++◌, get_or, length, map, take, sym, subst, arith}
-use Rattle.std.specs.List.{AllZip}
+use Rattle.std.proofs.Common.{◌≡◌, ◌<◌, ◌≤◌, ◌+◌, ◌⊎◌, inl, inr, ℕ, List, [], ◌∷◌, ◌++◌, Contains, get_or, length, map, take, sym, subst, arith}
+use Rattle.std.specs.List.{AllZip, flat_map}
+use Rattle.std.proofs.lemmas.List.Elements.{Contains-append_left, Contains-append_right, Contains-push_cases}
+use Rattle.std.proofs.lemmas.List.{take_all}
 use Rattle.std.proofs.lemmas.Option.{get_or_from_slice_get, slice_get-get_or}
 use Rattle.std.proofs.lemmas.Slice.Zip.{all_zipped_more}
 use Rattle.pep508.specs.Requirement.{RequirementParts}
 use Rattle.search.specs.Table.{asked_nodes}
 use Rattle.search.specs.declared.parts.Requirement.{Requirement as Entry}
 use Rattle.problems.specs.Admission.{admits_release}
+use Rattle.problems.specs.Growing.{requirements_met}
 use Rattle.problems.specs.Problem.{ProblemParts, releases_on}
 use Rattle.problems.specs.Rules.{bare, nodes_of, wants_of, with_extra}
-use Rattle.problems.specs.Standing.{AllStand, IsLonger, Stands}
+use Rattle.problems.specs.Standing.{AllStand, IsLonger, IsWith, Stands}
 use Rattle.problems.specs.declared.node.Node.{Node}
 use Rattle.resolve.specs.Building.{AreEntries, AreWants, Gathered, IsEntry, IsGrown, IsWanted}
+use Rattle.lists.proofs.Members.{Contains-flat_map_of, Contains-here, Contains-there}
+use Rattle.resolve.proofs.Asking.{map-more}
 use Rattle.resolve.proofs.Standing.{AllStand-longer, AllZip-more_same, AllZip-weaker, Stands-longer, length-longer, longer-same, longer-then, take-longer}
 
 IsEntry-longer : (given : ProblemParts) (old new : List Node) → IsLonger old new → (entry : Entry) (wanted : RequirementParts) → IsEntry given old entry wanted → IsEntry given new entry wanted
 IsEntry-longer given old new longer entry wanted is = record { numbers = AllStand-longer old new (asked_nodes entry) (nodes_of wanted) longer is.numbers; admitted = is.admitted }
 
 pub entries-more : (given : ProblemParts) (old new : Gathered) (entry : Entry) (wanted : RequirementParts) → AreEntries given old → IsLonger old.nodes new.nodes → IsEntry given new.nodes entry wanted
-    → new.asked ≡ old.asked ++ wanted ∷ [] → new.entries ≡ old.entries ++ entry ∷ [] → AreEntries given new
-entries-more given old new entry wanted are longer is asked entries =
-    subst (λ ws. AllZip (IsEntry given new.nodes) new.entries ws) (sym asked) (subst (λ es. AllZip (IsEntry given new.nodes) es (old.asked ++ wanted ∷ [])) (sym entries)
-    (all_zipped_more (IsEntry given new.nodes) old.entries old.asked entry wanted (AllZip-weaker (IsEntry given old.nodes) (IsEntry given new.nodes) old.entries old.asked (IsEntry-longer given old.nodes new.nodes longer) are) is))
+    → new.asked ≡ old.asked ++ wanted ∷ [] → new.entries ≡ old.entries ++ entry ∷ [] → Contains (requirements_met given) wanted → ((node : Node) → Contains new.nodes node → Contains old.nodes node ⊎ Contains (nodes_of wanted) node) → AreEntries given new
+entries-more given old new entry wanted are longer is asked entries known only = record {
+  each = subst (λ ws. AllZip (IsEntry given new.nodes) new.entries ws) (sym asked) (subst (λ es. AllZip (IsEntry given new.nodes) es (old.asked ++ wanted ∷ [])) (sym entries)
+      (all_zipped_more (IsEntry given new.nodes) old.entries old.asked entry wanted (AllZip-weaker (IsEntry given old.nodes) (IsEntry given new.nodes) old.entries old.asked (IsEntry-longer given old.nodes new.nodes longer) are.each) is));
+  met = λ node there. elim (only node there) [
+    | inl before ↦ are.met node before
+    | inr now ↦ Contains-flat_map_of nodes_of (requirements_met given) wanted node known now
+  ];
+}
+
+-- what a line asks for can be met
+pub line-met : (given : ProblemParts) (wanted : RequirementParts) → Contains given.active wanted → Contains (requirements_met given) wanted
+line-met given wanted there = Contains-append_left given.active (flat_map (λ p. flat_map (λ release. release.dependencies) p.releases) given.index.packages) wanted there
+
+one-with : (node : Node) (old new : List Node) → IsWith node old new → (other : Node) → Contains new other → Contains old other ⊎ (node ≡ other)
+one-with node old new (inl there) other h = inl (subst (λ nodes. Contains nodes other) there.1 h)
+one-with node old new (inr apart) other h = Contains-push_cases old node other (subst (λ nodes. Contains nodes other) apart.1 h)
+
+-- the nodes of one extra more
+pub only-more : {A : Type 0} (f : A → Node) (old mid new : List Node) (xs : List A) (place : ℕ) (x : A) → place < length xs → x ≡ get_or xs place x → ((node : Node) → Contains mid node → Contains old node ⊎ Contains (map f (take place xs)) node)
+    → IsWith (f x) mid new → (node : Node) → Contains new node → Contains old node ⊎ Contains (map f (take (place + 1) xs)) node
+only-more f old mid new xs place x within is before one node there = subst (λ ys. Contains old node ⊎ Contains ys node) (sym (map-more f xs place x within is))
+    (elim (one-with (f x) mid new one node there) [
+      | inl mine ↦ elim (before node mine) [ inl a ↦ inl a | inr b ↦ inr (Contains-append_left (map f (take place xs)) (f x ∷ []) node b) ]
+      | inr same ↦ inr (Contains-append_right (map f (take place xs)) (f x ∷ []) node (subst (λ y. Contains (f x ∷ []) y) same (Contains-here (f x) [])))
+    ])
+
+-- the nodes of all extras
+pub only-all : {A : Type 0} (f : A → Node) (old new : List Node) (xs : List A) (place : ℕ) → length xs ≤ place → ((node : Node) → Contains new node → Contains old node ⊎ Contains (map f (take place xs)) node) → (node : Node) → Contains new node → Contains old node ⊎ Contains (map f xs) node
+only-all f old new xs place past so_far node there = subst (λ ys. Contains old node ⊎ Contains (map f ys) node) (take_all place xs past) (so_far node there)
+
+-- the nodes of a requirement
+pub only-asked : (wanted : RequirementParts) (old mid new : List Node) → IsWith (bare wanted.name) old mid → ((node : Node) → Contains new node → Contains mid node ⊎ Contains (map (with_extra wanted.name) wanted.extras) node)
+    → (node : Node) → Contains new node → Contains old node ⊎ Contains (nodes_of wanted) node
+only-asked wanted old mid new first extras node there = elim (extras node there) [
+  | inl mine ↦ elim (one-with (bare wanted.name) old mid first node mine) [
+    | inl before ↦ inl before
+    | inr same ↦ inr (subst (λ y. Contains (nodes_of wanted) y) same (Contains-here (bare wanted.name) (map (with_extra wanted.name) wanted.extras)))
+  ]
+  | inr more ↦ inr (Contains-there (bare wanted.name) (map (with_extra wanted.name) wanted.extras) node more)
+]
 
 -- an entry of the numbers that its parts gave
 pub entry-of : (given : ProblemParts) (middle new : List Node) (entry : Entry) (wanted : RequirementParts) → IsLonger middle new → Stands middle entry.node (bare wanted.name) → AllStand new entry.more (map (with_extra wanted.name) wanted.extras)

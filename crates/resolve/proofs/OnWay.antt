@@ -1,40 +1,41 @@
 -- The first walk of a problem, over the entries of maps.
-use Rattle.std.proofs.Common.{◌≡◌, ◌≢◌, ◌⊎◌, inl, inr, ◌∙◌, ℕ, zero, suc, ◌+◌, ◌<◌, ◌≤◌, Bool, true, false, cond, List, [], ◌∷◌, ◌++◌, Option, Some, None, Result, Ok, Err, IfOk, is_some, Contains, Ordering, drop, filter, get_or, length, length-append, map, take, arith, refl, sym, ap, subst, append_assoc, append-nil}
-use Rattle.std.specs.BTreeMap.{BTreeMap, IsLowerBound, Updates, is_at}
-use Rattle.std.specs.Cmp.Lexicographic.{slice_cmp}
+use Rattle.std.proofs.Common.{◌≡◌, ◌≢◌, ◌⊎◌, inl, inr, ◌∙◌, ℕ, zero, suc, ◌+◌, ◌-◌, ◌*◌, ◌<◌, ◌≤◌, Bool, true, false, cond, List, [], ◌∷◌, ◌++◌, Option, Some, None, Result, Ok, Err, IfOk, is_some, Contains, Ordering, drop, filter, get_or, length, length-append, map, mul-le-mul_right, take, arith, refl, sym, ap, subst, append_assoc, append-nil}
+use Rattle.std.specs.BTreeMap.{BTreeMap, IsLowerBound, IsOrdered, Updates, is_at, keys}
+use Rattle.std.specs.Cmp.{IsEquivalence, eq_by_cmp_equiv}
+use Rattle.std.specs.Cmp.Lexicographic.{nat_list_cmp_total, slice_cmp}
 use Rattle.std.specs.Option.{option_map_or}
-use Rattle.std.specs.Ordering.{is_gt, nat_cmp}
+use Rattle.std.specs.Ordering.{eq_by_cmp, is_gt, nat_cmp}
 use Rattle.std.specs.declared.cmp.Ordering.TheVariants.{Greater}
 use Rattle.std.proofs.lemmas.Bool.{cases_Bool}
 use Rattle.std.proofs.lemmas.List.{drop-append-le, drop_all}
+use Rattle.std.proofs.lemmas.List.{length-map}
+use Rattle.std.proofs.lemmas.Map.Keys.{IsDistinct-from_sorted}
+use Rattle.std.proofs.lemmas.Map.Lookups.{exact_bytes}
+use Rattle.std.proofs.lemmas.Map.Made.{length-le_from_is_member}
+use Rattle.std.proofs.lemmas.Map.Views.{Contains-from_any, IsSome-lookup_from_Contains, list_any-from_Contains, tells_apart}
 use Rattle.pep440.specs.Version.{VersionParts}
 use Rattle.pep508.specs.Requirement.{RequirementParts}
 use Rattle.search.specs.FirstWalk.{IsFirst, IsFirstWalk, IsComplete}
 use Rattle.search.specs.Rules.{IsLawful}
-use Rattle.search.specs.Solutions.{IsBest, Pin, version_pinned}
+use Rattle.search.specs.Solutions.{IsBest, Needed, Pin, version_pinned}
 use Rattle.snapshot.specs.Release.{Release}
-use Rattle.lists.proofs.Members.{Contains-here, Contains-there}
+use Rattle.lists.proofs.Members.{Contains-map_of}
 use Rattle.problems.specs.Admission.{admits, release_at}
 use Rattle.problems.specs.Checking.{dependencies_at}
+use Rattle.problems.specs.Growing.{nodes_met, requirements_met}
 use Rattle.problems.specs.Problem.{ProblemParts}
 use Rattle.problems.specs.Rules.{counts, nodes_of, rules_of, wants, wants_of}
 use Rattle.problems.specs.Solutions.{version_for}
-use Rattle.problems.specs.Standing.{IsWith, Stands}
+use Rattle.problems.specs.Standing.{IsOnce, IsWith}
 use Rattle.problems.specs.declared.node.Node.{Node}
 use Rattle.resolve.specs.Choosing.{IsRefusedBy}
 use Rattle.resolve.specs.Walking.{Follow, IsOnWay, IsPlaced, IsTurn, IsWaiting, value_at}
 use Rattle.resolve.proofs.Asking.{map-more}
 use Rattle.resolve.proofs.Preferring.{lookup-get}
 use Rattle.resolve.proofs.Solving.{drop-at}
-use Rattle.resolve.proofs.Walked.{followed-none, followed-then, followed-known, followed-new, walked-complete, walked-meet, walked-start, walked-take, walked-wait}
+use Rattle.resolve.proofs.Walked.{followed-few, followed-none, followed-then, followed-known, followed-new, walked-complete, walked-meet, walked-start, walked-take, walked-wait}
 
 -- ---- nodes that are followed
-
--- what stands at a place is there
-Contains-standing : (nodes : List Node) (place : ℕ) (node : Node) → Stands nodes place node → Contains nodes node
-Contains-standing [] place node stands = absurd cc
-Contains-standing (x ∷ nodes) zero node stands = let e : x ≡ node = cc in subst (λ y. Contains (x ∷ nodes) y) e (Contains-here x nodes)
-Contains-standing (x ∷ nodes) (suc place) node stands = Contains-there x nodes node (Contains-standing nodes place node stands)
 
 -- the dependencies that count at a node are what is wanted there
 pub wants-counted : (given : ProblemParts) (node : Node) (version : VersionParts) → filter (counts given.environment node.extra) (dependencies_at given node.name version) ≡ wants given node version
@@ -58,21 +59,20 @@ follow-then given version first second old mid new asks asks_mid asks_new f g = 
 pub follow-known : (given : ProblemParts) (version : VersionParts) (node : Node) (followed : List Node) (asks : List RequirementParts) → Contains followed node → Follow given version (node ∷ []) followed followed asks asks
 follow-known given version node followed asks known = ([], sym (append-nil asks), followed-known (λ n. wants given n version) node followed known)
 
-pub follow-new : (given : ProblemParts) (version : VersionParts) (node : Node) (followed : List Node) (asks asks_new : List RequirementParts) → asks_new ≡ asks ++ filter (counts given.environment node.extra) (dependencies_at given node.name version)
+pub follow-new : (given : ProblemParts) (version : VersionParts) (node : Node) (followed : List Node) (asks asks_new : List RequirementParts) → (Contains followed node → ⊥) → asks_new ≡ asks ++ filter (counts given.environment node.extra) (dependencies_at given node.name version)
     → Follow given version (node ∷ []) followed (followed ++ node ∷ []) asks asks_new
-follow-new given version node followed asks asks_new e = (wants given node version, e ∙ ap (λ xs. asks ++ xs) (wants-counted given node version), followed-new (λ n. wants given n version) node followed)
+follow-new given version node followed asks asks_new apart e = (wants given node version, e ∙ ap (λ xs. asks ++ xs) (wants-counted given node version), followed-new (λ n. wants given n version) node followed apart)
 
 -- the node was put behind the others
 pub follow-grown : (given : ProblemParts) (version : VersionParts) (node : Node) (old new : List Node) (asks asks_new : List RequirementParts) → IsWith node old new → length old < length new
     → asks_new ≡ asks ++ filter (counts given.environment node.extra) (dependencies_at given node.name version) → Follow given version (node ∷ []) old new asks asks_new
-follow-grown given version node old new asks asks_new (inl same) longer e = absurd (let k : length new ≡ length old = ap length same in omega arith)
-follow-grown given version node old new asks asks_new (inr more) longer e = subst (λ nodes. Follow given version (node ∷ []) old nodes asks asks_new) (sym more) (follow-new given version node old asks asks_new e)
+follow-grown given version node old new asks asks_new (inl there) longer e = absurd (let k : length new ≡ length old = ap length there.1 in omega arith)
+follow-grown given version node old new asks asks_new (inr apart) longer e = subst (λ nodes. Follow given version (node ∷ []) old nodes asks asks_new) (sym apart.1) (follow-new given version node old asks asks_new apart.0 e)
 
 -- the node was there
-pub follow-stayed : (given : ProblemParts) (version : VersionParts) (node : Node) (old new : List Node) (number : ℕ) (asks : List RequirementParts) → IsWith node old new → Stands new number node → length new ≤ length old → Follow given version (node ∷ []) old new asks asks
-follow-stayed given version node old new number asks (inl same) stands short = subst (λ nodes. Follow given version (node ∷ []) old nodes asks asks) (sym same)
-    (follow-known given version node old asks (Contains-standing old number node (subst (λ nodes. Stands nodes number node) same stands)))
-follow-stayed given version node old new number asks (inr more) stands short = absurd (let k : length new ≡ length old + 1 = ap length more ∙ length-append old (node ∷ []) in omega arith)
+pub follow-stayed : (given : ProblemParts) (version : VersionParts) (node : Node) (old new : List Node) (asks : List RequirementParts) → IsWith node old new → length new ≤ length old → Follow given version (node ∷ []) old new asks asks
+follow-stayed given version node old new asks (inl there) short = subst (λ nodes. Follow given version (node ∷ []) old nodes asks asks) (sym there.1) (follow-known given version node old asks there.0)
+follow-stayed given version node old new asks (inr apart) short = absurd (let k : length new ≡ length old + 1 = ap length apart.1 ∙ length-append old (node ∷ []) in omega arith)
 
 -- one more of the nodes is followed
 pub follow-more : {A : Type 0} (given : ProblemParts) (version : VersionParts) (f : A → Node) (old mid new : List Node) (asks asks_mid asks_new : List RequirementParts) (xs : List A) (place : ℕ) (x : A) → place < length xs → x ≡ get_or xs place x
@@ -109,16 +109,18 @@ pub placed-waiting : (given : ProblemParts) → IsLawful (rules_of given) → (t
 placed-waiting given lawful taken waiting waiting_new followed wanted asks none w = (
   [],
   sym (append-nil asks),
+  omega arith,
   λ left way. subst (IsOnWay given taken waiting_new followed) (sym (append-nil left))
       (walked-wait (rules_of given) lawful (value_at taken) (value_at waiting) (value_at waiting_new) followed wanted left w.before way none (row-known (value_at waiting wanted.name) w.before w.row) w.updates
       (λ rs e. row-same (value_at waiting wanted.name) w.before rs w.row e)),
 )
 
-pub placed-followed : (given : ProblemParts) → IsLawful (rules_of given) → (taken : List (List ℕ × VersionParts)) (waiting : List (List ℕ × List RequirementParts)) (followed followed_new : List Node) (wanted : RequirementParts) (version : VersionParts) (asks asks_new : List RequirementParts)
+pub placed-followed : (given : ProblemParts) → IsLawful (rules_of given) → ((node : Node) (v : VersionParts) → length (wants given node v) ≤ length (requirements_met given)) → (taken : List (List ℕ × VersionParts)) (waiting : List (List ℕ × List RequirementParts)) (followed followed_new : List Node) (wanted : RequirementParts) (version : VersionParts) (asks asks_new : List RequirementParts)
     → value_at taken wanted.name ≡ Some version → admits given wanted version ≡ true → Follow given version (nodes_of wanted) followed followed_new asks asks_new → IsPlaced given taken waiting waiting followed followed_new wanted asks asks_new
-placed-followed given lawful taken waiting followed followed_new wanted version asks asks_new some admitted f = (
+placed-followed given lawful few taken waiting followed followed_new wanted version asks asks_new some admitted f = (
   f.0,
   f.1,
+  followed-few (λ node. wants given node version) (nodes_of wanted) followed followed_new f.0 (length (requirements_met given)) (λ node. few node version) f.2,
   λ left way. walked-meet (rules_of given) lawful (value_at taken) (value_at waiting) followed followed_new wanted version left f.0 way some admitted f.2,
 )
 
@@ -129,7 +131,21 @@ settle-more given taken waiting waiting_new followed followed_new wanted asks as
     let after : at + 1 ≡ suc at = omega arith in
     let front : drop at asks ≡ wanted ∷ drop (at + 1) asks = drop-at asks at wanted within is ∙ ap (λ n. wanted ∷ drop n asks) (sym after) in
     let next : drop (at + 1) asks_new ≡ drop (at + 1) asks ++ placed.0 = ap (drop (at + 1)) placed.1 ∙ drop-append-le (at + 1) asks placed.0 (omega arith) in
-    subst (IsOnWay given taken waiting_new followed_new) (sym next) (placed.2 (drop (at + 1) asks) (subst (IsOnWay given taken waiting followed) front way))
+    subst (IsOnWay given taken waiting_new followed_new) (sym next) (placed.3 (drop (at + 1) asks) (subst (IsOnWay given taken waiting followed) front way))
+
+-- then less is left: nodes that may be followed, each with as much as a node can want, and what is there to be placed
+less-left : (all before after old new more at : ℕ) → at < old → new ≡ old + more → more + before ≤ after → after ≤ all → all - after + (new - (at + 1)) < all - before + (old - at)
+less-left all before after old new more at within longer few below = omega arith
+
+pub settle-smaller : (given : ProblemParts) (taken : List (List ℕ × VersionParts)) (waiting waiting_new left : List (List ℕ × List RequirementParts)) (followed followed_new : List Node) (wanted : RequirementParts) (asks asks_new rest : List RequirementParts) (at : ℕ) → at < length asks
+    → IsPlaced given taken waiting waiting_new followed followed_new wanted asks asks_new → IsOnWay given taken left followed_new rest → IsOnce followed_new
+    → ((chosen : List ℕ → Option VersionParts) (node : Node) → Needed (rules_of given) chosen node → Contains (nodes_met given) node)
+    → length (nodes_met given) * length (requirements_met given) - length followed_new * length (requirements_met given) + (length asks_new - (at + 1)) < length (nodes_met given) * length (requirements_met given) - length followed * length (requirements_met given) + (length asks - at)
+settle-smaller given taken waiting waiting_new left followed followed_new wanted asks asks_new rest at within placed way once met =
+    let most : ℕ = length (requirements_met given) in
+    less-left (length (nodes_met given) * most) (length followed * most) (length followed_new * most) (length asks) (length asks_new) (length placed.0) at within
+    (ap length placed.1 ∙ length-append asks placed.0) placed.2
+    (mul-le-mul_right most (once (nodes_met given) (λ node there. met (value_at taken) node (way.needed node there))))
 
 -- all have been placed
 pub settle-end : (given : ProblemParts) (taken : List (List ℕ × VersionParts)) (waiting : List (List ℕ × List RequirementParts)) (followed : List Node) (asks : List RequirementParts) (at : ℕ) → length asks ≤ at → IsOnWay given taken waiting followed (drop at asks)
@@ -169,6 +185,27 @@ longer-by_one (Some v) old new e none = absurd cc
 pub ok-settled : {E : Type 0} (P : Type 0) (r : Result Bool E) → P → IfOk r (λ settled. settled ≡ true → P)
 ok-settled P (Ok settled) p = λ e. p
 ok-settled P (Err e) p = tt
+
+-- no more names are taken than there are nodes that can be met
+name-met : (given : ProblemParts) (taken : List (List ℕ × VersionParts)) (waiting : List (List ℕ × List RequirementParts)) (followed : List Node) (left : List RequirementParts) → IsOnWay given taken waiting followed left
+    → ((chosen : List ℕ → Option VersionParts) (node : Node) → Needed (rules_of given) chosen node → Contains (nodes_met given) node)
+    → (name : List ℕ) (o : Option VersionParts) → value_at taken name ≡ o → is_some o ≡ true → Contains (map (λ (node : Node). node.name) (nodes_met given)) name
+name-met given taken waiting followed left way met name None e some = absurd cc
+name-met given taken waiting followed left way met name (Some version) e some =
+    let k = way.named name version e in
+    subst (λ (n : List ℕ). Contains (map (λ (node : Node). node.name) (nodes_met given)) n) k.2 (Contains-map_of (λ (node : Node). node.name) (nodes_met given) k.0 (met (value_at taken) k.0 k.1))
+
+pub taken-few : (given : ProblemParts) (taken : BTreeMap (List ℕ) VersionParts) (waiting : List (List ℕ × List RequirementParts)) (followed : List Node) (left : List RequirementParts) → IsOrdered (slice_cmp nat_cmp) taken → IsOnWay given taken.entries waiting followed left
+    → ((chosen : List ℕ → Option VersionParts) (node : Node) → Needed (rules_of given) chosen node → Contains (nodes_met given) node) → length taken.entries ≤ length (nodes_met given)
+taken-few given taken waiting followed left ordered way met =
+    let laws : IsEquivalence (eq_by_cmp (slice_cmp nat_cmp)) = eq_by_cmp_equiv nat_list_cmp_total in
+    let names : List (List ℕ) = map (λ (node : Node). node.name) (nodes_met given) in
+    let few : length (keys taken) ≤ length names = length-le_from_is_member laws (keys taken) names (IsDistinct-from_sorted (slice_cmp nat_cmp) (keys taken) ordered)
+    (λ name there. list_any-from_Contains laws name names (name-met given taken.entries waiting followed left way met name (value_at taken.entries name) refl
+    (IsSome-lookup_from_Contains laws name taken.entries (Contains-from_any (tells_apart exact_bytes) name (keys taken) there)))) in
+    let a : length (keys taken) ≡ length taken.entries = length-map taken.entries (λ e. e.0) in
+    let b : length names ≡ length (nodes_met given) = length-map (nodes_met given) (λ (node : Node). node.name) in
+    omega arith
 
 -- ---- the beginning and the end
 

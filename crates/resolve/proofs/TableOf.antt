@@ -16,7 +16,7 @@ use Rattle.resolve.proofs.Standing.{AllStand-longer}
 pub gathered-as : (given : ProblemParts) (first g : Gathered) (names : List (List ℕ)) (t : TableParts) → AreEntries given g → t.requirements ≡ g.entries → IsGrown first g → AllStand first.asked t.lines given.active
     → AllZip (IsWanted given g.asked) t.wants g.nodes → Rising names → AllStand names t.nodes (map (λ (node : Node). node.name) g.nodes) → AreListed given t.candidates names → IsGathered given g names t
 gathered-as given first g names t entries requirements grown lines wanted rising numbers listed = record {
-  entries = subst (λ es. AllZip (IsEntry given g.nodes) es g.asked) (sym requirements) entries;
+  entries = subst (λ es. AllZip (IsEntry given g.nodes) es g.asked) (sym requirements) entries.each;
   lines = AllStand-longer first.asked g.asked t.lines given.active grown.asked_more lines;
   wanted = wanted;
   rising = rising;

@@ -1,12 +1,14 @@
 -- The steps of a first walk, over any rules.
-use Rattle.std.proofs.Common.{◌≡◌, ◌≢◌, ◌⊎◌, inl, inr, ◌∙◌, true, false, cond, List, [], ◌∷◌, ◌++◌, Option, Some, None, Contains, Ordering, refl, sym, ap, subst, append_assoc, append-nil}
+use Rattle.std.proofs.Common.{◌≡◌, ◌≢◌, ◌⊎◌, inl, inr, ◌∙◌, ◌+◌, ◌*◌, ◌≤◌, ℕ, suc, true, false, cond, List, [], ◌∷◌, ◌++◌, Option, Some, None, Contains, Ordering, length, length-append, add-mul, suc-mul, arith, refl, sym, ap, subst, append_assoc, append-nil}
+use Rattle.std.specs.List.{flat_map}
+use Rattle.std.proofs.lemmas.List.Concat.{flat_map-append}
 use Rattle.std.specs.Cmp.{Equal-is}
 use Rattle.std.specs.Ordering.{is_eq}
 use Rattle.std.specs.declared.cmp.Ordering.TheVariants.{Greater}
 use Rattle.std.proofs.lemmas.Bool.{cases_Bool}
 use Rattle.std.proofs.lemmas.Cmp.{tied_itself}
 use Rattle.std.proofs.lemmas.List.Elements.{Contains-append_cases, Contains-append_left, Contains-append_right, Contains-push_cases}
-use Rattle.lists.proofs.Members.{Contains-cons_cases, Contains-here, Contains-nil, Contains-there}
+use Rattle.lists.proofs.Members.{Contains-cons_cases, Contains-flat_map, Contains-flat_map_of, Contains-here, Contains-nil, Contains-there}
 use Rattle.search.specs.FirstWalk.{IsAskedFor, IsFirst, IsFirstWalk, IsRefused, IsComplete}
 use Rattle.search.specs.Rules.{IsLawful, Rules}
 use Rattle.search.specs.Solutions.{IsMet, IsNeededName, IsNext, Needed, Pin, by_dependency, by_line, version_pinned}
@@ -17,6 +19,9 @@ use Rattle.resolve.specs.Walking.{AreFollowed, IsHeld, IsWalked}
 needed-more : {N X V R : Type 0} (rules : Rules N X V R) (p q : N → Option V) → ((n : N) (v : V) → p n ≡ Some v → q n ≡ Some v) → (node : X) → Needed rules p node → Needed rules q node
 needed-more rules p q h _ (by_line r node l i) = by_line r node l i
 needed-more rules p q h _ (by_dependency link v r node k e w i) = by_dependency link v r node (needed-more rules p q h link k) (h (rules.on link) v e) w i
+
+named-more : {N X V R : Type 0} (rules : Rules N X V R) (p q : N → Option V) → ((n : N) (v : V) → p n ≡ Some v → q n ≡ Some v) → (n : N) → IsNeededName rules p n → IsNeededName rules q n
+named-more rules p q h n k = (k.0, needed-more rules p q h k.0 k.1, k.2)
 
 asked-more : {N X V R : Type 0} (rules : Rules N X V R) (p q : N → Option V) → ((n : N) (v : V) → p n ≡ Some v → q n ≡ Some v) → (r : R) → IsAskedFor rules p r → IsAskedFor rules q r
 asked-more rules p q h r (inl line) = inl line
@@ -83,6 +88,8 @@ walked-left rules chosen waiting followed old new w h asked = record {
   walk = w.walk;
   lines = λ x i. held-left rules chosen waiting followed old new h x (w.lines x i);
   linked = λ node i. let k = w.linked node i in (k.0, k.1, λ x j. held-left rules chosen waiting followed old new h x (k.2 x j));
+  named = w.named;
+  needed = w.needed;
   asked = asked;
   waits = w.waits;
   free = w.free;
@@ -105,6 +112,24 @@ held-whole {N} {X} {V} {R} rules law chosen waiting followed w _ (by_dependency 
       | inr (inr left) ↦ absurd (Contains-nil below.0 left)
     ]
 
+-- ---- nodes that are followed
+
+followed-kept : {X R : Type 0} (wants : X → List R) (nodes old new : List X) (more : List R) → AreFollowed wants nodes old new more → (node : X) → Contains old node → Contains new node
+followed-kept wants nodes old new more f node i = subst (λ xs. Contains xs node) (sym f.whole) (Contains-append_left old f.added node i)
+
+-- what is new is one of the nodes, and what is wanted there comes
+followed-new_only : {X R : Type 0} (wants : X → List R) (nodes old new : List X) (more : List R) → AreFollowed wants nodes old new more → (node : X) → Contains new node → Contains old node ⊎ (Contains nodes node × ((r : R) → Contains (wants node) r → Contains more r))
+followed-new_only wants nodes old new more f node i = elim (Contains-append_cases old f.added node (subst (λ xs. Contains xs node) f.whole i)) [
+  | inl before ↦ inl before
+  | inr now ↦ inr ((f.fresh node now).0, λ r j. subst (λ rs. Contains rs r) (sym f.wanted) (Contains-flat_map_of wants f.added node r now j))
+]
+
+-- nothing else comes
+followed-more_only : {X R : Type 0} (wants : X → List R) (nodes old new : List X) (more : List R) → AreFollowed wants nodes old new more → (r : R) → Contains more r → (node : X) × Contains nodes node × Contains (wants node) r
+followed-more_only {X} {R} wants nodes old new more f r i =
+    let k : (node : X) × Contains f.added node × Contains (wants node) r = Contains-flat_map wants f.added r (subst (λ rs. Contains rs r) f.wanted i) in
+    (k.0, (f.fresh k.0 k.1).0, k.2)
+
 -- ---- the steps
 
 pub walked-start : {N X V R : Type 0} (rules : Rules N X V R) (chosen : N → Option V) (waiting : N → Option (List R)) → ((n : N) → chosen n ≡ None) → ((n : N) → waiting n ≡ None) → IsWalked rules chosen waiting [] rules.lines
@@ -114,6 +139,8 @@ walked-start rules chosen waiting none nothing = record {
   walk = tt;
   lines = λ r i. inr (inr i);
   linked = λ node i. absurd (Contains-nil node i);
+  named = λ n v e. absurd (let k : chosen n ≡ None = none n in cc);
+  needed = λ node i. absurd (Contains-nil node i);
   asked = λ r i. inl i;
   waits = λ n rs r e i. absurd (let k = nothing n in cc);
   free = λ n rs e. none n;
@@ -153,6 +180,8 @@ walked-wait {N} {X} {V} {R} rules law chosen waiting waiting_new followed r left
       walk = w.walk;
       lines = λ x i. held x (w.lines x i);
       linked = λ node i. let k = w.linked node i in (k.0, k.1, λ x j. held x (k.2 x j));
+      named = w.named;
+      needed = w.needed;
       asked = λ x i. w.asked x (Contains-there r left x i);
       waits = λ n rs x e i. elim (apart n rs e) [
         | inl mine ↦ elim (Contains-push_cases old r x (subst (λ ys. Contains ys x) mine.1 i)) [
@@ -183,7 +212,7 @@ pub walked-meet : {N X V R : Type 0} (rules : Rules N X V R) (law : IsLawful rul
     → IsWalked rules chosen waiting new (left ++ more)
 walked-meet {N} {X} {V} {R} rules law chosen waiting followed new r v left more w e admits f =
     let held : (x : R) → IsHeld rules chosen waiting followed (r ∷ left) x → IsHeld rules chosen waiting new (left ++ more) x = λ x h. elim h [
-      | inl met ↦ inl (met.0, met.1, met.2, λ node i. f.kept node (met.3 node i))
+      | inl met ↦ inl (met.0, met.1, met.2, λ node i. followed-kept (λ x. rules.wants x v) (rules.nodes r) followed new more f node (met.3 node i))
       | inr (inl waits) ↦ inr (inl waits)
       | inr (inr there) ↦ elim (Contains-cons_cases r left x there) [
         | inl same ↦ subst (λ y. IsHeld rules chosen waiting new (left ++ more) y) same (inl (v, e, admits, f.there))
@@ -195,14 +224,19 @@ walked-meet {N} {X} {V} {R} rules law chosen waiting followed new r v left more 
       same = w.same;
       walk = w.walk;
       lines = λ x i. held x (w.lines x i);
-      linked = λ node i. elim (f.new_only node i) [
+      linked = λ node i. elim (followed-new_only (λ x. rules.wants x v) (rules.nodes r) followed new more f node i) [
         | inl before ↦ let k = w.linked node before in (k.0, k.1, λ x j. held x (k.2 x j))
         | inr now ↦ (v, ap chosen (law.own r node now.0) ∙ e, λ x j. inr (inr (Contains-append_right left more x (now.1 x j))))
+      ];
+      named = w.named;
+      needed = λ node i. elim (followed-new_only (λ x. rules.wants x v) (rules.nodes r) followed new more f node i) [
+        | inl before ↦ w.needed node before
+        | inr now ↦ asked-needed rules chosen r node (w.asked r (Contains-here r left)) now.0
       ];
       asked = λ x i. elim (Contains-append_cases left more x i) [
         | inl before ↦ w.asked x (Contains-there r left x before)
         | inr now ↦
-            let k : (node : X) × Contains (rules.nodes r) node × Contains (rules.wants node v) x = f.more_only x now in
+            let k : (node : X) × Contains (rules.nodes r) node × Contains (rules.wants node v) x = followed-more_only (λ y. rules.wants y v) (rules.nodes r) followed new more f x now in
             inr (k.0, v, asked-needed rules chosen r k.0 (w.asked r (Contains-here r left)) k.1, ap chosen (law.own r k.0 k.1) ∙ e, k.2)
       ];
       waits = w.waits;
@@ -273,6 +307,11 @@ walked-take {N} {X} {V} {R} rules law chosen chosen_new waiting waiting_new foll
       walk = walk-push rules [] w.pins pin w.walk next refused;
       lines = λ x i. held x (w.lines x i);
       linked = λ x i. let k = w.linked x i in (k.0, grows (rules.on x) k.0 k.1, λ r j. held r (k.2 r j));
+      named = λ m u e. elim (cases_Bool (is_eq (rules.compare n m))) [
+        | inl one ↦ subst (λ k. IsNeededName rules chosen_new k) (tied-same rules law n m one) (named-more rules chosen chosen_new grows n needed)
+        | inr other ↦ named-more rules chosen chosen_new grows m (w.named m u (sym (ap (λ b. cond b (Some v) (chosen m)) other) ∙ sym (updates m) ∙ e))
+      ];
+      needed = λ x i. needed-more rules chosen chosen_new grows x (w.needed x i);
       asked = λ r i. asked-more rules chosen chosen_new grows r (w.waits n rs r row i).1;
       waits = λ m ss r e i. let k = w.waits m ss r (others m ss e).1 i in (k.0, asked-more rules chosen chosen_new grows r k.1);
       free = λ m ss e. let o = others m ss e in updates m ∙ ap (λ b. cond b (Some v) (chosen m)) o.0 ∙ w.free m ss o.1;
@@ -301,57 +340,68 @@ walked-complete {N} {X} {V} {R} rules law chosen waiting followed w nothing =
           ];
     }
 
--- ---- nodes that are followed
+-- ---- nodes that are followed, one list after the other
 
 pub followed-none : {X R : Type 0} (wants : X → List R) (followed : List X) → AreFollowed wants [] followed followed []
 followed-none wants followed = record {
-  kept = λ node i. i;
+  added = [];
+  whole = sym (append-nil followed);
+  wanted = refl;
+  fresh = λ node i. absurd (Contains-nil node i);
   there = λ node i. absurd (Contains-nil node i);
-  new_only = λ node i. inl i;
-  more_only = λ r i. absurd (Contains-nil r i);
 }
 
 pub followed-then : {X R : Type 0} (wants : X → List R) (first second old mid new : List X) (more more_too : List R) → AreFollowed wants first old mid more → AreFollowed wants second mid new more_too
     → AreFollowed wants (first ++ second) old new (more ++ more_too)
 followed-then {X} {R} wants first second old mid new more more_too f g = record {
-  kept = λ node i. g.kept node (f.kept node i);
+  added = f.added ++ g.added;
+  whole = g.whole ∙ ap (λ nodes. nodes ++ g.added) f.whole ∙ append_assoc old f.added g.added;
+  wanted = ap (λ rs. rs ++ more_too) f.wanted ∙ ap (λ rs. flat_map wants f.added ++ rs) g.wanted ∙ sym (flat_map-append wants f.added g.added);
+  fresh = λ node i. elim (Contains-append_cases f.added g.added node i) [
+    | inl a ↦ let k = f.fresh node a in (Contains-append_left first second node k.0, k.1)
+    | inr b ↦ let k = g.fresh node b in (Contains-append_right first second node k.0, λ before. k.1 (followed-kept wants first old mid more f node before))
+  ];
   there = λ node i. elim (Contains-append_cases first second node i) [
-    | inl a ↦ g.kept node (f.there node a)
+    | inl a ↦ followed-kept wants second mid new more_too g node (f.there node a)
     | inr b ↦ g.there node b
-  ];
-  new_only = λ node i. elim (g.new_only node i) [
-    | inl m ↦ elim (f.new_only node m) [
-      | inl before ↦ inl before
-      | inr a ↦ inr (Contains-append_left first second node a.0, λ r j. Contains-append_left more more_too r (a.1 r j))
-    ]
-    | inr b ↦ inr (Contains-append_right first second node b.0, λ r j. Contains-append_right more more_too r (b.1 r j))
-  ];
-  more_only = λ r i. elim (Contains-append_cases more more_too r i) [
-    | inl a ↦ let k = f.more_only r a in (k.0, Contains-append_left first second k.0 k.1, k.2)
-    | inr b ↦ let k = g.more_only r b in (k.0, Contains-append_right first second k.0 k.1, k.2)
   ];
 }
 
 -- a node that is there
 pub followed-known : {X R : Type 0} (wants : X → List R) (node : X) (followed : List X) → Contains followed node → AreFollowed wants (node ∷ []) followed followed []
 followed-known {X} {R} wants node followed known = record {
-  kept = λ x i. i;
+  added = [];
+  whole = sym (append-nil followed);
+  wanted = refl;
+  fresh = λ x i. absurd (Contains-nil x i);
   there = λ x i. elim (Contains-cons_cases node [] x i) [ inl e ↦ subst (λ y. Contains followed y) e known | inr none ↦ absurd (Contains-nil x none) ];
-  new_only = λ x i. inl i;
-  more_only = λ r i. absurd (Contains-nil r i);
 }
 
 -- a node that is put behind the others
-pub followed-new : {X R : Type 0} (wants : X → List R) (node : X) (followed : List X) → AreFollowed wants (node ∷ []) followed (followed ++ node ∷ []) (wants node)
-followed-new {X} {R} wants node followed = record {
-  kept = λ x i. Contains-append_left followed (node ∷ []) x i;
+pub followed-new : {X R : Type 0} (wants : X → List R) (node : X) (followed : List X) → (Contains followed node → ⊥) → AreFollowed wants (node ∷ []) followed (followed ++ node ∷ []) (wants node)
+followed-new {X} {R} wants node followed apart = record {
+  added = node ∷ [];
+  whole = refl;
+  wanted = sym (append-nil (wants node));
+  fresh = λ x i. elim (Contains-cons_cases node [] x i) [ inl e ↦ (i, subst (λ y. Contains followed y → ⊥) e apart) | inr none ↦ absurd (Contains-nil x none) ];
   there = λ x i. Contains-append_right followed (node ∷ []) x i;
-  new_only = λ x i. elim (Contains-append_cases followed (node ∷ []) x i) [
-    | inl before ↦ inl before
-    | inr this ↦ elim (Contains-cons_cases node [] x this) [
-      | inl e ↦ inr (this, λ r j. subst (λ y. Contains (wants y) r) (sym e) j)
-      | inr none ↦ absurd (Contains-nil x none)
-    ]
-  ];
-  more_only = λ r i. (node, Contains-here node [], i);
 }
+
+-- ---- how much comes with them
+
+few-more : (one all most here behind : ℕ) → here ≤ most → behind ≤ one * most → all ≡ here + behind → all ≤ suc one * most
+few-more one all most here behind h k e = let m : suc one * most ≡ one * most + most = suc-mul one most in omega arith
+
+wanted-few : {X R : Type 0} (wants : X → List R) (most : ℕ) → ((node : X) → length (wants node) ≤ most) → (added : List X) → length (flat_map wants added) ≤ length added * most
+wanted-few wants most few [] = omega arith
+wanted-few wants most few (node ∷ added) =
+    few-more (length added) (length (flat_map wants (node ∷ added))) most (length (wants node)) (length (flat_map wants added)) (few node) (wanted-few wants most few added) (length-append (wants node) (flat_map wants added))
+
+few-together : (more wanted added old new : ℕ) → wanted ≤ added → more ≡ wanted → new ≡ old + added → more + old ≤ new
+few-together more wanted added old new few e n = omega arith
+
+-- no more than the new nodes can want
+pub followed-few : {X R : Type 0} (wants : X → List R) (nodes old new : List X) (more : List R) (most : ℕ) → ((node : X) → length (wants node) ≤ most) → AreFollowed wants nodes old new more → length more + length old * most ≤ length new * most
+followed-few wants nodes old new more most few f =
+    few-together (length more) (length (flat_map wants f.added)) (length f.added * most) (length old * most) (length new * most) (wanted-few wants most few f.added) (ap length f.wanted)
+    (ap (λ k. k * most) (ap length f.whole ∙ length-append old f.added) ∙ add-mul (length old) (length f.added) most)

@@ -1,11 +1,12 @@
 -- What is gathered for a table.
 -- Tied to `rules_of` by the contract of `Resolver::resolve`; need not be read.
 use Rattle.std.specs.Prelude.{◌≡◌, ℕ, List, map}
-use Rattle.std.specs.List.{AllZip}
+use Rattle.std.specs.List.{AllZip, Contains}
 use Rattle.pep508.specs.Requirement.{RequirementParts}
 use Rattle.search.specs.Table.{asked_nodes}
 use Rattle.search.specs.declared.parts.Requirement.{Requirement as Entry}
 use Rattle.problems.specs.Admission.{admits_release}
+use Rattle.problems.specs.Growing.{nodes_met}
 use Rattle.problems.specs.Problem.{ProblemParts, releases_on}
 use Rattle.problems.specs.Rules.{nodes_of, wants_of}
 use Rattle.problems.specs.Standing.{AllStand, IsLonger}
@@ -22,8 +23,10 @@ pub record IsEntry (given : ProblemParts) (nodes : List Node) (entry : Entry) (w
   pub numbers : AllStand nodes (asked_nodes entry) (nodes_of wanted)
   pub admitted : entry.admits ≡ map (admits_release given wanted) (releases_on given wanted.name)
 
-abbrev pub AreEntries : ProblemParts → Gathered → Type 0
-AreEntries given gathered = AllZip (IsEntry given gathered.nodes) gathered.entries gathered.asked
+-- each requirement has its entry, and each node is one that a walk can meet
+pub record AreEntries (given : ProblemParts) (gathered : Gathered) : Type 0 where
+  pub each : AllZip (IsEntry given gathered.nodes) gathered.entries gathered.asked
+  pub met : (node : Node) → Contains gathered.nodes node → Contains (nodes_met given) node
 
 -- nodes and requirements are put behind those that are there
 pub record IsGrown (old new : Gathered) : Type 0 where

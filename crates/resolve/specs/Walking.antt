@@ -1,9 +1,9 @@
 -- What a first walk keeps true.
 -- Tied to `IsBest` by the contract of `first_walk`; need not be read.
-use Rattle.std.specs.Prelude.{◌≡◌, ◌≢◌, ◌⊎◌, ℕ, true, cond, List, [], ◌∷◌, ◌++◌, Option, Some, None}
+use Rattle.std.specs.Prelude.{◌≡◌, ◌≢◌, ◌⊎◌, ◌+◌, ◌*◌, ◌≤◌, ℕ, true, cond, List, [], ◌∷◌, ◌++◌, Option, Some, None, length}
 use Rattle.std.specs.BTreeMap.{is_at}
 use Rattle.std.specs.Cmp.Lexicographic.{slice_cmp}
-use Rattle.std.specs.List.{Contains}
+use Rattle.std.specs.List.{Contains, flat_map}
 use Rattle.std.specs.Map.{lookup}
 use Rattle.std.specs.Ordering.{nat_cmp}
 use Rattle.std.specs.declared.cmp.Ordering.TheVariants.{Greater}
@@ -11,7 +11,8 @@ use Rattle.pep440.specs.Version.{VersionParts}
 use Rattle.pep508.specs.Requirement.{RequirementParts}
 use Rattle.search.specs.FirstWalk.{IsAskedFor, IsFirstWalk}
 use Rattle.search.specs.Rules.{Rules}
-use Rattle.search.specs.Solutions.{Pin, version_pinned}
+use Rattle.search.specs.Solutions.{IsNeededName, Needed, Pin, version_pinned}
+use Rattle.problems.specs.Growing.{requirements_met}
 use Rattle.problems.specs.Problem.{ProblemParts}
 use Rattle.problems.specs.Rules.{rules_of, wants}
 use Rattle.problems.specs.declared.node.Node.{Node}
@@ -29,6 +30,8 @@ pub record IsWalked {N X V R : Type 0} (rules : Rules N X V R) (chosen : N → O
   pub walk : IsFirstWalk rules [] pins
   pub lines : (r : R) → Contains rules.lines r → IsHeld rules chosen waiting followed left r
   pub linked : (node : X) → Contains followed node → (v : V) × (chosen (rules.on node) ≡ Some v) × ((r : R) → Contains (rules.wants node v) r → IsHeld rules chosen waiting followed left r)
+  pub named : (n : N) (v : V) → chosen n ≡ Some v → IsNeededName rules chosen n
+  pub needed : (node : X) → Contains followed node → Needed rules chosen node
   pub asked : (r : R) → Contains left r → IsAskedFor rules chosen r
   pub waits : (n : N) (rs : List R) (r : R) → waiting n ≡ Some rs → Contains rs r → (rules.name r ≡ n) × IsAskedFor rules chosen r
   pub free : (n : N) (rs : List R) → waiting n ≡ Some rs → chosen n ≡ None
@@ -42,12 +45,13 @@ value_at entries name = lookup (is_at (slice_cmp nat_cmp name)) entries
 abbrev pub IsOnWay : ProblemParts → List (List ℕ × VersionParts) → List (List ℕ × List RequirementParts) → List Node → List RequirementParts → Type 0
 IsOnWay given taken waiting followed left = IsWalked (rules_of given) (value_at taken) (value_at waiting) followed left
 
--- the nodes are followed: what is wanted at those that weren't before is more
+-- the nodes are followed: those that weren't before stand behind the others, and what is wanted at each of these is more
 pub record AreFollowed {X R : Type 0} (wants : X → List R) (nodes old new : List X) (more : List R) : Type 0 where
-  pub kept : (node : X) → Contains old node → Contains new node
+  pub added : List X
+  pub whole : new ≡ old ++ added
+  pub wanted : more ≡ flat_map wants added
+  pub fresh : (node : X) → Contains added node → Contains nodes node × (Contains old node → ⊥)
   pub there : (node : X) → Contains nodes node → Contains new node
-  pub new_only : (node : X) → Contains new node → Contains old node ⊎ (Contains nodes node × ((r : R) → Contains (wants node) r → Contains more r))
-  pub more_only : (r : R) → Contains more r → (node : X) × Contains nodes node × Contains (wants node) r
 
 -- the same of nodes of a problem whose name has the version; what is wanted is put behind what is left
 abbrev pub Follow : ProblemParts → VersionParts → List Node → List Node → List Node → List RequirementParts → List RequirementParts → Type 0
@@ -59,10 +63,10 @@ pub record IsWaiting (old new : List (List ℕ × List RequirementParts)) (wante
   pub row : (value_at old wanted.name ≡ Some before) ⊎ ((value_at old wanted.name ≡ None) × (before ≡ []))
   pub updates : (name : List ℕ) → value_at new name ≡ cond (is_at (slice_cmp nat_cmp wanted.name) name) (Some (before ++ wanted ∷ [])) (value_at old name)
 
--- what was left is led on without the requirement, with what came behind it
+-- what was left is led on without the requirement, with what came behind it: no more than the nodes that are newly followed can want
 abbrev pub IsPlaced : ProblemParts → List (List ℕ × VersionParts) → List (List ℕ × List RequirementParts) → List (List ℕ × List RequirementParts) → List Node → List Node → RequirementParts → List RequirementParts → List RequirementParts → Type 0
 IsPlaced given taken waiting waiting_new followed followed_new wanted asks asks_new =
-    (more : List RequirementParts) × (asks_new ≡ asks ++ more)
+    (more : List RequirementParts) × (asks_new ≡ asks ++ more) × (length more + length followed * length (requirements_met given) ≤ length followed_new * length (requirements_met given))
     × ((left : List RequirementParts) → IsOnWay given taken waiting followed (wanted ∷ left) → IsOnWay given taken waiting_new followed_new (left ++ more))
 
 -- the name that was the least of those that wait, and what waited with it

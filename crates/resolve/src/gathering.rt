@@ -1,15 +1,20 @@
 // Nodes and requirements, gathered for a table.
 
-ghost use Rattle.std.specs.Prelude.{◌≡◌, ◌<◌, [], length, map, IfOk};
-ghost use Rattle.std.specs.List.{AllZip};
+ghost use Rattle.std.specs.Prelude.{◌≡◌, ◌<◌, ◌⊎◌, [], length, map, IfOk};
+ghost use Rattle.std.specs.List.{AllZip, Contains};
 ghost use Rattle.std.specs.Option.{option_copied};
+ghost use Rattle.pep508.specs.Requirement.{RequirementParts};
+ghost use Rattle.problems.specs.Growing.{requirements_met};
 ghost use Rattle.problems.specs.Rules.{wants_of, with_extra};
 ghost use Rattle.problems.specs.Standing.{AllStand, IsLonger, Stands};
+ghost use Rattle.problems.specs.declared.node.Node.{Node};
+ghost use Rattle.snapshot.specs.Release.{Release};
 ghost use Rattle.resolve.specs.Building.{AreEntries, AreWants, IsGrown, IsWanted};
 
 use lists::Seq;
 use pep508::{Name, Requirement};
 use problems::Node;
+use problems::laws::what_is_needed_can_be_met;
 use problems::parts::{Nodes, Question, admissions, counts};
 use search::Requirement as Entry;
 use snapshot::Release;
@@ -57,6 +62,9 @@ fn extras_of(
     wanted: &Requirement,
 ) -> Result<Seq<usize>, AllocError>
     ensures longer { IfOk result (λ _. IsLonger nodes.old nodes.new) }
+    ensures only { IfOk result (λ _. (node : Node) → Contains nodes.new node
+        → Contains nodes.old node ⊎ Contains (map (with_extra wanted.now.name) wanted.now.extras)
+        node) }
     ensures numbers { IfOk result
         (λ numbers. AllStand nodes.new numbers (map (with_extra wanted.now.name)
         wanted.now.extras)) }
@@ -88,6 +96,7 @@ impl<'q> Gathering<'q> {
         question: &Question<'_>,
         wanted: &'q Requirement,
     ) -> Result<usize, AllocError>
+        requires met { Contains (requirements_met question.now) wanted.now }
         requires entries { AreEntries question.now self.old }
         ensures entries { IfOk result (λ _. AreEntries question.now self.new) }
         ensures grown { IfOk result (λ _. IsGrown self.old self.new) }
@@ -130,6 +139,8 @@ impl<'q> Gathering<'q> {
         extra: Option<&Name>,
         release: &'q Release,
     ) -> Result<Seq<usize>, AllocError>
+        requires met { (wanted : RequirementParts) → Contains release.now.dependencies wanted
+            → Contains (requirements_met question.now) wanted }
         requires entries { AreEntries question.now self.old }
         ensures entries { IfOk result (λ _. AreEntries question.now self.new) }
         ensures grown { IfOk result (λ _. IsGrown self.old self.new) }
@@ -157,6 +168,9 @@ impl<'q> Gathering<'q> {
         node: &Node,
         releases: &'q [Release],
     ) -> Result<Seq<Seq<usize>>, AllocError>
+        requires met { (release : Release) → Contains releases.now release
+            → (wanted : RequirementParts) → Contains release.dependencies wanted
+            → Contains (requirements_met question.now) wanted }
         requires entries { AreEntries question.now self.old }
         ensures entries { IfOk result (λ _. AreEntries question.now self.new) }
         ensures grown { IfOk result (λ _. IsGrown self.old self.new) }
@@ -186,6 +200,7 @@ impl<'q> Gathering<'q> {
         ensures rows { IfOk result (λ rows. (node : _) → Stands self.old.nodes number node
             → IsWanted question.now self.new.asked rows node) }
     {
+        what_is_needed_can_be_met();
         let node = self.nodes.as_slice()[number].clone()?;
         let releases = question.releases(&node.name);
         self.ask_releases(alloc, question, &node, releases)
@@ -204,7 +219,7 @@ impl<'q> Gathering<'q> {
             (λ wants. AllZip (IsWanted question.now self.new.asked) wants self.new.nodes) }
     {
         let mut wants = Vec::new(alloc);
-        'nodes: while wants.len() < self.nodes.as_slice().len() {
+        'nodes: while wants.len() < self.nodes.len() {
             let rows = self.ask_node(alloc, question, wants.len())?;
             wants.push(rows)?;
         }

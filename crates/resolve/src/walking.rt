@@ -2,7 +2,7 @@
 // and never goes back. Where it comes to its end, it has found the best solution, and has looked only at
 // what it met.
 
-ghost use Rattle.std.specs.Prelude.{◌≡◌, ◌<◌, ◌+◌, ◌^◌, [], IfOk, IfSome, length, true};
+ghost use Rattle.std.specs.Prelude.{◌≡◌, ◌+◌, [], IfOk, IfSome, length, true};
 ghost use Rattle.search.specs.Solutions.{IsBest};
 ghost use Rattle.problems.specs.Rules.{rules_of};
 ghost use Rattle.problems.specs.Solutions.{version_for};
@@ -14,7 +14,7 @@ use crate::following::follow_all;
 use pep440::Version;
 use pep508::{Name, Requirement};
 use problems::Node;
-use problems::laws::the_rules_of_a_problem_are_lawful;
+use problems::laws::{the_rules_of_a_problem_are_lawful, what_is_needed_can_be_met};
 use problems::parts::{Nodes, Question, admits};
 use search::laws;
 use std::alloc::{AllocError, Global};
@@ -55,6 +55,7 @@ fn place<'q>(
         followed.old followed.new wanted.now asks.old asks.new) }
 {
     the_rules_of_a_problem_are_lawful();
+    what_is_needed_can_be_met();
     match taken.get(wanted.name()) {
         None => {
             wait(alloc, waiting, wanted)?;
@@ -84,6 +85,7 @@ fn settle<'q>(
         (λ settled. settled ≡ true
         → IsOnWay question.now taken.now.entries waiting.new.entries followed.new []) }
 {
+    what_is_needed_can_be_met();
     let mut asks = asks;
     let mut at = 0;
     while at < asks.len() {
@@ -91,6 +93,8 @@ fn settle<'q>(
         if !place(alloc, question, taken, waiting, followed, wanted, &mut asks)? {
             return Ok(false);
         }
+        // No node is followed twice, so this ends.
+        let _count = followed.len();
         at += 1;
     }
     Ok(true)
@@ -114,10 +118,8 @@ fn take<'q>(
     ensures longer { IfOk result
         (λ settled. settled ≡ true
         → length taken.new.entries ≡ length taken.old.entries + 1) }
-    ensures small { length taken.old.entries < 2 ^ 63 }
 {
     the_rules_of_a_problem_are_lawful();
-    let _count = taken.len();
     let Some(version) = first_admitted(question, &name, &asks) else {
         return Ok(false);
     };
@@ -136,6 +138,7 @@ pub(crate) fn first_walk(
         (λ versions. IsBest (rules_of question.now) (version_for versions.entries))) }
 {
     the_rules_of_a_problem_are_lawful();
+    what_is_needed_can_be_met();
     laws::a_first_walk_finds_the_best_solution::<Name, Node, Version, Requirement>();
     let mut taken = BTreeMap::new(alloc);
     let mut waiting = BTreeMap::new(alloc);
@@ -156,6 +159,8 @@ pub(crate) fn first_walk(
         )? {
             return Ok(None);
         }
+        // Each name that is taken is needed, so this ends.
+        let _count = taken.len();
     }
     Ok(Some(taken))
 }

@@ -1,9 +1,18 @@
 -- The names that requirements lead to, as they are followed.
-use Rattle.std.proofs.Common.{◌≡◌, ◌+◌, ◌≤◌, ◌<◌, ◌++◌, ℕ, List, [], ◌∷◌, Contains, Option, Some, None, length, take, get_or, map, true, refl, sym, ap, ◌∙◌, subst, inl, inr, arith, append_assoc, append-nil}
+use Rattle.std.proofs.Common.{◌≡◌, ◌≢◌, ◌+◌, ◌≤◌, ◌<◌, ◌++◌, ℕ, List, [], ◌∷◌, Contains, Option, Some, None, length, take, get_or, map, true, refl, sym, ap, ◌∙◌, subst, inl, inr, arith, append_assoc, append-nil}
 use Rattle.std.proofs.lemmas.List.{length-append, map-append, take-append-le, take_more}
 use Rattle.std.proofs.Math.Seq.{take-length}
 use Rattle.std.proofs.lemmas.List.Elements.{Contains-append_cases, Contains-append_left, Contains-append_right, Contains-get_or}
-use Rattle.std.specs.List.{AllByRecursion}
+use Rattle.std.specs.Bool.{Decides}
+use Rattle.std.specs.Cmp.{IsEquivalence, eq_by_cmp_equiv}
+use Rattle.std.specs.Cmp.Lexicographic.{nat_list_cmp_total, slice_cmp}
+use Rattle.std.specs.List.{AllByRecursion, AllPairs, flat_map}
+use Rattle.std.specs.Ordering.{eq_by_cmp, nat_cmp}
+use Rattle.std.proofs.lemmas.List.Quantifiers.{all_pairs_push}
+use Rattle.std.proofs.lemmas.Map.Made.{IsDistinct-from_AllPairs, length-le_from_is_member}
+use Rattle.std.proofs.lemmas.Map.Text.{is_eq-slice_cmp}
+use Rattle.std.proofs.lemmas.Map.Views.{Contains-from_any, list_any-from_Contains}
+use Rattle.std.proofs.lemmas.Slice.Eq.{bytes_eq-Decides}
 use Rattle.markers.specs.Environment.{Texts}
 use Rattle.pep508.specs.Requirement.{RequirementParts, requirement_of}
 use Rattle.problems.specs.Problem.{active_in, requirements}
@@ -12,9 +21,10 @@ use Rattle.pylock.specs.Locks.{are_entries}
 use Rattle.pylock.specs.Packages.{EntryParts}
 use Rattle.states.specs.Changes.{entry_on}
 use Rattle.states.specs.State.{Reached, by_entry, by_line}
-use Rattle.states.specs.Tied.Deciding.{AreReached, IsGrown, needs_of}
+use Rattle.states.specs.Tied.Deciding.{AreReached, IsGrown, names_met, needs_of}
 use Rattle.states.proofs.EntryFacts.{entry-from, entry-there}
-use Rattle.lists.proofs.Members.{Contains-cons_cases, Contains-map, Contains-map_of, Contains-nil}
+use Rattle.problems.specs.Standing.{IsOnce}
+use Rattle.lists.proofs.Members.{Contains-cons_cases, Contains-flat_map_of, Contains-map, Contains-map_of, Contains-nil, get_or-any}
 
 -- ---- names that are put behind others
 
@@ -151,3 +161,26 @@ each-reached active all (e ∷ rest) names are =
 pub reached-alike : (active : List RequirementParts) (entries : List EntryParts) (names : List (List ℕ)) → AreReached active entries names
     → (AllByRecursion (λ e. Contains names e.name) entries → AllByRecursion (λ e. Reached active entries e.name) entries) × (AllByRecursion (λ e. Reached active entries e.name) entries → AllByRecursion (λ e. Contains names e.name) entries)
 reached-alike active entries names are = each-reached active entries entries names are
+
+-- ---- names that stand once
+
+-- with a name that isn't there
+pub once-pushed : (names : List (List ℕ)) (name : List ℕ) → AllPairs (λ x y. x ≢ y) names → (Contains names name → ⊥) → AllPairs (λ x y. x ≢ y) (names ++ name ∷ [])
+once-pushed names name apart fresh = all_pairs_push (λ x y. x ≢ y) names name apart (λ k d within e. fresh (k, within, get_or-any names k name d within ∙ e))
+
+-- no list that has them is shorter
+pub once-few : (names : List (List ℕ)) → AllPairs (λ x y. x ≢ y) names → IsOnce names
+once-few names apart = λ others within.
+    let laws : IsEquivalence (eq_by_cmp (slice_cmp nat_cmp)) = eq_by_cmp_equiv nat_list_cmp_total in
+    length-le_from_is_member laws names others (IsDistinct-from_AllPairs name-decides names apart)
+    (λ name there. list_any-from_Contains laws name others (within name (Contains-from_any (λ x y h. (name-decides x y).0 h) name names there)))
+  where
+    name-decides : (x y : List ℕ) → Decides (eq_by_cmp (slice_cmp nat_cmp) x y) (x ≡ y)
+    name-decides x y = subst (λ b. Decides b (x ≡ y)) (sym (is_eq-slice_cmp x y)) (bytes_eq-Decides x y)
+
+-- a name that is reached is one that a requirement or an entry names
+pub reached-met : (active : List RequirementParts) (entries : List EntryParts) (name : List ℕ) → Reached active entries name → Contains (names_met active entries) name
+reached-met active entries _ (by_line wanted there) =
+    Contains-append_left (map (λ w. w.name) active) (flat_map (λ e. e.dependencies) entries) wanted.name (Contains-map_of (λ w. w.name) active wanted there)
+reached-met active entries _ (by_entry e name there reached asked) =
+    Contains-append_right (map (λ w. w.name) active) (flat_map (λ e. e.dependencies) entries) name (Contains-flat_map_of (λ e. e.dependencies) entries e name there asked)

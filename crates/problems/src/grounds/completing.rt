@@ -12,7 +12,7 @@ use lists::Seq;
 use pep440::Version;
 use pep508::Name;
 
-/// The place of the first of the earlier conflicts that the conflict contains with the version at the
+/// The place of one of the earlier conflicts that the conflict contains with the version at the
 /// node put to it, from 0.
 pub(crate) fn first_completed(
     earlier: &[Seq<Choice>],

@@ -1,7 +1,7 @@
 -- Whether a lock is one for lines in an environment, as it is decided.
 -- Tied to `IsState` by the contract of `State::new`; need not be read.
-use Rattle.std.specs.Prelude.{◌≡◌, ◌++◌, ℕ, List, Option, Some, None, []}
-use Rattle.std.specs.List.{AllByRecursion, Contains}
+use Rattle.std.specs.Prelude.{◌≡◌, ◌++◌, ℕ, List, Option, Some, None, [], map}
+use Rattle.std.specs.List.{AllByRecursion, Contains, flat_map}
 use Rattle.markers.specs.Environment.{Texts}
 use Rattle.pep508.specs.Requirement.{RequirementParts, requirement_of}
 use Rattle.problems.specs.Problem.{active_in}
@@ -36,3 +36,7 @@ pub record IsGrown (old new asked : List (List ℕ)) : Type 0 where
 pub record AreReached (active : List RequirementParts) (entries : List EntryParts) (names : List (List ℕ)) : Type 0 where
   pub sound : (name : List ℕ) → Contains names name → Reached active entries name
   pub whole : (name : List ℕ) → Reached active entries name → Contains names name
+
+-- the names that requirements and entries name: no others can be reached
+abbrev pub names_met : List RequirementParts → List EntryParts → List (List ℕ)
+names_met active entries = map (λ wanted. wanted.name) active ++ flat_map (λ e. e.dependencies) entries

@@ -1,9 +1,10 @@
 // The names that active lines lead to, through names of dependencies.
 
-ghost use Rattle.std.specs.Prelude.{◌≡◌, ◌↔◌, ◌++◌, ◌∷◌, ◌<◌, [], length, map, IfOk, IsTrue, OnOk, true};
+ghost use Rattle.std.specs.Prelude.{◌≡◌, ◌↔◌, ◌++◌, ◌∷◌, ◌<◌, [], length, map, IfOk, IsTrue, OnErr, OnOk, true};
 ghost use Rattle.std.specs.List.{AllByRecursion, Contains, slice_index_or};
 ghost use Rattle.pep508.specs.Requirement.{requirement_of};
 ghost use Rattle.problems.specs.Problem.{active_in, requirements};
+ghost use Rattle.problems.specs.Standing.{IsOnce};
 ghost use Rattle.pylock.specs.Locks.{are_entries};
 ghost use Rattle.states.specs.Changes.{entry_on};
 ghost use Rattle.states.specs.State.{Reached};
@@ -33,14 +34,16 @@ impl Drop for Names {
 }
 
 impl Model for Names {
-    ghost use Rattle.std.specs.Prelude.{◌≡◌, ℕ, List, []};
+    ghost use Rattle.std.specs.Prelude.{◌≡◌, ◌≢◌, ℕ, List, []};
+    ghost use Rattle.std.specs.List.{AllPairs};
     ghost use Rattle.states.specs.Dependencies.{with_names};
 
     ghost Value = { List (List ℕ) };
 
     ghost view = { λ n. n.listed.items };
 
-    ghost invariant = { λ n. n.known.keys ≡ with_names [] n.listed.items };
+    ghost invariant = { λ n. (n.known.keys ≡ with_names [] n.listed.items)
+        × AllPairs (λ name other. name ≢ other) n.listed.items };
 }
 
 impl Names {
@@ -59,6 +62,14 @@ impl Names {
         self.listed.as_slice()
     }
 
+    /// How many names there are. None is there twice.
+    fn len(&self) -> usize
+        ensures count { result ≡ length self.now }
+        ensures once { IsOnce self.now }
+    {
+        self.listed.len()
+    }
+
     /// Whether the name is one of these.
     fn has(&self, name: &Name) -> bool
         ensures { IsTrue result ↔ Contains self.now name.now }
@@ -66,9 +77,12 @@ impl Names {
         self.known.contains(name)
     }
 
-    /// Puts the name behind the others. Where the set has no room, it leaves the list again.
+    /// Puts a name that isn't there behind the others. Where the set has no room, it leaves the list
+    /// again.
     fn push(&mut self, name: &Name) -> Result<(), AllocError>
-        ensures { OnOk result (self.new ≡ self.old ++ name.now ∷ []) }
+        requires { Contains self.old name.now → ⊥ }
+        ensures pushed { OnOk result (self.new ≡ self.old ++ name.now ∷ []) }
+        ensures refused { OnErr result (self.new ≡ self.old) }
     {
         let key = name.clone()?;
         self.listed.push(name.clone()?)?;
@@ -82,7 +96,8 @@ impl Names {
 
 /// Puts the name behind the others, unless it is one of them.
 fn add(names: &mut Names, name: &Name) -> Result<(), AllocError>
-    ensures { OnOk result (IsGrown names.old names.new (name.now ∷ [])) }
+    ensures grown { OnOk result (IsGrown names.old names.new (name.now ∷ [])) }
+    ensures once { OnOk result (Contains names.old name.now → names.new ≡ names.old) }
 {
     if names.has(name) {
         return Ok(());
@@ -148,7 +163,7 @@ fn reached_names(
     let mut names = Names::new(alloc);
     add_lines(&mut names, environment, lines)?;
     let mut followed = 0;
-    while followed < names.as_slice().len() {
+    while followed < names.len() {
         follow(&mut names, entries, followed)?;
         followed += 1;
     }

@@ -1,8 +1,9 @@
 use Rattle.std.proofs.Common.{◌<◌, ◌≤◌, length, length-append, arith, ap, ◌∙◌}
 use Rattle.problems.specs.Problem.{ProblemParts}
-use Rattle.problems.specs.Growing.{Grows, nodes_linked}
+use Rattle.problems.specs.Growing.{Grows, nodes_linked, nodes_met}
 use Rattle.problems.specs.Solutions.{version_for}
 use Rattle.problems.proofs.Closing.{closing-end, closing-start, closing-step}
+use Rattle.problems.proofs.NodesMet.{needed-met}
 use Rattle.problems.proofs.needed.needed.Goals as goal
 
 pub loop-at-init : goal.loop-at-init
@@ -17,8 +18,8 @@ loop-at-init c =
 pub loop-at-preserved : goal.loop-at-preserved
 loop-at-preserved c =
     let node = c.index-as_slice-at.result in
-    let within : c.loop-at.at < length c.loop-at.nodes = rw c.as_slice-in-loop-at.ensures at c.loop-at-test.true in
-    let is = rw c.as_slice-in-loop-at-2.ensures at c.index-as_slice-at.is in
+    let within : c.loop-at.at < length c.loop-at.nodes = rw c.len.ensures.count at c.loop-at-test.true in
+    let is = rw c.as_slice-in-loop-at.ensures at c.index-as_slice-at.is in
     let grown : Grows c.loop-at.nodes c.follow.new.nodes (nodes_linked c.args.question.now node (version_for c.args.versions.now.entries node.name)) = rw c.in_ok-node.ensures.cases at c.in_ok-follow.ensures in
     let longer = ap length grown.extended in
     record {
@@ -28,5 +29,11 @@ loop-at-preserved c =
 
 pub returns : goal.returns
 returns c =
-    let past : length c.loop-at.nodes ≤ c.loop-at.at = rw c.as_slice-in-loop-at.ensures at c.loop-at-test.false in
+    let past : length c.loop-at.nodes ≤ c.loop-at.at = rw c.len.ensures.count at c.loop-at-test.false in
     rw c.into_seq.ensures (closing-end c.args.question.now (version_for c.args.versions.now.entries) c.loop-at.nodes c.loop-at.at c.loop-at.invariant.closing past)
+
+pub loop-at-smaller : goal.loop-at-smaller
+loop-at-smaller c =
+    let within : c.loop-at.at < length c.loop-at.nodes = rw c.len.ensures.count at c.loop-at-test.true in
+    let few : length c.loop-at.nodes ≤ length (nodes_met c.args.question.now) = c.len.ensures.once (nodes_met c.args.question.now) (λ node there. needed-met c.args.question.now (version_for c.args.versions.now.entries) node (c.loop-at.invariant.closing.sound node there)) in
+    omega arith

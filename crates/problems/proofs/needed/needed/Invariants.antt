@@ -1,6 +1,7 @@
-use Rattle.std.proofs.Common.{◌-◌, ◌^◌, ◌≤◌, length}
+use Rattle.std.proofs.Common.{◌-◌, ◌≤◌, length}
 use Rattle.problems.proofs.Closing.{IsClosing}
 use Rattle.problems.proofs.needed.needed.Given as goal
+use Rattle.problems.specs.Growing.{nodes_met}
 use Rattle.problems.specs.Solutions.{version_for}
 
 abbrev pub invariant-loop-at : goal.invariant-loop-at
@@ -9,6 +10,6 @@ invariant-loop-at l = record {
   within : l.at ≤ length l.nodes;
 }
 
--- the places that a list may still have
+-- the nodes that may still be followed
 abbrev pub decreases-loop-at : goal.decreases-loop-at
-decreases-loop-at l = 2 ^ 64 - l.at
+decreases-loop-at l = length (nodes_met l.question) - l.at

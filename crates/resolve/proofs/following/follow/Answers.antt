@@ -16,4 +16,4 @@ pub returns-else-as_slice-before : goal.returns-else-as_slice-before
 returns-else-as_slice-before c =
     let node : Node = record { name = c.args.name.now; extra = option_copied c.args.extra } in
     let short = rw (c.as_slice-before.ensures, c.as_slice.ensures) at c.if-as_slice-before.false in
-    follow-stayed c.args.question.now c.args.version.now node c.args.followed.now c.number_of.new.self c.in_ok-number_of.field-0 c.args.asks.now c.in_ok-number_of.ensures.only c.in_ok-number_of.ensures.number short
+    follow-stayed c.args.question.now c.args.version.now node c.args.followed.now c.number_of.new.self c.args.asks.now c.in_ok-number_of.ensures.only short

@@ -1,10 +1,11 @@
-use Rattle.std.proofs.Common.{◌-◌, ◌^◌, drop}
+use Rattle.std.proofs.Common.{◌-◌, ◌+◌, ◌*◌, drop, length}
+use Rattle.problems.specs.Growing.{nodes_met, requirements_met}
 use Rattle.resolve.specs.Walking.{IsOnWay}
 use Rattle.resolve.proofs.walking.settle.Given as goal
 
 abbrev pub invariant-loop-at : goal.invariant-loop-at
 invariant-loop-at l = IsOnWay l.question l.taken.entries l.waiting.entries l.followed (drop l.at l.asks)
 
--- the places that a list may still have
+-- what the nodes that may still be followed can want, and what is to be placed
 abbrev pub decreases-loop-at : goal.decreases-loop-at
-decreases-loop-at l = 2 ^ 64 - l.at
+decreases-loop-at l = length (nodes_met l.question) * length (requirements_met l.question) - length l.followed * length (requirements_met l.question) + (length l.asks - l.at)

@@ -1,8 +1,9 @@
-use Rattle.std.proofs.Common.{◌≡◌, None, length, sym, subst, map, arith}
+use Rattle.std.proofs.Common.{◌≡◌, ℕ, List, None, length, sym, subst, map, arith}
 use Rattle.search.specs.declared.parts.Requirement.{Requirement as Entry}
-use Rattle.problems.specs.Standing.{Stands}
+use Rattle.problems.specs.Rules.{bare}
+use Rattle.problems.specs.Standing.{IsWith, Stands}
 use Rattle.resolve.specs.Building.{AreEntries, Gathered, IsGrown}
-use Rattle.resolve.proofs.Gathered.{entries-more, entry-of}
+use Rattle.resolve.proofs.Gathered.{entries-more, entry-of, only-asked}
 use Rattle.resolve.proofs.Standing.{map-pushed, Stands-last_map, longer-push_as, longer-then}
 use Rattle.resolve.proofs.gathering.Gathering.ask.Goals as goal
 
@@ -16,7 +17,8 @@ returns-clause-entries c =
     (entry-of c.args.question.now c.number_of.new.self new.nodes entry c.args.wanted.now c.in_ok-more.ensures.longer
     (subst (λ name. Stands c.number_of.new.self c.in_ok-node.node (record { name = name; extra = None })) c.name.ensures c.in_ok-node.ensures.number) c.in_ok-more.ensures.numbers c.in_ok-admits.ensures)
     (map-pushed (λ wanted. wanted.now) c.self.inside.asked.items c.push-2.new.self.items c.args.wanted c.in_ok-push-2.ensures.items)
-    c.in_ok-push.ensures.items
+    c.in_ok-push.ensures.items c.requires.met
+    (only-asked c.args.wanted.now old.nodes c.number_of.new.self new.nodes (subst (λ (name : List ℕ). IsWith (bare name) c.self.inside.nodes c.number_of.new.self) c.name.ensures c.in_ok-node.ensures.only) c.in_ok-more.ensures.only)
 
 pub returns-clause-grown : goal.returns-clause-grown
 returns-clause-grown c =

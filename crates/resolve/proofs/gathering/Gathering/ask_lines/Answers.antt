@@ -1,6 +1,9 @@
-use Rattle.std.proofs.Common.{take, arith}
+use Rattle.std.proofs.Common.{◌∙◌, List, Contains, ap, sym, subst, take, arith}
 use Rattle.std.proofs.lemmas.Grind.{common_steps}
+use Rattle.pep508.specs.Requirement.{RequirementParts}
+use Rattle.problems.specs.Problem.{ProblemParts}
 use Rattle.problems.specs.Standing.{Stands}
+use Rattle.resolve.proofs.Gathered.{line-met}
 use Rattle.resolve.proofs.Standing.{AllStand-longer, AllZip-more_same}
 use Rattle.resolve.proofs.gathering.Gathering.ask_lines.Goals as goal
 
@@ -15,3 +18,8 @@ loop-wanted-preserved c =
 
 pub returns : goal.returns
 returns c = grind (arith, common_steps)
+
+pub ask-requires-clause-met : goal.ask-requires-clause-met
+ask-requires-clause-met c =
+    let lines = c.as_slice-lines.ensures ∙ ap (λ (given : ProblemParts). given.active) c.question.view_is in
+    line-met c.args.question.now c.wanted-item.result (subst (λ (wanted : List RequirementParts). Contains wanted c.wanted-item.result) lines (c.loop-wanted.wanted-index, c.loop-wanted-test.true, sym c.wanted-item.is))

@@ -1,5 +1,6 @@
-use Rattle.std.proofs.Common.{◌≡◌, ◌∙◌, ap, ◌<◌, ◌≤◌, ◌+◌, List, length, subst, sym, take, vec_len, arith}
+use Rattle.std.proofs.Common.{◌≡◌, ap, ◌<◌, ◌≤◌, ◌+◌, List, Contains, length, subst, sym, take, vec_len, arith}
 use Rattle.std.specs.List.{AllZip}
+use Rattle.problems.specs.Growing.{nodes_met}
 use Rattle.problems.specs.Standing.{Stands}
 use Rattle.problems.specs.declared.node.Node.{Node}
 use Rattle.resolve.specs.Building.{Gathered, IsWanted}
@@ -10,7 +11,7 @@ use Rattle.resolve.proofs.gathering.Gathering.ask_nodes.Goals as goal
 pub nodes-preserved : goal.nodes-preserved
 nodes-preserved c =
     let count = vec_len c.nodes.wants in
-    let within : count < length c.nodes.self.nodes = subst (λ (ns : List Node). count < length ns) (c.as_slice.ensures ∙ ap (λ (g : Gathered). g.nodes) c.self.view_is) (subst (λ n. n < length c.as_slice.result.now) c.len.ensures c.nodes-test.true) in
+    let within : count < length c.nodes.self.nodes = subst (λ (ns : List Node). count < length ns) (ap (λ (g : Gathered). g.nodes) c.self.view_is) (let e = c.len-in-nodes.ensures.count in let k = c.len.ensures in let t = c.nodes-test.true in omega arith) in
     let longer : length c.nodes.self.nodes ≤ length c.ask_node.new.self.nodes = length-longer c.nodes.self.nodes c.ask_node.new.self.nodes c.in_ok-rows.ensures.grown.nodes_more in
     let pushed : vec_len c.push.new.self ≡ count + 1 = c.in_ok-push.ensures.len in (
       c.in_ok-rows.ensures.entries,
@@ -18,5 +19,14 @@ nodes-preserved c =
       omega arith,
       subst (λ n. AllZip (IsWanted c.args.question.now c.ask_node.new.self.asked) c.push.new.self.items (take n c.ask_node.new.self.nodes)) (sym pushed)
           (wants-more c.args.question.now c.nodes.self c.ask_node.new.self c.nodes.wants.items c.push.new.self.items c.in_ok-rows.rows count within c.in_ok-rows.ensures.grown c.nodes.invariant.3
-          (subst (λ n. (node : Node) → Stands c.nodes.self.nodes n node → IsWanted c.args.question.now c.ask_node.new.self.asked c.in_ok-rows.rows node) c.len-in-nodes.ensures c.in_ok-rows.ensures.rows) c.in_ok-push.ensures.items),
+          (subst (λ n. (node : Node) → Stands c.nodes.self.nodes n node → IsWanted c.args.question.now c.ask_node.new.self.asked c.in_ok-rows.rows node) c.len-in-nodes-2.ensures c.in_ok-rows.ensures.rows) c.in_ok-push.ensures.items),
     )
+
+pub nodes-smaller : goal.nodes-smaller
+nodes-smaller c =
+    let count = vec_len c.nodes.wants in
+    let within : count < length c.self.inside.nodes = let e = c.len-in-nodes.ensures.count in let k = c.len.ensures in let t = c.nodes-test.true in omega arith in
+    let few : length c.self.inside.nodes ≤ length (nodes_met c.args.question.now) = c.len-in-nodes.ensures.once (nodes_met c.args.question.now)
+    (λ node there. c.nodes.invariant.0.met node (subst (λ (g : Gathered). Contains g.nodes node) c.self.view_is there)) in
+    let pushed : vec_len c.push.new.self ≡ count + 1 = c.in_ok-push.ensures.len in
+    omega arith

@@ -1,11 +1,12 @@
 use Rattle.std.proofs.Common.{◌≤◌, ◌-◌, length, take, vec_len}
 use Rattle.std.specs.List.{AllZip}
+use Rattle.problems.specs.Growing.{nodes_met}
 use Rattle.resolve.specs.Building.{AreEntries, IsGrown, IsWanted}
 use Rattle.resolve.proofs.gathering.Gathering.ask_nodes.Given as goal
 
--- each turn follows one node more, and a list has no more of them than its length can tell
+-- the nodes that may still be followed
 abbrev pub decreases-nodes : goal.decreases-nodes
-decreases-nodes l = 18446744073709551615 - vec_len l.wants
+decreases-nodes l = length (nodes_met l.question) - vec_len l.wants
 
 abbrev pub invariant-nodes : goal.invariant-nodes
 invariant-nodes l = AreEntries l.question l.self × IsGrown l.fn.self l.self × (vec_len l.wants ≤ length l.self.nodes) × AllZip (IsWanted l.question l.self.asked) l.wants.items (take (vec_len l.wants) l.self.nodes)

@@ -1,5 +1,6 @@
-use Rattle.std.proofs.Common.{◌≡◌, true, false, filter, subst, sym, take, option_copied, arith}
+use Rattle.std.proofs.Common.{◌≡◌, List, Contains, true, false, filter, subst, sym, take, option_copied, arith}
 use Rattle.std.proofs.lemmas.Grind.{common_steps}
+use Rattle.pep508.specs.Requirement.{RequirementParts}
 use Rattle.problems.specs.Problem.{ProblemParts}
 use Rattle.problems.specs.Rules.{counts}
 use Rattle.problems.specs.Standing.{Stands}
@@ -30,3 +31,7 @@ loop-wanted-preserved c =
 
 pub returns : goal.returns
 returns c = grind (arith, common_steps)
+
+pub ask-requires-clause-met : goal.ask-requires-clause-met
+ask-requires-clause-met c =
+    c.requires.met c.wanted-item.result (subst (λ (wanted : List RequirementParts). Contains wanted c.wanted-item.result) c.dependencies-dependencies.ensures (c.loop-wanted.wanted-index, c.loop-wanted-test.true, sym c.wanted-item.is))

@@ -1,0 +1,83 @@
+// Whether a list of conflicts of sets is a refutation of a problem. None of it has a refusal.
+
+ghost use Rattle.std.specs.Prelude.{◌≡◌, ◌↔◌, ◌++◌, ◌∷◌, [], IsTrue, List};
+ghost use Rattle.search.specs.SetConflicts.{EachSetFollows, IsSetRefutation, SetFollows};
+ghost use Rattle.search.specs.Solutions.{HasNoSolution};
+ghost use Rattle.problems.specs.Refutations.{same_version};
+ghost use Rattle.problems.specs.SetRefutations.{TermParts};
+ghost use Rattle.problems.specs.Rules.{rules_of};
+
+mod clashing;
+mod completing;
+mod exhausting;
+mod listing;
+mod refusing;
+
+use crate::checking::sets::clashing::sets_clash;
+use crate::checking::sets::completing::each_version_completes;
+use crate::checking::sets::exhausting::no_candidate_left;
+use crate::checking::sets::refusing::line_refuses_set;
+use crate::laws;
+use crate::problem::Problem;
+use crate::question::Question;
+use crate::set_refutation::{SetRefutation, SetTerm};
+use lists::Seq;
+
+/// Whether a conflict follows from earlier ones.
+fn follows(question: &Question<'_>, earlier: &[Seq<SetTerm>], conflict: &[SetTerm]) -> bool
+    ensures { IsTrue result
+        ↔ SetFollows (rules_of question.now) same_version earlier.now conflict.now }
+{
+    if line_refuses_set(question, conflict) {
+        return true;
+    }
+    if each_version_completes(earlier, conflict) {
+        return true;
+    }
+    if sets_clash(question, conflict) {
+        return true;
+    }
+    no_candidate_left(question, earlier, conflict)
+}
+
+/// Whether each conflict follows from those before it.
+fn each_follows(question: &Question<'_>, conflicts: &[Seq<SetTerm>]) -> bool
+    ensures { IsTrue result
+        ↔ EachSetFollows (rules_of question.now) same_version [] conflicts.now }
+{
+    for place in 0..conflicts.len() {
+        if !follows(question, &conflicts[..place], conflicts[place].as_slice()) {
+            return false;
+        }
+    }
+    true
+}
+
+/// Whether the last conflict is empty.
+fn ends_empty(conflicts: &[Seq<SetTerm>]) -> bool
+    ensures { IsTrue result ↔ ((front : List (List TermParts)) × (conflicts.now
+        ≡ front ++ [] ∷ [])) }
+{
+    match conflicts.last() {
+        Some(last) => last.is_empty(),
+        None => false,
+    }
+}
+
+/// Whether these conflicts are a refutation of what is asked.
+fn is_refutation(question: &Question<'_>, conflicts: &[Seq<SetTerm>]) -> bool
+    ensures { IsTrue result ↔ IsSetRefutation (rules_of question.now) same_version conflicts.now }
+{
+    ends_empty(conflicts) && each_follows(question, conflicts)
+}
+
+/// Whether each conflict follows from those before it and the last one is empty, whoever made the
+/// list. Then the problem has no solution.
+pub fn check_sets(problem: &Problem<'_>, refutation: &SetRefutation) -> bool
+    ensures accepted { IsTrue result
+        ↔ IsSetRefutation (rules_of problem.now) same_version refutation.now }
+    ensures none { IsTrue result → HasNoSolution (rules_of problem.now) }
+{
+    laws::an_accepted_set_refutation_leaves_no_solution();
+    is_refutation(problem.question(), refutation.conflicts())
+}
