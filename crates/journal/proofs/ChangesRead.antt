@@ -16,7 +16,8 @@ use Rattle.journal.specs.Values.{State}
 use Rattle.journal.specs.Changes.{AreSteps, IsChange}
 use Rattle.journal.specs.Format.Lines.{step_in}
 use Rattle.journal.specs.Format.Written.{step_data}
-use Rattle.journal.proofs.StepsBack.{AreDigests, IsDigest, IsEntryOn, IsLawfulChange, ReadsVersions, step-back}
+use Rattle.journal.specs.declared.format.header.Header.{Header}
+use Rattle.journal.proofs.StepsBack.{AreDigests, IsDigest, IsEntryOn, IsLawfulChange, ReadsVersions, ReadsWritten, step-back}
 
 entry-on : (entries : List EntryParts) (name : List ℕ) (o : Option EntryParts) → AllByRecursion IsPackage entries → entry_on entries name ≡ o → IsEntryOn name o
 entry-on entries name None all at = tt
@@ -47,23 +48,24 @@ digests-of : (digests : Option DigestChange) (old new : LockParts) → IsLock ol
 digests-of None old new h g is = tt
 digests-of (Some d) old new h g is = (subst IsDigest is.0 (digest-of old h), subst IsDigest is.1 (digest-of new g))
 
--- a change from one state to another is read back
-change-back : ReadsVersions → (old : State) (change : ChangeParts) (new : State) → IsState old → IsState new → IsChange old change new → step_in (step_data change) ≡ Ok change
-change-back reads old change new h g is =
-    step-back reads change
-    (lawful-changes old.lock.entries new.lock.entries h.lock.lawful.entries g.lock.lawful.entries change.entries is.leads.lock.entries.changed is.minimal.entries.each)
-    (digests-of change.digests old.lock new.lock h.lock.lawful g.lock.lawful is.leads.lock.digest)
-
--- a minimal change that is read back
-pub record IsRead (change : ChangeParts) : Type 0 where
+-- a minimal change that is read back behind this header
+pub record IsRead (header : Header) (change : ChangeParts) : Type 0 where
   pub minimal : IsMinimal change
-  pub back : step_in (step_data change) ≡ Ok change
+  pub back : step_in header (step_data change) ≡ Ok change
 
--- the changes of a history are read back
-pub changes-read : ReadsVersions → (states : List State) (changes : List ChangeParts) → AreSteps states changes → AllByRecursion IsState states → AllByRecursion IsRead changes
-changes-read reads [] changes steps lawful = absurd steps
-changes-read reads (s ∷ []) [] steps lawful = tt
-changes-read reads (s ∷ []) (c ∷ cs) steps lawful = absurd steps
-changes-read reads (s ∷ t ∷ states) [] steps lawful = absurd steps
-changes-read reads (s ∷ t ∷ states) (c ∷ cs) steps lawful =
-    (record { minimal = steps.0.minimal; back = change-back reads s c t lawful.0 lawful.1.0 steps.0 }, changes-read reads (t ∷ states) cs steps.1 lawful.1)
+module _ (reads : ReadsVersions) (header : Header) (written : ReadsWritten header) where
+  -- a change from one state to another is read back
+  change-back : (old : State) (change : ChangeParts) (new : State) → IsState old → IsState new → IsChange old change new → step_in header (step_data change) ≡ Ok change
+  change-back old change new h g is =
+      step-back reads header written change
+      (lawful-changes old.lock.entries new.lock.entries h.lock.lawful.entries g.lock.lawful.entries change.entries is.leads.lock.entries.changed is.minimal.entries.each)
+      (digests-of change.digests old.lock new.lock h.lock.lawful g.lock.lawful is.leads.lock.digest)
+
+  -- the changes of a history are read back
+  pub changes-read : (states : List State) (changes : List ChangeParts) → AreSteps states changes → AllByRecursion IsState states → AllByRecursion (IsRead header) changes
+  changes-read [] changes steps lawful = absurd steps
+  changes-read (s ∷ []) [] steps lawful = tt
+  changes-read (s ∷ []) (c ∷ cs) steps lawful = absurd steps
+  changes-read (s ∷ t ∷ states) [] steps lawful = absurd steps
+  changes-read (s ∷ t ∷ states) (c ∷ cs) steps lawful =
+      (record { minimal = steps.0.minimal; back = change-back s c t lawful.0 lawful.1.0 steps.0 }, changes-read (t ∷ states) cs steps.1 lawful.1)

@@ -10,7 +10,8 @@ use Rattle.serde_json.specs.Data.{Data, depth, items_depth, string}
 use Rattle.serde_json.specs.Read.{max_depth}
 use Rattle.serde_json.specs.View.{items_of}
 use Rattle.journal.specs.declared.format.header.Header.{Header}
-use Rattle.journal.specs.Format.Written.{digests_data, entry_change_data, entry_data, environment_data, file_data, header_data, nullable, splice_data, step_data}
+use Rattle.journal.specs.declared.format.header.HeaderTarget.{HeaderTarget}
+use Rattle.journal.specs.Format.Written.{digests_data, entry_change_data, entry_data, environment_data, file_data, header_data, nullable, splice_data, step_data, target_data}
 
 module _ {X : Type 0} (form : X → Data) (n : ℕ) (within : (x : X) → depth (form x) ≤ n) where
   array-depth : (xs : List X) → items_depth (items_of (map form xs)) ≤ n
@@ -64,7 +65,11 @@ step-depth c =
     let digests = nullable-depth digests_data 1 digests-depth c.digests in
     omega (arith, entries, splices, digests)
 
--- a header nests two
+target-depth : (t : HeaderTarget) → depth (target_data t) ≤ 2
+unfolding target_data environment_data
+target-depth t = omega arith
+
+-- a header nests four
 pub header-depth : (h : Header) → depth (header_data h) ≤ max_depth
-unfolding header_data environment_data
-header-depth h = omega arith
+unfolding header_data
+header-depth h = let targets = array-depth target_data 2 target-depth h.targets in omega (arith, targets)

@@ -15,7 +15,7 @@ use Rattle.serde_json.specs.View.{items_view, view}
 use Rattle.serde_json.specs.declared.value.Value.{Value}
 use Rattle.journal.specs.declared.format.flaw.Flaw.{Flaw}
 use Rattle.journal.specs.declared.format.flaw.Flaw.TheVariants.{OtherForm, OutOfMemory}
-use Rattle.journal.specs.Format.Forms.{◌>>=◌, counts, each, json_of, only_keys, three_in, two_in}
+use Rattle.journal.specs.Format.Forms.{◌>>=◌, counts, each, four_in, json_of, only_keys, three_in, two_in}
 use Rattle.journal.specs.Format.Lines.{cut_line}
 
 not_json_by : (b : Bool) (bytes : List ℕ) → is_utf8 bytes ≡ b → (IsUtf8 bytes → read bytes ≡ None) → json_of bytes ≡ Err OtherForm
@@ -40,6 +40,14 @@ three_in-other (v ∷ []) h = refl
 three_in-other (v ∷ w ∷ []) h = refl
 three_in-other (v ∷ w ∷ x ∷ []) h = absurd (h refl)
 three_in-other (v ∷ w ∷ x ∷ y ∷ vs) h = refl
+
+pub four_in-other : (vs : List Value) → length vs ≢ 4 → four_in (items_view vs) ≡ None
+four_in-other [] h = refl
+four_in-other (v ∷ []) h = refl
+four_in-other (v ∷ w ∷ []) h = refl
+four_in-other (v ∷ w ∷ x ∷ []) h = refl
+four_in-other (v ∷ w ∷ x ∷ y ∷ []) h = absurd (h refl)
+four_in-other (v ∷ w ∷ x ∷ y ∷ z ∷ vs) h = refl
 
 -- what was read so far, before what is still to be read
 abbrev pub before : {A : Type 0} → List A → Result (List A) Flaw → Result (List A) Flaw

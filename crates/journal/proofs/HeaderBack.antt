@@ -1,5 +1,6 @@
 -- The JSON value of a header is read as the header that it was written for.
 use Rattle.std.proofs.Common.{◌≡◌, ◌≤◌, true, List, [], ◌∷◌, length, map, Some, Ok, refl, ap, ◌∙◌, arith}
+use Rattle.std.specs.List.{AllByRecursion}
 use Rattle.std.specs.Prelude.{nat_le}
 use Rattle.std.proofs.lemmas.Bool.Decides.{nat_tests}
 use Rattle.markers.specs.Environment.{IsEnvironment, Texts, all_variables, text_in, text_of, texts_in}
@@ -8,11 +9,15 @@ use Rattle.markers.specs.declared.variable.Variable.{Variable}
 use Rattle.markers.specs.declared.variable.Variable.TheVariants as variables
 use Rattle.serde_json.specs.Data.{string}
 use Rattle.serde_json.specs.Find.{get}
+use Rattle.serde_json.specs.View.{items_of}
 use Rattle.journal.specs.declared.format.header.Header.{Header}
-use Rattle.journal.specs.Format.Lines.{environment_in, header_in}
-use Rattle.journal.specs.Format.Written.{environment_data, header_data}
+use Rattle.journal.specs.declared.format.header.HeaderTarget.{HeaderTarget}
+use Rattle.journal.specs.declared.format.header.JournalVersion.TheVariants.{Two}
+use Rattle.journal.specs.Format.Forms.{each}
+use Rattle.journal.specs.Format.Lines.{environment_in, header_in, target_in, targets_in}
+use Rattle.journal.specs.Format.Written.{environment_data, header_data, target_data}
 use Rattle.journal.proofs.KeptTexts.{kept-lawful}
-use Rattle.journal.proofs.StepsBack.{IsDigest, digest-back}
+use Rattle.journal.proofs.StepsBack.{Back, IsDigest, digest-back, list-back}
 
 text-at : (texts : Texts) (variable : Variable) → get (variable_name variable) (environment_data texts) ≡ Some (string (text_of texts variable))
 unfolding environment_data
@@ -49,19 +54,32 @@ environment_by texts all = rw all refl
 environment-back : (texts : Texts) → IsEnvironment texts → environment_in (environment_data texts) ≡ Ok texts
 environment-back texts h = environment_by texts (texts-back texts h all_variables ∙ ap (λ t. Ok t) (eleven texts h.count))
 
+-- what a target has to have to be read back
+pub record IsTarget (t : HeaderTarget) : Type 0 where
+  pub environment : IsEnvironment t.environment
+  pub lock : IsDigest t.lock
+
+target_by : (t : HeaderTarget) → environment_in (environment_data t.environment) ≡ Ok t.environment → IsDigest t.lock → target_in (target_data t) ≡ Ok t
+unfolding target_in target_data
+target_by t environment lock = rw (environment, digest-back t.lock lock) refl
+
+targets-back : (ts : List HeaderTarget) → AllByRecursion IsTarget ts → Back target_data target_in ts
+targets-back [] h = tt
+targets-back (t ∷ ts) h = (target_by t (environment-back t.environment h.0.environment) h.0.lock, targets-back ts h.1)
+
 -- what a header has to have to be read back
 pub record IsHeader (h : Header) : Type 0 where
-  pub environment : IsEnvironment h.environment
-  pub lock : IsDigest h.lock
+  pub version : h.version ≡ Two
   pub requirements : IsDigest h.requirements
   pub within : h.cursor ≤ h.steps
+  pub targets : AllByRecursion IsTarget h.targets
 
-header_by : (h : Header) → environment_in (environment_data h.environment) ≡ Ok h.environment → IsHeader h → nat_le h.cursor h.steps ≡ true → header_in (header_data h) ≡ Ok h
-unfolding header_in header_data
-header_by h environment is within = rw (environment, digest-back h.lock is.lock, digest-back h.requirements is.requirements, within) refl
+header_by : (h : Header) → h.version ≡ Two → IsDigest h.requirements → nat_le h.cursor h.steps ≡ true → each target_in (items_of (map target_data h.targets)) ≡ Ok h.targets → header_in (header_data h) ≡ Ok h
+unfolding header_in header_data targets_in
+header_by h version requirements within targets = rw (targets, digest-back h.requirements requirements, within, version) refl
 
 -- a header is read back
 pub header-back : (h : Header) → IsHeader h → header_in (header_data h) ≡ Ok h
 header-back h is =
     let within : nat_le h.cursor h.steps ≡ true = let least = is.within in grind (arith, nat_tests) in
-    header_by h (environment-back h.environment is.environment) is within
+    header_by h is.version is.requirements within (list-back target_data target_in h.targets (targets-back h.targets is.targets))

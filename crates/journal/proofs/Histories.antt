@@ -1,9 +1,10 @@
 -- Histories with the change of each step.
 use Rattle.std.proofs.Common.{◌≡◌, ℕ, suc, zero, ◌+◌, ◌-◌, ◌<◌, List, [], ◌∷◌, ◌++◌, length, take, Option, Some, None, refl, subst, add-one, arith}
 use Rattle.std.specs.Prelude.{IsSomeAnd, slice_get}
+use Rattle.std.proofs.lemmas.Option.{slice_get_within}
 use Rattle.states.specs.Changes.{ChangeParts}
 use Rattle.journal.specs.Values.{State}
-use Rattle.journal.specs.Past.{Past}
+use Rattle.journal.specs.Past.{Past, present, pushed}
 use Rattle.journal.specs.Changes.{AreSteps, IsChange, IsStepOf}
 
 -- there is one state more than changes
@@ -60,3 +61,37 @@ pub step_of : (past : Past) (changes : List ChangeParts) (k : ℕ) (change : Cha
 step_of past changes k change some h at =
     let here : suc (k - 1) ≡ k = omega arith in
     subst (λ n. IsStepOf past n change) here (step_by past changes (k - 1) change h at)
+
+-- ---- a new state
+
+-- an item of the front that is kept
+front-get : {X : Type 0} (xs ys : List X) (k : ℕ) (x : X) → slice_get xs k ≡ Some x → slice_get (take (suc k) xs ++ ys) k ≡ Some x
+front-get [] ys k x at = absurd cc
+front-get (y ∷ xs) ys zero x at = at
+front-get (y ∷ xs) ys (suc k) x at = front-get xs ys k x at
+
+-- the item behind it
+pub last-get : {X : Type 0} (xs : List X) (k : ℕ) (x : X) → k < length xs → slice_get (take (suc k) xs ++ x ∷ []) (suc k) ≡ Some x
+last-get [] k x within = absurd (omega arith)
+last-get (y ∷ xs) zero x within = refl
+last-get (y ∷ xs) (suc k) x within = last-get xs k x (omega arith)
+
+pushed_step_by : (found : Option State) (past : Past) (change : ChangeParts) (new : State) → present past ≡ found → IsSomeAnd found (λ old. IsChange old change new)
+    → IsStepOf (pushed past new) (past.cursor + 1) change
+pushed_step_by None past change new at leads = absurd leads
+pushed_step_by (Some old) past change new at leads =
+    let states = past.states in
+    let k = past.cursor in
+    let here : (k + 1) - 1 ≡ k = omega arith in
+    record {
+      old = old;
+      new = new;
+      old_is = rw (here, add-one) (front-get states (new ∷ []) k old at);
+      new_is = rw add-one (last-get states k new (slice_get_within states k old at));
+      leads = leads;
+    }
+
+-- the change that leads to a new state is the step to it
+pub pushed_step : (past : Past) (change : ChangeParts) (new : State) → IsSomeAnd (present past) (λ old. IsChange old change new)
+    → IsStepOf (pushed past new) (past.cursor + 1) change
+pushed_step past change new leads = pushed_step_by (present past) past change new refl leads

@@ -11,7 +11,7 @@ use Rattle.states.proofs.OneOutcome.{After-one}
 use Rattle.journal.specs.Values.{State}
 use Rattle.journal.specs.Changes.{AreSteps, IsChange}
 use Rattle.journal.specs.Neighbours.{IsHistory, states_of, states_on, with_before}
-use Rattle.journal.proofs.Histories.{AreSteps-at, AreSteps-count, AreSteps-pushed}
+use Rattle.journal.proofs.Histories.{AreSteps-at, AreSteps-count, AreSteps-pushed, last-get}
 use Rattle.journal.proofs.StepsJoined.{all-append, all-take}
 
 -- ---- places of a list
@@ -28,11 +28,6 @@ all-get P (y ∷ xs) (suc k) x at all = all-get P xs k x at all.1
 
 one-get : {X : Type 0} (xs : List X) (k : ℕ) (x y : X) → slice_get xs k ≡ Some x → slice_get xs k ≡ Some y → x ≡ y
 one-get xs k x y at too = cc
-
-last-get : {X : Type 0} (xs : List X) (k : ℕ) (x : X) → k < length xs → slice_get (take (suc k) xs ++ x ∷ []) (suc k) ≡ Some x
-last-get [] k x within = absurd (omega arith)
-last-get (y ∷ xs) zero x within = refl
-last-get (y ∷ xs) (suc k) x within = last-get xs k x (omega arith)
 
 -- ---- the states
 

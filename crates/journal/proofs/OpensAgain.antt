@@ -20,14 +20,15 @@ use Rattle.states.specs.Changes.{ChangeParts}
 use Rattle.states.specs.Laws.{AChangeLeadsToOneState}
 use Rattle.states.specs.State.{IsState}
 use Rattle.journal.specs.Values.{State}
-use Rattle.journal.specs.Past.{Past}
+use Rattle.journal.specs.Changes.{HistoryParts}
 use Rattle.journal.specs.Format.Forms.{json_of}
 use Rattle.journal.specs.Format.Lines.{IsStepLine, header_of_line, step_of_line}
 use Rattle.journal.specs.Format.Written.{header_data, line_of, step_data}
-use Rattle.journal.specs.Opening.{BeginsWith, Opens, Present, StepLines}
+use Rattle.journal.specs.Opening.{BeginsWith, IsOnlyTarget, Opens, Present, StepLines}
 use Rattle.journal.specs.Saving.{IsSaved, OpensAs, header_for}
 use Rattle.journal.specs.Tied.{AreWritten, IsWritten}
 use Rattle.journal.specs.declared.format.header.Header.{Header}
+use Rattle.journal.specs.declared.format.header.HeaderTarget.{HeaderTarget}
 use Rattle.journal.specs.declared.saving.Saved.{Saved}
 use Rattle.journal.proofs.ChangesRead.{IsRead, changes-read}
 use Rattle.journal.proofs.HeaderBack.{IsHeader, header-back}
@@ -68,17 +69,17 @@ json-back : (d : Data) → IsWritten d → json_of (compact_text d) ≡ Ok d
 unfolding json_of
 json-back d h = rw (h.utf8, h.reads) refl
 
-step-line : (c : ChangeParts) → IsWritten (step_data c) → IsRead c → IsStepLine (compact_text (step_data c)) c
+step-line : (header : Header) (c : ChangeParts) → IsWritten (step_data c) → IsRead header c → IsStepLine header (compact_text (step_data c)) c
 unfolding step_of_line
-step-line c written is = record { reads = rw (json-back (step_data c) written, is.back) refl; minimal = is.minimal }
+step-line header c written is = record { reads = rw (json-back (step_data c) written, is.back) refl; minimal = is.minimal }
 
 -- the lines of changes are read as these
-steps-again : (number : ℕ) (changes : List ChangeParts) → AllByRecursion (λ c. IsWritten (step_data c)) changes → AllByRecursion IsRead changes
-    → StepLines (length changes) number (flat_map (λ c. line_of (step_data c)) changes) (Ok changes)
-steps-again number [] written read = inl (refl, refl)
-steps-again number (c ∷ cs) written read =
+steps-again : (header : Header) (number : ℕ) (changes : List ChangeParts) → AllByRecursion (λ c. IsWritten (step_data c)) changes → AllByRecursion (IsRead header) changes
+    → StepLines header (length changes) number (flat_map (λ c. line_of (step_data c)) changes) (Ok changes)
+steps-again header number [] written read = inl (refl, refl)
+steps-again header number (c ∷ cs) written read =
     let rest = flat_map (λ c. line_of (step_data c)) cs in
-    inl ((c, rest), record { line = compact_text (step_data c); cut = cut-written (step_data c) rest; is_step = step-line c written.0 read.0 }, (Ok cs, steps-again (number + 1) cs written.1 read.1, refl))
+    inl ((c, rest), record { line = compact_text (step_data c); cut = cut-written (step_data c) rest; is_step = step-line header c written.0 read.0 }, (Ok cs, steps-again header (number + 1) cs written.1 read.1, refl))
 
 begins-again : (header : Header) (rest : List ℕ) → IsWritten (header_data header) → IsHeader header → BeginsWith (line_of (header_data header) ++ rest) (header, rest)
 unfolding header_of_line
@@ -96,38 +97,48 @@ lock-again : ReadsLocks → (lock : LockParts) (text : List ℕ) → IsLock lock
 unfolding lock_in_text toml_of
 lock-again reads lock text lawful utf8 table = rw (utf8, table, reads lock lawful) refl
 
+-- the one target of a history with this present state and this lock
+abbrev pub target_for : State → List ℕ → HeaderTarget
+target_for state lock = record { name = []; environment = state.environment; lock = sha256 lock }
+
 present-again : ReadsLocks → (state : State) (cursor steps : ℕ) (requirements lock : List ℕ) → IsState state → requirements ≡ concat state.lines → is_utf8 lock ≡ true
-    → parse_document lock ≡ Some (table_of state.lock) → Present (header_for state cursor steps requirements lock) requirements lock (Ok state)
+    → parse_document lock ≡ Some (table_of state.lock) → Present (header_for state cursor steps requirements lock) (target_for state lock) requirements lock (Ok state)
 present-again reads state cursor steps requirements lock is lines utf8 table =
     let locked = lock-again reads state.lock lock is.lock.lawful utf8 table in
     let read : file_of requirements ≡ Ok state.lines = rw lines is.lines in
     (Ok state, inl (refl, inl (refl, inl (state.lines, read, inl (state.lock, locked, inl (is.lock.named, refl))))), inl (is, refl))
 
-pub opens-again : ReadsVersions → ReadsLocks → (past : Past) (saved : Saved) (is : IsSaved past saved) → AllByRecursion IsState past.states → IsEnvironment is.state.environment
-    → is_utf8 saved.lock ≡ true → AreWritten (header_for is.state past.cursor (length is.changes) saved.requirements saved.lock) is.changes → Opens saved.requirements saved.lock saved.journal (Ok past)
-opens-again versions locks past saved is lawful environment utf8 written =
-    let header = header_for is.state past.cursor (length is.changes) saved.requirements saved.lock in
-    let rest = flat_map (λ c. line_of (step_data c)) is.changes in
+pub opens-again : ReadsVersions → ReadsLocks → (history : HistoryParts) (saved : Saved) (is : IsSaved history saved) → AllByRecursion IsState history.past.states → IsEnvironment is.state.environment
+    → is_utf8 saved.lock ≡ true → AreWritten (header_for is.state history.past.cursor (length history.changes) saved.requirements saved.lock) history.changes
+    → Opens saved.requirements saved.lock saved.journal (Ok history)
+opens-again versions locks history saved is lawful environment utf8 written =
+    let past = history.past in
+    let changes = history.changes in
+    let header = header_for is.state past.cursor (length changes) saved.requirements saved.lock in
+    let rest = flat_map (λ c. line_of (step_data c)) changes in
     let state_lawful : IsState is.state = state-at past.states past.cursor is.state lawful is.state_is in
-    let count = AreSteps-count past.states is.changes is.steps in
+    let count = AreSteps-count past.states changes is.steps in
     let within = slice_get_within past.states past.cursor is.state is.state_is in
     let header_is : IsHeader header = record {
-      environment = environment;
-      lock = sha256-digest saved.lock;
+      version = refl;
       requirements = sha256-digest saved.requirements;
       within = omega (arith, count, within);
+      targets = (record { environment = environment; lock = sha256-digest saved.lock }, tt);
     } in
     let begins : BeginsWith saved.journal (header, rest) = subst (λ journal. BeginsWith journal (header, rest)) (sym is.journal) (begins-again header rest written.header_line header_is) in
-    let present = present-again locks is.state past.cursor (length is.changes) saved.requirements saved.lock state_lawful is.requirements utf8 is.lock in
-    let steps = steps-again 2 is.changes written.step_lines (changes-read versions past.states is.changes is.steps lawful) in
-    inl ((header, rest), begins, (Ok is.state, present, (Ok is.changes, steps, past-again past is.changes is.state is.steps lawful is.state_is)))
+    let present = present-again locks is.state past.cursor (length changes) saved.requirements saved.lock state_lawful is.requirements utf8 is.lock in
+    let read = changes-read versions header (record { version = refl; known = refl }) past.states changes is.steps lawful in
+    let steps = steps-again header 2 changes written.step_lines read in
+    let only : IsOnlyTarget header (target_for is.state saved.lock) = record { alone = refl; unnamed = refl } in
+    let walked = past-again past changes is.state is.steps lawful is.state_is in
+    inl ((header, rest), begins, inl (target_for is.state saved.lock, only, (Ok is.state, present, (Ok changes, steps, (Ok past, walked, refl)))))
 
 -- a saved history opens again, and as nothing else
-pub opens-as : AChangeLeadsToOneState → ReadsVersions → ReadsLocks → (past : Past) (saved : Saved) (is : IsSaved past saved) → AllByRecursion IsState past.states → IsEnvironment is.state.environment → is_utf8 saved.lock ≡ true
-    → AreWritten (header_for is.state past.cursor (length is.changes) saved.requirements saved.lock) is.changes → OpensAs past saved
-opens-as one versions locks past saved is lawful environment utf8 written =
-    let opens = opens-again versions locks past saved is lawful environment utf8 written in
+pub opens-as : AChangeLeadsToOneState → ReadsVersions → ReadsLocks → (history : HistoryParts) (saved : Saved) (is : IsSaved history saved) → AllByRecursion IsState history.past.states → IsEnvironment is.state.environment → is_utf8 saved.lock ≡ true
+    → AreWritten (header_for is.state history.past.cursor (length history.changes) saved.requirements saved.lock) history.changes → OpensAs history saved
+opens-as one versions locks history saved is lawful environment utf8 written =
+    let opens = opens-again versions locks history saved is lawful environment utf8 written in
     record {
       opens = opens;
-      alone = λ answer other. opens-once one saved.requirements saved.lock saved.journal answer (Ok past) other opens;
+      alone = λ answer other. opens-once one saved.requirements saved.lock saved.journal answer (Ok history) other opens;
     }

@@ -6,8 +6,9 @@ use Rattle.states.specs.Changes.{ChangeParts, Leads, inverse}
 use Rattle.states.specs.Laws.{AChangeLeadsToOneState}
 use Rattle.journal.specs.Values.{State, Refusal}
 use Rattle.journal.specs.Format.Lines.{cut_line, header_of_line, step_of_line}
-use Rattle.journal.specs.Opening.{Asks, BeginsWith, Finds, IsAnswer, GoesOn, Opens, PastOf, Present, PresentParts, StatesBefore, StatesBehind, StepAt, StepLines, Then}
+use Rattle.journal.specs.Opening.{Asks, BeginsWith, Finds, IsAnswer, IsOnlyTarget, GoesOn, Opens, PastOf, Present, PresentParts, StatesBefore, StatesBehind, StepAt, StepLines, Then}
 use Rattle.journal.specs.declared.format.header.Header.{Header}
+use Rattle.journal.specs.declared.format.header.HeaderTarget.{HeaderTarget}
 
 -- there is one answer at most
 abbrev pub IsOnce : {A : Type 0} → (Result A Refusal → Type 0) → Type 0
@@ -61,21 +62,24 @@ module _ {X E : Type 0} (bytes : List ℕ) (reading : List ℕ → Result X E) w
 begins-alone : (journal : List ℕ) → IsAlone (BeginsWith journal)
 begins-alone journal x y p q = one-line journal header_of_line x y p.line q.line p.cut q.cut p.header q.header
 
-step-alone : (bytes : List ℕ) → IsAlone (StepAt bytes)
-step-alone bytes x y p q = one-line bytes step_of_line x y p.line q.line p.cut q.cut p.is_step.reads q.is_step.reads
+only-alone : (header : Header) → IsAlone (IsOnlyTarget header)
+only-alone header x y p q = let same : x ∷ [] ≡ y ∷ [] = sym p.alone ∙ q.alone in cc
 
-parts-once : (header : Header) (requirements lock : List ℕ) → IsOnce (PresentParts header requirements lock)
-parts-once header requirements lock =
+step-alone : (header : Header) (bytes : List ℕ) → IsAlone (StepAt header bytes)
+step-alone header bytes x y p q = one-line bytes (step_of_line header) x y p.line q.line p.cut q.cut p.is_step.reads q.is_step.reads
+
+parts-once : (header : Header) (target : HeaderTarget) (requirements lock : List ℕ) → IsOnce (PresentParts header target requirements lock)
+parts-once header target requirements lock =
     asks-once _ _ _ (asks-once _ _ _ (finds-once _ _ _ (read-alone (file_of requirements)) (λ lines. finds-once _ _ _ (read-alone (lock_in_text lock)) (λ locked. asks-once _ _ _ (gives-once _)))))
 
-present-once : (header : Header) (requirements lock : List ℕ) → IsOnce (Present header requirements lock)
-present-once header requirements lock = then-once _ _ (parts-once header requirements lock) (λ state. asks-once _ _ _ (gives-once state))
+present-once : (header : Header) (target : HeaderTarget) (requirements lock : List ℕ) → IsOnce (Present header target requirements lock)
+present-once header target requirements lock = then-once _ _ (parts-once header target requirements lock) (λ state. asks-once _ _ _ (gives-once state))
 
 -- ---- steps and states
 
-steps-once : (steps number : ℕ) (bytes : List ℕ) → IsOnce (StepLines steps number bytes)
-steps-once zero number bytes = asks-once _ _ _ (gives-once [])
-steps-once (suc steps) number bytes = finds-once _ _ _ (step-alone bytes) (λ step. then-once _ _ (steps-once steps (number + 1) step.1) (λ changes. gives-once (step.0 ∷ changes)))
+steps-once : (header : Header) (steps number : ℕ) (bytes : List ℕ) → IsOnce (StepLines header steps number bytes)
+steps-once header zero number bytes = asks-once _ _ _ (gives-once [])
+steps-once header (suc steps) number bytes = finds-once _ _ _ (step-alone header bytes) (λ step. then-once _ _ (steps-once header steps (number + 1) step.1) (λ changes. gives-once (step.0 ∷ changes)))
 
 module _ (one : AChangeLeadsToOneState) where
   lead-alone : (old : State) (change : ChangeParts) → IsAlone (Leads old change)
@@ -96,4 +100,8 @@ module _ (one : AChangeLeadsToOneState) where
   -- three byte strings stand for one history, or have one first fault
   pub opens-once : (requirements lock journal : List ℕ) → IsOnce (Opens requirements lock journal)
   opens-once requirements lock journal =
-      finds-once _ _ _ (begins-alone journal) (λ begin. then-once _ _ (present-once begin.0 requirements lock) (λ state. then-once _ _ (steps-once begin.0.steps 2 begin.1) (λ changes. past-once begin.0.cursor changes state)))
+      finds-once _ _ _ (begins-alone journal)
+      (λ begin. finds-once _ _ _ (only-alone begin.0)
+      (λ target. then-once _ _ (present-once begin.0 target requirements lock)
+      (λ state. then-once _ _ (steps-once begin.0 begin.0.steps 2 begin.1)
+      (λ changes. then-once _ _ (past-once begin.0.cursor changes state) (λ past. gives-once _)))))

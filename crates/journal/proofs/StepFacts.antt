@@ -5,6 +5,7 @@ use Rattle.std.proofs.lemmas.List.{append-nil}
 use Rattle.states.specs.Changes.{ChangeParts}
 use Rattle.edits.specs.declared.refusal.Refusal.TheVariants.{JournalBroken}
 use Rattle.journal.specs.Values.{Refusal, OutOfMemory}
+use Rattle.journal.specs.declared.format.header.Header.{Header}
 use Rattle.journal.specs.Opening.{IsAnswer, GoesOn, StepAt, StepLines}
 
 -- what was read before, and what the rest answers
@@ -27,59 +28,59 @@ empty_by (b ∷ rest) h = let none : length (b ∷ rest) ≡ 0 = zero_by (length
 pub filled_by : (rest : List ℕ) → (length rest == 0) ≡ false → rest ≡ [] → ⊥
 filled_by rest h is = true≢false (subst (λ (bs : List ℕ). (length bs == 0) ≡ false) is h)
 
-a_step : (steps number : ℕ) (bytes : List ℕ) (step : ChangeParts × List ℕ) (rest : Result (List ChangeParts) Refusal) → StepAt bytes step
-    → StepLines steps (number + 1) step.1 rest → StepLines (suc steps) number bytes (before (step.0 ∷ []) rest)
-a_step steps number bytes step (Ok xs) at h = inl (step, at, (Ok xs, h, refl))
-a_step steps number bytes step (Err refusal) at h = inl (step, at, (Err refusal, h, refl))
+a_step : (header : Header) (steps number : ℕ) (bytes : List ℕ) (step : ChangeParts × List ℕ) (rest : Result (List ChangeParts) Refusal) → StepAt header bytes step
+    → StepLines header steps (number + 1) step.1 rest → StepLines header (suc steps) number bytes (before (step.0 ∷ []) rest)
+a_step header steps number bytes step (Ok xs) at h = inl (step, at, (Ok xs, h, refl))
+a_step header steps number bytes step (Err refusal) at h = inl (step, at, (Err refusal, h, refl))
 
 -- the lines before a place are these changes: what the others answer goes behind them
-abbrev pub ReadSoFar : ℕ → List ℕ → ℕ → List ℕ → List ChangeParts → Type 0
-ReadSoFar steps bytes place rest done = (answer : Result (List ChangeParts) Refusal) → StepLines (steps - place) (place + 2) rest answer → StepLines steps 2 bytes (before done answer)
+abbrev pub ReadSoFar : Header → ℕ → List ℕ → ℕ → List ℕ → List ChangeParts → Type 0
+ReadSoFar header steps bytes place rest done = (answer : Result (List ChangeParts) Refusal) → StepLines header (steps - place) (place + 2) rest answer → StepLines header steps 2 bytes (before done answer)
 
-pub nothing_read : (steps : ℕ) (bytes : List ℕ) → ReadSoFar steps bytes 0 bytes []
-nothing_read steps bytes (Ok xs) h =
-    let whole : StepLines steps 2 bytes (Ok xs) = subst (λ n. StepLines n 2 bytes (Ok xs)) (let e : steps - 0 ≡ steps = omega arith in e) h in
+pub nothing_read : (header : Header) (steps : ℕ) (bytes : List ℕ) → ReadSoFar header steps bytes 0 bytes []
+nothing_read header steps bytes (Ok xs) h =
+    let whole : StepLines header steps 2 bytes (Ok xs) = subst (λ n. StepLines header n 2 bytes (Ok xs)) (let e : steps - 0 ≡ steps = omega arith in e) h in
     whole
-nothing_read steps bytes (Err refusal) h =
-    let whole : StepLines steps 2 bytes (Err refusal) = subst (λ n. StepLines n 2 bytes (Err refusal)) (let e : steps - 0 ≡ steps = omega arith in e) h in
+nothing_read header steps bytes (Err refusal) h =
+    let whole : StepLines header steps 2 bytes (Err refusal) = subst (λ n. StepLines header n 2 bytes (Err refusal)) (let e : steps - 0 ≡ steps = omega arith in e) h in
     whole
 
-module _ (steps : ℕ) (bytes : List ℕ) (place : ℕ) (rest : List ℕ) (done : List ChangeParts) (so_far : ReadSoFar steps bytes place rest done) where
+module _ (header : Header) (steps : ℕ) (bytes : List ℕ) (place : ℕ) (rest : List ℕ) (done : List ChangeParts) (so_far : ReadSoFar header steps bytes place rest done) where
   -- a line more is a step
-  pub one_more : (step : ChangeParts × List ℕ) → place < steps → StepAt rest step → ReadSoFar steps bytes (place + 1) step.1 (done ++ step.0 ∷ [])
+  pub one_more : (step : ChangeParts × List ℕ) → place < steps → StepAt header rest step → ReadSoFar header steps bytes (place + 1) step.1 (done ++ step.0 ∷ [])
   one_more step below at answer h =
       let count : suc (steps - (place + 1)) ≡ steps - place = omega arith in
       let number : (place + 1) + 2 ≡ (place + 2) + 1 = omega arith in
-      let tail : StepLines (steps - (place + 1)) ((place + 2) + 1) step.1 answer = subst (λ n. StepLines (steps - (place + 1)) n step.1 answer) number h in
-      let whole : StepLines (steps - place) (place + 2) rest (before (step.0 ∷ []) answer) = subst (λ n. StepLines n (place + 2) rest (before (step.0 ∷ []) answer)) count (a_step (steps - (place + 1)) (place + 2) rest step answer at tail) in
-      subst (λ a. StepLines steps 2 bytes a) (before-more done step.0 answer) (so_far (before (step.0 ∷ []) answer) whole)
+      let tail : StepLines header (steps - (place + 1)) ((place + 2) + 1) step.1 answer = subst (λ n. StepLines header (steps - (place + 1)) n step.1 answer) number h in
+      let whole : StepLines header (steps - place) (place + 2) rest (before (step.0 ∷ []) answer) = subst (λ n. StepLines header n (place + 2) rest (before (step.0 ∷ []) answer)) count (a_step header (steps - (place + 1)) (place + 2) rest step answer at tail) in
+      subst (λ a. StepLines header steps 2 bytes a) (before-more done step.0 answer) (so_far (before (step.0 ∷ []) answer) whole)
 
   -- the next line is none
-  pub no_step : place < steps → ((step : ChangeParts × List ℕ) → StepAt rest step → ⊥) → StepLines steps 2 bytes (Err (JournalBroken (place + 2)))
+  pub no_step : place < steps → ((step : ChangeParts × List ℕ) → StepAt header rest step → ⊥) → StepLines header steps 2 bytes (Err (JournalBroken (place + 2)))
   no_step below none =
       let count : suc (steps - (place + 1)) ≡ steps - place = omega arith in
-      so_far (Err (JournalBroken (place + 2))) (subst (λ n. StepLines n (place + 2) rest (Err (JournalBroken (place + 2)))) count (inr (none, refl)))
+      so_far (Err (JournalBroken (place + 2))) (subst (λ n. StepLines header n (place + 2) rest (Err (JournalBroken (place + 2)))) count (inr (none, refl)))
 
   -- all steps are read, and nothing stands behind them
-  pub all_read : steps ≤ place → place ≤ steps → rest ≡ [] → StepLines steps 2 bytes (Ok done)
+  pub all_read : steps ≤ place → place ≤ steps → rest ≡ [] → StepLines header steps 2 bytes (Ok done)
   all_read past within empty =
       let count : 0 ≡ steps - place = omega arith in
-      let whole : StepLines steps 2 bytes (before done (Ok [])) = so_far (Ok []) (subst (λ n. StepLines n (place + 2) rest (Ok [])) count (inl (empty, refl))) in
-      subst (λ xs. StepLines steps 2 bytes (Ok xs)) (append-nil done) whole
+      let whole : StepLines header steps 2 bytes (before done (Ok [])) = so_far (Ok []) (subst (λ n. StepLines header n (place + 2) rest (Ok [])) count (inl (empty, refl))) in
+      subst (λ xs. StepLines header steps 2 bytes (Ok xs)) (append-nil done) whole
 
   -- all steps are read, and something stands behind them
-  pub more_behind : steps ≤ place → place ≤ steps → (rest ≡ [] → ⊥) → StepLines steps 2 bytes (Err (JournalBroken (steps + 2)))
+  pub more_behind : steps ≤ place → place ≤ steps → (rest ≡ [] → ⊥) → StepLines header steps 2 bytes (Err (JournalBroken (steps + 2)))
   more_behind past within filled =
       let count : 0 ≡ steps - place = omega arith in
       let same : place + 2 ≡ steps + 2 = omega arith in
-      subst (λ n. StepLines steps 2 bytes (Err (JournalBroken n))) same
-      (so_far (Err (JournalBroken (place + 2))) (subst (λ n. StepLines n (place + 2) rest (Err (JournalBroken (place + 2)))) count (inr (filled, refl))))
+      subst (λ n. StepLines header steps 2 bytes (Err (JournalBroken n))) same
+      (so_far (Err (JournalBroken (place + 2))) (subst (λ n. StepLines header n (place + 2) rest (Err (JournalBroken (place + 2)))) count (inr (filled, refl))))
 
   -- the next line can't be read as a step, or memory is refused
-  pub refused : (e : Refusal) → place < steps → (e ≡ OutOfMemory) ⊎ ((e ≡ JournalBroken (place + 2)) × ((step : ChangeParts × List ℕ) → StepAt rest step → ⊥))
-      → (e ≡ OutOfMemory) ⊎ StepLines steps 2 bytes (Err e)
+  pub refused : (e : Refusal) → place < steps → (e ≡ OutOfMemory) ⊎ ((e ≡ JournalBroken (place + 2)) × ((step : ChangeParts × List ℕ) → StepAt header rest step → ⊥))
+      → (e ≡ OutOfMemory) ⊎ StepLines header steps 2 bytes (Err e)
   refused e below (inl memory) = inl memory
-  refused e below (inr broken) = inr (subst (λ r. StepLines steps 2 bytes (Err r)) (sym broken.0) (no_step below broken.1))
+  refused e below (inr broken) = inr (subst (λ r. StepLines header steps 2 bytes (Err r)) (sym broken.0) (no_step below broken.1))
 
 count_by : (steps : ℕ) (change : ChangeParts) (changes : List ChangeParts) (part : Result (List ChangeParts) Refusal) → ((xs : List ChangeParts) → part ≡ Ok xs → length xs ≡ steps)
     → GoesOn (λ xs. IsAnswer (change ∷ xs)) part (Ok changes) → length changes ≡ suc steps
@@ -89,9 +90,9 @@ count_by steps change changes (Ok xs) counted go_on =
 count_by steps change changes (Err e) counted go_on = absurd cc
 
 -- as many steps are read as are asked for
-pub steps-count : (steps number : ℕ) (bytes : List ℕ) (changes : List ChangeParts) → StepLines steps number bytes (Ok changes) → length changes ≡ steps
-steps-count zero number bytes changes (inl h) = let none : changes ≡ [] = let is : Ok changes ≡ Ok [] = h.1 in cc in rw none refl
-steps-count zero number bytes changes (inr h) = absurd (let is : Ok changes ≡ Err (JournalBroken number) = h.1 in cc)
-steps-count (suc steps) number bytes changes (inl h) =
-    count_by steps h.0.0 changes h.2.0 (λ xs is. steps-count steps (number + 1) h.0.1 xs (subst (StepLines steps (number + 1) h.0.1) is h.2.1)) h.2.2
-steps-count (suc steps) number bytes changes (inr h) = absurd (let is : Ok changes ≡ Err (JournalBroken number) = h.1 in cc)
+pub steps-count : (header : Header) (steps number : ℕ) (bytes : List ℕ) (changes : List ChangeParts) → StepLines header steps number bytes (Ok changes) → length changes ≡ steps
+steps-count header zero number bytes changes (inl h) = let none : changes ≡ [] = let is : Ok changes ≡ Ok [] = h.1 in cc in rw none refl
+steps-count header zero number bytes changes (inr h) = absurd (let is : Ok changes ≡ Err (JournalBroken number) = h.1 in cc)
+steps-count header (suc steps) number bytes changes (inl h) =
+    count_by steps h.0.0 changes h.2.0 (λ xs is. steps-count header steps (number + 1) h.0.1 xs (subst (StepLines header steps (number + 1) h.0.1) is h.2.1)) h.2.2
+steps-count header (suc steps) number bytes changes (inr h) = absurd (let is : Ok changes ≡ Err (JournalBroken number) = h.1 in cc)

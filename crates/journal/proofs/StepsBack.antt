@@ -22,9 +22,11 @@ use Rattle.states.specs.declared.change.parts.DigestChange.{DigestChange}
 use Rattle.states.specs.declared.change.parts.EntryChange.{EntryChange}
 use Rattle.states.specs.declared.change.parts.Splice.{Splice}
 use Rattle.journal.specs.declared.format.flaw.Flaw.{Flaw}
+use Rattle.journal.specs.declared.format.header.Header.{Header}
+use Rattle.journal.specs.declared.format.header.JournalVersion.TheVariants.{Two}
 use Rattle.journal.specs.Format.Entries.{digest_in, entry_in, file_in, name_in, version_in}
 use Rattle.journal.specs.Format.Forms.{each, or_null, text_of}
-use Rattle.journal.specs.Format.Lines.{digests_in, entry_change_in, splice_in, step_in}
+use Rattle.journal.specs.Format.Lines.{digests_in, entry_change_in, has_target, splice_in, step_in, targeted}
 use Rattle.journal.specs.Format.Written.{digest_data, digests_data, entry_change_data, entry_data, file_data, nullable, splice_data, step_data}
 
 same_bytes : (t : List ℕ) → bytes_eq t t ≡ true
@@ -115,16 +117,21 @@ pub record IsLawfulChange (c : EntryChange) : Type 0 where
   pub old : IsEntryOn c.name c.old
   pub new : IsEntryOn c.name c.new
 
-entry_change-back : ReadsVersions → (c : EntryChange) → IsLawfulChange c → entry_change_in (entry_change_data c) ≡ Ok c
-unfolding entry_change_in entry_change_data
-entry_change-back reads c h =
+-- the steps behind a header are in the form that is written, of version 2, and it has the target whose name is empty
+pub record ReadsWritten (header : Header) : Type 0 where
+  pub version : header.version ≡ Two
+  pub known : has_target header [] ≡ true
+
+entry_change-back : ReadsVersions → (header : Header) → ReadsWritten header → (c : EntryChange) → IsLawfulChange c → entry_change_in header (entry_change_data c) ≡ Ok c
+unfolding entry_change_in entry_change_data targeted
+entry_change-back reads header written c h =
     let old = nullable-back entry_data (entry_in c.name) c.old entry-there (entry-on-back reads c.name c.old h.old) in
     let new = nullable-back entry_data (entry_in c.name) c.new entry-there (entry-on-back reads c.name c.new h.new) in
-    rw (name-back c.name h.name, old, new) refl
+    rw (written.version, written.known, name-back c.name h.name, old, new) refl
 
-changes-back : ReadsVersions → (cs : List EntryChange) → AllByRecursion IsLawfulChange cs → Back entry_change_data entry_change_in cs
-changes-back reads [] h = tt
-changes-back reads (c ∷ cs) h = (entry_change-back reads c h.0, changes-back reads cs h.1)
+changes-back : ReadsVersions → (header : Header) → ReadsWritten header → (cs : List EntryChange) → AllByRecursion IsLawfulChange cs → Back entry_change_data (entry_change_in header) cs
+changes-back reads header written [] h = tt
+changes-back reads header written (c ∷ cs) h = (entry_change-back reads header written c h.0, changes-back reads header written cs h.1)
 
 splice-back : (s : Splice) → splice_in (splice_data s) ≡ Ok s
 unfolding splice_in splice_data
@@ -153,10 +160,10 @@ digests-back None h = tt
 digests-back (Some d) h = rw (digest-back d.old h.0, digest-back d.new h.1) refl
 
 -- a step is read as the change
-pub step-back : ReadsVersions → (c : ChangeParts) → AllByRecursion IsLawfulChange c.entries → AreDigests c.digests → step_in (step_data c) ≡ Ok c
+pub step-back : ReadsVersions → (header : Header) → ReadsWritten header → (c : ChangeParts) → AllByRecursion IsLawfulChange c.entries → AreDigests c.digests → step_in header (step_data c) ≡ Ok c
 unfolding step_in step_data
-step-back reads c entries digests =
-    let changes = list-back entry_change_data entry_change_in c.entries (changes-back reads c.entries entries) in
+step-back reads header written c entries digests =
+    let changes = list-back entry_change_data (entry_change_in header) c.entries (changes-back reads header written c.entries entries) in
     let splices = list-back splice_data splice_in c.splices (all-back splice_data splice_in c.splices splice-back) in
     let both = nullable-back digests_data digests_in c.digests digests-there (digests-back c.digests digests) in
     rw (changes, splices, both) refl

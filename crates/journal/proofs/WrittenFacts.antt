@@ -18,7 +18,8 @@ use Rattle.serde_json.specs.Written.{compact_text, has_float, items_have_float}
 use Rattle.journal.specs.Tied.{AreWritten, IsWritten}
 use Rattle.journal.proofs.StepsJoined.{all-append}
 use Rattle.journal.specs.declared.format.header.Header.{Header}
-use Rattle.journal.specs.Format.Written.{digests_data, entry_change_data, entry_data, environment_data, file_data, header_data, line_of, nullable, splice_data, step_data}
+use Rattle.journal.specs.declared.format.header.HeaderTarget.{HeaderTarget}
+use Rattle.journal.specs.Format.Written.{digests_data, entry_change_data, entry_data, environment_data, file_data, header_data, line_of, nullable, splice_data, step_data, target_data}
 
 module _ {X : Type 0} (form : X → Data) (plain : (x : X) → has_float (form x) ≡ false) where
   array-plain : (xs : List X) → items_have_float (items_of (map form xs)) ≡ false
@@ -59,10 +60,14 @@ unfolding step_data
 step-plain c =
     rw (array-plain entry_change_data entry_change-plain c.entries, array-plain splice_data splice-plain c.splices, nullable-plain digests_data digests-plain c.digests) refl
 
+target-plain : (t : HeaderTarget) → has_float (target_data t) ≡ false
+unfolding target_data environment_data
+target-plain t = refl
+
 -- a header has no float
 pub header-plain : (h : Header) → has_float (header_data h) ≡ false
-unfolding header_data environment_data
-header-plain h = refl
+unfolding header_data
+header-plain h = rw (array-plain target_data target-plain h.targets) refl
 
 -- the line of one change more
 pub lines_more : (front mark : List ℕ) (changes : List ChangeParts) (place : ℕ) (change : ChangeParts) → slice_get changes ((place + 1) - 1) ≡ Some change

@@ -29,7 +29,11 @@ pub record IsStepOf (past : Past) (k : ℕ) (change : ChangeParts) : Type 0 wher
 abbrev pub with_change : ℕ → List ChangeParts → ChangeParts → List ChangeParts
 with_change cursor changes change = take cursor changes ++ change ∷ []
 
--- what a history that keeps each state whole keeps: its past, and the changes of its steps
-pub record Kept : Type 0 where
+-- a history with the changes of its steps
+pub record HistoryParts : Type 0 where
   pub past : Past
   pub changes : List ChangeParts
+
+-- this past with these changes
+abbrev pub parts_of : Past → List ChangeParts → HistoryParts
+parts_of past changes = record { past = past; changes = changes }

@@ -1,10 +1,13 @@
 -- Laws of the steps, and of what is saved.
 use Rattle.std.specs.Prelude.{ℕ, ◌≡◌, List, Result}
 use Rattle.journal.specs.Values.{Edit, Snapshot, Refusal, OutOfMemory}
+use Rattle.journal.specs.declared.commands.Reply.{Reply}
 use Rattle.journal.specs.declared.commands.Reply.TheVariants.{Done, Refused}
 use Rattle.journal.specs.Past.{Past, present}
-use Rattle.journal.specs.Commands.{Editing, Undoing, Redoing}
-use Rattle.journal.specs.Steps.{Step}
+use Rattle.journal.specs.Changes.{HistoryParts}
+use Rattle.journal.specs.Commands.{Asked, Editing, Undoing, Redoing}
+use Rattle.journal.specs.Histories.{RunWithChanges}
+use Rattle.journal.specs.Steps.{Run, Step}
 use Rattle.journal.specs.Opening.{Opens}
 
 -- an undo after an accepted edit gives back the present state before the edit, and its cursor
@@ -19,6 +22,10 @@ RedoGivesTheEditAgain = (before edited undone redone : Past) (edit : Edit) (snap
 abbrev pub AnEditCanBeUndone : Type 0
 AnEditCanBeUndone = (before edited after : Past) (edit : Edit) (snapshot : Snapshot) (k : ℕ) (refusal : Refusal) → Step before (Editing edit snapshot) (Done k) edited → Step edited Undoing (Refused refusal) after → refusal ≡ OutOfMemory
 
+-- a run with its changes is a run: replies, states and cursor are those of one
+abbrev pub ARunWithChangesIsARun : Type 0
+ARunWithChangesIsARun = (old new : HistoryParts) (asked : List Asked) (replies : List Reply) → RunWithChanges old asked replies new → Run old.past asked replies new.past
+
 -- three byte strings stand for one history at most, or have one first fault
 abbrev pub FilesStandForOneHistory : Type 0
-FilesStandForOneHistory = (requirements lock journal : List ℕ) (one another : Result Past Refusal) → Opens requirements lock journal one → Opens requirements lock journal another → one ≡ another
+FilesStandForOneHistory = (requirements lock journal : List ℕ) (one another : Result HistoryParts Refusal) → Opens requirements lock journal one → Opens requirements lock journal another → one ≡ another

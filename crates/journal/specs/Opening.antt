@@ -10,8 +10,10 @@ use Rattle.edits.specs.declared.refusal.Refusal.TheVariants.{FilesDisagree, Jour
 use Rattle.edits.specs.declared.refusal.SavedFile.TheVariants.{Lock, Requirements}
 use Rattle.journal.specs.Values.{State, Refusal, OutOfMemory}
 use Rattle.journal.specs.Past.{Past}
+use Rattle.journal.specs.Changes.{HistoryParts, parts_of}
 use Rattle.journal.specs.Format.Lines.{IsStepLine, cut_line, header_of_line}
 use Rattle.journal.specs.declared.format.header.Header.{Header}
+use Rattle.journal.specs.declared.format.header.HeaderTarget.{HeaderTarget}
 
 -- ---- tests one after the other
 
@@ -54,34 +56,40 @@ pub record BeginsWith (journal : List ℕ) (begin : Header × List ℕ) : Type 0
   pub cut : cut_line journal ≡ Some (line, begin.1)
   pub header : header_of_line line ≡ Ok begin.0
 
--- the parts of the present state: the digests of both files agree, both files read, and the lock names the header's environment
-abbrev pub PresentParts : Header → List ℕ → List ℕ → Result State Refusal → Type 0
-PresentParts header requirements lock =
+-- the header has one target, whose name is empty
+pub record IsOnlyTarget (header : Header) (target : HeaderTarget) : Type 0 where
+  pub alone : header.targets ≡ target ∷ []
+  pub unnamed : target.name ≡ []
+
+-- the parts of the present state: the digests of both files agree, both files read, and the lock names the target's environment
+abbrev pub PresentParts : Header → HeaderTarget → List ℕ → List ℕ → Result State Refusal → Type 0
+PresentParts header target requirements lock =
     Asks (header.requirements ≡ sha256 requirements) (FilesDisagree Requirements) (
-    Asks (header.lock ≡ sha256 lock) (FilesDisagree Lock) (
+    Asks (target.lock ≡ sha256 lock) (FilesDisagree Lock) (
     Finds (λ lines. file_of requirements ≡ Ok lines) (FilesDisagree Requirements) (λ lines.
     Finds (λ locked. lock_in_text lock ≡ Ok locked) (FilesDisagree Lock) (λ locked.
-    Asks (locked.environment ≡ marker_text header.environment) (JournalBroken 1) (
-    IsAnswer (record { lines = lines; environment = header.environment; lock = locked }))))))
+    Asks (locked.environment ≡ marker_text target.environment) (JournalBroken 1) (
+    IsAnswer (record { lines = lines; environment = target.environment; lock = locked }))))))
 
 -- the present state, for which all holds that holds of every state
-abbrev pub Present : Header → List ℕ → List ℕ → Result State Refusal → Type 0
-Present header requirements lock = Then (PresentParts header requirements lock) (λ state. Asks (IsState state) (FilesDisagree Lock) (IsAnswer state))
+abbrev pub Present : Header → HeaderTarget → List ℕ → List ℕ → Result State Refusal → Type 0
+Present header target requirements lock =
+    Then (PresentParts header target requirements lock) (λ state. Asks (IsState state) (FilesDisagree Lock) (IsAnswer state))
 
 -- ---- the steps
 
--- bytes begin with a line that is a step, and others stand behind it
-pub record StepAt (bytes : List ℕ) (step : ChangeParts × List ℕ) : Type 0 where
+-- bytes begin with a line that is a step behind this header, and others stand behind it
+pub record StepAt (header : Header) (bytes : List ℕ) (step : ChangeParts × List ℕ) : Type 0 where
   pub line : List ℕ
   pub cut : cut_line bytes ≡ Some (line, step.1)
-  pub is_step : IsStepLine line step.0
+  pub is_step : IsStepLine header line step.0
 
 -- so many steps, the first of them in the line of this number, and nothing behind them
-abbrev pub StepLines : ℕ → ℕ → List ℕ → Result (List ChangeParts) Refusal → Type 0
-StepLines zero number bytes = Asks (bytes ≡ []) (JournalBroken number) (IsAnswer [])
-StepLines (suc steps) number bytes =
-    Finds (StepAt bytes) (JournalBroken number) (λ step.
-    Then (StepLines steps (number + 1) step.1) (λ changes.
+abbrev pub StepLines : Header → ℕ → ℕ → List ℕ → Result (List ChangeParts) Refusal → Type 0
+StepLines header zero number bytes = Asks (bytes ≡ []) (JournalBroken number) (IsAnswer [])
+StepLines header (suc steps) number bytes =
+    Finds (StepAt header bytes) (JournalBroken number) (λ step.
+    Then (StepLines header steps (number + 1) step.1) (λ changes.
     IsAnswer (step.0 ∷ changes)))
 
 -- ---- the states
@@ -109,13 +117,15 @@ PastOf cursor changes state =
     Then (StatesBehind (cursor + 2) (drop cursor changes) state) (λ behind.
     IsAnswer (record { states = before ++ state ∷ behind; cursor = cursor })))
 
--- what three byte strings stand for, or the first of their faults
-abbrev pub Opens : List ℕ → List ℕ → List ℕ → Result Past Refusal → Type 0
+-- what three byte strings stand for, or the first of their faults. The history's changes are the steps that the journal's lines are
+abbrev pub Opens : List ℕ → List ℕ → List ℕ → Result HistoryParts Refusal → Type 0
 Opens requirements lock journal =
     Finds (BeginsWith journal) (JournalBroken 1) (λ begin.
-    Then (Present begin.0 requirements lock) (λ state.
-    Then (StepLines begin.0.steps 2 begin.1) (λ changes.
-    PastOf begin.0.cursor changes state)))
+    Finds (IsOnlyTarget begin.0) (JournalBroken 1) (λ target.
+    Then (Present begin.0 target requirements lock) (λ state.
+    Then (StepLines begin.0 begin.0.steps 2 begin.1) (λ changes.
+    Then (PastOf begin.0.cursor changes state) (λ past.
+    IsAnswer (parts_of past changes))))))
 
 -- what a call that takes memory answers: what the relation asks for, or that there was no memory
 abbrev pub Tells : {A : Type 0} → (Result A Refusal → Type 0) → Result A Refusal → Type 0

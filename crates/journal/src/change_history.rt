@@ -31,10 +31,10 @@ impl Drop for ChangeHistory {
 }
 
 impl Model for ChangeHistory {
-    ghost use Rattle.journal.specs.Changes.{Kept};
+    ghost use Rattle.journal.specs.Changes.{HistoryParts};
     ghost use Rattle.journal.specs.Neighbours.{IsHistory, states_of};
 
-    ghost Value = { Kept };
+    ghost Value = { HistoryParts };
 
     ghost view = { λ h. record {
       past = record { states = states_of h.state h.changes.items h.cursor; cursor = h.cursor };

@@ -1,4 +1,4 @@
-// The format of a journal, version 1.
+// The format of a journal: versions 1 and 2 are read, version 2 is written.
 
 pub(crate) mod entries;
 pub(crate) mod flaw;

@@ -1,6 +1,6 @@
 //! Laws of the steps and of what is saved, each the contract of a function that does nothing.
 
-ghost use Rattle.journal.specs.Laws.{UndoGivesTheStateBack, RedoGivesTheEditAgain, AnEditCanBeUndone, FilesStandForOneHistory};
+ghost use Rattle.journal.specs.Laws.{UndoGivesTheStateBack, RedoGivesTheEditAgain, AnEditCanBeUndone, ARunWithChangesIsARun, FilesStandForOneHistory};
 
 use edits::laws::a_change_leads_to_one_state;
 
@@ -17,6 +17,11 @@ pub fn redo_gives_the_edit_again()
 /// After an accepted edit an undo is refused for want of memory alone.
 pub fn an_edit_can_be_undone()
     ensures law { AnEditCanBeUndone }
+{}
+
+/// A run with its changes is a run: its replies, states and cursor are those of one.
+pub fn a_run_with_changes_is_a_run()
+    ensures law { ARunWithChangesIsARun }
 {}
 
 /// Three byte strings stand for one history at most, or have one first fault.

@@ -32,4 +32,7 @@ pub use crate::running::{apply, run};
 pub use crate::saving::Saved;
 pub use crate::session::Session;
 pub use crate::whole::WholeHistory;
-pub use edits::{Change, Learning, Plain, Resolver};
+pub use edits::{
+    Change, Edit, Environment, Learning, Plain, Refusal, ReqFile, Resolver, SavedFile, Snapshot, State,
+};
+pub use lists::{Seq, Text};

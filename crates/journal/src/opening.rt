@@ -1,6 +1,5 @@
 // A history read from three byte strings.
 
-ghost use Rattle.std.specs.Result.{result_map_both};
 ghost use Rattle.journal.specs.Opening.{Opens, Tells};
 
 mod present;
@@ -8,7 +7,7 @@ mod steps;
 mod walking;
 
 use crate::change_history::ChangeHistory;
-use crate::opening::present::{Begin, begin_of, present_of};
+use crate::opening::present::{Begin, begin_of, only_target, present_of};
 use crate::opening::steps::steps_of;
 use crate::opening::walking::history_of;
 use edits::Refusal;
@@ -21,13 +20,11 @@ pub(crate) fn opened(
     lock: &[u8],
     journal: &[u8],
 ) -> Result<ChangeHistory, Refusal>
-    ensures { Tells (Opens requirements.now lock.now journal.now) (result_map_both (λ h. h.past)
-        (λ e. e) result) }
+    ensures { Tells (Opens requirements.now lock.now journal.now) result }
 {
     let Begin { header, steps } = begin_of(alloc, journal)?;
-    let cursor = header.cursor;
-    let count = header.steps;
-    let state = present_of(alloc, header, requirements, lock)?;
-    let changes = steps_of(alloc, count, steps)?;
-    history_of(alloc, changes, state, cursor)
+    let target = only_target(&header)?;
+    let state = present_of(alloc, &header, target, requirements, lock)?;
+    let changes = steps_of(alloc, &header, steps)?;
+    history_of(alloc, changes, state, header.cursor)
 }

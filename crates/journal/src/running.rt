@@ -1,7 +1,9 @@
 // Commands applied to a history, one or many.
 
 ghost use Rattle.std.specs.Prelude.{◌≡◌, map, IfOk, OnErr};
+ghost use Rattle.journal.specs.Changes.{parts_of};
 ghost use Rattle.journal.specs.Commands.{Editing, Undoing, Redoing, asked_of};
+ghost use Rattle.journal.specs.Histories.{ChangesAfter, RunWithChanges};
 ghost use Rattle.journal.specs.Steps.{Step, Run};
 
 use crate::commands::{Command, Reply};
@@ -18,6 +20,8 @@ pub fn apply<H: History, R: Resolver>(
     resolver: &R,
 ) -> Reply
     ensures step { Step (H.past history.old) (asked_of command.now) result (H.past history.new) }
+    ensures changes { ChangesAfter (parts_of (H.past history.old) (H.changes history.old))
+        (asked_of command.now) result (parts_of (H.past history.new) (H.changes history.new)) }
 {
     match command {
         Command::Edit(edit, snapshot) => apply_edit(alloc, history, edit, snapshot, resolver),
@@ -35,6 +39,9 @@ fn apply_edit<H: History, R: Resolver>(
 ) -> Reply
     ensures step { Step (H.past history.old) (Editing edit.now snapshot.now) result (H.past
         history.new) }
+    ensures changes { ChangesAfter (parts_of (H.past history.old) (H.changes history.old))
+        (Editing edit.now snapshot.now) result
+        (parts_of (H.past history.new) (H.changes history.new)) }
 {
     match edits::edit(alloc, history.state(), edit, snapshot, resolver) {
         Ok(edited) => match history.push(alloc, edited) {
@@ -48,6 +55,7 @@ fn apply_edit<H: History, R: Resolver>(
 
 fn apply_undo<H: History>(alloc: Global, history: &mut H) -> Reply
     ensures step { Step (H.past history.old) Undoing result (H.past history.new) }
+    ensures changes { H.changes history.new ≡ H.changes history.old }
 {
     match history.undo(alloc) {
         Ok(()) => Reply::Done(history.cursor()),
@@ -57,6 +65,7 @@ fn apply_undo<H: History>(alloc: Global, history: &mut H) -> Reply
 
 fn apply_redo<H: History>(alloc: Global, history: &mut H) -> Reply
     ensures step { Step (H.past history.old) Redoing result (H.past history.new) }
+    ensures changes { H.changes history.new ≡ H.changes history.old }
 {
     match history.redo(alloc) {
         Ok(()) => Reply::Done(history.cursor()),
@@ -76,7 +85,12 @@ pub fn run<H: History, R: Resolver>(
     ensures run { IfOk result
         (λ replies. Run (H.past history.old) (map asked_of commands.now) replies (H.past
         history.new)) }
-    ensures kept { OnErr result (H.past history.new ≡ H.past history.old) }
+    ensures changes { IfOk result
+        (λ replies. RunWithChanges (parts_of (H.past history.old) (H.changes history.old))
+        (map asked_of commands.now) replies
+        (parts_of (H.past history.new) (H.changes history.new))) }
+    ensures kept { OnErr result (parts_of (H.past history.new) (H.changes history.new)
+        ≡ parts_of (H.past history.old) (H.changes history.old)) }
 {
     let mut replies = Vec::with_capacity(alloc, commands.len())?;
     for command in commands {

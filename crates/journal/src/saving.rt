@@ -6,15 +6,16 @@ ghost use Rattle.serde_json.specs.Read.{max_depth};
 ghost use Rattle.serde_json.specs.View.{view};
 ghost use Rattle.serde_json.specs.Written.{has_float};
 ghost use Rattle.journal.specs.Format.Written.{header_data, journal_of, line_of, step_data};
+ghost use Rattle.journal.specs.Changes.{parts_of};
 ghost use Rattle.journal.specs.Saving.{IsSaved, OpensAs, header_for};
 ghost use Rattle.journal.specs.Tied.{AreWritten, IsWritten};
 
-use crate::format::header::Header;
+use crate::format::header::{Header, HeaderTarget, JournalVersion};
 use crate::format::writing::{header_value, step_value};
 use crate::history::History;
 use edits::laws::a_change_leads_to_one_state;
 use edits::{Change, State};
-use lists::Text;
+use lists::{Seq, Text};
 use pep440::laws::a_canonical_text_is_read;
 use pylock::laws::a_table_is_that_of_its_lock;
 use serde_json::Value;
@@ -47,6 +48,7 @@ fn push_line(alloc: Global, lines: &mut String, value: &Value) -> Result<(), All
 
 /// The header of a history with this present state, so many steps and these two files.
 fn header_of(
+    alloc: Global,
     state: &State,
     cursor: usize,
     steps: usize,
@@ -57,12 +59,18 @@ fn header_of(
         (λ header. header ≡ header_for state.now cursor steps requirements.now lock.now) }
 {
     let environment = state.environment().clone()?;
-    Ok(Header {
-        cursor: cursor as u64,
+    let mut targets = Seq::new(alloc);
+    targets.push(HeaderTarget {
+        name: Text::new(alloc),
         environment,
         lock: Sha256::digest(lock.as_bytes()),
+    })?;
+    Ok(Header {
+        version: JournalVersion::Two,
+        cursor: cursor as u64,
         requirements: Sha256::digest(requirements.as_bytes()),
         steps: steps as u64,
+        targets,
     })
 }
 
@@ -102,8 +110,10 @@ fn journal_of<H: History>(alloc: Global, history: &H, header: &Header) -> Result
 
 /// The three byte strings of the history.
 pub(crate) fn files_of<H: History>(alloc: Global, history: &H) -> Result<Saved, AllocError>
-    ensures saved { IfOk result (λ saved. IsSaved (H.past history.now) saved) }
-    ensures opens { IfOk result (λ saved. OpensAs (H.past history.now) saved) }
+    ensures saved { IfOk result (λ saved. IsSaved
+        (parts_of (H.past history.now) (H.changes history.now)) saved) }
+    ensures opens { IfOk result (λ saved. OpensAs
+        (parts_of (H.past history.now) (H.changes history.now)) saved) }
 {
     a_change_leads_to_one_state();
     a_canonical_text_is_read();
@@ -113,6 +123,7 @@ pub(crate) fn files_of<H: History>(alloc: Global, history: &H) -> Result<Saved, 
     let requirements = state.lines().bytes(alloc)?;
     let lock = Text::from_string(state.lock().print(alloc)?);
     let header = header_of(
+        alloc,
         state,
         history.cursor(),
         history.steps(),

@@ -1,13 +1,16 @@
 // A history that begins with a requirements file.
 
-ghost use Rattle.std.specs.Prelude.{◌≡◌, ◌⊎◌, ◌+◌, ◌<◌, length, map, Some, IfOk, IfErr, OnErr};
+ghost use Rattle.std.specs.Prelude.{◌≡◌, ◌⊎◌, ◌+◌, ◌-◌, ◌<◌, [], length, map, Some, slice_get, IfOk, IfErr, OnErr};
 ghost use Rattle.edits.specs.Edits.{InitResult};
 ghost use Rattle.journal.specs.Past.{present};
-ghost use Rattle.journal.specs.Changes.{IsStepOf};
+ghost use Rattle.journal.specs.Changes.{AreSteps, IsStepOf};
 ghost use Rattle.journal.specs.Opening.{Opens, Tells};
 ghost use Rattle.journal.specs.Saving.{IsSaved, OpensAs};
 ghost use Rattle.journal.specs.Commands.{asked_of};
+ghost use Rattle.journal.specs.Histories.{ChangesAfter, RunWithChanges};
 ghost use Rattle.journal.specs.Steps.{Step, Run, IsStart};
+ghost use Rattle.journal.specs.Values.{Refusal as RefusalValue};
+ghost use Rattle.journal.specs.declared.commands.Reply.TheVariants as replies;
 
 use crate::change_history::ChangeHistory;
 use crate::commands::{Command, Reply};
@@ -20,7 +23,7 @@ use std::alloc::{AllocError, Global};
 use std::marker::Model;
 
 /// A requirements file and its lock, with their history. The present state is kept, and the change of
-/// each step; in a clause it is the whole past.
+/// each step; in a clause it is the whole past, and these changes.
 pub struct Session {
     history: ChangeHistory,
 }
@@ -32,11 +35,11 @@ impl Drop for Session {
 }
 
 impl Model for Session {
-    ghost use Rattle.journal.specs.Past.{Past};
+    ghost use Rattle.journal.specs.Changes.{HistoryParts};
 
-    ghost Value = { Past };
+    ghost Value = { HistoryParts };
 
-    ghost view = { λ s. s.history.past };
+    ghost view = { λ s. s.history };
 }
 
 impl Session {
@@ -49,7 +52,9 @@ impl Session {
         snapshot: &Snapshot,
         resolver: &R,
     ) -> Result<Session, Refusal>
-        ensures start { IfOk result (λ session. IsStart lines environment snapshot.now session) }
+        ensures start { IfOk result
+            (λ session. IsStart lines environment snapshot.now session.past) }
+        ensures changes { IfOk result (λ session. session.changes ≡ []) }
         ensures refused { IfErr result (λ r. (r ≡ Refusal.OutOfMemory)
             ⊎ InitResult lines environment snapshot.now (Err r)) }
     {
@@ -82,8 +87,8 @@ impl Session {
         Ok(Session { history })
     }
 
-    /// The history as three byte strings. `open` reads them as the same history: the same states, and the
-    /// same cursor.
+    /// The history as three byte strings. `open` reads them as the same history: the same states, the same
+    /// cursor, and the same change of each step.
     pub fn save(&self, alloc: Global) -> Result<Saved, AllocError>
         ensures saved { IfOk result (λ saved. IsSaved self.now saved) }
         ensures opens { IfOk result (λ saved. OpensAs self.now saved) }
@@ -93,21 +98,23 @@ impl Session {
 
     /// The present state. It has no refusal.
     pub fn state(&self) -> &State
-        ensures present { present self.now ≡ Some result.now }
+        ensures present { present self.now.past ≡ Some result.now }
     {
         self.history.state()
     }
 
     /// The place of the present state, from 0. It has no refusal.
     pub fn cursor(&self) -> usize
-        ensures cursor { result ≡ self.now.cursor }
+        ensures cursor { result ≡ self.now.past.cursor }
     {
         self.history.cursor()
     }
 
-    /// How many steps there are from the first state to the last. It has no refusal.
+    /// How many steps there are from the first state to the last, each with the change that leads from
+    /// the state before it to the next. It has no refusal.
     pub fn steps(&self) -> usize
-        ensures steps { result + 1 ≡ length self.now.states }
+        ensures steps { result + 1 ≡ length self.now.past.states }
+        ensures lead { AreSteps self.now.past.states self.now.changes }
     {
         self.history.steps()
     }
@@ -116,21 +123,25 @@ impl Session {
     /// behind it. It has no refusal.
     pub fn change(&self, step: usize) -> &Change
         requires first { 0 < step }
-        requires last { step < length self.now.states }
-        ensures step { IsStepOf self.now step result.now }
+        requires last { step < length self.now.past.states }
+        ensures change { slice_get self.now.changes (step - 1) ≡ Some result.now }
+        ensures step { IsStepOf self.now.past step result.now }
     {
         self.history.change(step)
     }
 
     /// Applies one command. The lock of an edited state is the best solution, whatever the
-    /// resolver.
+    /// resolver. Where it is refused, states, cursor and changes are what they were.
     pub fn apply<R: Resolver>(
         &mut self,
         alloc: Global,
         command: &Command<'_>,
         resolver: &R,
     ) -> Reply
-        ensures step { Step self.old (asked_of command.now) result self.new }
+        ensures step { Step self.old.past (asked_of command.now) result self.new.past }
+        ensures changes { ChangesAfter self.old (asked_of command.now) result self.new }
+        ensures kept { (refusal : RefusalValue) → result ≡ replies.Refused refusal
+            → self.new ≡ self.old }
     {
         running::apply(alloc, &mut self.history, command, resolver)
     }
@@ -145,7 +156,9 @@ impl Session {
         resolver: &R,
     ) -> Result<Seq<Reply>, AllocError>
         ensures run { IfOk result
-            (λ replies. Run self.old (map asked_of commands.now) replies self.new) }
+            (λ replies. Run self.old.past (map asked_of commands.now) replies self.new.past) }
+        ensures changes { IfOk result
+            (λ replies. RunWithChanges self.old (map asked_of commands.now) replies self.new) }
         ensures kept { OnErr result (self.new ≡ self.old) }
     {
         running::run(alloc, &mut self.history, commands, resolver)

@@ -33,9 +33,9 @@ impl Model for WholeHistory {
     ghost use Rattle.std.specs.Prelude.{◌≡◌, ◌+◌, ◌<◌, vec_len};
     ghost use Rattle.std.specs.List.{AllByRecursion};
     ghost use Rattle.states.specs.State.{IsState};
-    ghost use Rattle.journal.specs.Changes.{AreSteps, Kept};
+    ghost use Rattle.journal.specs.Changes.{AreSteps, HistoryParts};
 
-    ghost Value = { Kept };
+    ghost Value = { HistoryParts };
 
     ghost view = { λ h. record {
       past = record { states = h.states.items; cursor = h.cursor };

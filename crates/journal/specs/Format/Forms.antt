@@ -76,11 +76,19 @@ abbrev pub three_in : Items → Option (Data × Data × Data)
 three_in (item a (item b (item c no_items))) = Some (a, b, c)
 three_in _ = None
 
+-- the items of an array of four
+abbrev pub four_in : Items → Option (Data × Data × Data × Data)
+four_in (item a (item b (item c (item d no_items)))) = Some (a, b, c, d)
+four_in _ = None
+
 abbrev pub pair_of : Data → Result (Data × Data) Flaw
 pair_of d = found (as_array d) >>= λ ds. found (two_in ds)
 
 abbrev pub triple_of : Data → Result (Data × Data × Data) Flaw
 triple_of d = found (as_array d) >>= λ ds. found (three_in ds)
+
+abbrev pub quadruple_of : Data → Result (Data × Data × Data × Data) Flaw
+quadruple_of d = found (as_array d) >>= λ ds. found (four_in ds)
 
 -- what a call answers, seen by view, is what is expected, unless it found no memory
 abbrev pub Gives : {X Y : Type 0} → (X → Y) → Result Y Flaw → Result X Flaw → Type 0

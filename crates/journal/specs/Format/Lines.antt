@@ -1,5 +1,7 @@
 -- The lines of a journal (reqlock's own format).
-use Rattle.std.specs.Prelude.{◌≡◌, ℕ, ◌+◌, ◌==◌, ◌&&◌, nat_le, List, [], ◌∷◌, codes, drop, map, take, position, Option, option_map, Result, Ok, Err}
+use Rattle.std.specs.Prelude.{◌≡◌, ℕ, ◌+◌, ◌==◌, Bool, nat_le, List, [], ◌∷◌, codes, drop, map, take, position, Option, Some, None, option_map, Result, Ok, Err, if◌then◌else◌}
+use Rattle.std.specs.List.{list_any}
+use Rattle.std.specs.Str.{bytes_eq}
 use Rattle.states.specs.Changes.{ChangeParts, IsMinimal}
 use Rattle.states.specs.declared.change.parts.DigestChange.{DigestChange}
 use Rattle.states.specs.declared.change.parts.EntryChange.{EntryChange}
@@ -11,7 +13,10 @@ use Rattle.serde_json.specs.Data.{Data}
 use Rattle.journal.specs.declared.format.flaw.Flaw.{Flaw}
 use Rattle.journal.specs.declared.format.flaw.Flaw.TheVariants.{OtherForm}
 use Rattle.journal.specs.declared.format.header.Header.{Header}
-use Rattle.journal.specs.Format.Forms.{◌>>=◌, asked, at, json_of, list_of, number_of, only_keys, or_null, pair_of, text_of, triple_of}
+use Rattle.journal.specs.declared.format.header.HeaderTarget.{HeaderTarget}
+use Rattle.journal.specs.declared.format.header.JournalVersion.{JournalVersion}
+use Rattle.journal.specs.declared.format.header.JournalVersion.TheVariants.{One, Two}
+use Rattle.journal.specs.Format.Forms.{◌>>=◌, asked, at, found, json_of, list_of, number_of, only_keys, or_null, pair_of, quadruple_of, text_of, triple_of}
 use Rattle.journal.specs.Format.Entries.{digest_in, entry_in, name_in}
 
 -- ---- steps
@@ -25,13 +30,29 @@ splice_in d = do
   new ← list_of text_of parts.2
   Ok (record { place = place; old = old; new = new })
 
--- `[name, old, new]`, an entry that isn't there being null
-unfoldable pub entry_change_in : Data → Result EntryChange Flaw
-entry_change_in d = do
+-- the target of an entry, and its name, its old and its new form: `[target, name, old, new]`; in version 1 `[name, old, new]`, of the
+-- target whose name is empty
+unfoldable pub targeted : JournalVersion → Data → Result (List ℕ × Data × Data × Data) Flaw
+targeted One d = do
   parts ← triple_of d
-  name ← name_in parts.0
-  old ← or_null (entry_in name) parts.1
-  new ← or_null (entry_in name) parts.2
+  Ok ([], parts.0, parts.1, parts.2)
+targeted Two d = do
+  parts ← quadruple_of d
+  target ← text_of parts.0
+  Ok (target, parts.1, parts.2, parts.3)
+
+-- a target of the header has this name
+abbrev pub has_target : Header → List ℕ → Bool
+has_target header name = list_any (λ t. bytes_eq t.name name) header.targets
+
+-- an entry on a target of the header, null where it isn't there
+unfoldable pub entry_change_in : Header → Data → Result EntryChange Flaw
+entry_change_in header d = do
+  parts ← targeted header.version d
+  _ ← asked (has_target header parts.0)
+  name ← name_in parts.1
+  old ← or_null (entry_in name) parts.2
+  new ← or_null (entry_in name) parts.3
   Ok (record { name = name; old = old; new = new })
 
 -- `[old, new]`
@@ -46,24 +67,24 @@ digests_in d = do
 abbrev pub step_keys : List (List ℕ)
 step_keys = codes "entries" ∷ codes "lines" ∷ codes "snapshot" ∷ []
 
--- the parts of a change
-unfoldable pub step_in : Data → Result ChangeParts Flaw
-step_in d = do
+-- the parts of a change, in the form of the header's version
+unfoldable pub step_in : Header → Data → Result ChangeParts Flaw
+step_in header d = do
   _ ← only_keys step_keys d
-  entries ← at (codes "entries") (list_of entry_change_in) d
+  entries ← at (codes "entries") (list_of (entry_change_in header)) d
   splices ← at (codes "lines") (list_of splice_in) d
   digests ← at (codes "snapshot") (or_null digests_in) d
   Ok (record { splices = splices; entries = entries; digests = digests })
 
--- the line of a step, without its LF
-unfoldable pub step_of_line : List ℕ → Result ChangeParts Flaw
-step_of_line line = do
+-- the line of a step behind this header, without its LF
+unfoldable pub step_of_line : Header → List ℕ → Result ChangeParts Flaw
+step_of_line header line = do
   d ← json_of line
-  step_in d
+  step_in header d
 
--- a line is a step: a minimal change
-pub record IsStepLine (line : List ℕ) (change : ChangeParts) : Type 0 where
-  pub reads : step_of_line line ≡ Ok change
+-- a line is a step behind this header: a minimal change
+pub record IsStepLine (header : Header) (line : List ℕ) (change : ChangeParts) : Type 0 where
+  pub reads : step_of_line header line ≡ Ok change
   pub minimal : IsMinimal change
 
 -- ---- the header
@@ -83,22 +104,48 @@ environment_in d = do
   _ ← only_keys variable_names d
   texts_read (texts_in d all_variables)
 
--- the keys of a header
-abbrev pub header_keys : List (List ℕ)
-header_keys = codes "cursor" ∷ codes "environment" ∷ codes "journal" ∷ codes "lock" ∷ codes "requirements" ∷ codes "steps" ∷ []
+-- the versions, by their numbers
+abbrev pub journal_version : ℕ → Option JournalVersion
+journal_version n = if n == 1 then Some One else if n == 2 then Some Two else None
 
--- a header of version 1, whose cursor is at most the number of steps
+-- the keys of a header
+abbrev pub header_keys : JournalVersion → List (List ℕ)
+header_keys One = codes "cursor" ∷ codes "environment" ∷ codes "journal" ∷ codes "lock" ∷ codes "requirements" ∷ codes "steps" ∷ []
+header_keys Two = codes "cursor" ∷ codes "journal" ∷ codes "requirements" ∷ codes "steps" ∷ codes "targets" ∷ []
+
+-- the keys of a target
+abbrev pub target_keys : List (List ℕ)
+target_keys = codes "environment" ∷ codes "lock" ∷ codes "name" ∷ []
+
+-- a target of a header
+unfoldable pub target_in : Data → Result HeaderTarget Flaw
+target_in d = do
+  _ ← only_keys target_keys d
+  environment ← at (codes "environment") environment_in d
+  lock ← at (codes "lock") digest_in d
+  name ← at (codes "name") text_of d
+  Ok (record { name = name; environment = environment; lock = lock })
+
+-- the targets of a header; in version 1 its own environment and lock are those of the one target, whose name is empty
+unfoldable pub targets_in : JournalVersion → Data → Result (List HeaderTarget) Flaw
+targets_in One d = do
+  environment ← at (codes "environment") environment_in d
+  lock ← at (codes "lock") digest_in d
+  Ok (record { name = []; environment = environment; lock = lock } ∷ [])
+targets_in Two d = at (codes "targets") (list_of target_in) d
+
+-- a header, in the form of its version, whose cursor is at most the number of steps
 unfoldable pub header_in : Data → Result Header Flaw
 header_in d = do
-  _ ← only_keys header_keys d
+  number ← at (codes "journal") number_of d
+  version ← found (journal_version number)
+  _ ← only_keys (header_keys version) d
+  targets ← targets_in version d
   cursor ← at (codes "cursor") number_of d
-  environment ← at (codes "environment") environment_in d
-  version ← at (codes "journal") number_of d
-  lock ← at (codes "lock") digest_in d
   requirements ← at (codes "requirements") digest_in d
   steps ← at (codes "steps") number_of d
-  _ ← asked ((version == 1) && nat_le cursor steps)
-  Ok (record { cursor = cursor; environment = environment; lock = lock; requirements = requirements; steps = steps })
+  _ ← asked (nat_le cursor steps)
+  Ok (record { version = version; cursor = cursor; requirements = requirements; steps = steps; targets = targets })
 
 -- the line of a header, without its LF
 unfoldable pub header_of_line : List ℕ → Result Header Flaw

@@ -1,4 +1,4 @@
--- The JSON values of a journal's lines (reqlock's own format). The keys of each object stand in the order of their bytes.
+-- The JSON values of a journal's lines (reqlock's own format, version 2). The keys of each object stand in the order of their bytes.
 use Rattle.std.specs.Prelude.{ℕ, List, [], ◌∷◌, ◌++◌, codes, map, Option, Some, None}
 use Rattle.std.specs.List.{flat_map}
 use Rattle.hex.specs.Hex.{encode_lower}
@@ -16,6 +16,7 @@ use Rattle.serde_json.specs.Data.{Data, null, number, unsigned, string, array, o
 use Rattle.serde_json.specs.View.{items_of}
 use Rattle.serde_json.specs.Written.{compact_text}
 use Rattle.journal.specs.declared.format.header.Header.{Header}
+use Rattle.journal.specs.declared.format.header.HeaderTarget.{HeaderTarget}
 
 -- a list as an array
 abbrev pub array_of : {X : Type 0} → (X → Data) → List X → Data
@@ -51,9 +52,9 @@ entry_data p = object (
     member (codes "version") (string (canonical p.version)) (
     member (codes "wheels") (array_of file_data p.wheels) no_members)))))
 
--- `[name, old, new]`
+-- `[target, name, old, new]`; the name of the one target is empty
 unfoldable pub entry_change_data : EntryChange → Data
-entry_change_data c = array (item (string c.name) (item (nullable entry_data c.old) (item (nullable entry_data c.new) no_items)))
+entry_change_data c = array (item (string []) (item (string c.name) (item (nullable entry_data c.old) (item (nullable entry_data c.new) no_items))))
 
 -- `[place, [old lines], [new lines]]`
 unfoldable pub splice_data : Splice → Data
@@ -79,15 +80,21 @@ variable_members texts (variable ∷ rest) = member (variable_name variable) (st
 unfoldable pub environment_data : Texts → Data
 environment_data texts = object (variable_members texts all_variables)
 
+-- a target of a header
+unfoldable pub target_data : HeaderTarget → Data
+target_data t = object (
+    member (codes "environment") (environment_data t.environment) (
+    member (codes "lock") (digest_data t.lock) (
+    member (codes "name") (string t.name) no_members)))
+
 -- a header
 unfoldable pub header_data : Header → Data
 header_data h = object (
     member (codes "cursor") (natural h.cursor) (
-    member (codes "environment") (environment_data h.environment) (
-    member (codes "journal") (natural 1) (
-    member (codes "lock") (digest_data h.lock) (
+    member (codes "journal") (natural 2) (
     member (codes "requirements") (digest_data h.requirements) (
-    member (codes "steps") (natural h.steps) no_members))))))
+    member (codes "steps") (natural h.steps) (
+    member (codes "targets") (array_of target_data h.targets) no_members)))))
 
 -- a line: compact JSON and LF
 abbrev pub line_of : Data → List ℕ

@@ -5,7 +5,7 @@ ghost use Rattle.std.specs.List.{list_all};
 ghost use Rattle.serde_json.specs.Data.{Data};
 ghost use Rattle.serde_json.specs.Find.{as_array, as_object, get};
 ghost use Rattle.serde_json.specs.View.{items_view, view};
-ghost use Rattle.journal.specs.Format.Forms.{Gives, at, counts, each, found, json_of, list_of, number_of, only_keys, or_null, pair_of, text_of, triple_of};
+ghost use Rattle.journal.specs.Format.Forms.{Gives, asked, at, counts, each, found, json_of, list_of, number_of, only_keys, or_null, pair_of, quadruple_of, text_of, triple_of};
 ghost use Rattle.journal.specs.declared.format.flaw.Flaw.{Flaw};
 
 use crate::format::flaw::Flaw;
@@ -81,6 +81,16 @@ pub(crate) fn at<T: Read>(alloc: Global, key: &str, object: &Value) -> Result<T,
     T::from_value(alloc, value_at(key, object)?)
 }
 
+/// Asks for what holds.
+pub(crate) fn asked(holds: bool) -> Result<(), Flaw>
+    ensures { Gives (λ u. u) (asked holds) result }
+{
+    if holds {
+        return Ok(());
+    }
+    Err(Flaw::OtherForm)
+}
+
 impl Read for Text {
     ghost reading = { text_of };
 
@@ -134,7 +144,7 @@ fn each<T: Read>(alloc: Global, values: &[Value]) -> Result<Vec<T>, Flaw>
 }
 
 /// The items of an array.
-fn items_of(value: &Value) -> Result<&[Value], Flaw>
+pub(crate) fn items_of(value: &Value) -> Result<&[Value], Flaw>
     ensures { Gives (λ vs. items_view vs.now) (found (as_array (view value.now))) result }
 {
     match value.as_array() {
@@ -173,4 +183,16 @@ pub(crate) fn triple_of(value: &Value) -> Result<(&Value, &Value, &Value), Flaw>
         return Err(Flaw::OtherForm);
     }
     Ok((&items[0], &items[1], &items[2]))
+}
+
+/// The items of an array of four.
+pub(crate) fn quadruple_of(value: &Value) -> Result<(&Value, &Value, &Value, &Value), Flaw>
+    ensures { Gives (λ p. (view p.0.now, view p.1.now, view p.2.now, view p.3.now)) (quadruple_of
+        (view value.now)) result }
+{
+    let items = items_of(value)?;
+    if items.len() != 4 {
+        return Err(Flaw::OtherForm);
+    }
+    Ok((&items[0], &items[1], &items[2], &items[3]))
 }

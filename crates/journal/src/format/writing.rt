@@ -6,9 +6,9 @@ ghost use Rattle.serde_json.specs.Data.{Data, array, item, no_items, put, string
 ghost use Rattle.markers.specs.Environment.{text_of};
 ghost use Rattle.markers.specs.Variables.{variable_name};
 ghost use Rattle.serde_json.specs.View.{members_view, view};
-ghost use Rattle.journal.specs.Format.Written.{array_of, digest_data, digests_data, entry_change_data, entry_data, environment_data, file_data, header_data, nullable, splice_data, step_data};
+ghost use Rattle.journal.specs.Format.Written.{array_of, digest_data, digests_data, entry_change_data, entry_data, environment_data, file_data, header_data, nullable, splice_data, step_data, target_data};
 
-use crate::format::header::Header;
+use crate::format::header::{Header, HeaderTarget};
 use edits::{Change, DigestChange, Entry, EntryChange, Environment, FileEntry, Name, Splice};
 use lists::Text;
 use markers::Variable;
@@ -123,6 +123,20 @@ impl Written for Entry {
     }
 }
 
+impl Written for EntryChange {
+    ghost form = { entry_change_data };
+
+    #[tactic(auto, unfolding(crate::specs::Format::Written::entry_change_data))]
+    fn to_value(&self, alloc: Global) -> Result<Value, AllocError> {
+        let mut values = Vec::with_capacity(alloc, 4)?;
+        values.push_reserved(text_value(alloc, "")?);
+        values.push_reserved(self.name.to_value(alloc)?);
+        values.push_reserved(nullable(alloc, &self.old)?);
+        values.push_reserved(nullable(alloc, &self.new)?);
+        Ok(Value::Array(values))
+    }
+}
+
 /// The array of three values.
 fn triple(alloc: Global, first: Value, second: Value, third: Value) -> Result<Value, AllocError>
     ensures { IfOk result (λ v. view v
@@ -133,18 +147,6 @@ fn triple(alloc: Global, first: Value, second: Value, third: Value) -> Result<Va
     values.push_reserved(second);
     values.push_reserved(third);
     Ok(Value::Array(values))
-}
-
-impl Written for EntryChange {
-    ghost form = { entry_change_data };
-
-    #[tactic(auto, unfolding(crate::specs::Format::Written::entry_change_data))]
-    fn to_value(&self, alloc: Global) -> Result<Value, AllocError> {
-        let name = self.name.to_value(alloc)?;
-        let old = nullable(alloc, &self.old)?;
-        let new = nullable(alloc, &self.new)?;
-        triple(alloc, name, old, new)
-    }
 }
 
 impl Written for Splice {
@@ -211,25 +213,39 @@ impl Written for Environment {
     }
 }
 
-/// The value of a header.
+impl Written for HeaderTarget {
+    ghost form = { target_data };
+
+    #[tactic(auto, unfolding(crate::specs::Format::Written::target_data))]
+    fn to_value(&self, alloc: Global) -> Result<Value, AllocError> {
+        let mut members = Map::new(alloc);
+        let environment = self.environment.to_value(alloc)?;
+        put(&mut members, alloc, "environment", environment)?;
+        let lock = digest_value(alloc, self.lock)?;
+        put(&mut members, alloc, "lock", lock)?;
+        let name = text_value(alloc, self.name.as_str())?;
+        put(&mut members, alloc, "name", name)?;
+        Ok(Value::Object(members))
+    }
+}
+
+/// The value of a header, in version 2.
 #[tactic(auto, unfolding(crate::specs::Format::Written::header_data))]
 pub(crate) fn header_value(alloc: Global, header: &Header) -> Result<Value, AllocError>
     ensures { IfOk result (λ v. view v ≡ header_data header.now) }
 {
     let mut members = Map::new(alloc);
     put(&mut members, alloc, "cursor", Value::from(header.cursor))?;
-    let environment = header.environment.to_value(alloc)?;
-    put(&mut members, alloc, "environment", environment)?;
-    put(&mut members, alloc, "journal", Value::from(1u64))?;
-    let lock = digest_value(alloc, header.lock)?;
-    put(&mut members, alloc, "lock", lock)?;
+    put(&mut members, alloc, "journal", Value::from(2u64))?;
     let requirements = digest_value(alloc, header.requirements)?;
     put(&mut members, alloc, "requirements", requirements)?;
     put(&mut members, alloc, "steps", Value::from(header.steps))?;
+    let targets = array_value(alloc, header.targets.as_slice())?;
+    put(&mut members, alloc, "targets", targets)?;
     Ok(Value::Object(members))
 }
 
-/// The value of a step.
+/// The value of a step, in version 2.
 #[tactic(auto, unfolding(crate::specs::Format::Written::step_data))]
 pub(crate) fn step_value(alloc: Global, change: &Change) -> Result<Value, AllocError>
     ensures { IfOk result (λ v. view v ≡ step_data change.now) }

@@ -10,10 +10,10 @@ ghost use Rattle.states.specs.State.{IsState};
 ghost use Rattle.edits.specs.declared.refusal.Refusal.TheVariants as refusals;
 ghost use Rattle.edits.specs.declared.refusal.SavedFile.TheVariants as files;
 ghost use Rattle.journal.specs.Format.Lines.{cut_line};
-ghost use Rattle.journal.specs.Opening.{BeginsWith, Found, Holds, Present, PresentParts, Tells};
+ghost use Rattle.journal.specs.Opening.{BeginsWith, Found, Holds, IsOnlyTarget, Present, PresentParts, Tells};
 
 use crate::format::flaw::Flaw;
-use crate::format::header::{Header, header_of_line};
+use crate::format::header::{Header, HeaderTarget, header_of_line};
 use edits::{Cause, Environment, Lock, Refusal, ReqFile, SavedFile, State};
 use pylock::Fault;
 use sha2::{Digest, Sha256};
@@ -56,6 +56,17 @@ pub(crate) fn begin_of(alloc: Global, journal: &[u8]) -> Result<Begin<'_>, Refus
         Ok(header) => Ok(Begin { header, steps }),
         Err(Flaw::OutOfMemory) => Err(Refusal::OutOfMemory),
         Err(Flaw::OtherForm) => Err(Refusal::JournalBroken(1)),
+    }
+}
+
+/// The target of the header, which has one, whose name is empty.
+pub(crate) fn only_target(header: &Header) -> Result<&HeaderTarget, Refusal>
+    ensures { Found (IsOnlyTarget header.now) (refusals.JournalBroken 1) (result_map_both
+        (λ t. t.now) (λ e. e) result) }
+{
+    match header.targets.as_slice() {
+        [target] if target.name.as_str().is_empty() => Ok(target),
+        _ => Err(Refusal::JournalBroken(1)),
     }
 }
 
@@ -112,18 +123,19 @@ fn check_environment(alloc: Global, lock: &Lock, environment: &Environment) -> R
 fn parts_of(
     alloc: Global,
     header: &Header,
+    target: &HeaderTarget,
     requirements: &[u8],
     lock: &[u8],
 ) -> Result<(ReqFile, Lock), Refusal>
-    ensures { Tells (PresentParts header.now requirements.now lock.now) (result_map_both
-        (λ p. record { lines = p.0; environment = header.now.environment; lock = p.1 })
+    ensures { Tells (PresentParts header.now target.now requirements.now lock.now) (result_map_both
+        (λ p. record { lines = p.0; environment = target.now.environment; lock = p.1 })
         (λ e. e) result) }
 {
     check_digest(requirements, header.requirements, SavedFile::Requirements)?;
-    check_digest(lock, header.lock, SavedFile::Lock)?;
+    check_digest(lock, target.lock, SavedFile::Lock)?;
     let lines = lines_of(alloc, requirements)?;
     let lock = lock_of(alloc, lock)?;
-    check_environment(alloc, &lock, &header.environment)?;
+    check_environment(alloc, &lock, &target.environment)?;
     Ok((lines, lock))
 }
 
@@ -152,12 +164,14 @@ fn state_of(
 /// The present state.
 pub(crate) fn present_of(
     alloc: Global,
-    header: Header,
+    header: &Header,
+    target: &HeaderTarget,
     requirements: &[u8],
     lock: &[u8],
 ) -> Result<State, Refusal>
-    ensures { Tells (Present header requirements.now lock.now) result }
+    ensures { Tells (Present header.now target.now requirements.now lock.now) result }
 {
-    let (lines, lock) = parts_of(alloc, &header, requirements, lock)?;
-    state_of(alloc, lines, header.into_environment(), lock)
+    let (lines, lock) = parts_of(alloc, header, target, requirements, lock)?;
+    let environment = target.environment.clone()?;
+    state_of(alloc, lines, environment, lock)
 }

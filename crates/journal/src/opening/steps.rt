@@ -6,6 +6,7 @@ ghost use Rattle.edits.specs.declared.refusal.Refusal.TheVariants as refusals;
 ghost use Rattle.journal.specs.Opening.{Found, StepAt, StepLines, Tells};
 
 use crate::format::flaw::Flaw;
+use crate::format::header::Header;
 use crate::format::steps::change_of_line;
 use crate::opening::present::cut_line;
 use edits::{Change, Refusal};
@@ -13,30 +14,37 @@ use lists::Seq;
 use std::alloc::Global;
 
 /// The step that bytes begin with, and the bytes behind its line. The line has this number in the
-/// journal.
-fn step_at<'j>(alloc: Global, number: usize, bytes: &'j [u8]) -> Result<(Change, &'j [u8]), Refusal>
-    ensures step { Found (StepAt bytes.now) (refusals.JournalBroken number) (result_map_both
-        (λ step. (step.0, step.1.now)) (λ e. e) result) }
+/// journal of this header.
+fn step_at<'j>(
+    alloc: Global,
+    header: &Header,
+    number: usize,
+    bytes: &'j [u8],
+) -> Result<(Change, &'j [u8]), Refusal>
+    ensures step { Found (StepAt header.now bytes.now) (refusals.JournalBroken number)
+        (result_map_both (λ step. (step.0, step.1.now)) (λ e. e) result) }
     ensures shorter { IfOk result (λ step. length step.1.now + 1 ≤ length bytes.now) }
 {
     let Some((line, behind)) = cut_line(bytes) else {
         return Err(Refusal::JournalBroken(number));
     };
-    match change_of_line(alloc, line) {
+    match change_of_line(alloc, header, line) {
         Ok(change) => Ok((change, behind)),
         Err(Flaw::OutOfMemory) => Err(Refusal::OutOfMemory),
         Err(Flaw::OtherForm) => Err(Refusal::JournalBroken(number)),
     }
 }
 
-/// The changes of so many steps, the first of them in line 2, behind which nothing stands.
-pub(crate) fn steps_of(alloc: Global, steps: u64, bytes: &[u8]) -> Result<Seq<Change>, Refusal>
-    ensures { Tells (StepLines steps 2 bytes.now) result }
+/// The changes of as many steps as the header tells, the first of them in line 2, behind which nothing
+/// stands.
+pub(crate) fn steps_of(alloc: Global, header: &Header, bytes: &[u8]) -> Result<Seq<Change>, Refusal>
+    ensures { Tells (StepLines header.now header.now.steps 2 bytes.now) result }
 {
+    let steps = header.steps;
     let mut changes = Vec::new(alloc);
     let mut rest = bytes;
     for place in 0..steps {
-        let (change, behind) = step_at(alloc, place as usize + 2, rest)?;
+        let (change, behind) = step_at(alloc, header, place as usize + 2, rest)?;
         changes.push(change)?;
         rest = behind;
     }

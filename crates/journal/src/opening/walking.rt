@@ -1,6 +1,6 @@
 // Walks along the steps of a journal from the present state, in both directions.
 
-ghost use Rattle.std.specs.Prelude.{◌+◌, ◌^◌, ◌<◌, ◌≤◌, IfOk, length, reverse};
+ghost use Rattle.std.specs.Prelude.{◌≡◌, ◌+◌, ◌^◌, ◌<◌, ◌≤◌, IfOk, length, reverse};
 ghost use Rattle.std.specs.List.{AllByRecursion};
 ghost use Rattle.std.specs.Result.{result_map_both};
 ghost use Rattle.states.specs.Changes.{IsMinimal, Leads, inverse};
@@ -102,8 +102,9 @@ pub(crate) fn history_of(
     cursor: u64,
 ) -> Result<ChangeHistory, Refusal>
     requires { cursor ≤ length changes }
-    ensures { Tells (PastOf cursor changes present) (result_map_both
+    ensures past { Tells (PastOf cursor changes present) (result_map_both
         (λ h. h.past) (λ e. e) result) }
+    ensures changes { IfOk result (λ h. h.changes ≡ changes) }
 {
     let cursor = cursor as usize;
     let changes = changes.into_vec();

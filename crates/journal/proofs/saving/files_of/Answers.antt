@@ -1,5 +1,6 @@
 use Rattle.std.proofs.Common.{◌≡◌, arith, length, rules}
 use Rattle.std.proofs.lemmas.Str.{is_utf8-from_IsUtf8}
+use Rattle.journal.specs.Changes.{parts_of}
 use Rattle.journal.specs.Saving.{IsSaved, header_for}
 use Rattle.journal.specs.declared.saving.Saved.{Saved}
 use Rattle.journal.proofs.Histories.{AreSteps-count}
@@ -15,9 +16,8 @@ returns g c =
     let count : c.steps.result ≡ length changes = omega (arith, counted, c.steps.ensures.steps) in
     let saved : Saved = record { requirements = c.in_ok-requirements.requirements; lock = c.from_string-lock.result; journal = c.from_string-journal.result } in
     let header : c.in_ok-header.header ≡ header_for state past.cursor (length changes) saved.requirements saved.lock = search (rules, count) in
-    let is : IsSaved past saved = record {
+    let is : IsSaved (parts_of past changes) saved = record {
       state = state;
-      changes = changes;
       state_is = c.state-state.ensures.present;
       steps = c.steps.ensures.lead;
       requirements = search rules;
@@ -28,5 +28,5 @@ returns g c =
     let utf8 = is_utf8-from_IsUtf8 _ (rw c.as_str-2.ensures at c.as_str-2.utf8) in
     record {
       saved = is;
-      opens = opens-as c.a_change_leads_to_one_state.ensures c.a_canonical_text_is_read.ensures c.a_table_is_that_of_its_lock.ensures.found past saved is c.steps.ensures.lawful environment utf8 (rw header at c.in_ok-journal_of.ensures.written);
+      opens = opens-as c.a_change_leads_to_one_state.ensures c.a_canonical_text_is_read.ensures c.a_table_is_that_of_its_lock.ensures.found (parts_of past changes) saved is c.steps.ensures.lawful environment utf8 (rw header at c.in_ok-journal_of.ensures.written);
     }
