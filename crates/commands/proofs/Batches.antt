@@ -1,7 +1,7 @@
 -- Lemmas on runs that are written piece by piece.
 use Rattle.std.proofs.Common.{◌≡◌, ◌∙◌, ℕ, ◌<◌, ◌==◌, ◌||◌, Bool, length, take, true, false, List, [], ◌∷◌, ◌++◌, refl, sym, subst, ap, arith, inl, append_assoc, append-nil, Option, Some, None}
 use Rattle.std.specs.Io.KnownBytes.{Appends, Consumes, IsAtEnd, Keeps}
-use Rattle.std.specs.Prelude.{IfErr, IfSome, OnErr, OnOk, Result, Ok, Err}
+use Rattle.std.specs.Prelude.{IfSome, OnErr, OnOk, Result, Ok, Err}
 use Rattle.std.specs.List.{filter_map, list_any}
 use Rattle.std.specs.Option.{option_to_list}
 use Rattle.std.proofs.Math.Bool.{or_assoc}
@@ -14,75 +14,77 @@ use Rattle.journal.specs.declared.commands.Reply.{Reply}
 use Rattle.journal.specs.declared.commands.Reply.TheVariants.{Refused}
 use Rattle.edits.specs.declared.refusal.Refusal.TheVariants as refusals
 use Rattle.edits.specs.declared.request.Edit.{Edit as EditValue}
-use Rattle.journal.specs.Past.{Past}
+use Rattle.journal.specs.Changes.{HistoryParts}
 use Rattle.journal.specs.Commands.{Asked, Editing, Undoing, Redoing}
-use Rattle.journal.specs.Steps.{Run, Step}
-use Rattle.commands.specs.declared.command_line.Item.{Item}
-use Rattle.commands.specs.declared.command_line.Item.TheVariants.{Edit, Undo, Redo, BadCommand}
-use Rattle.commands.specs.CommandLine.{Line, item_of, ended_item_of, commands_of, ended_commands_of, input_lines_of, IsUnbroken, IsEdit}
+use Rattle.journal.specs.Histories.{ChangesAfter, RunWithChanges}
+use Rattle.journal.specs.Steps.{Step}
+use Rattle.commands.specs.declared.batch_line.Item.{Item}
+use Rattle.commands.specs.declared.batch_line.Item.TheVariants.{Edit, Undo, Redo, BadCommand}
+use Rattle.commands.specs.BatchLine.{Line, item_of, ended_item_of, commands_of, ended_commands_of, input_lines_of, IsUnbroken, IsEdit}
 use Rattle.commands.specs.Replies.{text_of_reply, reply_text, is_accepted}
 use Rattle.commands.specs.declared.batch.BatchFault.{BatchFault}
-use Rattle.commands.specs.declared.batch.BatchFault.TheVariants.{Write, OutOfMemory}
-use Rattle.commands.specs.Runs.{asked_in, replies_of, Replied, Answered, AnsweredWith, IsCutOff, BreaksOff, EndsAt, EndsInReading, EndsInWriting}
-use Rattle.commands.specs.Standings.{Standing, Advances, AnswersAllBut, ReadsOf, Reads, Breaks}
+use Rattle.commands.specs.declared.batch.BatchFault.TheVariants.{OutOfMemory}
+use Rattle.commands.specs.Faults.{IsOfSink}
+use Rattle.commands.specs.Runs.{asked_in, replies_of, Replied, Answered, AnsweredWith, IsCutOff, BreaksOff, Ends, EndsAt, EndsInReading, EndsInWriting}
+use Rattle.commands.specs.Standings.{Standing, Advances, Answers, AnswersAllBut, ReadsOf, Reads, Breaks}
 use Rattle.commands.proofs.Lines.{items_alike, ended_items_alike, items_kept, items_of_line, none_ended, commands_last, unbroken_append}
 
 -- ---- runs
 
 -- one run behind another
-run_append : (xs ys : List Asked) (rs ts : List Reply) (old next new : Past) → Run old xs rs next → Run next ys ts new → Run old (xs ++ ys) (rs ++ ts) new
-run_append [] ys [] ts old next new first second = let P : Past → Type 0 = λ p. Run p ys ts new in subst P first second
+run_append : (xs ys : List Asked) (rs ts : List Reply) (old next new : HistoryParts) → RunWithChanges old xs rs next → RunWithChanges next ys ts new → RunWithChanges old (xs ++ ys) (rs ++ ts) new
+run_append [] ys [] ts old next new first second = let P : HistoryParts → Type 0 = λ p. RunWithChanges p ys ts new in subst P first second
 run_append [] ys (r ∷ rs) ts old next new first second = absurd first
 run_append (x ∷ xs) ys [] ts old next new first second = absurd first
-run_append (x ∷ xs) ys (r ∷ rs) ts old next new first second = (first.0, first.1, run_append xs ys rs ts first.0 next new first.2 second)
+run_append (x ∷ xs) ys (r ∷ rs) ts old next new first second = (first.0, first.1, first.2, run_append xs ys rs ts first.0 next new first.3 second)
 
 -- the replies to items are those to the first of them and those to the others
-replies_append : (snapshot : Snapshot) (xs ys : List Item) (rs ts : List Reply) (old next : Past) → Run old (filter_map (asked_in snapshot) xs) rs next → replies_of (xs ++ ys) (rs ++ ts) ≡ replies_of xs rs ++ replies_of ys ts
+replies_append : (snapshot : Snapshot) (xs ys : List Item) (rs ts : List Reply) (old next : HistoryParts) → RunWithChanges old (filter_map (asked_in snapshot) xs) rs next → replies_of (xs ++ ys) (rs ++ ts) ≡ replies_of xs rs ++ replies_of ys ts
 replies_append snapshot [] ys [] ts old next run = refl
 replies_append snapshot [] ys (r ∷ rs) ts old next run = absurd run
 replies_append snapshot (BadCommand ∷ xs) ys rs ts old next run = ap (λ replies. Refused refusals.BadCommand ∷ replies) (replies_append snapshot xs ys rs ts old next run)
 replies_append snapshot (Edit edit ∷ xs) ys [] ts old next run = absurd run
-replies_append snapshot (Edit edit ∷ xs) ys (r ∷ rs) ts old next run = ap (λ replies. r ∷ replies) (replies_append snapshot xs ys rs ts run.0 next run.2)
+replies_append snapshot (Edit edit ∷ xs) ys (r ∷ rs) ts old next run = ap (λ replies. r ∷ replies) (replies_append snapshot xs ys rs ts run.0 next run.3)
 replies_append snapshot (Undo ∷ xs) ys [] ts old next run = absurd run
-replies_append snapshot (Undo ∷ xs) ys (r ∷ rs) ts old next run = ap (λ replies. r ∷ replies) (replies_append snapshot xs ys rs ts run.0 next run.2)
+replies_append snapshot (Undo ∷ xs) ys (r ∷ rs) ts old next run = ap (λ replies. r ∷ replies) (replies_append snapshot xs ys rs ts run.0 next run.3)
 replies_append snapshot (Redo ∷ xs) ys [] ts old next run = absurd run
-replies_append snapshot (Redo ∷ xs) ys (r ∷ rs) ts old next run = ap (λ replies. r ∷ replies) (replies_append snapshot xs ys rs ts run.0 next run.2)
+replies_append snapshot (Redo ∷ xs) ys (r ∷ rs) ts old next run = ap (λ replies. r ∷ replies) (replies_append snapshot xs ys rs ts run.0 next run.3)
 
-replied_append : (snapshot : Snapshot) (xs ys : List Item) (rs ts : List Reply) (old next new : Past) → Replied snapshot xs rs old next → Replied snapshot ys ts next new → Replied snapshot (xs ++ ys) (rs ++ ts) old new
+replied_append : (snapshot : Snapshot) (xs ys : List Item) (rs ts : List Reply) (old next new : HistoryParts) → Replied snapshot xs rs old next → Replied snapshot ys ts next new → Replied snapshot (xs ++ ys) (rs ++ ts) old new
 replied_append snapshot xs ys rs ts old next new first second =
-    let P : List Asked → Type 0 = λ asked. Run old asked (first.0 ++ second.0) new in (
+    let P : List Asked → Type 0 = λ asked. RunWithChanges old asked (first.0 ++ second.0) new in (
       first.0 ++ second.0,
       subst P (sym (filter_map-append (asked_in snapshot) xs ys)) (run_append (filter_map (asked_in snapshot) xs) (filter_map (asked_in snapshot) ys) first.0 second.0 old next new first.1 second.1),
       ap (λ replies. replies ++ ts) first.2 ∙ ap (λ replies. replies_of xs first.0 ++ replies) second.2 ∙ sym (replies_append snapshot xs ys first.0 second.0 old next first.1),
     )
 
 -- nothing was asked for
-replied_none : (snapshot : Snapshot) (old : Past) → Replied snapshot [] [] old old
+replied_none : (snapshot : Snapshot) (old : HistoryParts) → Replied snapshot [] [] old old
 replied_none snapshot old = ([], refl, refl)
 
 -- one item that asks for this
-pub replied_edit : (snapshot : Snapshot) (item : Item) (edit : EditValue) (reply : Reply) (old new : Past) → item ≡ Edit edit → Step old (Editing edit snapshot) reply new → Replied snapshot (item ∷ []) (reply ∷ []) old new
-replied_edit snapshot item edit reply old new is step =
-    let P : Item → Type 0 = λ i. Replied snapshot (i ∷ []) (reply ∷ []) old new in subst P (sym is) (reply ∷ [], (new, step, refl), refl)
+pub replied_edit : (snapshot : Snapshot) (item : Item) (edit : EditValue) (reply : Reply) (old new : HistoryParts) → item ≡ Edit edit → Step old.past (Editing edit snapshot) reply new.past → ChangesAfter old (Editing edit snapshot) reply new → Replied snapshot (item ∷ []) (reply ∷ []) old new
+replied_edit snapshot item edit reply old new is step changes =
+    let P : Item → Type 0 = λ i. Replied snapshot (i ∷ []) (reply ∷ []) old new in subst P (sym is) (reply ∷ [], (new, step, changes, refl), refl)
 
-pub replied_undo : (snapshot : Snapshot) (item : Item) (reply : Reply) (old new : Past) → item ≡ Undo → Step old Undoing reply new → Replied snapshot (item ∷ []) (reply ∷ []) old new
-replied_undo snapshot item reply old new is step =
-    let P : Item → Type 0 = λ i. Replied snapshot (i ∷ []) (reply ∷ []) old new in subst P (sym is) (reply ∷ [], (new, step, refl), refl)
+pub replied_undo : (snapshot : Snapshot) (item : Item) (reply : Reply) (old new : HistoryParts) → item ≡ Undo → Step old.past Undoing reply new.past → ChangesAfter old Undoing reply new → Replied snapshot (item ∷ []) (reply ∷ []) old new
+replied_undo snapshot item reply old new is step changes =
+    let P : Item → Type 0 = λ i. Replied snapshot (i ∷ []) (reply ∷ []) old new in subst P (sym is) (reply ∷ [], (new, step, changes, refl), refl)
 
-pub replied_redo : (snapshot : Snapshot) (item : Item) (reply : Reply) (old new : Past) → item ≡ Redo → Step old Redoing reply new → Replied snapshot (item ∷ []) (reply ∷ []) old new
-replied_redo snapshot item reply old new is step =
-    let P : Item → Type 0 = λ i. Replied snapshot (i ∷ []) (reply ∷ []) old new in subst P (sym is) (reply ∷ [], (new, step, refl), refl)
+pub replied_redo : (snapshot : Snapshot) (item : Item) (reply : Reply) (old new : HistoryParts) → item ≡ Redo → Step old.past Redoing reply new.past → ChangesAfter old Redoing reply new → Replied snapshot (item ∷ []) (reply ∷ []) old new
+replied_redo snapshot item reply old new is step changes =
+    let P : Item → Type 0 = λ i. Replied snapshot (i ∷ []) (reply ∷ []) old new in subst P (sym is) (reply ∷ [], (new, step, changes, refl), refl)
 
 -- an edit is refused where there is no memory for its text
-pub replied_for_memory : (snapshot : Snapshot) (item : Option Item) (old : Past) → IsEdit item → Replied snapshot (option_to_list item) (Refused refusals.OutOfMemory ∷ []) old old
+pub replied_for_memory : (snapshot : Snapshot) (item : Option Item) (old : HistoryParts) → IsEdit item → Replied snapshot (option_to_list item) (Refused refusals.OutOfMemory ∷ []) old old
 replied_for_memory snapshot None old is = absurd is
-replied_for_memory snapshot (Some (Edit edit)) old is = replied_edit snapshot (Edit edit) edit (Refused refusals.OutOfMemory) old old refl (inl refl, refl)
+replied_for_memory snapshot (Some (Edit edit)) old is = replied_edit snapshot (Edit edit) edit (Refused refusals.OutOfMemory) old old refl (inl refl, refl) refl
 replied_for_memory snapshot (Some Undo) old is = absurd is
 replied_for_memory snapshot (Some Redo) old is = absurd is
 replied_for_memory snapshot (Some BadCommand) old is = absurd is
 
 -- what a line asked for was answered
-pub replied_item : (snapshot : Snapshot) (asked : Option Item) (item : Item) (reply : Reply) (old new : Past) → Some item ≡ asked → Replied snapshot (item ∷ []) (reply ∷ []) old new → Replied snapshot (option_to_list asked) (reply ∷ []) old new
+pub replied_item : (snapshot : Snapshot) (asked : Option Item) (item : Item) (reply : Reply) (old new : HistoryParts) → Some item ≡ asked → Replied snapshot (item ∷ []) (reply ∷ []) old new → Replied snapshot (option_to_list asked) (reply ∷ []) old new
 replied_item snapshot asked item reply old new is replied =
     let P : Option Item → Type 0 = λ one. Replied snapshot (option_to_list one) (reply ∷ []) old new in subst P is replied
 
@@ -142,19 +144,19 @@ pub advances_append : (snapshot : Snapshot) (xs ys : List Item) (old next new : 
 advances_append snapshot xs ys old next new first second =
     let P : List ℕ → Type 0 = λ text. Appends old.written new.written text in (
       first.0 ++ second.0,
-      replied_append snapshot xs ys first.0 second.0 old.past next.past new.past first.1 second.1,
+      replied_append snapshot xs ys first.0 second.0 old.history next.history new.history first.1 second.1,
       subst P (sym (flat_map-append text_of_reply first.0 second.0)) (appends_append old.written next.written new.written (reply_text first.0) (reply_text second.0) first.2 second.2),
       accepted_append old.has_accepted next.has_accepted new.has_accepted first.0 second.0 first.3 second.3,
     )
 
 -- nothing to answer
 pub advances_none : (snapshot : Snapshot) (old : Standing) → Advances snapshot [] old old
-advances_none snapshot old = ([], replied_none snapshot old.past, appends_none old.written, or_none old.has_accepted)
+advances_none snapshot old = ([], replied_none snapshot old.history, appends_none old.written, or_none old.has_accepted)
 
 -- a reply to one line, where both were written as they should
-pub advances_line : {T E : Type 0} (result : Result T E) (snapshot : Snapshot) (items : List Item) (reply : Reply) (old new : Past) (before after : Option (List ℕ)) (had has : Bool)
+advances_line : {T E : Type 0} (result : Result T E) (snapshot : Snapshot) (items : List Item) (reply : Reply) (old new : HistoryParts) (before after : Option (List ℕ)) (had has : Bool)
     → Replied snapshot items (reply ∷ []) old new → OnOk result (Appends before after (text_of_reply reply)) → OnOk result (has ≡ (had || is_accepted reply))
-    → OnOk result (Advances snapshot items (record { past = old; written = before; has_accepted = had }) (record { past = new; written = after; has_accepted = has }))
+    → OnOk result (Advances snapshot items (record { history = old; written = before; has_accepted = had }) (record { history = new; written = after; has_accepted = has }))
 advances_line (Ok u) snapshot items reply old new before after had has replied written accepted =
     let P : List ℕ → Type 0 = λ text. Appends before after text in (
       reply ∷ [],
@@ -165,21 +167,32 @@ advances_line (Ok u) snapshot items reply old new before after had has replied w
 advances_line (Err e) snapshot items reply old new before after had has replied written accepted = tt
 
 -- a reply that was cut off
-pub breaks_line : {T E : Type 0} (result : Result T E) (snapshot : Snapshot) (items : List Item) (reply : Reply) (old new : Past) (before after : Option (List ℕ))
+breaks_line : {T E : Type 0} (result : Result T E) (snapshot : Snapshot) (items : List Item) (reply : Reply) (old new : HistoryParts) (before after : Option (List ℕ))
     → Replied snapshot items (reply ∷ []) old new → OnErr result (IsCutOff (text_of_reply reply) before after) → OnErr result (BreaksOff snapshot items old new before after)
 breaks_line (Ok u) snapshot items reply old new before after replied cut = tt
 breaks_line (Err e) snapshot items reply old new before after replied cut =
     record { told = []; last = reply; replied = replied; front = cut.front; missing = cut.missing; last_is = cut.text_is; is_missing = cut.is_missing; written = cut.written }
 
+-- a reply to one line, written whole or in part
+pub answers_sent : {T : Type 0} (result : Result T BatchFault) (snapshot : Snapshot) (items : List Item) (reply : Reply) (old new : HistoryParts) (before after : Option (List ℕ)) (had has failed : Bool)
+    → Replied snapshot items (reply ∷ []) old new → OnOk result (Appends before after (text_of_reply reply)) → OnOk result (has ≡ (had || is_accepted reply)) → OnErr result (IsCutOff (text_of_reply reply) before after) → IsOfSink result failed
+    → Answers result snapshot items (record { history = old; written = before; has_accepted = had }) (record { history = new; written = after; has_accepted = has }) failed
+answers_sent result snapshot items reply old new before after had has failed replied written accepted cut sink =
+    record {
+      advances = advances_line result snapshot items reply old new before after had has replied written accepted;
+      breaks = breaks_line result snapshot items reply old new before after replied cut;
+      sink = sink;
+    }
+
 -- answers, and then a reply that was cut off
-pub breaks_append : (snapshot : Snapshot) (xs ys : List Item) (old next : Standing) (new : Past) (after : Option (List ℕ)) → Advances snapshot xs old next → BreaksOff snapshot ys next.past new next.written after → BreaksOff snapshot (xs ++ ys) old.past new old.written after
+pub breaks_append : (snapshot : Snapshot) (xs ys : List Item) (old next : Standing) (new : HistoryParts) (after : Option (List ℕ)) → Advances snapshot xs old next → BreaksOff snapshot ys next.history new next.written after → BreaksOff snapshot (xs ++ ys) old.history new old.written after
 breaks_append snapshot xs ys old next new after first second =
-    let P : List Reply → Type 0 = λ replies. Replied snapshot (xs ++ ys) replies old.past new in
+    let P : List Reply → Type 0 = λ replies. Replied snapshot (xs ++ ys) replies old.history new in
     let Q : List ℕ → Type 0 = λ text. Appends old.written after text in
     record {
       told = first.0 ++ second.told;
       last = second.last;
-      replied = subst P (sym (append_assoc first.0 second.told (second.last ∷ []))) (replied_append snapshot xs ys first.0 (second.told ++ second.last ∷ []) old.past next.past new first.1 second.replied);
+      replied = subst P (sym (append_assoc first.0 second.told (second.last ∷ []))) (replied_append snapshot xs ys first.0 (second.told ++ second.last ∷ []) old.history next.history new first.1 second.replied);
       front = second.front;
       missing = second.missing;
       last_is = second.last_is;
@@ -215,13 +228,13 @@ answers_line snapshot bytes pending line behind old next new first second before
 -- the same, where its reply was cut off
 pub breaks_in_line : (snapshot : Snapshot) (bytes pending line behind : List ℕ) (old next new : Standing) → IsUnbroken pending → IsUnbroken line
     → AnswersAllBut snapshot bytes (pending ++ (line ++ (10 ∷ behind))) old next
-    → BreaksOff snapshot (option_to_list (item_of (record { bytes = take 65537 (pending ++ line); is_ended = true }))) next.past new.past next.written new.written
+    → BreaksOff snapshot (option_to_list (item_of (record { bytes = take 65537 (pending ++ line); is_ended = true }))) next.history new.history next.written new.written
     → Breaks snapshot bytes old new
 breaks_in_line snapshot bytes pending line behind old next new first second before breaks =
     let item = option_to_list (item_of (record { bytes = take 65537 (pending ++ line); is_ended = true })) in
     record {
       done = before.done ++ item;
-      breaks_off = breaks_append snapshot before.done item old next new.past new.written before.advances breaks;
+      breaks_off = breaks_append snapshot before.done item old next new.history new.written before.advances breaks;
       left = λ rest. (
         commands_of (behind ++ rest),
         before.left rest ∙ ap (λ items. before.done ++ items) (items_of_line item_of pending line behind rest items_alike first second)
@@ -302,7 +315,7 @@ reads_end snapshot (Some input) (Some rest) (Some behind) pending old new first 
 
 -- a read that failed
 pub ends_in_reading : (snapshot : Snapshot) (had now then : Option (List ℕ)) (pending : List ℕ) (old new : Standing) → Reads snapshot had pending now old new → Keeps now then
-    → IfSome had (λ input. EndsInReading snapshot input then old.past new.past old.written new.written)
+    → IfSome had (λ input. EndsInReading snapshot input then old.history new.history old.written new.written)
 ends_in_reading snapshot None now then pending old new reads kept = tt
 ends_in_reading snapshot (Some input) None then pending old new reads kept = absurd reads
 ends_in_reading snapshot (Some input) (Some rest) None pending old new reads kept = absurd kept
@@ -311,7 +324,7 @@ ends_in_reading snapshot (Some input) (Some rest) (Some behind) pending old new 
     let nothing : ended_commands_of (pending ++ []) ≡ [] = ap ended_commands_of (append-nil pending) ∙ none_ended pending reads.unbroken in
     let done : answers.done ≡ ended_commands_of reads.read =
     sym (ap ended_commands_of (sym (append-nil reads.read)) ∙ answers.ended [] ∙ ap (λ items. answers.done ++ items) nothing ∙ append-nil answers.done) in
-    let P : List Item → Type 0 = λ items. Answered snapshot items old.past new.past old.written new.written in
+    let P : List Item → Type 0 = λ items. Answered snapshot items old.history new.history old.written new.written in
     record {
       read = reads.read;
       read_is = reads.input_is ∙ ap (λ bytes. reads.read ++ bytes) (sym kept);
@@ -321,7 +334,7 @@ ends_in_reading snapshot (Some input) (Some rest) (Some behind) pending old new 
 -- a write that failed in a piece
 pub ends_in_writing : (snapshot : Snapshot) (had now then : Option (List ℕ)) (pending piece : List ℕ) (old next new : Standing)
     → Reads snapshot had pending now old next → Consumes now then piece → Breaks snapshot (pending ++ piece) next new
-    → IfSome had (λ input. EndsInWriting snapshot input old.past new.past old.written new.written)
+    → IfSome had (λ input. EndsInWriting snapshot input old.history new.history old.written new.written)
 ends_in_writing snapshot None now then pending piece old next new reads taken breaks = tt
 ends_in_writing snapshot (Some input) None then pending piece old next new reads taken breaks = absurd reads
 ends_in_writing snapshot (Some input) (Some rest) None pending piece old next new reads taken breaks = absurd taken
@@ -334,7 +347,7 @@ ends_in_writing snapshot (Some input) (Some rest) (Some behind) pending piece ol
       commands_are = ap commands_of (reads.input_is ∙ ap (λ bytes. reads.read ++ bytes) taken) ∙ answers.left (piece ++ behind)
           ∙ ap (λ bytes. answers.done ++ commands_of bytes) (sym (append_assoc pending piece behind)) ∙ ap (λ items. answers.done ++ items) left.1
           ∙ sym (append_assoc answers.done breaks.done left.0);
-      breaks_off = breaks_append snapshot answers.done breaks.done old next new.past new.written answers.advances breaks.breaks_off;
+      breaks_off = breaks_append snapshot answers.done breaks.done old next new.history new.written answers.advances breaks.breaks_off;
     }
 
 -- ---- the end of input
@@ -356,9 +369,9 @@ advances_end snapshot (Some input) (Some rest) pending old next new reads end la
     subst P (sym (all_commands snapshot input pending rest old next reads end)) (advances_append snapshot done (commands_of pending) old next new reads.answers.advances last)
 
 -- a write that failed at the last line
-last_write : (snapshot : Snapshot) (had now : Option (List ℕ)) (pending : List ℕ) (old next : Standing) (new : Past) (after : Option (List ℕ))
-    → Reads snapshot had pending now old next → IsAtEnd now → BreaksOff snapshot (commands_of pending) next.past new next.written after
-    → IfSome had (λ input. EndsInWriting snapshot input old.past new old.written after)
+last_write : (snapshot : Snapshot) (had now : Option (List ℕ)) (pending : List ℕ) (old next : Standing) (new : HistoryParts) (after : Option (List ℕ))
+    → Reads snapshot had pending now old next → IsAtEnd now → BreaksOff snapshot (commands_of pending) next.history new next.written after
+    → IfSome had (λ input. EndsInWriting snapshot input old.history new old.written after)
 last_write snapshot None now pending old next new after reads end last = tt
 last_write snapshot (Some input) None pending old next new after reads end last = absurd reads
 last_write snapshot (Some input) (Some rest) pending old next new after reads end last =
@@ -370,29 +383,34 @@ last_write snapshot (Some input) (Some rest) pending old next new after reads en
       breaks_off = breaks_append snapshot done (commands_of pending) old next new after reads.answers.advances last;
     }
 
-pub ends_in_last_write : {T : Type 0} (result : Result T BatchFault) (snapshot : Snapshot) (had now : Option (List ℕ)) (pending : List ℕ) (old next : Standing) (new : Past) (after : Option (List ℕ)) (failed : Bool)
-    → Reads snapshot had pending now old next → IsAtEnd now → OnErr result (BreaksOff snapshot (commands_of pending) next.past new next.written after)
-    → IfErr result (λ e. (e ≡ Write) × (failed ≡ true)) → IfErr result (λ e. IfSome had (λ input. EndsAt e snapshot input now old.past new old.written after))
-ends_in_last_write (Ok u) snapshot had now pending old next new after failed reads end last fault = tt
-ends_in_last_write (Err e) snapshot had now pending old next new after failed reads end last fault =
-    let P : BatchFault → Type 0 = λ f. IfSome had (λ input. EndsAt f snapshot input now old.past new old.written after) in
-    subst P (sym fault.0) (last_write snapshot had now pending old next new after reads end last)
+pub ends_in_last : {T : Type 0} (result : Result T BatchFault) (snapshot : Snapshot) (had now : Option (List ℕ)) (pending : List ℕ) (old next new : Standing) (source_failed sink_failed : Bool)
+    → Reads snapshot had pending now old next → IsAtEnd now → source_failed ≡ false → Answers result snapshot (commands_of pending) next new sink_failed
+    → Ends result snapshot had now source_failed old.history new.history old.written new.written sink_failed
+ends_in_last (Ok value) snapshot had now pending old next new source_failed sink_failed reads end unfailed last =
+    record { end = end; source = unfailed; sink = last.sink.failure; left = tt }
+ends_in_last (Err e) snapshot had now pending old next new source_failed sink_failed reads end unfailed last =
+    rw last.sink.fault
+    (record { end = tt; source = unfailed; sink = last.sink.failure; left = last_write snapshot had now pending old next new.history new.written reads end last.breaks })
 
 -- nothing was done
-pub ends_at_once : (snapshot : Snapshot) (had : Option (List ℕ)) (old : Past) (before : Option (List ℕ)) → IfSome had (λ input. EndsAt OutOfMemory snapshot input had old old before before)
-ends_at_once snapshot None old before = tt
-ends_at_once snapshot (Some input) old before = (refl, refl, refl)
+left_at_once : (snapshot : Snapshot) (had : Option (List ℕ)) (old : HistoryParts) (before : Option (List ℕ)) → IfSome had (λ input. EndsAt OutOfMemory snapshot input had old old before before)
+left_at_once snapshot None old before = tt
+left_at_once snapshot (Some input) old before = (refl, refl, refl)
+
+pub ends_at_once : {T : Type 0} (snapshot : Snapshot) (had : Option (List ℕ)) (old : HistoryParts) (before : Option (List ℕ)) {source_failed sink_failed : Bool} → source_failed ≡ false → sink_failed ≡ false
+    → Ends {T = T} (Err OutOfMemory) snapshot had had source_failed old old before before sink_failed
+ends_at_once snapshot had old before source sink = record { end = tt; source = source; sink = sink; left = left_at_once snapshot had old before }
 
 -- all that was answered, from where no reply was `ok`
-pub answered_with : (snapshot : Snapshot) (had : Option (List ℕ)) (old new : Past) (before after : Option (List ℕ)) (was now accepted : Bool) → was ≡ false → accepted ≡ now
-    → IfSome had (λ input. Advances snapshot (commands_of input) (record { past = old; written = before; has_accepted = was }) (record { past = new; written = after; has_accepted = now }))
+pub answered_with : (snapshot : Snapshot) (had : Option (List ℕ)) (old new : HistoryParts) (before after : Option (List ℕ)) (was now accepted : Bool) → was ≡ false → accepted ≡ now
+    → IfSome had (λ input. Advances snapshot (commands_of input) (record { history = old; written = before; has_accepted = was }) (record { history = new; written = after; has_accepted = now }))
     → IfSome had (λ input. AnsweredWith accepted snapshot (commands_of input) old new before after)
 answered_with snapshot None old new before after was now accepted was_is is advances = tt
 answered_with snapshot (Some input) old new before after was now accepted was_is is advances =
     (advances.0, advances.1, advances.2, is ∙ advances.3 ∙ ap (λ b. b || list_any is_accepted advances.0) was_is)
 
 -- the same, where nobody asks whether a command was accepted
-pub answered_of : (snapshot : Snapshot) (had : Option (List ℕ)) (old new : Past) (before after : Option (List ℕ)) (accepted : Bool)
+pub answered_of : (snapshot : Snapshot) (had : Option (List ℕ)) (old new : HistoryParts) (before after : Option (List ℕ)) (accepted : Bool)
     → IfSome had (λ input. AnsweredWith accepted snapshot (commands_of input) old new before after) → IfSome had (λ input. Answered snapshot (commands_of input) old new before after)
 answered_of snapshot None old new before after accepted answered = tt
 answered_of snapshot (Some input) old new before after accepted answered = (answered.0, answered.1, answered.2)
@@ -403,14 +421,7 @@ advances_empty snapshot [] old empty = advances_none snapshot old
 advances_empty snapshot (b ∷ bs) old empty = absurd (omega arith)
 
 -- a last line without an LF
-pub advances_last : {T E : Type 0} (result : Result T E) (snapshot : Snapshot) (pending : List ℕ) (old new : Past) (before after : Option (List ℕ)) (had has : Bool) → IsUnbroken pending → 0 < length pending
-    → OnOk result (Advances snapshot (option_to_list (item_of (record { bytes = pending; is_ended = false }))) (record { past = old; written = before; has_accepted = had }) (record { past = new; written = after; has_accepted = has }))
-    → OnOk result (Advances snapshot (commands_of pending) (record { past = old; written = before; has_accepted = had }) (record { past = new; written = after; has_accepted = has }))
-advances_last result snapshot pending old new before after had has unbroken long advances =
-    let P : List Item → Type 0 = λ items. OnOk result (Advances snapshot items (record { past = old; written = before; has_accepted = had }) (record { past = new; written = after; has_accepted = has })) in
-    subst P (sym (commands_last pending unbroken long)) advances
-
-pub breaks_last : {T E : Type 0} (result : Result T E) (snapshot : Snapshot) (pending : List ℕ) (old new : Past) (before after : Option (List ℕ)) → IsUnbroken pending → 0 < length pending
-    → OnErr result (BreaksOff snapshot (option_to_list (item_of (record { bytes = pending; is_ended = false }))) old new before after) → OnErr result (BreaksOff snapshot (commands_of pending) old new before after)
-breaks_last result snapshot pending old new before after unbroken long breaks =
-    let P : List Item → Type 0 = λ items. OnErr result (BreaksOff snapshot items old new before after) in subst P (sym (commands_last pending unbroken long)) breaks
+pub answers_last : {T : Type 0} (result : Result T BatchFault) (snapshot : Snapshot) (pending : List ℕ) (old new : Standing) (failed : Bool) → IsUnbroken pending → 0 < length pending
+    → Answers result snapshot (option_to_list (item_of (record { bytes = pending; is_ended = false }))) old new failed → Answers result snapshot (commands_of pending) old new failed
+answers_last result snapshot pending old new failed unbroken long answers =
+    let P : List Item → Type 0 = λ items. Answers result snapshot items old new failed in subst P (sym (commands_last pending unbroken long)) answers

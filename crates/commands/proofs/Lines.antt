@@ -7,9 +7,9 @@ use Rattle.std.proofs.lemmas.List.{take_all, length-take}
 use Rattle.std.proofs.lemmas.Bool.{lt-ltb, ltb-true, ltb-false, cases_Bool}
 use Rattle.std.specs.List.{filter_map, cons_option}
 use Rattle.std.specs.Option.{option_to_list}
-use Rattle.commands.specs.declared.command_line.Item.{Item}
-use Rattle.commands.specs.declared.command_line.Item.TheVariants.{BadCommand}
-use Rattle.commands.specs.CommandLine.{Line, with_first, input_lines_of, longest_line, item_of, ended_item_of, IsUnbroken, commands_of, ended_commands_of}
+use Rattle.commands.specs.declared.batch_line.Item.{Item}
+use Rattle.commands.specs.declared.batch_line.Item.TheVariants.{BadCommand}
+use Rattle.commands.specs.BatchLine.{Line, with_first, input_lines_of, longest_line, item_of, ended_item_of, IsUnbroken, commands_of, ended_commands_of}
 
 -- what fits behind a line of at most n bytes
 pub take_room : (n : ℕ) (xs ys : List ℕ) → length xs ≤ n → take n (xs ++ ys) ≡ xs ++ take (n - length xs) ys

@@ -9,9 +9,9 @@ use Rattle.std.specs.Str.{IsCharBoundary, IsUtf8, is_utf8}
 use Rattle.std.proofs.lemmas.Str.{IsCharBoundary-before_ascii, IsCharBoundary-end, IsUtf8-from_is_utf8, is_utf8-from_IsUtf8}
 use Rattle.lists.specs.Spaces.{is_space_or_tab, trim_start}
 use Rattle.lists.proofs.SpaceBytes.{is_space_or_tab-ascii}
-use Rattle.commands.specs.declared.command_line.Item.{Item}
-use Rattle.commands.specs.declared.command_line.Item.TheVariants.{BadCommand}
-use Rattle.commands.specs.CommandLine.{asked_by, asked_by_text, behind_word, command_of, first_word, from_first, words_of}
+use Rattle.commands.specs.declared.batch_line.Item.{Item}
+use Rattle.commands.specs.declared.batch_line.Item.TheVariants.{BadCommand}
+use Rattle.commands.specs.BatchLine.{asked_by, asked_by_text, behind_word, command_of, first_word, from_first, words_of}
 
 -- a text that is UTF-8 is read, and another is a bad command
 pub asked_utf8 : (text : List ℕ) → IsUtf8 text → asked_by_text text ≡ asked_by (trim_start text)

@@ -4,9 +4,9 @@ use Rattle.lists.specs.Spaces.{trim_start}
 use Rattle.edits.specs.declared.refusal.Refusal.TheVariants.{NothingToUndo, AlreadyPresent}
 use Rattle.edits.specs.declared.request.Edit.TheVariants.{Add, Constrain, Relock, Remove, Upgrade, UpgradeAll}
 use Rattle.journal.specs.declared.commands.Reply.TheVariants.{Same, Refused}
-use Rattle.commands.specs.declared.command_line.Item.{Item}
-use Rattle.commands.specs.declared.command_line.Item.TheVariants.{BadCommand, Edit, Redo, Undo}
-use Rattle.commands.specs.CommandLine.{asked_by, input_lines_of, line_text}
+use Rattle.commands.specs.declared.batch_line.Item.{Item}
+use Rattle.commands.specs.declared.batch_line.Item.TheVariants.{BadCommand, Edit, Redo, Undo}
+use Rattle.commands.specs.BatchLine.{asked_by, input_lines_of, line_text}
 use Rattle.commands.specs.Replies.{reply_text}
 
 -- a CR before an LF is dropped, and a last line counts

@@ -1,4 +1,4 @@
-pub mod CommandLine
+pub mod BatchLine
 pub mod CommandWords
 pub mod Faults
 pub mod Replies

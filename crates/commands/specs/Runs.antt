@@ -1,19 +1,20 @@
 -- A batch of commands on a history. All of it is reqlock's own rule.
-use Rattle.std.specs.Prelude.{ℕ, ◌≡◌, ◌<◌, Bool, List, [], ◌∷◌, ◌++◌, Option, None, Some, length}
+use Rattle.std.specs.Prelude.{ℕ, ◌≡◌, ◌<◌, Bool, List, [], ◌∷◌, ◌++◌, Option, None, Some, Result, OnOk, IfErr, IfSome, length}
 use Rattle.std.specs.List.{filter_map, list_any}
-use Rattle.std.specs.Io.KnownBytes.{Appends, Consumes}
+use Rattle.std.specs.Io.KnownBytes.{Appends, Consumes, IsAtEnd}
 use Rattle.snapshot.specs.declared.snapshot.Snapshot.{Snapshot}
 use Rattle.edits.specs.declared.refusal.Refusal.TheVariants as refusals
 use Rattle.journal.specs.declared.commands.Reply.{Reply}
 use Rattle.journal.specs.declared.commands.Reply.TheVariants.{Refused}
-use Rattle.journal.specs.Past.{Past}
+use Rattle.journal.specs.Changes.{HistoryParts}
 use Rattle.journal.specs.Commands.{Asked, Editing, Undoing, Redoing}
-use Rattle.journal.specs.Steps.{Run}
+use Rattle.journal.specs.Histories.{RunWithChanges}
 use Rattle.commands.specs.declared.batch.BatchFault.{BatchFault}
 use Rattle.commands.specs.declared.batch.BatchFault.TheVariants.{Read, Write, OutOfMemory}
-use Rattle.commands.specs.declared.command_line.Item.{Item}
-use Rattle.commands.specs.declared.command_line.Item.TheVariants.{Edit, Undo, Redo, BadCommand}
-use Rattle.commands.specs.CommandLine.{commands_of, ended_commands_of}
+use Rattle.commands.specs.declared.batch_line.Item.{Item}
+use Rattle.commands.specs.declared.batch_line.Item.TheVariants.{Edit, Undo, Redo, BadCommand}
+use Rattle.commands.specs.BatchLine.{commands_of, ended_commands_of}
+use Rattle.commands.specs.Faults.{is_failed_read, is_failed_write}
 use Rattle.commands.specs.Replies.{text_of_reply, reply_text, is_accepted}
 
 -- what an item asks a history for: a bad command asks for nothing
@@ -35,15 +36,15 @@ replies_of (Redo ∷ items) [] = []
 replies_of (Redo ∷ items) (reply ∷ replies) = reply ∷ replies_of items replies
 
 -- a run over what the items ask for, and with it these replies to the items
-abbrev pub Replied : Snapshot → List Item → List Reply → Past → Past → Type 0
-Replied snapshot items replies old new = (answers : List Reply) × Run old (filter_map (asked_in snapshot) items) answers new × (replies ≡ replies_of items answers)
+abbrev pub Replied : Snapshot → List Item → List Reply → HistoryParts → HistoryParts → Type 0
+Replied snapshot items replies old new = (answers : List Reply) × RunWithChanges old (filter_map (asked_in snapshot) items) answers new × (replies ≡ replies_of items answers)
 
 -- a run over these items, whose replies were written where the bytes before and after are known
-abbrev pub Answered : Snapshot → List Item → Past → Past → Option (List ℕ) → Option (List ℕ) → Type 0
+abbrev pub Answered : Snapshot → List Item → HistoryParts → HistoryParts → Option (List ℕ) → Option (List ℕ) → Type 0
 Answered snapshot items old new before after = (replies : List Reply) × Replied snapshot items replies old new × Appends before after (reply_text replies)
 
 -- the same, and whether some command was accepted
-abbrev pub AnsweredWith : Bool → Snapshot → List Item → Past → Past → Option (List ℕ) → Option (List ℕ) → Type 0
+abbrev pub AnsweredWith : Bool → Snapshot → List Item → HistoryParts → HistoryParts → Option (List ℕ) → Option (List ℕ) → Type 0
 AnsweredWith accepted snapshot items old new before after = (replies : List Reply) × Replied snapshot items replies old new × Appends before after (reply_text replies) × (accepted ≡ list_any is_accepted replies)
 
 -- of a text a front was written, and something is missing
@@ -55,7 +56,7 @@ pub record IsCutOff (text : List ℕ) (before after : Option (List ℕ)) : Type 
   pub written : Appends before after front
 
 -- a run over these items, whose replies were written, but for an end of the last one
-pub record BreaksOff (snapshot : Snapshot) (items : List Item) (old new : Past) (before after : Option (List ℕ)) : Type 0 where
+pub record BreaksOff (snapshot : Snapshot) (items : List Item) (old new : HistoryParts) (before after : Option (List ℕ)) : Type 0 where
   pub told : List Reply
   pub last : Reply
   pub replied : Replied snapshot items (told ++ last ∷ []) old new
@@ -66,20 +67,28 @@ pub record BreaksOff (snapshot : Snapshot) (items : List Item) (old new : Past) 
   pub written : Appends before after (reply_text told ++ front)
 
 -- of the bytes that were read the lines that an LF ended are answered, and a rest without LF isn't
-pub record EndsInReading (snapshot : Snapshot) (input : List ℕ) (left : Option (List ℕ)) (old new : Past) (before after : Option (List ℕ)) : Type 0 where
+pub record EndsInReading (snapshot : Snapshot) (input : List ℕ) (left : Option (List ℕ)) (old new : HistoryParts) (before after : Option (List ℕ)) : Type 0 where
   pub read : List ℕ
   pub read_is : Consumes (Some input) left read
   pub answered : Answered snapshot (ended_commands_of read) old new before after
 
 -- the first commands of the input are done, and the reply to the last of them is the one that breaks off
-pub record EndsInWriting (snapshot : Snapshot) (input : List ℕ) (old new : Past) (before after : Option (List ℕ)) : Type 0 where
+pub record EndsInWriting (snapshot : Snapshot) (input : List ℕ) (old new : HistoryParts) (before after : Option (List ℕ)) : Type 0 where
   pub done : List Item
   pub more : List Item
   pub commands_are : commands_of input ≡ done ++ more
   pub breaks_off : BreaksOff snapshot done old new before after
 
 -- what is done where a batch ends at a fault, of an input of which these bytes are left
-abbrev pub EndsAt : BatchFault → Snapshot → List ℕ → Option (List ℕ) → Past → Past → Option (List ℕ) → Option (List ℕ) → Type 0
+abbrev pub EndsAt : BatchFault → Snapshot → List ℕ → Option (List ℕ) → HistoryParts → HistoryParts → Option (List ℕ) → Option (List ℕ) → Type 0
 EndsAt Read snapshot input left old new before after = EndsInReading snapshot input left old new before after
 EndsAt Write snapshot input left old new before after = EndsInWriting snapshot input old new before after
 EndsAt OutOfMemory snapshot input left old new before after = (new ≡ old) × (after ≡ before) × (left ≡ Some input)
+
+-- how a batch ends that begins where no call on its streams has failed: without a fault all was read; the source has failed where
+-- the fault is `Read`, the sink where it is `Write`, and else neither
+pub record Ends {T : Type 0} (result : Result T BatchFault) (snapshot : Snapshot) (had rest : Option (List ℕ)) (source_failed : Bool) (old new : HistoryParts) (before after : Option (List ℕ)) (sink_failed : Bool) : Type 0 where
+  pub end : OnOk result (IsAtEnd rest)
+  pub source : source_failed ≡ is_failed_read result
+  pub sink : sink_failed ≡ is_failed_write result
+  pub left : IfErr result (λ e. IfSome had (λ input. EndsAt e snapshot input rest old new before after))

@@ -1,28 +1,36 @@
 -- What the parts of `batch` promise one another. Tied to `commands_of` and `Run` by the clauses of `batch`; need not be read.
-use Rattle.std.specs.Prelude.{ℕ, ◌≡◌, ◌||◌, Bool, List, ◌++◌, Option, None, Some}
+use Rattle.std.specs.Prelude.{ℕ, ◌≡◌, ◌||◌, Bool, List, ◌++◌, Option, None, Some, Result, OnOk, OnErr}
 use Rattle.std.specs.List.{list_any}
 use Rattle.std.specs.Io.KnownBytes.{Appends}
 use Rattle.snapshot.specs.declared.snapshot.Snapshot.{Snapshot}
 use Rattle.journal.specs.declared.commands.Reply.{Reply}
-use Rattle.journal.specs.Past.{Past}
-use Rattle.commands.specs.declared.command_line.Item.{Item}
-use Rattle.commands.specs.CommandLine.{commands_of, ended_commands_of, IsUnbroken}
+use Rattle.journal.specs.Changes.{HistoryParts}
+use Rattle.commands.specs.declared.batch.BatchFault.{BatchFault}
+use Rattle.commands.specs.declared.batch_line.Item.{Item}
+use Rattle.commands.specs.BatchLine.{commands_of, ended_commands_of, IsUnbroken}
+use Rattle.commands.specs.Faults.{IsOfSink}
 use Rattle.commands.specs.Replies.{Telling, reply_text, is_accepted}
 use Rattle.commands.specs.Runs.{Replied, BreaksOff}
 
 -- where a batch stands: its history, what was written where that is known, and whether a reply was `ok`
 pub record Standing : Type 0 where
-  pub past : Past
+  pub history : HistoryParts
   pub written : Option (List ℕ)
   pub has_accepted : Bool
 
-abbrev pub standing : Past → Option (List ℕ) → Telling → Standing
-standing past written telling = record { past = past; written = written; has_accepted = telling.has_accepted }
+abbrev pub standing : HistoryParts → Option (List ℕ) → Telling → Standing
+standing history written telling = record { history = history; written = written; has_accepted = telling.has_accepted }
 
 -- the items were answered
 abbrev pub Advances : Snapshot → List Item → Standing → Standing → Type 0
 Advances snapshot items old new =
-    (replies : List Reply) × Replied snapshot items replies old.past new.past × Appends old.written new.written (reply_text replies) × (new.has_accepted ≡ (old.has_accepted || list_any is_accepted replies))
+    (replies : List Reply) × Replied snapshot items replies old.history new.history × Appends old.written new.written (reply_text replies) × (new.has_accepted ≡ (old.has_accepted || list_any is_accepted replies))
+
+-- the items were answered, or the sink has failed and the reply to the last of them breaks off
+pub record Answers {T : Type 0} (result : Result T BatchFault) (snapshot : Snapshot) (items : List Item) (old new : Standing) (sink_failed : Bool) : Type 0 where
+  pub advances : OnOk result (Advances snapshot items old new)
+  pub breaks : OnErr result (BreaksOff snapshot items old.history new.history old.written new.written)
+  pub sink : IsOfSink result sink_failed
 
 -- of `bytes` so many commands were answered that those left are the ones of `back` and what follows
 pub record AnswersAllBut (snapshot : Snapshot) (bytes back : List ℕ) (old new : Standing) : Type 0 where
@@ -47,5 +55,5 @@ Reads snapshot (Some input) pending (Some rest) old new = ReadsOf snapshot input
 -- of these bytes the first commands are done, and the reply to the last of them breaks off
 pub record Breaks (snapshot : Snapshot) (bytes : List ℕ) (old new : Standing) : Type 0 where
   pub done : List Item
-  pub breaks_off : BreaksOff snapshot done old.past new.past old.written new.written
+  pub breaks_off : BreaksOff snapshot done old.history new.history old.written new.written
   pub left : (rest : List ℕ) → (more : List Item) × (commands_of (bytes ++ rest) ≡ done ++ more)

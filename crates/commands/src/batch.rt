@@ -1,16 +1,16 @@
 // Commands read from a source, and their replies written to a sink.
 
-ghost use Rattle.std.specs.Prelude.{◌≡◌, ◌⊎◌, ◌≤◌, ◌<◌, ◌+◌, ◌||◌, ◌++◌, [], ◌∷◌, true, false, length, take, drop, OnOk, OnErr, IfOk, IfErr, IfSome, IfNone};
+ghost use Rattle.std.specs.Prelude.{◌≡◌, ◌≢◌, ◌≤◌, ◌<◌, ◌+◌, ◌||◌, ◌++◌, [], ◌∷◌, true, false, length, take, drop, OnOk, OnErr, IfOk, IfErr, IfSome, IfNone, is_err};
 ghost use Rattle.std.specs.Io.KnownBytes.{Appends, Consumes, IsAtEnd, Keeps};
 ghost use Rattle.std.specs.Option.{option_to_list};
-ghost use Rattle.commands.specs.CommandLine.{commands_of, item_of, IsUnbroken};
-ghost use Rattle.commands.specs.Faults.{IsFailure};
+ghost use Rattle.commands.specs.BatchLine.{commands_of, item_of, IsUnbroken};
+ghost use Rattle.commands.specs.Faults.{IsOfSink};
 ghost use Rattle.commands.specs.Replies.{is_accepted, text_of_reply};
-ghost use Rattle.commands.specs.Runs.{Answered, AnsweredWith, BreaksOff, EndsAt, IsCutOff, Replied};
-ghost use Rattle.commands.specs.Standings.{Advances, AnswersAllBut, Breaks, Reads, standing};
+ghost use Rattle.commands.specs.Runs.{Answered, AnsweredWith, Ends, IsCutOff, Replied};
+ghost use Rattle.commands.specs.Standings.{Advances, Answers, AnswersAllBut, Breaks, Reads, standing};
 ghost use Rattle.commands.specs.declared.batch.BatchFault.TheVariants.{OutOfMemory};
 
-use crate::command_line::{Item, read_item};
+use crate::batch_line::{Item, read_item};
 use crate::pending_line::PendingLine;
 use crate::reply_text::ReplyText;
 use crate::sink::Sink;
@@ -45,8 +45,9 @@ impl From<AllocError> for BatchFault {
     }
 }
 
-/// Does the commands that `source` gives, one a line, and writes the reply to each to `sink` as
-/// its line is read. A refusal, of memory too, ends nothing; the first failed call ends the batch.
+/// Does the commands that `source` gives, one a line, and writes the reply to each to `sink`. A
+/// refusal, of memory too, ends nothing. The first failed call ends the batch: the source has
+/// failed where `Read` is answered, the sink where `Write` is, and else neither.
 pub fn batch<S: Source, K: Sink>(
     alloc: Global,
     source: &mut S,
@@ -60,15 +61,11 @@ pub fn batch<S: Source, K: Sink>(
     ensures answered { OnOk result (IfSome (S.remaining source.old) (λ input.
         Answered snapshot.now (commands_of input) session.old session.new
         (K.contents sink.old) (K.contents sink.new))) }
-    // All was read.
-    ensures end { OnOk result (IsAtEnd (S.remaining source.new)) }
-    // A fault is of the stream that failed, and want of memory comes before all else.
-    ensures fault { IfErr result (λ e. (e ≡ BatchFault.OutOfMemory)
-        ⊎ IsFailure e (S.has_failed source.new) (K.has_failed sink.new)) }
-    // What is done where a fault ends it, and what of the replies stands.
-    ensures left { IfErr result (λ e. IfSome (S.remaining source.old) (λ input.
-        EndsAt e snapshot.now input (S.remaining source.new) session.old session.new
-        (K.contents sink.old) (K.contents sink.new))) }
+    // Which stream has failed, and what is done where a fault ends it.
+    ensures ends { Ends result snapshot.now (S.remaining source.old) (S.remaining source.new)
+        (S.has_failed source.new) session.old session.new
+        (K.contents sink.old) (K.contents sink.new) (K.has_failed sink.new) }
+    // Want of memory comes before all else.
     ensures memory { result ≡ Err BatchFault.OutOfMemory
         → (session.new ≡ session.old) × (sink.new ≡ sink.old) × (source.new ≡ source.old) }
 {
@@ -92,12 +89,9 @@ pub fn accepted_in<S: Source, K: Sink>(
     ensures answered { IfOk result (λ accepted. IfSome (S.remaining source.old) (λ input.
         AnsweredWith accepted snapshot.now (commands_of input) session.old session.new
         (K.contents sink.old) (K.contents sink.new))) }
-    ensures end { OnOk result (IsAtEnd (S.remaining source.new)) }
-    ensures fault { IfErr result (λ e. (e ≡ BatchFault.OutOfMemory)
-        ⊎ IsFailure e (S.has_failed source.new) (K.has_failed sink.new)) }
-    ensures left { IfErr result (λ e. IfSome (S.remaining source.old) (λ input.
-        EndsAt e snapshot.now input (S.remaining source.new) session.old session.new
-        (K.contents sink.old) (K.contents sink.new))) }
+    ensures ends { Ends result snapshot.now (S.remaining source.old) (S.remaining source.new)
+        (S.has_failed source.new) session.old session.new
+        (K.contents sink.old) (K.contents sink.new) (K.has_failed sink.new) }
     ensures memory { result ≡ Err BatchFault.OutOfMemory
         → (session.new ≡ session.old) × (sink.new ≡ sink.old) × (source.new ≡ source.old) }
 {
@@ -130,16 +124,16 @@ fn answer_all<S: Source, K: Sink>(
 ) -> Result<(), BatchFault>
     requires piece { 0 < length piece.old }
     requires pending { pending.old ≡ [] }
+    requires source { S.has_failed source.old ≡ false }
+    requires sink { K.has_failed sink.old ≡ false }
     ensures advances { OnOk result (IfSome (S.remaining source.old) (λ input.
         Advances snapshot.now (commands_of input)
         (standing session.old (K.contents sink.old) text.old)
         (standing session.new (K.contents sink.new) text.new))) }
-    ensures end { OnOk result (IsAtEnd (S.remaining source.new)) }
-    ensures fault { IfErr result (λ e.
-        IsFailure e (S.has_failed source.new) (K.has_failed sink.new)) }
-    ensures left { IfErr result (λ e. IfSome (S.remaining source.old) (λ input.
-        EndsAt e snapshot.now input (S.remaining source.new) session.old session.new
-        (K.contents sink.old) (K.contents sink.new))) }
+    ensures ends { Ends result snapshot.now (S.remaining source.old) (S.remaining source.new)
+        (S.has_failed source.new) session.old session.new
+        (K.contents sink.old) (K.contents sink.new) (K.has_failed sink.new) }
+    ensures memory { IfErr result (λ e. e ≢ BatchFault.OutOfMemory) }
 {
     answer_lines(alloc, source, piece, pending, text, sink, session, snapshot)?;
     answer_last(alloc, pending, text, sink, session, snapshot)
@@ -154,12 +148,11 @@ fn answer_last<K: Sink>(
     session: &mut Session,
     snapshot: &Snapshot,
 ) -> Result<(), BatchFault>
-    ensures advances { OnOk result (Advances snapshot.now (commands_of pending.now)
+    requires { K.has_failed sink.old ≡ false }
+    ensures { Answers result snapshot.now (commands_of pending.now)
         (standing session.old (K.contents sink.old) text.old)
-        (standing session.new (K.contents sink.new) text.new)) }
-    ensures breaks { OnErr result (BreaksOff snapshot.now (commands_of pending.now)
-        session.old session.new (K.contents sink.old) (K.contents sink.new)) }
-    ensures fault { IfErr result (λ e. (e ≡ BatchFault.Write) × (K.has_failed sink.new ≡ true)) }
+        (standing session.new (K.contents sink.new) text.new)
+        (K.has_failed sink.new) }
 {
     let line = pending.as_bytes();
     if line.is_empty() {
@@ -181,16 +174,16 @@ fn answer_lines<S: Source, K: Sink>(
 ) -> Result<(), BatchFault>
     requires piece { 0 < length piece.old }
     requires pending { pending.old ≡ [] }
+    requires source { S.has_failed source.old ≡ false }
+    requires sink { K.has_failed sink.old ≡ false }
     ensures reads { OnOk result (Reads snapshot.now
         (S.remaining source.old) pending.new (S.remaining source.new)
         (standing session.old (K.contents sink.old) text.old)
         (standing session.new (K.contents sink.new) text.new)) }
-    ensures end { OnOk result (IsAtEnd (S.remaining source.new)) }
-    ensures fault { IfErr result (λ e.
-        IsFailure e (S.has_failed source.new) (K.has_failed sink.new)) }
-    ensures left { IfErr result (λ e. IfSome (S.remaining source.old) (λ input.
-        EndsAt e snapshot.now input (S.remaining source.new) session.old session.new
-        (K.contents sink.old) (K.contents sink.new))) }
+    ensures ends { Ends result snapshot.now (S.remaining source.old) (S.remaining source.new)
+        (S.has_failed source.new) session.old session.new
+        (K.contents sink.old) (K.contents sink.new) (K.has_failed sink.new) }
+    ensures memory { IfErr result (λ e. e ≢ BatchFault.OutOfMemory) }
 {
     'pieces: loop {
         let count = match read_piece(source, piece) {
@@ -213,13 +206,15 @@ fn answer_lines<S: Source, K: Sink>(
 }
 
 fn read_piece<S: Source>(source: &mut S, piece: &mut [u8]) -> Result<usize, BatchFault>
+    requires { S.has_failed source.old ≡ false }
     ensures bound { IfOk result (λ n. n ≤ length piece.new) }
     ensures bytes { IfOk result (λ n.
         Consumes (S.remaining source.old) (S.remaining source.new) (take n piece.new)) }
     ensures end { IfOk result (λ n.
         n ≡ 0 → 0 < length piece.new → IsAtEnd (S.remaining source.new)) }
     ensures calls { OnOk result (S.calls_left source.new < S.calls_left source.old) }
-    ensures fault { IfErr result (λ e. (e ≡ BatchFault.Read) × (S.has_failed source.new ≡ true)) }
+    ensures failure { S.has_failed source.new ≡ is_err result }
+    ensures fault { IfErr result (λ e. e ≡ BatchFault.Read) }
     ensures kept { OnErr result (Keeps (S.remaining source.old) (S.remaining source.new)) }
 {
     match source.read(piece) {
@@ -238,6 +233,7 @@ fn answer_piece<K: Sink>(
     session: &mut Session,
     snapshot: &Snapshot,
 ) -> Result<(), BatchFault>
+    requires { K.has_failed sink.old ≡ false }
     ensures answers { OnOk result (AnswersAllBut snapshot.now (pending.old ++ piece.now) pending.new
         (standing session.old (K.contents sink.old) text.old)
         (standing session.new (K.contents sink.new) text.new)) }
@@ -245,7 +241,7 @@ fn answer_piece<K: Sink>(
     ensures breaks { OnErr result (Breaks snapshot.now (pending.old ++ piece.now)
         (standing session.old (K.contents sink.old) text.old)
         (standing session.new (K.contents sink.new) text.new)) }
-    ensures fault { IfErr result (λ e. (e ≡ BatchFault.Write) × (K.has_failed sink.new ≡ true)) }
+    ensures sink { IsOfSink result (K.has_failed sink.new) }
 {
     let mut rest = piece;
     'lines: while let Some((line, behind)) = split_line(rest) {
@@ -298,14 +294,12 @@ fn answer_line<K: Sink>(
     session: &mut Session,
     snapshot: &Snapshot,
 ) -> Result<(), BatchFault>
-    ensures advances { OnOk result (Advances snapshot.now
+    requires { K.has_failed sink.old ≡ false }
+    ensures { Answers result snapshot.now
         (option_to_list (item_of (record { bytes = line.now; is_ended = is_ended })))
         (standing session.old (K.contents sink.old) text.old)
-        (standing session.new (K.contents sink.new) text.new)) }
-    ensures breaks { OnErr result (BreaksOff snapshot.now
-        (option_to_list (item_of (record { bytes = line.now; is_ended = is_ended })))
-        session.old session.new (K.contents sink.old) (K.contents sink.new)) }
-    ensures fault { IfErr result (λ e. (e ≡ BatchFault.Write) × (K.has_failed sink.new ≡ true)) }
+        (standing session.new (K.contents sink.new) text.new)
+        (K.has_failed sink.new) }
 {
     match read_item(alloc, line, is_ended) {
         Ok(None) => Ok(()),
@@ -316,13 +310,14 @@ fn answer_line<K: Sink>(
 
 // Writes a reply.
 fn send<K: Sink>(reply: &Reply, text: &mut ReplyText, sink: &mut K) -> Result<(), BatchFault>
+    requires { K.has_failed sink.old ≡ false }
     ensures reply { OnOk result
         (Appends (K.contents sink.old) (K.contents sink.new) (text_of_reply reply.now)) }
     ensures accepted { OnOk result
         (text.new.has_accepted ≡ (text.old.has_accepted || is_accepted reply.now)) }
     ensures cut_off { OnErr result
         (IsCutOff (text_of_reply reply.now) (K.contents sink.old) (K.contents sink.new)) }
-    ensures fault { IfErr result (λ e. (e ≡ BatchFault.Write) × (K.has_failed sink.new ≡ true)) }
+    ensures sink { IsOfSink result (K.has_failed sink.new) }
 {
     text.set(reply);
     write_all(sink, text.as_bytes())
@@ -341,10 +336,11 @@ fn reply_to(alloc: Global, item: Item, session: &mut Session, snapshot: &Snapsho
 
 /// Writes all of the bytes, in as many calls as it takes.
 pub(crate) fn write_all<K: Sink>(sink: &mut K, bytes: &[u8]) -> Result<(), BatchFault>
+    requires { K.has_failed sink.old ≡ false }
     ensures bytes { OnOk result (Appends (K.contents sink.old) (K.contents sink.new) bytes.now) }
     ensures cut_off { OnErr result
         (IsCutOff bytes.now (K.contents sink.old) (K.contents sink.new)) }
-    ensures fault { IfErr result (λ e. (e ≡ BatchFault.Write) × (K.has_failed sink.new ≡ true)) }
+    ensures sink { IsOfSink result (K.has_failed sink.new) }
 {
     let mut rest = bytes;
     while !rest.is_empty() {

@@ -14,7 +14,7 @@
 #![tactic(auto)]
 
 pub mod batch;
-mod command_line;
+mod batch_line;
 mod command_words;
 mod counted;
 mod pending_line;
@@ -24,7 +24,7 @@ mod sink;
 mod source;
 mod words;
 
-pub use crate::command_line::{Item, LONGEST_LINE, read_item};
+pub use crate::batch_line::{Item, LONGEST_LINE, read_item};
 pub use crate::counted::Counted;
 pub use crate::reply_text::{ReplyText, refusal_word};
 pub use crate::sink::Sink;

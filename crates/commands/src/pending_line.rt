@@ -1,9 +1,9 @@
 // A line of which no LF has come.
 
 ghost use Rattle.std.specs.Prelude.{◌≡◌, ◌≤◌, [], ◌++◌, ◌-◌, IfOk, length, take, vec_len, vec_capacity};
-ghost use Rattle.commands.specs.CommandLine.{IsUnbroken};
+ghost use Rattle.commands.specs.BatchLine.{IsUnbroken};
 
-use crate::command_line::LONGEST_LINE;
+use crate::batch_line::LONGEST_LINE;
 use crate::reply_text::append_within;
 use std::alloc::{AllocError, Global};
 use std::marker::Model;
@@ -19,7 +19,7 @@ pub struct PendingLine {
 
 impl Model for PendingLine {
     ghost use Rattle.std.specs.Prelude.{List, ℕ, ◌≤◌, length, vec_len, vec_capacity};
-    ghost use Rattle.commands.specs.CommandLine.{IsUnbroken};
+    ghost use Rattle.commands.specs.BatchLine.{IsUnbroken};
 
     ghost Value = { List ℕ };
 

@@ -1,9 +1,9 @@
 // Where bytes go.
 
-ghost use Rattle.std.specs.Prelude.{◌≡◌, ℕ, Bool, List, Option};
+ghost use Rattle.std.specs.Prelude.{◌≡◌, ℕ, Bool, List, Option, false};
 ghost use Rattle.std.specs.Io.{WritesAtMost};
 ghost use Rattle.std.specs.Io.KnownBytes.{WriteAppends};
-ghost use Rattle.commands.specs.Streams.{or_stuck};
+ghost use Rattle.commands.specs.Streams.{is_stuck};
 
 use crate::counted::Counted;
 use std::io::{self, Write};
@@ -16,11 +16,13 @@ pub trait Sink {
     // Whether a call has failed. A call that took no bytes counts as failed.
     ghost has_failed: { Self → Bool };
 
-    /// Takes bytes from the front of `buffer` and answers how many they are.
+    /// Takes bytes from the front of `buffer` and answers how many they are. It isn't called once a
+    /// call has failed.
     fn write(&mut self, buffer: &[u8]) -> io::Result<usize>
+        requires { has_failed self.old ≡ false }
         ensures bound { WritesAtMost result buffer.now }
         ensures bytes { WriteAppends (contents self.old) (contents self.new) result buffer.now }
-        ensures failure { has_failed self.new ≡ or_stuck (has_failed self.old) result };
+        ensures failure { has_failed self.new ≡ is_stuck result };
 }
 
 impl<W: Write> Sink for Counted<W> {

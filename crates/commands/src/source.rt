@@ -1,9 +1,8 @@
 // Where bytes come from.
 
-ghost use Rattle.std.specs.Prelude.{◌≡◌, ◌<◌, ℕ, Bool, List, Option, OnOk};
+ghost use Rattle.std.specs.Prelude.{◌≡◌, ◌<◌, ℕ, Bool, List, Option, OnOk, false, is_err};
 ghost use Rattle.std.specs.Io.{ReadsAtMost};
 ghost use Rattle.std.specs.Io.KnownBytes.{ReadConsumes};
-ghost use Rattle.commands.specs.Streams.{or_failed};
 
 use crate::counted::Counted;
 use std::io::{self, Read};
@@ -20,11 +19,12 @@ pub trait Source {
     ghost calls_left: { Self → ℕ };
 
     /// Puts bytes at the front of `buffer` and answers how many they are: 0 at the end of input,
-    /// or where `buffer` is empty.
+    /// or where `buffer` is empty. It isn't called once a call has failed.
     fn read(&mut self, buffer: &mut [u8]) -> io::Result<usize>
+        requires { has_failed self.old ≡ false }
         ensures bound { ReadsAtMost result buffer.new }
         ensures bytes { ReadConsumes (remaining self.old) (remaining self.new) result buffer.new }
-        ensures failure { has_failed self.new ≡ or_failed (has_failed self.old) result }
+        ensures failure { has_failed self.new ≡ is_err result }
         ensures calls { OnOk result (calls_left self.new < calls_left self.old) };
 }
 

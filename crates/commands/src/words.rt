@@ -4,7 +4,7 @@ ghost use Rattle.std.specs.Prelude.{◌≡◌};
 ghost use Rattle.std.specs.List.{position_or_len};
 ghost use Rattle.std.specs.Str.{IsUtf8};
 ghost use Rattle.lists.specs.Spaces as spaces;
-ghost use Rattle.commands.specs.CommandLine.{behind_word, first_word};
+ghost use Rattle.commands.specs.BatchLine.{behind_word, first_word};
 
 use lists::{is_space_or_tab, trim_start};
 

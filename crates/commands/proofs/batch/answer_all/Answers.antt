@@ -1,15 +1,16 @@
 use Rattle.std.proofs.lemmas.Result.{IfOk-weaker}
 use Rattle.commands.specs.Standings.{standing}
-use Rattle.commands.proofs.Batches.{advances_end, ends_in_last_write}
+use Rattle.commands.proofs.Batches.{advances_end, ends_in_last}
 use Rattle.commands.proofs.batch.answer_all.Goals as goal
 
 pub returns-clause-advances : goal.returns-clause-advances
 returns-clause-advances g c =
+    let lines = c.in_ok-answer_lines.ensures in
     let last = c.answer_last.new in
-    IfOk-weaker c.answer_last.result _ _
-    (λ _ advances. advances_end _ _ _ _ _ _ (standing last.session (g.K.Sink.contents last.sink) last.text) c.in_ok-answer_lines.ensures.reads c.in_ok-answer_lines.ensures.end advances)
+    IfOk-weaker c.answer_last.result _ _ (λ _ advances. advances_end _ _ _ _ _ _ (standing last.session (g.K.Sink.contents last.sink) last.text) lines.reads lines.ends.end advances)
     c.answer_last.ensures.advances
 
-pub returns-clause-left : goal.returns-clause-left
-returns-clause-left g c =
-    ends_in_last_write c.answer_last.result _ _ _ _ _ _ _ _ _ c.in_ok-answer_lines.ensures.reads c.in_ok-answer_lines.ensures.end c.answer_last.ensures.breaks c.answer_last.ensures.fault
+pub returns-clause-ends : goal.returns-clause-ends
+returns-clause-ends g c =
+    let lines = c.in_ok-answer_lines.ensures in
+    ends_in_last c.answer_last.result _ _ _ _ _ _ _ _ _ lines.reads lines.ends.end lines.ends.source c.answer_last.ensures

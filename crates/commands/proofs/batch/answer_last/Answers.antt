@@ -1,15 +1,9 @@
 use Rattle.std.proofs.Common.{◌∙◌, ◌<◌, length, sym}
-use Rattle.commands.proofs.Batches.{advances_last, breaks_last, long_line}
+use Rattle.commands.proofs.Batches.{answers_last, long_line}
 use Rattle.commands.proofs.batch.answer_last.Goals as goal
 
-pub returns-clause-advances : goal.returns-clause-advances
-returns-clause-advances g c =
+pub returns : goal.returns
+returns g c =
     let line = c.as_bytes-line.ensures.line in
     let long : 0 < length c.args.pending.now = long_line _ _ line (sym c.is_empty.ensures ∙ c.if-is_empty.false) in
-    advances_last c.answer_line.result c.args.snapshot.now c.args.pending.now _ _ _ _ _ _ c.as_bytes-line.ensures.unbroken long (rw line at c.answer_line.ensures.advances)
-
-pub returns-clause-breaks : goal.returns-clause-breaks
-returns-clause-breaks g c =
-    let line = c.as_bytes-line.ensures.line in
-    let long : 0 < length c.args.pending.now = long_line _ _ line (sym c.is_empty.ensures ∙ c.if-is_empty.false) in
-    breaks_last c.answer_line.result c.args.snapshot.now c.args.pending.now _ _ _ _ c.as_bytes-line.ensures.unbroken long (rw line at c.answer_line.ensures.breaks)
+    answers_last c.answer_line.result c.args.snapshot.now c.args.pending.now _ _ _ c.as_bytes-line.ensures.unbroken long (rw line at c.answer_line.ensures)

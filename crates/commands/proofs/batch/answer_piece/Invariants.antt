@@ -1,10 +1,12 @@
-use Rattle.std.proofs.Common.{◌++◌, length}
+use Rattle.std.proofs.Common.{◌≡◌, ◌++◌, length, false}
 use Rattle.commands.specs.Standings.{AnswersAllBut, standing}
 use Rattle.commands.proofs.batch.answer_piece.Given as goal
 
+-- no write has failed, and the lines so far are answered
 abbrev pub invariant-lines : goal.invariant-lines
 invariant-lines g l =
-    AnswersAllBut l.snapshot (l.fn.pending ++ l.piece) (l.pending ++ l.rest) (standing l.fn.session (g.K.Sink.contents l.fn.sink) l.fn.text) (standing l.session (g.K.Sink.contents l.sink) l.text)
+    (g.K.Sink.has_failed l.sink ≡ false)
+    × AnswersAllBut l.snapshot (l.fn.pending ++ l.piece) (l.pending ++ l.rest) (standing l.fn.session (g.K.Sink.contents l.fn.sink) l.fn.text) (standing l.session (g.K.Sink.contents l.sink) l.text)
 
 abbrev pub decreases-lines : goal.decreases-lines
 decreases-lines g l = length l.rest

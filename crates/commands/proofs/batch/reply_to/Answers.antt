@@ -2,10 +2,10 @@ use Rattle.commands.proofs.Batches.{replied_edit, replied_undo, replied_redo}
 use Rattle.commands.proofs.batch.reply_to.Goals as goal
 
 pub returns-in-Edit : goal.returns-in-Edit
-returns-in-Edit c = record { replied = replied_edit c.args.snapshot.now c.args.item c.in-Edit.edit c.apply.result _ _ c.in-Edit.is c.apply.ensures.step }
+returns-in-Edit c = record { replied = replied_edit c.args.snapshot.now c.args.item c.in-Edit.edit c.apply.result _ _ c.in-Edit.is c.apply.ensures.step c.apply.ensures.changes }
 
 pub returns-in-Undo : goal.returns-in-Undo
-returns-in-Undo c = record { replied = replied_undo c.args.snapshot.now c.args.item c.apply-in-Undo.result _ _ c.in-Undo.is c.apply-in-Undo.ensures.step }
+returns-in-Undo c = record { replied = replied_undo c.args.snapshot.now c.args.item c.apply-in-Undo.result _ _ c.in-Undo.is c.apply-in-Undo.ensures.step c.apply-in-Undo.ensures.changes }
 
 pub returns-in-Redo : goal.returns-in-Redo
-returns-in-Redo c = record { replied = replied_redo c.args.snapshot.now c.args.item c.apply-in-Redo.result _ _ c.in-Redo.is c.apply-in-Redo.ensures.step }
+returns-in-Redo c = record { replied = replied_redo c.args.snapshot.now c.args.item c.apply-in-Redo.result _ _ c.in-Redo.is c.apply-in-Redo.ensures.step c.apply-in-Redo.ensures.changes }

@@ -5,8 +5,8 @@ use Rattle.std.specs.Str.{is_utf8, bytes_eq}
 use Rattle.lists.specs.Spaces.{is_space_or_tab, trim_end, trim_start}
 use Rattle.edits.specs.declared.request.Edit.{Edit as EditValue}
 use Rattle.edits.specs.declared.request.Edit.TheVariants.{Add, Constrain, Relock, Remove, Upgrade, UpgradeAll}
-use Rattle.commands.specs.declared.command_line.Item.{Item}
-use Rattle.commands.specs.declared.command_line.Item.TheVariants.{Edit, Undo, Redo, BadCommand}
+use Rattle.commands.specs.declared.batch_line.Item.{Item}
+use Rattle.commands.specs.declared.batch_line.Item.TheVariants.{Edit, Undo, Redo, BadCommand}
 
 -- a line without its LF, and whether an LF ended it
 pub record Line : Type 0 where

@@ -1,7 +1,7 @@
 // One line of a batch, read as a command.
 
 ghost use Rattle.std.specs.Prelude.{◌≡◌, IfOk, OnErr, Some};
-ghost use Rattle.commands.specs.CommandLine.{IsEdit, addition_of, asked_by, asked_by_text, command_of, constraint_of, item_of, plain, removal_of, line_text, upgrade_of, words_of};
+ghost use Rattle.commands.specs.BatchLine.{IsEdit, addition_of, asked_by, asked_by_text, command_of, constraint_of, item_of, plain, removal_of, line_text, upgrade_of, words_of};
 
 use crate::words::cut_word;
 use edits::Edit;

@@ -1,8 +1,8 @@
 use Rattle.std.proofs.Common.{◌≡◌, ◌++◌, length}
 use Rattle.std.specs.Str.{IsUtf8}
 use Rattle.lists.specs.Spaces.{trim_start}
-use Rattle.commands.specs.CommandLine.{words_of}
-use Rattle.commands.proofs.command_line.words_of.Given as goal
+use Rattle.commands.specs.BatchLine.{words_of}
+use Rattle.commands.proofs.batch_line.words_of.Given as goal
 
 abbrev pub invariant-loop-rest : goal.invariant-loop-rest
 invariant-loop-rest l = record {

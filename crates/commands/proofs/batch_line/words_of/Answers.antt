@@ -1,8 +1,8 @@
 use Rattle.std.proofs.Common.{◌<◌, ◌∙◌, ◌++◌, ℕ, List, append_assoc, ap, length, sym}
 use Rattle.lists.specs.Spaces.{is_space_or_tab}
-use Rattle.commands.specs.CommandLine.{from_first}
+use Rattle.commands.specs.BatchLine.{from_first}
 use Rattle.commands.proofs.Texts.{behind-shorter, some-bytes, trimmed-again, words_of-first, words_of-trimmed}
-use Rattle.commands.proofs.command_line.words_of.Goals as goal
+use Rattle.commands.proofs.batch_line.words_of.Goals as goal
 
 pub loop-rest-init : goal.loop-rest-init
 loop-rest-init c = record {

@@ -1,7 +1,7 @@
 use Rattle.std.proofs.Common.{◌<◌, ◌∙◌, Some, ap, length, sym}
-use Rattle.commands.specs.declared.command_line.Item.{Item}
+use Rattle.commands.specs.declared.batch_line.Item.{Item}
 use Rattle.commands.proofs.Texts.{asked_some, some-bytes}
-use Rattle.commands.proofs.command_line.read_text.Goals as goal
+use Rattle.commands.proofs.batch_line.read_text.Goals as goal
 
 pub returns-clause-item : goal.returns-clause-item
 returns-clause-item c =

@@ -1,5 +1,5 @@
 use Rattle.std.proofs.Common.{rules}
-use Rattle.commands.proofs.command_line.read_item.Goals as goal
+use Rattle.commands.proofs.batch_line.read_item.Goals as goal
 
 pub returns-clause-item : goal.returns-clause-item
 returns-clause-item c = search rules
