@@ -49,6 +49,15 @@ fn told(
     text.told()
 }
 
+/// Whether a stream stopped. None is called once more behind the call at which it stopped.
+fn is_stopped(stops: usize) -> Option<bool> {
+    match stops {
+        0 => Some(false),
+        1 => Some(true),
+        _ => None,
+    }
+}
+
 /// What a batch comes to whose reader stops behind so many calls, and whether it did.
 fn read_once(
     alloc: Global,
@@ -62,13 +71,13 @@ fn read_once(
         most: case.most,
         calls_left: calls,
         fails: case.fails,
-        has_stopped: false,
+        stops: 0,
     });
     let mut sink = Counted::new(Vec::new(alloc));
     let index = background.index()?;
     let done = batch(alloc, &mut source, &mut sink, &mut session, index);
     let text = told(alloc, &done, sink.into_inner(), &session)?;
-    Some((text, source.into_inner().has_stopped))
+    Some((text, is_stopped(source.into_inner().stops)?))
 }
 
 /// What a batch comes to whose writer stops behind so many calls, and whether it did.
@@ -85,7 +94,7 @@ fn write_once(
         most: case.most,
         calls_left: calls,
         fails: case.fails,
-        has_stopped: false,
+        stops: 0,
     });
     let index = background.index()?;
     let done = batch(alloc, &mut source, &mut sink, &mut session, index);
@@ -94,9 +103,9 @@ fn write_once(
         most: _,
         calls_left: _,
         fails: _,
-        has_stopped,
+        stops,
     } = sink.into_inner();
-    Some((told(alloc, &done, taken, &session)?, has_stopped))
+    Some((told(alloc, &done, taken, &session)?, is_stopped(stops)?))
 }
 
 /// What each batch comes to, until the reader of one doesn't stop.

@@ -9,14 +9,14 @@ pub struct Pieces<'a> {
     pub most: usize,
     pub calls_left: usize,
     pub fails: bool,
-    /// Whether such a call was made.
-    pub has_stopped: bool,
+    /// How many such calls were made.
+    pub stops: usize,
 }
 
 impl io::Read for Pieces<'_> {
     fn read(&mut self, buffer: &mut [u8]) -> io::Result<usize> {
         if self.calls_left == 0 {
-            self.has_stopped = true;
+            self.stops = self.stops.saturating_add(1);
             return if self.fails {
                 Err(io::Error::other("broken"))
             } else {
@@ -39,14 +39,14 @@ pub struct Narrow {
     pub most: usize,
     pub calls_left: usize,
     pub fails: bool,
-    /// Whether such a call was made.
-    pub has_stopped: bool,
+    /// How many such calls were made.
+    pub stops: usize,
 }
 
 impl io::Write for Narrow {
     fn write(&mut self, buffer: &[u8]) -> io::Result<usize> {
         if self.calls_left == 0 {
-            self.has_stopped = true;
+            self.stops = self.stops.saturating_add(1);
             return if self.fails {
                 Err(io::Error::other("full"))
             } else {
