@@ -1,5 +1,6 @@
 """What a requirements file, a lock and a journal stand for: the rules of states, changes, locks and journals read plainly, for
-tests that ask what an answer must be. It is written from the rules alone, so that it shares no mistake with the program.
+tests that ask what an answer must be. It is written from the rules alone, so that it shares no mistake with the program. Journals are
+of version 1 or 2.
 
 `opens` answers ("ok", cursor, steps), ("files-disagree", FILE) or ("journal-broken", LINE)."""
 
@@ -9,17 +10,17 @@ import re
 import tomllib
 from typing import NamedTuple
 
+from journal_values import LARGEST, is_rising, want_digest, want_entry, want_keys, want_list, want_name, want_number, want_text
 from requirement_rules import (
-    NAME, TEXTS, Fault, active_requirements, cut_lines, marker_text, matches, normal, read_environment, read_line, read_lines,
-    read_set, read_version, want,
+    TEXTS, Fault, active_requirements, cut_lines, marker_text, matches, read_environment, read_lines, read_set, read_version, want,
 )
-from versions import canonical
 
-LARGEST = 2**64 - 1
-LARGEST_SIZE = 2**63 - 1
 REQUIREMENTS, LOCK = "requirements.txt", "pylock.toml"
-ENTRY_KEYS = {"dependencies", "requires_python", "sdist", "version", "wheels"}
-HEADER_KEYS = {"cursor", "environment", "journal", "lock", "requirements", "steps"}
+HEADER_KEYS = {
+    1: {"cursor", "environment", "journal", "lock", "requirements", "steps"},
+    2: {"cursor", "journal", "requirements", "steps", "targets"},
+}
+TARGET_KEYS = {"environment", "lock", "name"}
 
 
 class State(NamedTuple):
@@ -39,67 +40,25 @@ class Change(NamedTuple):
     digests: tuple | None
 
 
-def is_rising(texts):
-    return all(one < other for one, other in zip(texts, texts[1:]))
+class Target(NamedTuple):
+    """A name, the texts of an environment, and the digest of a lock."""
+
+    name: str
+    environment: dict[str, str]
+    lock: str
 
 
-def want_keys(table, keys):
-    want(isinstance(table, dict) and set(table) == set(keys), "these keys")
+class Header(NamedTuple):
+    """The version, the cursor, the digest of the requirements file, the count of steps, and the targets."""
 
-
-def want_number(value, most=LARGEST):
-    want(type(value) is int and 0 <= value <= most, "a number")
-
-
-def want_text(value, pattern=""):
-    want(isinstance(value, str) and re.search(pattern, value), "a text")
-
-
-def want_digest(value):
-    want_text(value, r"\A[0-9a-f]{64}\Z")
-
-
-def want_name(value):
-    want_text(value)
-    want(re.fullmatch(NAME, value) and normal(value) == value, "a normal name")
-
-
-def want_list(value):
-    want(isinstance(value, list), "an array")
+    version: int
+    cursor: int
+    requirements: str
+    steps: int
+    targets: list[Target]
 
 
 # Entries and locks
-
-
-def want_file(file, end):
-    want_keys(file, ("name", "sha256", "size", "url"))
-    want_text(file["name"], end)
-    want_text(file["url"])
-    want_number(file["size"], LARGEST_SIZE)
-    want_digest(file["sha256"])
-
-
-def want_entry(name, entry):
-    """A package's entry, in the form that a journal gives it."""
-    want_name(name)
-    want_keys(entry, ENTRY_KEYS)
-    want_text(entry["version"])
-    version = read_version(entry["version"])
-    want(version is not None and canonical(version) == entry["version"], "a canonical version")
-    if entry["requires_python"] is not None:
-        want_text(entry["requires_python"])
-        want(read_set(entry["requires_python"]), "a set that isn't empty")
-    want_list(entry["dependencies"])
-    for other in entry["dependencies"]:
-        want_name(other)
-    want(is_rising(entry["dependencies"]) and name not in entry["dependencies"], "rising names of others")
-    want_list(entry["wheels"])
-    for file in entry["wheels"]:
-        want_file(file, r"\.whl\Z")
-    want(is_rising([file["name"] for file in entry["wheels"]]), "rising names of wheels")
-    if entry["sdist"] is not None:
-        want_file(entry["sdist"], r"\.(tar\.gz|zip)\Z")
-    want(entry["wheels"] or entry["sdist"] is not None, "a file")
 
 
 def file_of_table(table):
@@ -283,18 +242,38 @@ def read_json(line):
     return value
 
 
+def read_target(value, name):
+    """The target of this name whose environment and lock stand in an object."""
+    want_text(name)
+    want_keys(value["environment"], TEXTS)
+    want_digest(value["lock"])
+    return Target(name, read_environment(value["environment"]), value["lock"])
+
+
+def read_targets(header):
+    """The targets of a header: in version 1 the one that the header itself tells, whose name is empty."""
+    if header["journal"] == 1:
+        return [read_target(header, "")]
+    want_list(header["targets"])
+    for target in header["targets"]:
+        want_keys(target, TARGET_KEYS)
+    return [read_target(target, target["name"]) for target in header["targets"]]
+
+
 def read_header(line):
-    """The header, with the environment as it is read."""
+    """The header of a line, with its one target."""
     header = read_json(line)
-    want_keys(header, HEADER_KEYS)
-    want_keys(header["environment"], TEXTS)
+    want(isinstance(header, dict) and "journal" in header, "an object with a version")
     want_number(header["journal"])
+    want(header["journal"] in HEADER_KEYS, "a version")
+    want_keys(header, HEADER_KEYS[header["journal"]])
     want_number(header["steps"])
     want_number(header["cursor"])
-    want(header["journal"] == 1 and header["cursor"] <= header["steps"], "a cursor among the steps")
-    want_digest(header["lock"])
+    want(header["cursor"] <= header["steps"], "a cursor among the steps")
     want_digest(header["requirements"])
-    return {**header, "environment": read_environment(header["environment"])}
+    targets = read_targets(header)
+    want([target.name for target in targets] == [""], "one target, whose name is empty")
+    return Header(header["journal"], header["cursor"], header["requirements"], header["steps"], targets)
 
 
 def parts(value, count):
@@ -313,8 +292,11 @@ def read_splice(value):
     return place, old, new
 
 
-def read_entry(value):
-    name, old, new = parts(value, 3)
+def read_entry(value, header):
+    """The entry of an array, on one of the header's targets. Version 1 doesn't name the target."""
+    target, name, old, new = parts(value, 4) if header.version == 2 else ["", *parts(value, 3)]
+    want_text(target)
+    want(target in [known.name for known in header.targets], "a target of the header")
     want_name(name)
     for entry in old, new:
         if entry is not None:
@@ -322,8 +304,8 @@ def read_entry(value):
     return name, old, new
 
 
-def read_step(line):
-    """The change of a step's line, which is minimal."""
+def read_step(line, header):
+    """The change of a step's line, which is minimal, in the form of the header's version."""
     step = read_json(line)
     want_keys(step, ("entries", "lines", "snapshot"))
     want_list(step["lines"])
@@ -332,9 +314,8 @@ def read_step(line):
     if digests is not None:
         for digest in parts(digests, 2):
             want_digest(digest)
-    change = Change(
-        list(map(read_splice, step["lines"])), list(map(read_entry, step["entries"])), digests and tuple(digests)
-    )
+    entries = [read_entry(value, header) for value in step["entries"]]
+    change = Change(list(map(read_splice, step["lines"])), entries, digests and tuple(digests))
     want(is_minimal(change), "a minimal change")
     return change
 
@@ -361,11 +342,11 @@ def digest_of(data):
     return hashlib.sha256(data).hexdigest()
 
 
-def read_steps(lines, count):
+def read_steps(lines, header):
     """The changes of a journal's lines, or the number of its first faulty line."""
-    changes = []
+    count, changes = header.steps, []
     while len(changes) < count:
-        change = line_at(lines, len(changes) + 1, read_step)
+        change = line_at(lines, len(changes) + 1, lambda line: read_step(line, header))
         if change is None:
             return None, len(changes) + 2
         changes.append(change)
@@ -391,20 +372,21 @@ def opens(requirements, lock, journal):
     header = line_at(lines, 0, read_header)
     if header is None:
         return "journal-broken", 1
-    for name, data, key in (REQUIREMENTS, requirements, "requirements"), (LOCK, lock, "lock"):
-        if digest_of(data) != header[key]:
+    [target] = header.targets
+    for name, data, digest in (REQUIREMENTS, requirements, header.requirements), (LOCK, lock, target.lock):
+        if digest_of(data) != digest:
             return "files-disagree", name
     read, locked = read_or_none(read_lines, requirements), read_or_none(read_lock, lock)
     if read is None:
         return "files-disagree", REQUIREMENTS
     if locked is None:
         return "files-disagree", LOCK
-    if locked[0] != marker_text(header["environment"]):
+    if locked[0] != marker_text(target.environment):
         return "journal-broken", 1
-    state = State(read, header["environment"], *locked[1:])
+    state = State(read, target.environment, *locked[1:])
     if not is_state(state):
         return "files-disagree", LOCK
-    changes, fault = read_steps(lines, header["steps"])
+    changes, fault = read_steps(lines, header)
     if fault is None:
-        fault = walk(state, header["cursor"], changes)
-    return ("ok", header["cursor"], header["steps"]) if fault is None else ("journal-broken", fault)
+        fault = walk(state, header.cursor, changes)
+    return ("ok", header.cursor, header.steps) if fault is None else ("journal-broken", fault)

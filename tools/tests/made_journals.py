@@ -48,20 +48,26 @@ def compact(value):
 
 
 def step(lines=(), entries=(), snapshot=None):
-    """A step's value."""
+    """A step's value, in the form of version 1."""
     return {"entries": list(entries), "lines": list(lines), "snapshot": snapshot}
 
 
-def header(requirements, lock, environment, cursor=0, steps=0):
-    return {
-        "cursor": cursor, "environment": environment, "journal": 1, "lock": digest_of(lock),
-        "requirements": digest_of(requirements), "steps": steps,
-    }
+def in_version(version, step):
+    """The value of a step in the form of a version. Version 2 names the target of each entry, which is empty."""
+    return step if version == 1 else {**step, "entries": [["", *entry] for entry in step["entries"]]}
 
 
-def journal(requirements, lock, environment, cursor, *steps):
-    """The bytes of a journal over these files."""
-    return b"".join(map(compact, [header(requirements, lock, environment, cursor, len(steps)), *steps]))
+def header(requirements, lock, environment, cursor=0, steps=0, version=2):
+    """A header's value, in the form of a version."""
+    whole = {"cursor": cursor, "journal": version, "requirements": digest_of(requirements), "steps": steps}
+    target = {"environment": environment, "lock": digest_of(lock)}
+    return whole | (target if version == 1 else {"targets": [target | {"name": ""}]})
+
+
+def journal(requirements, lock, environment, cursor, *steps, version=2):
+    """The bytes of a journal of a version over these files. The steps are given in the form of version 1."""
+    first = header(requirements, lock, environment, cursor, len(steps), version)
+    return b"".join(map(compact, [first, *(in_version(version, step) for step in steps)]))
 
 
 def altered(journal):

@@ -3,8 +3,8 @@
 import unittest
 
 from checked_files import IS_BUILT, checked, told
-from journal_rules import Change, State, after, inverse, is_minimal, is_state, opens, read_step
-from made_journals import ZEROS, altered, compact, entry, header, journal, lock_text, step
+from journal_rules import Change, State, after, digest_of, inverse, is_minimal, is_state, opens, read_header, read_step
+from made_journals import ZEROS, altered, compact, entry, header, in_version, journal, lock_text, step
 from requirement_rules import Fault
 from test_requirement_rules import LINUX
 
@@ -21,7 +21,9 @@ ENTRIES = {"a": entry("a", "1"), "b-b": entry("b-b", "1")}
 
 
 class Example(unittest.TestCase):
-    """A test of the files after `add c`, which it may alter."""
+    """A test of the files after `add c`, which it may alter. The journal is of this version."""
+
+    version = 2
 
     def setUp(self):
         self.requirements = AFTER
@@ -30,10 +32,17 @@ class Example(unittest.TestCase):
         self.cursor = 1
 
     def header(self):
-        return header(self.requirements, self.lock, LINUX, self.cursor, len(self.steps))
+        return header(self.requirements, self.lock, LINUX, self.cursor, len(self.steps), self.version)
+
+    def line(self):
+        """The line of `add c`."""
+        return compact(in_version(self.version, ADDED))
 
     def journal(self):
-        return journal(self.requirements, self.lock, LINUX, self.cursor, *self.steps)
+        return self.journal_over(self.lock)
+
+    def journal_over(self, lock):
+        return journal(self.requirements, lock, LINUX, self.cursor, *self.steps, version=self.version)
 
     def check(self, wanted, *, journal=None, lock=None, requirements=None):
         own = self.requirements, self.lock, self.journal()
@@ -51,8 +60,9 @@ class Opening(Example):
 
     def test_has_the_form_that_is_written_down(self):
         file = '{"name":"c-1-py3-none-any.whl","sha256":"Z","size":1000,"url":"https://files.example/c-1-py3-none-any.whl"}'
+        target = {1: "", 2: '"",'}[self.version]
         text = (
-            '{"entries":[["c",null,{"dependencies":[],"requires_python":null,"sdist":null,"version":"1","wheels":['
+            '{"entries":[[' + target + '"c",null,{"dependencies":[],"requires_python":null,"sdist":null,"version":"1","wheels":['
             + file + ']}]],"lines":[[2,["a"],["a\\r\\n","c\\r\\n"]]],"snapshot":null}\n'
         )
         self.assertEqual(self.journal().splitlines(keepends=True)[1], text.replace("Z", ZEROS).encode())
@@ -72,24 +82,42 @@ class Opening(Example):
 
     def test_of_bytes_behind_the_steps(self):
         whole = self.journal()
-        for more in compact(ADDED), b"\n", b"x":
+        for more in self.line(), b"\n", b"x":
             self.check((BROKEN, 3), journal=whole + more)
 
+    # What no header has, and what no target has: in version 1 the header itself tells its target.
+    BAD_HEADERS = (
+        {"cursor": 2}, {"x": 1}, {"journal": 0}, {"journal": 3}, {"journal": True}, {"journal": "2"}, {"journal": None},
+        {"steps": "1"}, {"cursor": -1}, {"cursor": 1.0}, {"requirements": ZEROS.replace("0", "A")}, {"steps": 2**64},
+    )
+    BAD_TARGETS = (
+        {"lock": "0"}, {"lock": "A" * 64}, {"environment": {**LINUX, "platform_machine": "arm64"}}, {"environment": {**LINUX, "x": ""}},
+        {"environment": {**LINUX, "python_version": ""}}, {"environment": []}, {"lock": None},
+    )
+
+    def check_headers(self, *headers):
+        for header in headers:
+            with self.subTest(header=header):
+                self.check((BROKEN, 1), journal=compact(header) + self.line())
+
     def test_of_headers(self):
-        line = compact(ADDED)
-        for change in (
-            {"cursor": 2}, {"x": 1}, {"journal": 2}, {"journal": True}, {"steps": "1"}, {"cursor": -1}, {"cursor": 1.0},
-            {"lock": "0"}, {"requirements": ZEROS.replace("0", "A")}, {"environment": {**LINUX, "platform_machine": "arm64"}},
-            {"environment": {**LINUX, "x": ""}}, {"environment": {**LINUX, "python_version": ""}}, {"steps": 2**64},
-        ):
-            with self.subTest(change=change):
-                self.check((BROKEN, 1), journal=compact({**self.header(), **change}) + line)
-        for key in self.header():
-            header = {name: value for name, value in self.header().items() if name != key}
-            self.check((BROKEN, 1), journal=compact(header) + line)
+        header = self.header()
+        self.check_headers(*({**header, **change} for change in self.BAD_HEADERS))
+        self.check_headers(*({name: value for name, value in header.items() if name != key} for key in header))
+        self.check_headers([header], {}, None)
+
+    def test_of_targets(self):
+        self.check_headers(*({**self.header(), **change} for change in self.BAD_TARGETS))
+
+    def test_of_the_other_version(self):
+        other = header(self.requirements, self.lock, LINUX, 1, 1, 3 - self.version)
+        self.check_headers({**self.header(), "journal": 3 - self.version}, {**other, "journal": self.version})
+        self.check_headers({**other, **self.header()}, {**self.header(), **other})
+        self.check((BROKEN, 2), journal=compact(other) + self.line())
+        self.check((BROKEN, 2), journal=compact(self.header()) + compact(in_version(3 - self.version, ADDED)))
 
     def test_of_other_spellings_of_a_header(self):
-        head, line = compact(self.header()), compact(ADDED)
+        head, line = compact(self.header()), self.line()
         self.check(("ok", 1, 1), journal=head.replace(b":", b": ", 1) + line)
         self.check(("ok", 1, 1), journal=head.replace(b'"3.12.3","python_v', b'"3.12.3+","python_v') + line)
         self.check(("ok", 1, 1), journal=head.replace(b'{"cursor":1', b'{"cursor":7,"cursor":1') + line)
@@ -127,12 +155,12 @@ class Opening(Example):
         for old, new in (b", url", b",\nurl"), (b"{name", b"{\r\nname"), (b"}]", b"\n}]"):
             lock = self.lock.replace(old, new)
             self.assertNotEqual(lock, self.lock)
-            whole = journal(self.requirements, lock, LINUX, self.cursor, *self.steps)
+            whole = self.journal_over(lock)
             self.check(("ok", 1, 1), lock=lock, journal=whole)
         for old, new in (b"url =", b"url\n="), (b"https://", b"https:\n//"):
             lock = self.lock.replace(old, new)
             self.assertNotEqual(lock, self.lock)
-            whole = journal(self.requirements, lock, LINUX, self.cursor, *self.steps)
+            whole = self.journal_over(lock)
             self.check((DISAGREE, LOCK), lock=lock, journal=whole)
 
     def test_of_locks_whose_parts_are_not_in_order(self):
@@ -198,11 +226,15 @@ class Steps(Example):
             self.assertEqual(whole.count(old), 1)
             self.check((BROKEN, 2), journal=whole.replace(old, new))
 
+    def read(self, change):
+        """What a step's line is read as."""
+        return read_step(compact(in_version(self.version, change)), read_header(compact(self.header())))
+
     def check_form(self, change, is_lawful):
         """A step has a lawful form, or not. In front of it stands one that doesn't apply, which is told where the forms of all
         steps are lawful."""
         if not is_lawful:
-            self.assertRaises(Fault, read_step, compact(change))
+            self.assertRaises(Fault, self.read, change)
         self.steps = [step([[9, ["x"], []]]), change]
         self.check((BROKEN, 2 if is_lawful else 3))
 
@@ -226,7 +258,7 @@ class Steps(Example):
         one, other = entry("a", "1"), entry("a", "1.0")
         for splices, entries in ([], []), ([], [("a", one, other)]), ([(0, [], ["a"]), (2**64 - 2, [], ["b"])], []):
             change = step(splices, entries)
-            self.assertEqual(read_step(compact(change)), Change(splices, entries, None))
+            self.assertEqual(self.read(change), Change(splices, entries, None))
             self.check_form(change, True)
 
     def test_through_a_state_that_is_none(self):
@@ -268,6 +300,59 @@ class Steps(Example):
         self.check(("ok", 0, 1))
         self.requirements = b"# p\n"
         self.check((DISAGREE, LOCK))
+
+
+class OpeningOfVersion1(Opening):
+    version = 1
+
+
+class StepsOfVersion1(Steps):
+    version = 1
+
+
+class Targets(Example):
+    """What version 2 alone can say."""
+
+    def one(self):
+        return self.header()["targets"][0]
+
+    def check_targets(self, *lists):
+        for targets in lists:
+            with self.subTest(targets=targets):
+                self.check((BROKEN, 1), journal=compact({**self.header(), "targets": targets}) + self.line())
+
+    def test_of_a_header(self):
+        one = self.one()
+        self.check_targets([], {}, None, "", one, {"0": one}, [[one]], [None], [one, one], [one, {**one, "name": "win"}])
+        self.check_targets(*([{**one, "name": name}] for name in ("win", " ", "-", None, 0, [])))
+        self.check_targets(*([{**one, **change}] for change in ({"x": 1}, *Opening.BAD_TARGETS)))
+        self.check_targets(*([{name: value for name, value in one.items() if name != key}] for key in one))
+
+    def added(self, *targets):
+        """The line of `add c` with these words in front of its entry's name."""
+        line = compact(step([ADDED_LINES], [[*targets, *entry] for entry in ADDED["entries"]]))
+        return compact(self.header()) + line
+
+    def test_of_an_entry(self):
+        self.check(("ok", 1, 1), journal=self.added(""))
+        for targets in ([], ["win"], ["c"], [None], [0], [[""]], [" "], ["", ""]):
+            with self.subTest(targets=targets):
+                self.check((BROKEN, 2), journal=self.added(*targets))
+
+    def test_an_unknown_target_is_told_before_a_step_that_does_not_apply(self):
+        lines = step([[9, ["x"], []]]), step([], [["win", "d", None, entry("d", "1")]])
+        whole = compact({**self.header(), "steps": 2}) + b"".join(map(compact, lines))
+        self.check((BROKEN, 3), journal=whole)
+
+    def test_of_the_header_of_an_empty_file(self):
+        self.requirements, self.lock, self.steps, self.cursor = b"", lock_text(LINUX, {}), [], 0
+        digest = "e3b0c44298fc1c149afbf4c8996fb92427ae41e4649b934ca495991b7852b855"
+        environment = compact(LINUX).decode().strip()
+        text = (
+            '{"cursor":0,"journal":2,"requirements":"' + digest + '","steps":0,"targets":[{"environment":' + environment
+            + ',"lock":"' + digest_of(self.lock) + '","name":""}]}\n'
+        )
+        self.check(("ok", 0, 0), journal=text.encode())
 
 
 class Laws(Example):

@@ -3,7 +3,7 @@ is written from the rules and not from the program. Every hundredth alteration i
 
 import os
 import unittest
-from itertools import islice
+from itertools import islice, product
 
 from checked_files import IS_BUILT, checked, told
 from journal_rules import opens
@@ -31,17 +31,20 @@ STEPS = [
 ]
 
 
-def files(cursor):
-    """The three files at a place in the history."""
+VERSIONS = 1, 2
+
+
+def files(cursor, version=2):
+    """The three files at a place in the history, with a journal of a version."""
     requirements = LINES[min(cursor, 2)].encode()
     lock = lock_text(LINUX, ENTRIES[cursor], DIGESTS[cursor])
-    return requirements, lock, journal(requirements, lock, LINUX, cursor, *STEPS)
+    return requirements, lock, journal(requirements, lock, LINUX, cursor, *STEPS, version=version)
 
 
 class Rules(unittest.TestCase):
     def test_the_files_open_at_each_place(self):
-        for cursor in range(4):
-            self.assertEqual(opens(*files(cursor)), ("ok", cursor, 3))
+        for version, cursor in product(VERSIONS, range(4)):
+            self.assertEqual(opens(*files(cursor, version)), ("ok", cursor, 3))
 
 
 @unittest.skipUnless(IS_BUILT, "the program isn't built, or doesn't know check")
@@ -51,14 +54,14 @@ class Program(unittest.TestCase):
         self.assertEqual(checked(given), told(*opens(*given)), text)
 
     def test_opens_at_each_place(self):
-        for cursor in range(4):
-            self.check(files(cursor), cursor)
+        for version, cursor in product(VERSIONS, range(4)):
+            self.check(files(cursor, version), (version, cursor))
 
     def test_altered_journals(self):
-        for cursor in 1, 3:
-            requirements, lock, whole = files(cursor)
+        for version, cursor in product(VERSIONS, (1, 3)):
+            requirements, lock, whole = files(cursor, version)
             for text, data in islice(altered(whole), cursor, None, PACE):
-                self.check((requirements, lock, data), text)
+                self.check((requirements, lock, data), f"version {version}: {text}")
 
     def test_altered_requirements_with_their_digest(self):
         requirements, lock, _ = files(1)

@@ -100,6 +100,15 @@ class Help(Program):
         "skipped": "Print which releases of the index are left out, and why",
         "why": "Print a proof that nothing can be locked with this line, where that is so",
     }
+    ARGUMENTS = {
+        "add": {"<TEXT>": "The line, such as 'flask>=2  # the server'"},
+        "remove": {"<NAME>": "The name of the line"},
+        "constrain": {
+            "<NAME>": "The name of the line", "[SPEC]": "The specifiers, such as '>=2,<3'; without them any version will do",
+        },
+        "upgrade": {"[NAME]...": "Names in the lock; without any, all of them"},
+        "why": {"[TEXT]": "The line; without it, the file as it stands", "--explain": "Tell it in sentences"},
+    }
     OPTIONS = {"--dir": "<DIR>", "--index": "<FILE>", "--env": "<FILE>"}
 
     def test_help_names_each_subcommand_and_each_option(self):
@@ -119,6 +128,9 @@ class Help(Program):
                 status, told = self.call(name, "--help")
                 self.assertEqual((status, told.splitlines()[0]), (0, about))
                 self.assertIn(f"\nUsage: reqlock {name}", told)
+                lines = [line.split() for line in told.splitlines()]
+                for argument, text in self.ARGUMENTS.get(name, {}).items():
+                    self.assertIn([argument, *text.split()], lines)
 
     def test_the_version_stands_behind_the_name(self):
         status, told = self.call("--version")
@@ -214,8 +226,9 @@ class Day(Program):
         """The requirements file and the lock, and the journal's header says that they are its own."""
         files = self.files()
         header = json.loads(files["reqlock.journal"].split(b"\n")[0])
-        for key, name in ("requirements", "requirements.txt"), ("lock", "pylock.toml"):
-            self.assertEqual(header[key], hashlib.sha256(files[name]).hexdigest())
+        [target] = header["targets"]
+        for digest, name in (header["requirements"], "requirements.txt"), (target["lock"], "pylock.toml"):
+            self.assertEqual(digest, hashlib.sha256(files[name]).hexdigest())
         return files["requirements.txt"], files["pylock.toml"]
 
 

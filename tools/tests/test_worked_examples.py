@@ -188,24 +188,36 @@ class Saved(Calls):
 
     # The journal of that example. LOCK and REQUIREMENTS stand for the digests of these files, and Z for 64 zeros.
     HEADER = (
-        '{"cursor":1,"environment":{"implementation_name":"cpython","implementation_version":"3.12.3","os_name":"posix",'
-        '"platform_machine":"x86_64","platform_python_implementation":"CPython","platform_release":"6.1.0-13-amd64",'
-        '"platform_system":"Linux","platform_version":"#1 SMP Debian 6.1.55-1","python_full_version":"3.12.3",'
-        '"python_version":"3.12","sys_platform":"linux"},"journal":1,"lock":"LOCK","requirements":"REQUIREMENTS","steps":1}\n'
+        '{"cursor":CURSOR,"journal":2,"requirements":"REQUIREMENTS","steps":STEPS,"targets":[{"environment":{'
+        '"implementation_name":"cpython","implementation_version":"3.12.3","os_name":"posix","platform_machine":"x86_64",'
+        '"platform_python_implementation":"CPython","platform_release":"6.1.0-13-amd64","platform_system":"Linux",'
+        '"platform_version":"#1 SMP Debian 6.1.55-1","python_full_version":"3.12.3","python_version":"3.12",'
+        '"sys_platform":"linux"},"lock":"LOCK","name":""}]}\n'
     )
     STEP = (
-        '{"entries":[["c",null,{"dependencies":[],"requires_python":null,"sdist":null,"version":"1","wheels":[{"name":'
+        '{"entries":[["","c",null,{"dependencies":[],"requires_python":null,"sdist":null,"version":"1","wheels":[{"name":'
         '"c-1-py3-none-any.whl","sha256":"Z","size":1000,"url":"https://files.example/c-1-py3-none-any.whl"}]}]],'
         '"lines":[[2,["a"],["a\\r\\n","c\\r\\n"]]],"snapshot":null}\n'
     )
 
+    def header(self, cursor, steps):
+        """The header over the two files as they stand."""
+        words = {"CURSOR": str(cursor), "STEPS": str(steps)}
+        for word, name in ("LOCK", "pylock.toml"), ("REQUIREMENTS", "requirements.txt"):
+            words[word] = hashlib.sha256((self.folder / name).read_bytes()).hexdigest()
+        return re.sub("|".join(words), lambda found: words[found[0]], self.HEADER)
+
     def test_a_journal_has_the_form_that_is_written_down(self):
         self.begin(WINDOWS.encode(), *A_B_C)
         self.plays((["init"], 0, "ok 0\n"), (["add", "c"], 0, "ok 1\n"))
-        names = {"LOCK": "pylock.toml", "REQUIREMENTS": "requirements.txt"}
-        digests = {word: hashlib.sha256((self.folder / name).read_bytes()).hexdigest() for word, name in names.items()}
-        header = re.sub("|".join(names), lambda found: digests[found[0]], self.HEADER)
-        self.holds(header + self.STEP.replace("Z", "0" * 64), "reqlock.journal")
+        self.holds(self.header(1, 1) + self.STEP.replace("Z", "0" * 64), "reqlock.journal")
+
+    def test_the_journal_of_an_empty_file_is_a_header(self):
+        self.begin(b"", *A_B_C)
+        self.plays((["init"], 0, "ok 0\n"))
+        header = self.header(0, 0)
+        self.assertIn("e3b0c44298fc1c149afbf4c8996fb92427ae41e4649b934ca495991b7852b855", header)
+        self.holds(header, "reqlock.journal")
 
     def test_a_removed_line_comes_back(self):
         after = "# top\n\n# tail\na\n"
