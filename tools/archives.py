@@ -79,22 +79,33 @@ def is_of(stem, name, version):
     return False
 
 
-def parts_of_zip(path, wanted):
+def members_of_zip(path, archive, wanted):
+    """The members of an open zip file whose names match, with what they hold."""
+    found = [info for info in archive.infolist() if wanted.fullmatch(info.filename)]
+    if any(info.file_size > LARGEST_METADATA for info in found):
+        raise Refusal(f"{path}: its metadata has over {LARGEST_METADATA} bytes")
+    return [(info.filename, archive.read(info)) for info in found]
+
+
+def parts_of_zip(path, file, wanted):
     """The members of a zip file whose names match, with what they hold. The whole file is read, and must be whole."""
-    with zipfile.ZipFile(path) as archive:
+    with zipfile.ZipFile(file) as archive:
         if bad := archive.testzip():
             raise zipfile.BadZipFile(f"Bad CRC-32 for file {bad!r}")
-        found = [info for info in archive.infolist() if wanted.fullmatch(info.filename)]
-        if any(info.file_size > LARGEST_METADATA for info in found):
-            raise Refusal(f"{path}: its metadata has over {LARGEST_METADATA} bytes")
-        return [(info.filename, archive.read(info)) for info in found]
+        return members_of_zip(path, archive, wanted)
 
 
-def parts_of_tar(path, wanted):
+def parts_at_end_of_zip(path, file, wanted):
+    """The same of a zip file of which no more is read than that takes."""
+    with zipfile.ZipFile(file) as archive:
+        return members_of_zip(path, archive, wanted)
+
+
+def parts_of_tar(path, file, wanted):
     """The members of a tar.gz file whose names match, with what they hold. The whole file is read, as its digest at the
     end tells whether it is whole."""
     found = []
-    with gzip.open(path) as stream:
+    with gzip.open(file) as stream:
         with tarfile.open(fileobj=stream, mode="r|") as archive:
             for member in archive:
                 name = member.name.removeprefix("./")
@@ -108,30 +119,34 @@ def parts_of_tar(path, wanted):
     return found
 
 
-def metadata_of(path, is_wheel):
-    """The folder of an archive that holds its metadata, and the text of the metadata."""
+def reader_of(name):
+    """What reads the whole archive of a name."""
+    return parts_of_tar if name.endswith(".tar.gz") else parts_of_zip
+
+
+def metadata_of(path, file, is_wheel, read):
+    """The folder of an archive that holds its metadata, and the bytes of the metadata. The file is a path or a file."""
     wanted = re.compile(r"[^/]+\.dist-info/METADATA" if is_wheel else "[^/]+/PKG-INFO")
-    read = parts_of_tar if path.endswith(".tar.gz") else parts_of_zip
     try:
-        found = read(path, wanted)
+        found = read(path, file, wanted)
     except BROKEN as error:
         raise Refusal(f"{path}: not a whole archive: {error}") from None
     if len(found) != 1:
         form = "NAME-VERSION.dist-info/METADATA" if is_wheel else "NAME-VERSION/PKG-INFO"
         raise Refusal(f"{path}: one {form} is wanted in it, and it has {len(found)}")
     name, data = found[0]
-    return name.rpartition("/")[0], decoded(f"{path}: {name}", data)
+    return name.rpartition("/")[0], data
 
 
-def refuse_other_names(path, is_wheel, inner, told):
-    """An archive and the folder of a wheel's metadata have the name and version that the metadata tells."""
-    name = os.path.basename(path)
+def refuse_other_names(path, name, is_wheel, inner, told):
+    """An archive of a name and the folder of a wheel's metadata, where that is known, have the name and version that the metadata
+    tells."""
     if re.fullmatch(r"[\w.+!-]+", name, re.ASCII) is None:
         raise Refusal(f"{path}: the name isn't that of an archive")
     if is_wheel:
         words = name.removesuffix(".whl").split("-")
         fits = len(words) in (5, 6) and all(words) and is_of("-".join(words[:2]), told.name, told.version)
-        if fits and not is_of(inner.removesuffix(".dist-info"), told.name, told.version):
+        if fits and inner is not None and not is_of(inner.removesuffix(".dist-info"), told.name, told.version):
             raise Refusal(f"{path}: its metadata is in {inner}, and tells of {told.name} {told.version}")
     else:
         fits = is_of(name.removesuffix(".tar.gz").removesuffix(".zip"), told.name, told.version)
@@ -141,15 +156,21 @@ def refuse_other_names(path, is_wheel, inner, told):
 
 def read_archive(path, url):
     """A wheel or an sdist that is at a URL."""
-    is_wheel = path.endswith(".whl")
-    inner, text = metadata_of(path, is_wheel)
-    headers = headers_of(f"{path}: {inner}", text)
+    name = os.path.basename(path)
+    inner, data = metadata_of(path, path, name.endswith(".whl"), reader_of(name))
     with open(path, "rb") as file:
         digest = hashlib.file_digest(file, "sha256").hexdigest()
         size = file.tell()
-    file = File(os.path.basename(path), url, size, digest, requires_python=None, yanked=None)
+    return archive_of(path, File(name, url, size, digest, requires_python=None, yanked=None), inner, data)
+
+
+def archive_of(path, file, inner, data):
+    """An archive with this metadata, from a folder of it that is None where it isn't known."""
+    is_wheel = file.name.endswith(".whl")
+    place = path if inner is None else f"{path}: {inner}"
+    headers = headers_of(place, decoded(place, data))
     told = told_by_headers(path, headers, [file], headers("Requires-Dist"))
-    refuse_other_names(path, is_wheel, inner, told)
+    refuse_other_names(path, file.name, is_wheel, inner, told)
     return Archive(
         told,
         is_wheel,

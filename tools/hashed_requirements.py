@@ -8,7 +8,7 @@ LOCK is a pylock.toml of version 1.0 (PEP 751). Each of its packages becomes a l
 the packages that depend on it; one without such a comment is asked for by the
 requirements file alone. Install the result with
 
-    pip install --require-hashes --requirement hashed.txt
+    pip install --require-hashes --no-deps --requirement hashed.txt
 
 It holds for the environment that the lock is for; a comment at its beginning has
 the marker. A lock of another version is refused, and so are locks that such lines

@@ -141,10 +141,16 @@ def api_files(node):
     return [api_file(item) for item in node.items()]
 
 
+def is_snapshot(value):
+    return isinstance(value, dict) and "snapshot" in value and "info" not in value
+
+
 def read_api_body(path):
-    """A body of the JSON API. Where the API was defined, `releases` stands in the body of a package alone; other
-    indexes have it in that of a release too."""
+    """A body of the JSON API; None for a snapshot, as snapshot.py writes it. Where the API was defined, `releases` stands in the
+    body of a package alone; other indexes have it in that of a release too."""
     body = read_json(path)
+    if is_snapshot(body.value):
+        return None
     info, urls, releases = (body.member(key) for key in ("info", "urls", "releases"))
     listed = releases.or_none(lambda node: {version: api_files(files) for version, files in node.members().items()})
     return Document(
@@ -205,9 +211,9 @@ def tells(headers, header):
     return version >= [2, 2] and header.lower() not in map(str.lower, headers("Dynamic"))
 
 
-def documents_of(folder):
+def documents_of(folder, say):
     """The documents of a folder and those below it, by path. A METADATA counts before a PKG-INFO beside it. Where
-    neither is, a files.json is a body, such as that of a package named `files`."""
+    neither is, a files.json is a body, such as that of a package named `files`. Snapshots are passed over."""
 
     def fail(error):
         raise error
@@ -218,4 +224,8 @@ def documents_of(folder):
         bodies = [name for name in names if re.search(r"(^|\.)json\Z", name) and not (headers and name == FILE_LIST)]
         found += [(os.path.join(place, name), read_metadata) for name in headers[:1]]
         found += [(os.path.join(place, name), read_api_body) for name in bodies]
-    return [read(path) for path, read in sorted(found, key=lambda pair: pair[0])]
+    documents = {path: read(path) for path, read in sorted(found, key=lambda pair: pair[0])}
+    for path, document in documents.items():
+        if document is None:
+            say(f"{path}: passed over, as it is a snapshot")
+    return [document for document in documents.values() if document is not None]

@@ -2,15 +2,32 @@
 
 import json
 import os
+import signal
 import subprocess
 import sys
 import tempfile
+import time
 import unittest
 from pathlib import Path
 
 HERE = Path(__file__).resolve().parent
 SCRIPT = HERE.parent / "snapshot.py"
 ZEROS = "0" * 64
+
+
+def heed_keyboard():
+    """Lets a process be stopped by the keyboard, also where what started it may not be."""
+    signal.signal(signal.SIGINT, signal.SIG_DFL)
+
+
+def open_beside_a_reader(path):
+    """Opens a named pipe for writing once somebody reads it."""
+    for _ in range(600):
+        try:
+            return os.open(path, os.O_WRONLY | os.O_NONBLOCK)
+        except OSError:
+            time.sleep(0.1)
+    raise TimeoutError(path)
 
 
 def run(*words):
@@ -258,46 +275,96 @@ class Faults(Folder):
         self.assertNotIn("no document", errors)
 
 
-class Fetching(Folder):
-    """With a base URL, which is a folder here, documents are fetched first."""
+class Needed(Folder):
+    """Which packages are named as absent."""
 
-    def setUp(self):
-        super().setUp()
-        releases = {"2": [file("a-2.zip")], "1!0+b": [file()], "0": []}
-        index = {"a-b/json": body("2", name="A.b", releases=releases), "a-b/1!0+b/json": body("1!0+b", name="A.b")}
-        self.write({f"index/{path}": document for path, document in index.items()})
-        self.base = (self.folder / "index").as_uri()
-        self.folder = self.folder / "documents"
+    DOCUMENTS = {
+        "a.json": body(name="a", requires_dist=["b", "c; extra == 'x'", "d; sys_platform == 'win32'", "e[y]"]),
+        "e.json": body(name="e", requires_dist=["f; extra == 'Y'", "g; extra == 'z'"]),
+    }
 
-    def check_stops(self, fault, name):
-        status, output, lines = self.run_here("--fetch", self.base, name)
-        self.assertEqual((status, output, len(lines)), (1, "", 1), lines)
-        self.assertTrue(lines[0].startswith(fault), lines)
+    def absent(self, *words):
+        _, lines = self.made(self.DOCUMENTS, *words)
+        return lines
 
-    def test_saves_the_documents_and_reads_them(self):
-        status, output, lines = self.run_here("--fetch", f"{self.base}/", "A_B")
-        self.assertEqual((status, lines), (0, ["a-b: 2 documents fetched"]))
-        self.assertEqual([it["version"] for it in json.loads(output)["packages"][0]["releases"]], ["2", "1!0+b", "0"])
-        saved = sorted(str(path.relative_to(self.folder)) for path in self.folder.rglob("*.json"))
-        self.assertEqual(saved, ["a-b.json", "a-b/1%210%2Bb.json"])
-        self.assertEqual(self.run_here()[1], output)
+    def written(self, name, text):
+        path = self.folder.parent / f"{self.folder.name}-{name}"
+        path.write_text(text, encoding="utf-8")
+        self.addCleanup(path.unlink, missing_ok=True)
+        return path
 
-    def test_fetches_a_release_once(self):
-        self.run_here("--fetch", self.base, "a-b")
-        _, _, lines = self.run_here("--fetch", self.base, "a-b")
-        self.assertEqual(lines, ["a-b: 1 documents fetched"])
+    def test_are_those_of_extras_that_others_ask_for(self):
+        self.assertEqual(self.absent(), ["no document tells of these packages, which others depend on: b d f"])
 
-    def test_names_the_url_that_fails(self):
-        self.check_stops(f"{self.base}/c/json: ", "c")
+    def test_are_those_that_the_requirements_lead_to(self):
+        path = self.written("requirements.txt", "# web\r\na[x]  # one\r\n\r\nh ; os_name == 'nt'\r\n")
+        wanted = ["no document tells of these packages, which are needed: b c d f h", "extras that are followed: a[x] e[y]"]
+        self.assertEqual(self.absent("--for", path), wanted)
+        wanted[0] = "no document tells of these packages, which are needed: b c f"
+        environment = HERE.parent.parent / "examples" / "web" / "environment.json"
+        self.assertEqual(self.absent("--for", path, "--env", environment), wanted)
+        path.write_text("e\n", encoding="utf-8")
+        self.assertEqual(self.absent("--for", path), [])
 
-    def test_wants_a_body_that_lists_releases(self):
-        self.write({"../index/d/json": body(name="d")})
-        self.check_stops(f"{self.base}/d/json: it lists no releases", "d")
+    def test_wants_requirements_that_can_be_read(self):
+        for line, fault in {
+            "-r base.txt": "it is an option", "a @ https://files.example/a.whl": "reqlock takes no URL",
+            "a==1 \\": "it goes on in the next line", "./a": "it begins with no name", "=1": "it begins with no name",
+        }.items():
+            path = self.written("requirements.txt", f"a\n{line}\n")
+            status, output, lines = run(self.folder, "--for", path)
+            self.assertEqual((status, output), (1, ""))
+            self.assertIn(f"{path}: line 2: ", lines)
+            self.assertIn(fault, lines)
 
-    def test_wants_names(self):
-        self.assertEqual(self.run_here("--fetch", self.base)[0], 2)
-        self.assertEqual(self.run_here("--fetch", self.base, "../a")[0], 2)
-        self.assertFalse(self.folder.exists())
+    def test_says_what_may_be_no_requirement(self):
+        path = self.written("requirements.txt", "e => 2\n")
+        lines = self.absent("--for", path)
+        self.assertRegex(lines[0], "requirements.txt: line 1: 'e => 2' may be no requirement: ")
+
+
+class Around(Folder):
+    def test_an_index_in_place_of_a_folder_is_told(self):
+        for words in ["https://files.example/simple/"], ["--output", "x", "simple", "https://files.example/simple/", "a"]:
+            status, output, errors = run(*words)
+            self.assertEqual((status, output), (2, ""))
+            self.assertIn("an index is asked by `snapshot.py simple URL ..`, with `simple` before all options", errors)
+
+    def test_passes_a_snapshot_over(self):
+        self.write({"a.json": body()})
+        for _ in range(2):
+            status, output, lines = self.run_here("--output", self.folder / "index.json")
+            self.assertEqual((status, output), (0, ""))
+        self.assertEqual(lines, ["index.json: passed over, as it is a snapshot"])
+        self.assertEqual(sorted(path.name for path in self.folder.iterdir()), ["a.json", "index.json"])
+
+    def test_keeps_the_mode_and_the_link_of_its_output(self):
+        self.write({"a.json": body(), "place/old": "old"})
+        (self.folder / "place" / "old").chmod(0o640)
+        (self.folder / "link").symlink_to(self.folder / "place" / "old")
+        self.assertEqual(self.run_here("--output", self.folder / "link")[0], 0)
+        self.assertTrue((self.folder / "link").is_symlink())
+        self.assertEqual((self.folder / "place" / "old").stat().st_mode & 0o777, 0o640)
+        self.assertEqual(json.loads((self.folder / "link").read_text())["snapshot"], 1)
+
+    def test_writes_to_what_is_no_file(self):
+        self.write({"a.json": body()})
+        self.assertEqual(self.run_here("--output", "/dev/null")[0], 0)
+        self.assertTrue(Path("/dev/null").is_char_device())
+
+    def test_is_stopped_by_the_keyboard(self):
+        os.mkfifo(self.folder / "a.json")
+        output = self.folder / "index"
+        command = [sys.executable, "-B", SCRIPT, self.folder, "--output", output]
+        streams = {"stdout": subprocess.PIPE, "stderr": subprocess.PIPE, "encoding": "utf-8"}
+        call = subprocess.Popen(command, preexec_fn=heed_keyboard, **streams)
+        self.addCleanup(call.kill)
+        pipe = open_beside_a_reader(self.folder / "a.json")
+        call.send_signal(signal.SIGINT)
+        _, errors = call.communicate(timeout=60)
+        os.close(pipe)
+        self.assertEqual((call.returncode, errors), (130, "snapshot.py: stopped; no snapshot is written\n"))
+        self.assertFalse(output.exists())
 
 
 if __name__ == "__main__":

@@ -1,0 +1,76 @@
+"""What tests of `snapshot.py simple` share: an index of their own, and a call of the script in this process."""
+
+import contextlib
+import io
+import json
+import os
+import re
+import sys
+import tempfile
+import unittest
+from pathlib import Path
+from unittest import mock
+
+from made_index import MadeIndex
+
+TOOLS = Path(__file__).resolve().parent.parent
+sys.path.insert(0, str(TOOLS))
+
+import snapshot  # noqa: E402  (it stands in tools/)
+
+LINUX = TOOLS.parent / "examples" / "web" / "environment.json"
+
+
+class Simple(unittest.TestCase):
+    """A test with a folder, where a cache and the snapshot are, and an index."""
+
+    def setUp(self):
+        folder = tempfile.TemporaryDirectory()
+        self.addCleanup(folder.cleanup)
+        self.folder = Path(folder.name)
+        self.output = self.folder / "index.json"
+        without_proxy = mock.patch.dict(os.environ, {"no_proxy": "*", "NO_PROXY": "*"})
+        without_proxy.start()
+        self.addCleanup(without_proxy.stop)
+
+    def serve(self, packages, **options):
+        """An index of these packages, each a list of files by its name."""
+        index = MadeIndex(**options)
+        self.addCleanup(index.close)
+        for name, files in packages.items():
+            index.add(name, *files)
+        return index
+
+    def call(self, url, *words):
+        """The status of a call, and the lines of standard error without the script's name and the server's address."""
+        errors = io.StringIO()
+        options = "--output", self.output, "--cache", self.folder / "cache"
+        self.output.unlink(missing_ok=True)
+        with contextlib.redirect_stderr(errors):
+            try:
+                status = snapshot.main(["simple", url, *map(str, [*options, *words])])
+            except SystemExit as end:
+                status = end.code
+        address = url.partition("://")[2].rpartition("@")[2].partition("/")[0]
+        lines = re.sub(f"https?://{re.escape(address)}", "", errors.getvalue()).splitlines()
+        return status, [line.removeprefix("snapshot.py: ") for line in lines]
+
+    def made(self, index, *words, url=None):
+        """The releases by package and version, and the lines of standard error but the last, which counts."""
+        status, lines = self.call(url or index.url, *words)
+        self.assertEqual(status, 0, lines)
+        self.assertRegex(lines[-1], r"^[0-9]+ packages?, [0-9]+ releases?, [0-9]+ requests?, [0-9.]+ [kM]B, [0-9.]+ s$")
+        packages = json.loads(self.output.read_text(encoding="utf-8"))["packages"]
+        return {it["name"]: {release["version"]: release for release in it["releases"]} for it in packages}, lines[:-1]
+
+    def versions(self, index, *words):
+        """The versions by package, and the lines of standard error."""
+        packages, lines = self.made(index, *words)
+        return {name: list(releases) for name, releases in packages.items()}, lines
+
+    def check_refused(self, index, *words, fault, url=None):
+        """The call ends with status 1 and one line, and writes nothing."""
+        status, lines = self.call(url or index.url, *words)
+        self.assertEqual((status, len(lines)), (1, 1), lines)
+        self.assertRegex(lines[0], fault)
+        self.assertEqual([path.name for path in self.folder.iterdir() if path.name != "cache"], [])
