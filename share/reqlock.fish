@@ -1,0 +1,58 @@
+# fish completion for reqlock
+
+# The subcommand that stands in the words so far.
+function __reqlock_subcommand
+    set -l words (commandline -opc)
+    set words $words[2..-1]
+    while set -q words[1]
+        switch $words[1]
+            case --dir --index --env
+                set words $words[3..-1]
+            case '-*'
+                set words $words[2..-1]
+            case '*'
+                echo $words[1]
+                return 0
+        end
+    end
+    return 1
+end
+
+function __reqlock_before
+    not __reqlock_subcommand >/dev/null
+end
+
+function __reqlock_in
+    contains -- (__reqlock_subcommand) $argv
+end
+
+# The names that are locked.
+function __reqlock_names
+    reqlock show 2>/dev/null | tail -n +2 | string replace -r ' .*' ''
+end
+
+complete -c reqlock -f
+complete -c reqlock -n __reqlock_before -l dir -x -a '(__fish_complete_directories)' -d 'The folder of requirements.txt'
+complete -c reqlock -n __reqlock_before -l index -r -F -d 'The snapshot of the index'
+complete -c reqlock -n __reqlock_before -l env -r -F -d 'The environment that the lock is for'
+complete -c reqlock -s h -l help -d 'Print help'
+complete -c reqlock -n __reqlock_before -s V -l version -d 'Print version'
+complete -c reqlock -n __reqlock_before -a init -d 'Lock the file and begin a new history'
+complete -c reqlock -n __reqlock_before -a add -d 'Put a line behind the others'
+complete -c reqlock -n __reqlock_before -a remove -d 'Take the line of a name out'
+complete -c reqlock -n __reqlock_before -a constrain -d 'Put other specifiers in the line of a name'
+complete -c reqlock -n __reqlock_before -a upgrade -d 'Lock again without the locked versions of these names'
+complete -c reqlock -n __reqlock_before -a relock -d 'Lock again over the index at hand; versions stay where they can'
+complete -c reqlock -n __reqlock_before -a undo -d 'Go back to the state before the last edit'
+complete -c reqlock -n __reqlock_before -a redo -d 'Go on to the state that an undo left'
+complete -c reqlock -n __reqlock_before -a batch -d 'Do the commands of standard input, and save at its end'
+complete -c reqlock -n __reqlock_before -a try -d 'Do the commands of standard input on a new history; save nothing'
+complete -c reqlock -n __reqlock_before -a show -d 'Print the lock as a table, with what asks for each entry'
+complete -c reqlock -n __reqlock_before -a log -d 'Print the history, a line for each edit'
+complete -c reqlock -n __reqlock_before -a check -d 'Tell whether the three files belong together; change nothing'
+complete -c reqlock -n __reqlock_before -a skipped -d 'Print which releases of the index are left out, and why'
+complete -c reqlock -n __reqlock_before -a why -d 'Print a proof that nothing can be locked with this line, where that is so'
+complete -c reqlock -n __reqlock_before -a help -d 'Print help of the program or of a subcommand'
+complete -c reqlock -n '__reqlock_in help' -a 'init add remove constrain upgrade relock undo redo batch try show log check skipped why help'
+complete -c reqlock -n '__reqlock_in remove constrain upgrade' -a '(__reqlock_names)'
+complete -c reqlock -n '__reqlock_in why' -l explain -d 'Tell it in sentences'
