@@ -1,19 +1,29 @@
-"""The libraries packaging and resolvelib, as python3 has them; where it lacks one, the copy within pip."""
-try:
-    import packaging
-    from packaging.requirements import Requirement
-    from packaging.specifiers import SpecifierSet
-    from packaging.utils import canonicalize_name
-    from packaging.version import Version
-except ImportError:
-    from pip._vendor import packaging
-    from pip._vendor.packaging.requirements import Requirement
-    from pip._vendor.packaging.specifiers import SpecifierSet
-    from pip._vendor.packaging.utils import canonicalize_name
-    from pip._vendor.packaging.version import Version
-try:
-    import resolvelib
-except ImportError:
-    from pip._vendor import resolvelib
+"""The libraries packaging and resolvelib, as python3 has them; where it lacks one, the copy within pip. The variable
+BENCH_LIBRARIES of the environment asks for one of the two alone: `own` or `pip`."""
+import importlib
+import os
+
+WANTED = os.environ.get("BENCH_LIBRARIES")
+
+
+def library(name):
+    if WANTED != "pip":
+        try:
+            return importlib.import_module(name)
+        except ModuleNotFoundError:
+            if WANTED == "own":
+                raise
+    return importlib.import_module(f"pip._vendor.{name}")
+
+
+def module(name):
+    return importlib.import_module(f"{packaging.__name__}.{name}")
+
+
+packaging, resolvelib = library("packaging"), library("resolvelib")
+Requirement = module("requirements").Requirement
+SpecifierSet = module("specifiers").SpecifierSet
+Version = module("version").Version
+canonicalize_name = module("utils").canonicalize_name
 
 __all__ = ["Requirement", "SpecifierSet", "Version", "canonicalize_name", "packaging", "resolvelib"]

@@ -4,32 +4,39 @@
 resolve_peer.py resolve INDEX REQUIREMENTS [plain|pip [SECONDS]]
                                                 prints what is locked, a pin a line, and then the microseconds that it took
 resolve_peer.py check INDEX REQUIREMENTS <PINS  sees that pins, as printed, are a solution, and prints their number
-resolve_peer.py versions                        prints which libraries it takes: those of python3, else those within pip
+resolve_peer.py versions                        prints which libraries it takes (libraries.py)
 
 Versions and requirements are parsed before the time begins; they are matched within it. The time is processor time, and after so
-many seconds of it the process is ended. There are neither markers nor extras. The names are taken in the order of their bytes, as
-reqlock does; or with `pip` as pip 23.2 does: pinned ones before others, then those for which the search went back last, the
-nearest to the file, and those with specifiers. Where it finds no solution, it prints `none`.
+many seconds of it the process is ended. There are neither markers nor extras. Of the names that are asked for and not pinned
+yet, the least by bytes is next, as with reqlock; or with `pip` they go as in pip 23.2: pinned ones before others, then those for
+which the search went back last, the nearest to the file, and those with specifiers. Where it finds no solution, it prints `none`.
 """
+import functools
 import json
 import math
+import re
 import resource
 import sys
 import time
 from collections import namedtuple
 
-from libraries import Requirement, Version, packaging, resolvelib
+from libraries import SpecifierSet, Version, packaging, resolvelib
 
 Release = namedtuple("Release", "name version dependencies")
+
+
+@functools.cache
+def read_requirement(text):
+    """The name and the set of a requirement, for which `Requirement` takes some versions of packaging long."""
+    name = re.match("[A-Za-z0-9._-]+", text)[0]
+    return name, SpecifierSet(text[len(name) :])
 
 
 class Wanted:
     """A requirement, which is matched with each release at most once."""
 
     def __init__(self, text):
-        parsed = Requirement(text)
-        self.name = parsed.name
-        self.specifier = parsed.specifier
+        self.name, self.specifier = read_requirement(text.strip())
         self.answers = {}
 
     def __str__(self):
@@ -66,7 +73,7 @@ def read_requirements(path):
 
 
 class Provider(resolvelib.AbstractProvider):
-    """Takes the names in the order of their bytes."""
+    """Takes the least name, by bytes, of those that are asked for and not pinned yet."""
 
     def __init__(self, index):
         self.index = index

@@ -15,7 +15,7 @@ from test_requirement_rules import LINUX
 
 sys.path.insert(0, str(Path(__file__).resolve().parent.parent))
 import growths  # noqa: E402
-from snapshot import compact  # noqa: E402
+from snapshot_output import compact  # noqa: E402
 
 PACE = 1 if os.environ.get("LONG_TESTS") == "1" else 50
 LAST = 40

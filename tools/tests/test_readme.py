@@ -1,7 +1,6 @@
 """What README.md shows being typed is typed: each indented block that has lines `$ COMMAND` is run by a shell in a copy of the
 repository's examples, and what comes out is what the block shows. It needs the program, which ./check builds first."""
 
-import json
 import os
 import re
 import shutil
@@ -10,7 +9,7 @@ import tempfile
 import unittest
 from pathlib import Path
 
-from test_snapshot import body, file
+from made_index import MadeIndex, wheel_of
 
 TOP = Path(__file__).resolve().parent.parent.parent
 PROGRAM = TOP / "crates" / "reqlock" / "out" / "reqlock"
@@ -58,34 +57,29 @@ class Readme(unittest.TestCase):
         printed = done.stdout.split(f"{MARK}\n")[:-1]
         self.assertEqual([text.splitlines() for text in printed], [shown for _, shown in block])
 
-    def test_an_index_is_made_of_documents_that_are_fetched(self):
-        """The block with BASE_URL: a folder stands for the index's JSON API."""
-        [block] = re.findall(r"(?m)(?:^ {4}.*--fetch BASE_URL.*\n)(?:^ {4}.*\n)+", (TOP / "README.md").read_text(encoding="utf-8"))
-        commands = [line.strip() for line in block.splitlines()]
-        self.assertTrue(commands[-1].startswith("reqlock --dir FOLDER "), commands)
+    def test_an_index_is_made_of_an_address(self):
+        """The block with the address of an index: one of the test's own stands for it."""
+        text = (TOP / "README.md").read_text(encoding="utf-8")
+        [block] = [block for block in re.findall(r"(?m)(?:^ {4}.*\n)+", text) if "snapshot.py simple" in block]
+        needs = {"flask": ["Werkzeug>=3.0.0", "Jinja2", "click"], "werkzeug": [], "jinja2": [], "click": []}
+        index = MadeIndex()
+        self.addCleanup(index.close)
+        for name, dependencies in needs.items():
+            index.add(name, wheel_of(name, "3.0.0", *dependencies))
         with tempfile.TemporaryDirectory() as name:
             folder = Path(name)
             shutil.copytree(TOP / "tools", folder / "tools", ignore=shutil.ignore_patterns("tests", "__pycache__"))
-            needs = {"flask": ["Werkzeug>=3.0.0", "Jinja2", "click"], "werkzeug": [], "jinja2": [], "click": []}
-            for name, dependencies in needs.items():
-                self.write_document(folder / "api" / name / "json", name, dependencies)
-            (folder / "web").mkdir()
-            (folder / "web" / "requirements.txt").write_bytes(b"Flask\r\n")
-            words = {"BASE_URL": (folder / "api").as_uri(), "FOLDER": "web"}
-            lines = [re.sub("|".join(words), lambda found: words[found[0]], command) for command in commands]
+            (folder / "requirements.txt").write_bytes(b"Flask\r\n")
+            lines = [line.strip().replace("https://index.example/simple/", index.url) for line in block.splitlines()]
+            self.assertIn(index.url, lines[1])
             done = self.run_lines(lines, folder)
             self.assertEqual((done.returncode, done.stdout), (0, "ok 0\n"), done.stderr)
             for name in needs:
-                self.assertIn(f'name = "{name}"', (folder / "web" / "pylock.toml").read_text(encoding="utf-8"))
-
-    def write_document(self, path, name, dependencies):
-        wheel = file(f"{name}-3.0.0-py3-none-any.whl")
-        document = body("3.0.0", name=name, urls=[wheel], releases={"3.0.0": [wheel]}, requires_dist=dependencies)
-        path.parent.mkdir(parents=True)
-        path.write_text(json.dumps(document), encoding="utf-8")
+                self.assertIn(f'name = "{name}"', (folder / "pylock.toml").read_text(encoding="utf-8"))
 
     def run_lines(self, lines, folder):
-        variables = {**os.environ, "PATH": f"{PROGRAM.parent}:{os.environ['PATH']}"}
+        kept = {name: value for name, value in os.environ.items() if not name.lower().endswith("proxy")}
+        variables = {**kept, "PATH": f"{PROGRAM.parent}:{os.environ['PATH']}", "XDG_CACHE_HOME": str(folder / "cache")}
         return subprocess.run(
             ["bash", "-e"], input="\n".join(lines), env=variables, cwd=folder, capture_output=True, encoding="utf-8", check=False,
         )

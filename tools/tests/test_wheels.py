@@ -13,6 +13,7 @@ from pathlib import Path
 from made_archives import wheel
 from test_program import FILES
 from test_readme import PROGRAM, TOP
+from test_readme import blocks as shown_blocks
 
 SECTION = "# From a folder of wheels to an installed environment\n"
 REQUIREMENTS = b"# web\r\nclick<8  # the old one\r\n"
@@ -123,6 +124,16 @@ class Wheels(unittest.TestCase):
         status, output = self.run_lines(self.install)
         self.assertNotEqual(status, 0)
         self.assertIn("DO NOT MATCH THE HASHES", output)
+
+    def test_what_is_printed(self):
+        """The block with commands: what they print, with `..` for the environment and for digests."""
+        make_wheels(self.folder / "wheels")
+        self.check_runs(self.begin, "ok 0", "ok 1")
+        [block] = shown_blocks((TOP / "docs" / "WHEELS.md").read_text(encoding="utf-8"))
+        for command, shown in block:
+            status, output = self.run_lines(f"{command}\n")
+            self.assertEqual(status, 0, output)
+            self.assertEqual(re.sub("(?m)[0-9a-f]{64}|(?<=^# for ).*", "..", output).splitlines(), shown)
 
     # A repository that makes every line end in CRLF keeps the files, and two clones give them out: one does so too, one doesn't.
     KEEPING = """

@@ -1,0 +1,70 @@
+"""What docs/SNAPSHOTS.md shows being typed is typed, with an index of the tests' own in place of the one that it names."""
+
+import os
+import re
+import shutil
+import subprocess
+import tempfile
+import unittest
+from pathlib import Path
+
+from made_index import MadeIndex, sdist_of, wheel_of
+from test_readme import MARK, TOP, blocks
+
+NAMED = "https://index.example"
+FIGURES = re.compile(r"[0-9.]+ [kM]B, [0-9.]+ s$", re.MULTILINE)
+EXTRAS = "asgiref>=3.2 ; extra == 'async'", "colorama ; platform_system == 'Windows'"
+
+
+def packages():
+    """What the index has: releases of the packages of examples/web, and of what they lead to."""
+    return {
+        "flask": [
+            sdist_of("flask", "0.1", metadata="1.0"),
+            wheel_of("flask", "2.3.3", "Werkzeug>=2.3.7", "Jinja2>=3.1.2", *EXTRAS),
+            wheel_of("flask", "3.0.3", "Werkzeug>=3.0.0", "Jinja2>=3.1.2", *EXTRAS),
+            sdist_of("flask", "3.0.3", "Werkzeug>=3.0.0", "Jinja2>=3.1.2", *EXTRAS),
+        ],
+        "werkzeug": [wheel_of("werkzeug", "2.3.8"), wheel_of("werkzeug", "3.0.4")],
+        "jinja2": [wheel_of("jinja2", "3.1.4", beside=False)],
+        "requests": [wheel_of("requests", version, "urllib3<3,>=1.21.1") for version in ("2.31.0", "2.32.3")],
+        "urllib3": [wheel_of("urllib3", "1.26.20"), wheel_of("urllib3", "2.2.3")],
+        "asgiref": [wheel_of("asgiref", "3.8.1")],
+        "colorama": [wheel_of("colorama", "0.4.6")],
+    }
+
+
+class Page(unittest.TestCase):
+    def setUp(self):
+        folder = tempfile.TemporaryDirectory()
+        self.addCleanup(folder.cleanup)
+        self.folder = Path(folder.name)
+        shutil.copytree(TOP / "examples" / "web", self.folder, dirs_exist_ok=True)
+        os.symlink(TOP / "tools", self.folder / "tools")
+        index = MadeIndex()
+        self.addCleanup(index.close)
+        for name, files in packages().items():
+            index.add(name, *files)
+        self.base = index.url.removesuffix("/simple/")
+
+    def run_block(self, block):
+        """What the commands print, one after the other."""
+        script = "".join(f"{command}\necho '{MARK}'\n" for command, _ in block).replace(NAMED, self.base)
+        kept = {name: value for name, value in os.environ.items() if not name.lower().endswith("proxy")}
+        done = subprocess.run(
+            ["bash"], input=script, env={**kept, "XDG_CACHE_HOME": str(self.folder / "cache"), "PYTHONDONTWRITEBYTECODE": "1"},
+            cwd=self.folder, stdout=subprocess.PIPE, stderr=subprocess.STDOUT, encoding="utf-8", check=False,
+        )
+        return done.stdout.replace(self.base, NAMED).split(f"{MARK}\n")[:-1]
+
+    def test_each_command_prints_what_is_shown(self):
+        found = blocks((TOP / "docs" / "SNAPSHOTS.md").read_text(encoding="utf-8"))
+        self.assertGreater(len(found), 4)
+        for block in found:
+            with self.subTest(block=block[0][0]):
+                printed = [FIGURES.sub("..", text).splitlines() for text in self.run_block(block)]
+                self.assertEqual(printed, [[FIGURES.sub("..", line) for line in shown] for _, shown in block])
+
+
+if __name__ == "__main__":
+    unittest.main()
