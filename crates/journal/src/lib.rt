@@ -33,6 +33,7 @@ pub use crate::saving::Saved;
 pub use crate::session::Session;
 pub use crate::whole::WholeHistory;
 pub use edits::{
-    Change, Edit, Environment, Learning, Plain, Refusal, ReqFile, Resolver, SavedFile, Snapshot, State,
+    Change, Edit, Environment, Learning, Plain, Refusal, ReqFile, Resolver, SavedFile, Snapshot,
+    State,
 };
 pub use lists::{Seq, Text};

@@ -11,6 +11,8 @@ invariant_of-self-then-is_err c =
 
 pub invariant_of-self-else-is_err : goal.invariant_of-self-else-is_err
 invariant_of-self-else-is_err c =
-    let pushed : c.push.new.self.items ≡ c.self.inside.listed.items ++ c.args.name.now ∷ [] = c.in_ok-push.ensures.items ∙ ap (λ (name : List ℕ). c.self.inside.listed.items ++ name ∷ []) c.in_ok-clone.ensures.cases in
-    (grind (arith, common_steps), subst (AllPairs (λ (x y : List ℕ). x ≢ y)) (sym pushed)
-        (once-pushed c.self.inside.listed.items c.args.name.now c.self.invariant.1 (λ there. c.requires (subst (λ (names : List (List ℕ)). Contains names c.args.name.now) c.self.view_is there))))
+    let pushed : c.push.new.self.items ≡ c.self.inside.listed.items ++ c.args.name.now ∷ [] = c.in_ok-push.ensures.items ∙ ap (λ (name : List ℕ). c.self.inside.listed.items ++ name ∷ []) c.in_ok-clone.ensures.cases in (
+      grind (arith, common_steps),
+      subst (AllPairs (λ (x y : List ℕ). x ≢ y)) (sym pushed)
+          (once-pushed c.self.inside.listed.items c.args.name.now c.self.invariant.1 (λ there. c.requires (subst (λ (names : List (List ℕ)). Contains names c.args.name.now) c.self.view_is there))),
+    )
