@@ -10,6 +10,7 @@ import socket
 import subprocess
 import sys
 import tempfile
+import threading
 import time
 import unittest
 from pathlib import Path
@@ -213,17 +214,14 @@ class Counts(Simple):
         self.assertEqual([found.get("If-Modified-Since") for found in index.headers if "Accept" in found], [None, stamp, stamp])
 
     def test_as_many_as_are_wanted_are_asked_at_once(self):
-        index = self.serve({"a": [wheel_of("a", str(number)) for number in range(8)]})
-        for number in range(8):
-            path = f"/files/a-{number}-py3-none-any.whl.metadata"
-            index.instead[path] = [lambda to: (time.sleep(0.2), to.give_file(index, to.path.removeprefix("/files/")))]
-        times = []
+        """So many answers wait for one another, so none comes unless so many are asked for at once."""
         for jobs in 1, 8:
-            start = time.monotonic()
+            index = self.serve({"a": [wheel_of("a", str(number)) for number in range(8)]})
+            meeting = threading.Barrier(jobs)
+            for number in range(8):
+                path = f"/files/a-{number}-py3-none-any.whl.metadata"
+                index.instead[path] = [lambda to: (meeting.wait(20), to.give_file(index, to.path.removeprefix("/files/")))]
             self.made(index, "a", "--jobs", jobs, "--cache", self.folder / f"cache-{jobs}")
-            times.append(time.monotonic() - start)
-        self.assertGreater(times[0], 1.6)
-        self.assertLess(times[1], times[0] / 2)
 
 
 class Cache(Simple):
