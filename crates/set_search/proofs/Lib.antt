@@ -1,0 +1,4 @@
+pub mod Listed
+pub mod Covered
+pub mod Pushed
+pub mod GuidedWalks

@@ -1,0 +1,6 @@
+use Rattle.std.proofs.Common.{Contains, subst, ap, sym, ◌∙◌}
+use Rattle.lists.proofs.Members.{Contains-here, Contains-there}
+use Rattle.set_search.proofs.needing.does_ask.Goals as goal
+
+pub returns : goal.returns
+returns c = λ t. Contains-there _ _ c.args.node (subst (λ xs. Contains xs c.args.node) (c.as_slice.ensures ∙ ap (λ r. r.more) c.requirement-asked.ensures.requirement) (c.has_node.ensures t))

@@ -1,0 +1,138 @@
+// Whether a node is needed, and no candidate is left for it.
+
+ghost use Rattle.std.specs.Prelude.{◌≡◌, ◌<◌, ℕ, IfOk, IsTrue, length};
+ghost use Rattle.std.specs.List.{Contains};
+ghost use Rattle.search.specs.Ranges.{EachBelow};
+ghost use Rattle.search.specs.SetConflicts.{NoCandidateLeft, SetNeedsNode};
+ghost use Rattle.search.specs.Table.{places_eq, rules_of};
+
+use crate::completing::covered_by;
+use crate::term::TableTerm;
+use lists::{Bits, Seq};
+use search::Table;
+use std::alloc::{AllocError, Global};
+
+/// Whether a node is one of these.
+fn has_node(nodes: &[usize], node: usize) -> bool
+    ensures { IsTrue result → Contains nodes.now node }
+{
+    for other in nodes {
+        if *other == node {
+            return true;
+        }
+    }
+    false
+}
+
+/// Whether a requirement needs a node.
+fn does_ask(table: &Table, requirement: usize, node: usize) -> bool
+    requires { requirement < length table.now.requirements }
+    ensures { IsTrue result → Contains ((rules_of table.now).nodes requirement) node }
+{
+    let asked = table.requirement(requirement);
+    if asked.node == node {
+        return true;
+    }
+    has_node(asked.more.as_slice(), node)
+}
+
+/// Whether one of these requirements needs a node.
+fn does_any_ask(table: &Table, requirements: &[usize], node: usize) -> bool
+    requires { EachBelow (length table.now.requirements) requirements.now }
+    ensures { IsTrue result → (r : ℕ) × Contains requirements.now r
+        × Contains ((rules_of table.now).nodes r) node }
+{
+    for requirement in requirements {
+        if does_ask(table, *requirement, node) {
+            return true;
+        }
+    }
+    false
+}
+
+/// Whether one of the lines needs a node.
+pub fn do_lines_need(table: &Table, node: usize) -> bool
+    ensures { IsTrue result → (line : ℕ) × Contains (rules_of table.now).lines line
+        × Contains ((rules_of table.now).nodes line) node }
+{
+    let lines = table.lines();
+    does_any_ask(table, lines, node)
+}
+
+/// Whether something that a release wants at its node needs another node.
+pub fn does_want(table: &Table, by: usize, place: usize, node: usize) -> bool
+    ensures { IsTrue result → (wanted : ℕ) × Contains ((rules_of table.now).wants by place) wanted
+        × Contains ((rules_of table.now).nodes wanted) node }
+{
+    let wants = table.wants(by, place);
+    does_any_ask(table, wants, node)
+}
+
+/// Whether each of these releases wants a node.
+fn does_each_want(table: &Table, by: usize, places: &[usize], node: usize) -> bool
+    ensures { IsTrue result → (v : ℕ) → Contains places.now v
+        → (wanted : ℕ) × Contains ((rules_of table.now).wants by v) wanted
+        × Contains ((rules_of table.now).nodes wanted) node }
+{
+    for place in places {
+        if !does_want(table, by, *place, node) {
+            return false;
+        }
+    }
+    true
+}
+
+/// Whether each version of the term at a place of the conflict needs a node; where there is no such place, whether a line does.
+fn is_needed(
+    alloc: Global,
+    table: &Table,
+    conflict: &[TableTerm],
+    by: usize,
+    node: usize,
+) -> Result<bool, AllocError>
+    ensures { IfOk result
+        (λ needed. IsTrue needed → SetNeedsNode (rules_of table.now) conflict.now node) }
+{
+    if by >= conflict.len() {
+        return Ok(do_lines_need(table, node));
+    }
+    let term = &conflict[by];
+    let places = term.listed(alloc)?;
+    Ok(does_each_want(table, term.node(), places.as_slice(), node))
+}
+
+/// Whether the set has each of these places.
+fn has_each(covered: &Bits, places: &[usize]) -> bool
+    ensures { IsTrue result → (v : ℕ) → Contains places.now v → Contains covered.now v }
+{
+    for place in places {
+        if !covered.has(*place) {
+            return false;
+        }
+    }
+    true
+}
+
+/// Whether the node is needed, and with each candidate of its name the conflict contains one of these earlier ones.
+pub fn is_none_left(
+    alloc: Global,
+    table: &Table,
+    earlier: &[Seq<TableTerm>],
+    conflict: &[TableTerm],
+    by: usize,
+    node: usize,
+    olds: &[usize],
+) -> Result<bool, AllocError>
+    ensures { IfOk result (λ none. IsTrue none
+        → NoCandidateLeft (rules_of table.now) places_eq earlier.now conflict.now) }
+{
+    if node >= table.node_count() {
+        return Ok(false);
+    }
+    let needed = is_needed(alloc, table, conflict, by, node)?;
+    if !needed {
+        return Ok(false);
+    }
+    let covered = covered_by(alloc, earlier, conflict, node, olds)?;
+    Ok(has_each(&covered, table.candidates(table.name_of(node))))
+}
