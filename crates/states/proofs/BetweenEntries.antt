@@ -12,7 +12,7 @@ use Rattle.pylock.specs.Locks.{are_entries}
 use Rattle.pylock.specs.Order.{rises}
 use Rattle.pylock.specs.Packages.{EntryParts}
 use Rattle.states.specs.Changes.{AreEntryChanges, ChangesEntries, Exchanges, IsEntryChange, IsOn, entry_on}
-use Rattle.states.specs.Tied.Between.{IsFloor, IsLeast, IsPut, behind, first_on}
+use Rattle.states.specs.Tied.Between.{AreOf, IsFloor, IsLeast, IsPut, behind, first_on}
 use Rattle.states.specs.declared.change.parts.EntryChange.{EntryChange}
 use Rattle.states.proofs.DecideFacts.{All-member}
 use Rattle.states.proofs.EntryFacts.{entry-from, less-of, not-below, rises-above, rises-rest}
@@ -192,10 +192,11 @@ least-of-new old new come first second = record {
 
 -- ---- changes
 
--- changes lead from old entries to new ones, and none could be left out
-pub record IsBetween (changes : List EntryChange) (old new : List EntryParts) : Type 0 where
+-- changes of a target lead from old entries to new ones, and none could be left out
+pub record IsBetween (target : List ℕ) (changes : List EntryChange) (old new : List EntryParts) : Type 0 where
   pub leads : ChangesEntries changes old new
   pub minimal : AreEntryChanges changes
+  pub own : AreOf target changes
 
 -- what changes is on a name of the entries
 change-above : (name : List ℕ) (old new : List EntryParts) (change : EntryChange) (a b : Option EntryParts) → Above name old → Above name new
@@ -208,13 +209,13 @@ change-above name old new change None (Some e) above_old above_new is_old is_new
     subst (λ (n : List ℕ). slice_cmp nat_cmp name n ≡ Less) k.1 (above_new e k.0)
 change-above name old new change None None above_old above_new is_old is_new other = absurd (other refl)
 
-changes-above : (name : List ℕ) (old new : List EntryParts) (changes : List EntryChange) → Above name old → Above name new → IsBetween changes old new
+changes-above : (target name : List ℕ) (old new : List EntryParts) (changes : List EntryChange) → Above name old → Above name new → IsBetween target changes old new
     → (change : EntryChange) → Contains changes change → slice_cmp nat_cmp name change.name ≡ Less
-changes-above name old new changes above_old above_new is change there =
+changes-above target name old new changes above_old above_new is change there =
     let k = is.leads.changed change there in
     change-above name old new change change.old change.new above_old above_new k.0 k.1 (All-member IsEntryChange changes change is.minimal.each there).other
 
-names-rise : (name : List ℕ) (changes : List EntryChange) → ((change : EntryChange) → Contains changes change → slice_cmp nat_cmp name change.name ≡ Less)
+pub names-rise : (name : List ℕ) (changes : List EntryChange) → ((change : EntryChange) → Contains changes change → slice_cmp nat_cmp name change.name ≡ Less)
     → rises (map (λ change. change.name) changes) ≡ true → rises (name ∷ map (λ change. change.name) changes) ≡ true
 unfolding rises
 names-rise name [] above rise = refl
@@ -228,24 +229,24 @@ record IsAt (name : List ℕ) (old new : List EntryParts) : Type 0 where
   pub new_floor : IsFloor name new
 
 -- the changes behind a name hold before it
-changed-behind : (name : List ℕ) (old new : List EntryParts) (changes : List EntryChange) → IsAt name old new → IsBetween changes (behind name old) (behind name new)
+changed-behind : (target name : List ℕ) (old new : List EntryParts) (changes : List EntryChange) → IsAt name old new → IsBetween target changes (behind name old) (behind name new)
     → (change : EntryChange) → Contains changes change → Exchanges old new change
-changed-behind name old new changes at is change there =
-    let above = changes-above name (behind name old) (behind name new) changes (behind-above name old at.old_rises at.old_floor) (behind-above name new at.new_rises at.new_floor) is change there in
+changed-behind target name old new changes at is change there =
+    let above = changes-above target name (behind name old) (behind name new) changes (behind-above name old at.old_rises at.old_floor) (behind-above name new at.new_rises at.new_floor) is change there in
     let another = not-same name change.name above in
     let k = is.leads.changed change there in
     (sym (behind-found name change.name old another) ∙ k.0, sym (behind-found name change.name new another) ∙ k.1)
 
 -- the entry of the name becomes another
-change-more : (name : List ℕ) (old new : List EntryParts) (changes : List EntryChange) → IsAt name old new → first_on name old ≢ first_on name new
-    → IsBetween changes (behind name old) (behind name new) → IsBetween (record { name = name; old = first_on name old; new = first_on name new } ∷ changes) old new
-change-more name old new changes at other is =
-    let this : EntryChange = record { name = name; old = first_on name old; new = first_on name new } in
+change-more : (target name : List ℕ) (old new : List EntryParts) (changes : List EntryChange) → IsAt name old new → first_on name old ≢ first_on name new
+    → IsBetween target changes (behind name old) (behind name new) → IsBetween target (record { target = target; name = name; old = first_on name old; new = first_on name new } ∷ changes) old new
+change-more target name old new changes at other is =
+    let this : EntryChange = record { target = target; name = name; old = first_on name old; new = first_on name new } in
     record {
       leads = record {
         changed = λ change there. elim (Contains-cons_cases this changes change there) [
           | inl same ↦ subst (λ (c : EntryChange). Exchanges old new c) same (first-found name old at.old_rises at.old_floor, first-found name new at.new_rises at.new_floor)
-          | inr more ↦ changed-behind name old new changes at is change more
+          | inr more ↦ changed-behind target name old new changes at is change more
         ];
         others = λ m none.
             let another : m ≢ name = λ same. none this (Contains-here this changes) (sym same) in
@@ -255,18 +256,19 @@ change-more name old new changes at other is =
       };
       minimal = record {
         names = names-rise name changes
-            (changes-above name (behind name old) (behind name new) changes (behind-above name old at.old_rises at.old_floor) (behind-above name new at.new_rises at.new_floor) is)
+            (changes-above target name (behind name old) (behind name new) changes (behind-above name old at.old_rises at.old_floor) (behind-above name new at.new_rises at.new_floor) is)
             is.minimal.names;
         each = (record { old_name = first-is name old; new_name = first-is name new; other = other }, is.minimal.each);
       };
+      own = (refl, is.own);
     }
 
 -- the entry of the name is the same
-change-none : (name : List ℕ) (old new : List EntryParts) (changes : List EntryChange) → IsAt name old new → first_on name old ≡ first_on name new
-    → IsBetween changes (behind name old) (behind name new) → IsBetween changes old new
-change-none name old new changes at same is = record {
+change-none : (target name : List ℕ) (old new : List EntryParts) (changes : List EntryChange) → IsAt name old new → first_on name old ≡ first_on name new
+    → IsBetween target changes (behind name old) (behind name new) → IsBetween target changes old new
+change-none target name old new changes at same is = record {
   leads = record {
-    changed = changed-behind name old new changes at is;
+    changed = changed-behind target name old new changes at is;
     others = λ m none. elim (cases_Bool (bytes_eq m name)) [
       | inl here ↦
           let found : entry_on new name ≡ entry_on old name = first-found name new at.new_rises at.new_floor ∙ sym same ∙ sym (first-found name old at.old_rises at.old_floor) in
@@ -279,34 +281,35 @@ change-none name old new changes at same is = record {
     new_rises = at.new_rises;
   };
   minimal = is.minimal;
+  own = is.own;
 }
 
 -- ---- changes as far as they are put together
 
 -- the changes so far, with the entries that are left: what is between these goes on behind those
-pub record IsMadeTo (old new old_left new_left : List EntryParts) (made : List EntryChange) : Type 0 where
+pub record IsMadeTo (target : List ℕ) (old new old_left new_left : List EntryParts) (made : List EntryChange) : Type 0 where
   pub old_rises : are_entries old_left ≡ true
   pub new_rises : are_entries new_left ≡ true
-  pub onward : (changes : List EntryChange) → IsBetween changes old_left new_left → IsBetween (made ++ changes) old new
+  pub onward : (changes : List EntryChange) → IsBetween target changes old_left new_left → IsBetween target (made ++ changes) old new
 
-pub IsMadeTo-start : (old new : List EntryParts) → are_entries old ≡ true → are_entries new ≡ true → IsMadeTo old new old new []
-IsMadeTo-start old new old_rises new_rises = record { old_rises = old_rises; new_rises = new_rises; onward = λ changes is. is }
+pub IsMadeTo-start : (target : List ℕ) (old new : List EntryParts) → are_entries old ≡ true → are_entries new ≡ true → IsMadeTo target old new old new []
+IsMadeTo-start target old new old_rises new_rises = record { old_rises = old_rises; new_rises = new_rises; onward = λ changes is. is }
 
 -- one more name
-pub IsMadeTo-next : (old new old_left new_left : List EntryParts) (made after : List EntryChange) (name : List ℕ) → IsLeast name old_left new_left
-    → IsPut name (first_on name old_left) (first_on name new_left) made after → IsMadeTo old new old_left new_left made
-    → IsMadeTo old new (behind name old_left) (behind name new_left) after
-IsMadeTo-next old new old_left new_left made after name least put to =
+pub IsMadeTo-next : (target : List ℕ) (old new old_left new_left : List EntryParts) (made after : List EntryChange) (name : List ℕ) → IsLeast name old_left new_left
+    → IsPut target name (first_on name old_left) (first_on name new_left) made after → IsMadeTo target old new old_left new_left made
+    → IsMadeTo target old new (behind name old_left) (behind name new_left) after
+IsMadeTo-next target old new old_left new_left made after name least put to =
     let at : IsAt name old_left new_left = record { old_rises = to.old_rises; new_rises = to.new_rises; old_floor = least.old_floor; new_floor = least.new_floor } in
     record {
       old_rises = behind-rises name old_left to.old_rises;
       new_rises = behind-rises name new_left to.new_rises;
       onward = λ changes is. elim put [
-        | inl same ↦ subst (λ (l : List EntryChange). IsBetween (l ++ changes) old new) (sym same.1) (to.onward changes (change-none name old_left new_left changes at same.0 is))
+        | inl same ↦ subst (λ (l : List EntryChange). IsBetween target (l ++ changes) old new) (sym same.1) (to.onward changes (change-none target name old_left new_left changes at same.0 is))
         | inr other ↦
-            let this : EntryChange = record { name = name; old = first_on name old_left; new = first_on name new_left } in
-            let more = to.onward (this ∷ changes) (change-more name old_left new_left changes at other.0 is) in
-            subst (λ (l : List EntryChange). IsBetween l old new) (sym (append_assoc made (this ∷ []) changes) ∙ ap (λ (l : List EntryChange). l ++ changes) (sym other.1)) more
+            let this : EntryChange = record { target = target; name = name; old = first_on name old_left; new = first_on name new_left } in
+            let more = to.onward (this ∷ changes) (change-more target name old_left new_left changes at other.0 is) in
+            subst (λ (l : List EntryChange). IsBetween target l old new) (sym (append_assoc made (this ∷ []) changes) ∙ ap (λ (l : List EntryChange). l ++ changes) (sym other.1)) more
       ];
     }
 
@@ -315,9 +318,9 @@ unfolding rises
 none-minimal = record { names = refl; each = tt }
 
 -- no name is left
-pub IsMadeTo-end : (old new old_left new_left : List EntryParts) (made : List EntryChange) → old_left ≡ [] → new_left ≡ [] → IsMadeTo old new old_left new_left made → IsBetween made old new
-IsMadeTo-end old new old_left new_left made no_old no_new to =
-    let none : IsBetween [] old_left new_left = record {
+pub IsMadeTo-end : (target : List ℕ) (old new old_left new_left : List EntryParts) (made : List EntryChange) → old_left ≡ [] → new_left ≡ [] → IsMadeTo target old new old_left new_left made → IsBetween target made old new
+IsMadeTo-end target old new old_left new_left made no_old no_new to =
+    let none : IsBetween target [] old_left new_left = record {
       leads = record {
         changed = λ change there. absurd (Contains-nil change there);
         others = λ m h. ap (λ (l : List EntryParts). entry_on l m) (no_new ∙ sym no_old);
@@ -325,8 +328,9 @@ IsMadeTo-end old new old_left new_left made no_old no_new to =
         new_rises = to.new_rises;
       };
       minimal = none-minimal;
+      own = tt;
     } in
-    subst (λ (l : List EntryChange). IsBetween l old new) (append-nil made) (to.onward [] none)
+    subst (λ (l : List EntryChange). IsBetween target l old new) (append-nil made) (to.onward [] none)
 
 -- the entries that are left are fewer behind a name of theirs
 pub least-fewer : (name : List ℕ) (old new : List EntryParts) → IsLeast name old new → length (behind name old) + length (behind name new) < length old + length new

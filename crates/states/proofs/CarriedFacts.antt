@@ -1,18 +1,21 @@
 -- Where a change leads, as a function.
-use Rattle.std.proofs.Common.{◌≡◌, ◌++◌, ◌+◌, ◌-◌, ℕ, List, [], ◌∷◌, length, take, drop, Option, Some, None, sym, ap, ◌∙◌, subst, arith, append_assoc}
+use Rattle.std.proofs.Common.{◌≡◌, ◌++◌, ◌+◌, ◌-◌, ℕ, List, [], ◌∷◌, length, map, take, drop, Option, Some, None, refl, sym, ap, ◌∙◌, subst, arith, append_assoc}
 use Rattle.std.proofs.lemmas.List.{append-nil}
+use Rattle.std.specs.List.{AllZip}
 use Rattle.std.specs.Option.{option_to_list}
 use Rattle.pylock.specs.Packages.{EntryParts}
-use Rattle.states.specs.Changes.{After, AreEntryChanges, ChangeParts, ChangesDigest, ChangesEntries, IsMinimal, Splices}
+use Rattle.states.specs.Changes.{After, AreEntryChanges, AreMinimalChanges, ChangeParts, ChangesDigest, ChangesEntries, ChangesTarget, IsMinimal, Splices, changes_on}
 use Rattle.states.specs.StateParts.{StateParts}
-use Rattle.states.specs.Tied.Carried.{carried, carried_digest, carried_entries, carried_lines, from_name}
+use Rattle.states.specs.Tied.Carried.{carried, carried_digest, carried_entries, carried_lines, carried_target, from_name}
 use Rattle.states.specs.Tied.Exchanging.{count_below, entries_on}
 use Rattle.states.specs.declared.change.parts.DigestChange.{DigestChange}
 use Rattle.states.specs.declared.change.parts.EntryChange.{EntryChange}
 use Rattle.states.specs.declared.change.parts.Splice.{Splice}
+use Rattle.states.specs.declared.target.Target.{Target}
 use Rattle.states.proofs.CutFacts.{cut}
 use Rattle.states.proofs.ExchangeFacts.{ChangesEntries-one, IsExchangedTo, IsExchangedTo-next, IsExchangedTo-start, IsExchangedTo-stood, joined, rises-left}
 use Rattle.states.proofs.SplicedFacts.{parts_of}
+use Rattle.states.proofs.TargetChanges.{AreEntryChanges-on}
 
 lines-carried : (from : ℕ) (splices : List Splice) (old new : List (List ℕ)) → Splices from splices old new → new ≡ carried_lines from splices old
 lines-carried from [] old new is = sym is
@@ -51,16 +54,28 @@ digest-carried : (digests : Option DigestChange) (old new : List ℕ) → Change
 digest-carried None old new is = is
 digest-carried (Some d) old new is = is.1
 
+target-carried : (change : ChangeParts) (old new : Target) → AreMinimalChanges change.entries → ChangesTarget change old new → new ≡ carried_target change old
+target-carried change old new minimal is =
+    let own = changes_on old.name change.entries in
+    let entries = entries-carried own old.lock.entries new.lock.entries (AreEntryChanges-on old.name change.entries minimal) is.lock.entries in
+    let snapshot = digest-carried change.digests old.lock.snapshot new.lock.snapshot is.lock.digest in
+    let text = is.lock.environment in
+    let name = is.same.name in
+    let environment = is.same.environment in
+    λ i. record { name = name i; environment = environment i; lock = record { environment = text i; snapshot = snapshot i; entries = entries i } }
+
+targets-carried : (change : ChangeParts) (olds news : List Target) → AreMinimalChanges change.entries → AllZip (ChangesTarget change) olds news → news ≡ map (carried_target change) olds
+targets-carried change [] [] minimal all = refl
+targets-carried change [] (t ∷ news) minimal all = absurd all
+targets-carried change (s ∷ olds) [] minimal all = absurd all
+targets-carried change (s ∷ olds) (t ∷ news) minimal all =
+    let first = target-carried change s t minimal all.0 in
+    let rest = targets-carried change olds news minimal all.1 in
+    λ i. first i ∷ rest i
+
 -- where a minimal change leads
 pub After-carried : (change : ChangeParts) (old new : StateParts) → IsMinimal change → After old change new → new ≡ carried old change
 After-carried change old new minimal is =
     let lines = lines-carried 0 change.splices old.lines new.lines is.lines in
-    let entries = entries-carried change.entries old.lock.entries new.lock.entries minimal.entries is.lock.entries in
-    let snapshot = digest-carried change.digests old.lock.snapshot new.lock.snapshot is.lock.digest in
-    let named = is.lock.environment in
-    let environment = is.environment in
-    λ i. record {
-      lines = lines i;
-      environment = environment i;
-      lock = record { environment = named i; snapshot = snapshot i; entries = entries i };
-    }
+    let targets = targets-carried change old.targets new.targets minimal.entries is.targets in
+    λ i. record { lines = lines i; targets = targets i }

@@ -1,20 +1,17 @@
 -- The change back, and the change back from it.
-use Rattle.std.proofs.Common.{◌≡◌, ◌≢◌, ◌∙◌, ◌≤◌, ℕ, List, [], ◌∷◌, Option, Some, None, IfSome, map, option_map, refl, sym, ap, arith}
-use Rattle.std.specs.List.{AllByRecursion}
-use Rattle.pylock.specs.Order.{rises}
+use Rattle.std.proofs.Common.{◌≡◌, ◌≢◌, ◌∙◌, ◌≤◌, ℕ, List, [], ◌∷◌, Contains, Option, Some, None, IfSome, map, option_map, refl, sym, ap, subst, arith}
+use Rattle.std.specs.List.{AllByRecursion, AllZip}
 use Rattle.pylock.specs.Packages.{EntryParts}
-use Rattle.states.specs.Changes.{After, ChangeParts, ChangesDigest, ChangesEntries, IsEntryChange, IsMinimal, digest_back, entry_back, inverse}
+use Rattle.states.specs.Changes.{After, ChangeParts, ChangesDigest, ChangesEntries, ChangesTarget, IsEntryChange, IsMinimal, changes_on, digest_back, entry_back, inverse}
 use Rattle.states.specs.StateParts.{StateParts}
 use Rattle.states.specs.declared.change.parts.DigestChange.{DigestChange}
 use Rattle.states.specs.declared.change.parts.EntryChange.{EntryChange}
+use Rattle.states.specs.declared.target.Target.{Target}
 use Rattle.states.proofs.BackFacts.{AreSplices-back, Splices-back, back-back}
+use Rattle.states.proofs.TargetChanges.{on-back, rise-back}
 use Rattle.lists.proofs.Members.{Contains-map, Contains-map_of}
 
 -- ---- entries
-
-names-back : (changes : List EntryChange) → map (λ c. c.name) (map entry_back changes) ≡ map (λ c. c.name) changes
-names-back [] = refl
-names-back (c ∷ rest) = ap (λ (names : List (List ℕ)). c.name ∷ names) (names-back rest)
 
 each-back : (changes : List EntryChange) → AllByRecursion IsEntryChange changes → AllByRecursion IsEntryChange (map entry_back changes)
 each-back [] all = tt
@@ -49,6 +46,39 @@ digests-twice : (digests : Option DigestChange) → option_map digest_back (opti
 digests-twice None = refl
 digests-twice (Some d) = refl
 
+-- ---- targets
+
+known-back : (names : List (List ℕ)) (changes : List EntryChange) → AllByRecursion (λ c. Contains names c.target) changes → AllByRecursion (λ c. Contains names c.target) (map entry_back changes)
+known-back names [] all = tt
+known-back names (c ∷ rest) all = (all.0, known-back names rest all.1)
+
+ChangesTarget-back : (change : ChangeParts) (old new : Target) → ChangesTarget change old new → ChangesTarget (inverse change) new old
+ChangesTarget-back change old new is =
+    let own = changes_on old.name change.entries in
+    let back : map entry_back own ≡ changes_on new.name (map entry_back change.entries) =
+    sym (on-back old.name change.entries) ∙ ap (λ (n : List ℕ). changes_on n (map entry_back change.entries)) (sym is.same.name) in
+    record {
+      same = record { name = sym is.same.name; environment = sym is.same.environment };
+      lock = record {
+        entries = subst (λ (l : List EntryChange). ChangesEntries l new.lock.entries old.lock.entries) back (ChangesEntries-back own old.lock.entries new.lock.entries is.lock.entries);
+        digest = ChangesDigest-back change.digests old.lock.snapshot new.lock.snapshot is.lock.digest;
+        environment = sym is.lock.environment;
+      };
+    }
+
+targets-back : (change : ChangeParts) (olds news : List Target) → AllZip (ChangesTarget change) olds news → AllZip (ChangesTarget (inverse change)) news olds
+targets-back change [] [] all = tt
+targets-back change [] (t ∷ news) all = absurd all
+targets-back change (s ∷ olds) [] all = absurd all
+targets-back change (s ∷ olds) (t ∷ news) all = (ChangesTarget-back change s t all.0, targets-back change olds news all.1)
+
+-- a change keeps the names of the targets
+pub names-stay : (change : ChangeParts) (olds news : List Target) → AllZip (ChangesTarget change) olds news → map (λ t. t.name) news ≡ map (λ t. t.name) olds
+names-stay change [] [] all = refl
+names-stay change [] (t ∷ news) all = absurd all
+names-stay change (s ∷ olds) [] all = absurd all
+names-stay change (s ∷ olds) (t ∷ news) all = λ i. all.0.same.name i ∷ names-stay change olds news all.1 i
+
 -- ---- the change
 
 -- the change back is minimal
@@ -56,7 +86,7 @@ pub IsMinimal-inverse : (change : ChangeParts) → IsMinimal change → IsMinima
 IsMinimal-inverse change is = record {
   splices = AreSplices-back change.splices is.splices;
   entries = record {
-    names = ap rises (names-back change.entries) ∙ is.entries.names;
+    rising = rise-back change.entries ∙ is.entries.rising;
     each = each-back change.entries is.entries.each;
   };
   digests = digests-minimal change.digests is.digests;
@@ -66,12 +96,9 @@ IsMinimal-inverse change is = record {
 pub After-inverse : (change : ChangeParts) (old new : StateParts) → After old change new → After new (inverse change) old
 After-inverse change old new after = record {
   lines = Splices-back 0 0 0 change.splices old.lines new.lines (omega arith) after.lines;
-  lock = record {
-    entries = ChangesEntries-back change.entries old.lock.entries new.lock.entries after.lock.entries;
-    digest = ChangesDigest-back change.digests old.lock.snapshot new.lock.snapshot after.lock.digest;
-    environment = sym after.lock.environment;
-  };
-  environment = sym after.environment;
+  targets = targets-back change old.targets new.targets after.targets;
+  known = subst (λ (names : List (List ℕ)). AllByRecursion (λ (c : EntryChange). Contains names c.target) (map entry_back change.entries))
+      (sym (names-stay change old.targets new.targets after.targets)) (known-back (map (λ (t : Target). t.name) old.targets) change.entries after.known);
 }
 
 -- the change back from the change back is the change

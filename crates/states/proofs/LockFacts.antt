@@ -24,7 +24,7 @@ use Rattle.problems.specs.Solutions.{AreNeeded, version_for}
 use Rattle.problems.specs.declared.node.Node.{Node}
 use Rattle.states.specs.Dependencies.{leads_away, names_at, names_in, names_needed, names_over, names_wanted, release_chosen, with_names}
 use Rattle.states.specs.Entries.{AreEntries, AreNeeds, HasRelease, entry_for}
-use Rattle.states.specs.Locking.{IsDependency, IsEntry, IsLocked, versions_of}
+use Rattle.states.specs.Locking.{IsDependency, IsEntry, IsLockOf, versions_of}
 use Rattle.states.proofs.LawfulNames.{apart, differ, rises-from}
 use Rattle.lists.proofs.Members.{Contains-cons_cases, Contains-filter, Contains-filter_of, Contains-flat_map, Contains-flat_map_of, Contains-map, Contains-map_of, Contains-nil}
 use Rattle.states.proofs.NamesInOrder.{from-names, put-names, sorted-names}
@@ -190,11 +190,7 @@ releases-more given items e before here x h = elim (Contains-append_cases items 
 ]
 
 -- the entries of the best solution are the lock
-pub IsLocked-from : (given : ProblemParts) (lines : List (List ℕ)) (versions : List (List ℕ × VersionParts)) (lock : LockParts) → IsBest (rules_of given) (version_for versions) → AreEntries given versions lock.entries
-    → lock.environment ≡ marker_text given.environment → lock.snapshot ≡ given.index.digest
-    → IsLocked given lines (record { lines = lines; environment = given.environment; lock = lock })
-IsLocked-from given lines versions lock best h environment snapshot = record {
-  lines_are = refl;
-  environment = refl;
-  lock = record { environment = environment; snapshot = snapshot; rising = h.rising; best = rw h.versions_are best; entries = rw h.versions_are h.entries };
-}
+pub IsLockOf-from : (given : ProblemParts) (versions : List (List ℕ × VersionParts)) (lock : LockParts) → IsBest (rules_of given) (version_for versions) → AreEntries given versions lock.entries
+    → lock.environment ≡ marker_text given.environment → lock.snapshot ≡ given.index.digest → IsLockOf given lock
+IsLockOf-from given versions lock best h environment snapshot =
+    record { environment = environment; snapshot = snapshot; rising = h.rising; best = rw h.versions_are best; entries = rw h.versions_are h.entries }

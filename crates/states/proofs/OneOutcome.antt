@@ -1,10 +1,12 @@
 -- A change leads to one state.
-use Rattle.std.proofs.Common.{◌≡◌, ◌++◌, ◌+◌, ◌-◌, ℕ, List, [], ◌∷◌, length, Option, Some, None, sym, ◌∙◌, subst, arith}
+use Rattle.std.proofs.Common.{◌≡◌, ◌++◌, ◌+◌, ◌-◌, ℕ, List, [], ◌∷◌, length, Option, Some, None, refl, sym, ◌∙◌, subst, arith}
+use Rattle.std.specs.List.{AllZip}
 use Rattle.pylock.specs.Locks.{LockParts}
-use Rattle.states.specs.Changes.{After, ChangeParts, ChangesDigest, ChangesLock, Splices}
+use Rattle.states.specs.Changes.{After, ChangeParts, ChangesDigest, ChangesLock, ChangesTarget, Splices, on_target}
 use Rattle.states.specs.StateParts.{StateParts}
 use Rattle.states.specs.declared.change.parts.DigestChange.{DigestChange}
 use Rattle.states.specs.declared.change.parts.Splice.{Splice}
+use Rattle.states.specs.declared.target.Target.{Target}
 use Rattle.states.proofs.ExchangeFacts.{ChangesEntries-one}
 use Rattle.states.proofs.SplicedFacts.{parts_of}
 
@@ -37,9 +39,26 @@ ChangesLock-one change old one another is also =
     let environment : one.environment ≡ another.environment = is.environment ∙ sym also.environment in
     λ i. record { environment = environment i; snapshot = snapshot i; entries = entries i }
 
+pub ChangesTarget-one : (change : ChangeParts) (old one another : Target) → ChangesTarget change old one → ChangesTarget change old another → one ≡ another
+ChangesTarget-one change old one another is also =
+    let name : one.name ≡ another.name = is.same.name ∙ sym also.same.name in
+    let environment : one.environment ≡ another.environment = is.same.environment ∙ sym also.same.environment in
+    let lock = ChangesLock-one (on_target old.name change) old.lock one.lock another.lock is.lock also.lock in
+    λ i. record { name = name i; environment = environment i; lock = lock i }
+
+pub targets-one : (change : ChangeParts) (olds ones others : List Target) → AllZip (ChangesTarget change) olds ones → AllZip (ChangesTarget change) olds others → ones ≡ others
+targets-one change [] [] [] all also = refl
+targets-one change [] [] (o ∷ others) all also = absurd also
+targets-one change [] (t ∷ ones) others all also = absurd all
+targets-one change (s ∷ olds) [] others all also = absurd all
+targets-one change (s ∷ olds) (t ∷ ones) [] all also = absurd also
+targets-one change (s ∷ olds) (t ∷ ones) (o ∷ others) all also =
+    let first = ChangesTarget-one change s t o all.0 also.0 in
+    let rest = targets-one change olds ones others all.1 also.1 in
+    λ i. first i ∷ rest i
+
 pub After-one : (change : ChangeParts) (old one another : StateParts) → After old change one → After old change another → one ≡ another
 After-one change old one another is also =
     let lines = Splices-one 0 change.splices old.lines one.lines another.lines is.lines also.lines in
-    let lock = ChangesLock-one change old.lock one.lock another.lock is.lock also.lock in
-    let environment : one.environment ≡ another.environment = is.environment ∙ sym also.environment in
-    λ i. record { lines = lines i; environment = environment i; lock = lock i }
+    let targets = targets-one change old.targets one.targets another.targets is.targets also.targets in
+    λ i. record { lines = lines i; targets = targets i }

@@ -1,13 +1,12 @@
--- What holds of every state, from the lock of its problem.
+-- What holds of the lock in a state, from its problem.
 use Rattle.std.proofs.Common.{◌≡◌, ℕ, Bool, true, false, List, [], ◌∷◌, Some, None, Option, Result, Ok, Err, Equal, Contains, MatchOption, find, map, option_map, refl, sym, ap, ◌∙◌, subst, inl, inr, if◌then◌else◌}
 use Rattle.std.proofs.lemmas.Bool.{cases_Bool}
 use Rattle.std.proofs.lemmas.Slice.Eq.{bytes_eq-Decides}
 use Rattle.std.specs.Cmp.{Equal-is, first_so, second_so}
-use Rattle.std.specs.List.{concat}
 use Rattle.std.specs.Option.{option_map_or}
 use Rattle.std.specs.Str.{bytes_eq}
 use Rattle.markers.specs.Comparisons.{version_read}
-use Rattle.markers.specs.Environment.{Texts, marker_text, text_of}
+use Rattle.markers.specs.Environment.{Texts, text_of}
 use Rattle.markers.specs.declared.variable.Variable.TheVariants.{PythonFullVersion}
 use Rattle.pep440.specs.Matching.{matches}
 use Rattle.pep440.specs.Order.{version_cmp}
@@ -15,8 +14,8 @@ use Rattle.pep440.specs.Tied.Sets.{set_of}
 use Rattle.pep440.specs.Version.{VersionParts}
 use Rattle.pep440.specs.declared.fault.Fault.{Fault}
 use Rattle.pep440.specs.declared.specifier.Clause.{Clause}
-use Rattle.pep508.specs.Requirement.{RequirementParts, file_of}
-use Rattle.pylock.specs.Locks.{IsLock}
+use Rattle.pep508.specs.Requirement.{RequirementParts}
+use Rattle.pylock.specs.Locks.{IsLock, LockParts}
 use Rattle.pylock.specs.Packages.{EntryParts}
 use Rattle.search.specs.Solutions.{Needed, Solution, by_dependency, by_line}
 use Rattle.snapshot.specs.Lawful.{IsRelease}
@@ -28,9 +27,8 @@ use Rattle.problems.specs.Problem.{ProblemParts, releases_on, requirements}
 use Rattle.problems.specs.Rules.{bare, nodes_of, rules_of, wants, with_extra}
 use Rattle.problems.specs.Solutions.{version_for}
 use Rattle.problems.specs.declared.node.Node.{Node}
-use Rattle.states.specs.StateParts.{StateParts}
-use Rattle.states.specs.Locking.{IsDependency, IsEntry, IsLocked, versions_of}
-use Rattle.states.specs.State.{IsAnEntry, IsMet, IsState, Reached, by_entry, by_line as by_active, is_for_python, has_version as set_has}
+use Rattle.states.specs.Locking.{IsDependency, IsEntry, IsLockOf, versions_of}
+use Rattle.states.specs.State.{IsAnEntry, IsLockFor, IsMet, Reached, by_entry, by_line as by_active, is_for_python, has_version as set_has}
 use Rattle.states.proofs.EntriesByName.{Has-from, version-there}
 use Rattle.lists.proofs.Members.{Contains-cons_cases, Contains-map}
 
@@ -155,23 +153,20 @@ entry-reached given entries are solution e there =
     let k : (node : Node) × Needed (rules_of given) (version_for (versions_of entries)) node × (node.name ≡ e.name) = solution.each_needed e.name v.0 v.1 in
     subst (Reached given.active entries) k.2 (reached-by given entries are k.0 k.1)
 
--- ---- states
+-- ---- locks
 
--- the lock of a problem makes a state
-pub IsState-from : (given : ProblemParts) (lines : List (List ℕ)) (state : StateParts) → IsLocked given lines state → given.active ≡ requirements given.environment lines → file_of (concat lines) ≡ Ok lines
-    → IsLock state.lock → AreReleased given state.lock.entries → MatchAlike → IsState state
-IsState-from given lines state is active read lock released alike =
-    let solution = is.lock.best.solution in
-    let asked : requirements state.environment state.lines ≡ given.active = rw (is.environment, is.lines_are) (sym active) in
+-- the lock of a problem of lines is one for the lines
+pub IsLockFor-from : (given : ProblemParts) (lines : List (List ℕ)) (lock : LockParts) → IsLockOf given lock → given.active ≡ requirements given.environment lines
+    → IsLock lock → AreReleased given lock.entries → MatchAlike → IsLockFor lines given.environment lock
+IsLockFor-from given lines lock is active lawful released alike =
+    let solution = is.best.solution in
+    let asked : requirements given.environment lines ≡ given.active = sym active in
     record {
-      lines = rw is.lines_are read;
-      lock = record {
-        lawful = lock;
-        met = λ wanted there.
-            let m : (v : VersionParts) × (version_for (versions_of state.lock.entries) wanted.name ≡ Some v) × (admits given wanted v ≡ true) = solution.lines_met wanted (rw asked at there) in
-            rw is.environment (met-by given state.lock.entries alike is.lock.entries released wanted m.0 m.1 m.2);
-        closed = closed-by given state.lock.entries is.lock.entries solution;
-        reached = λ e there. rw asked (entry-reached given state.lock.entries is.lock.entries solution e there);
-        named = is.lock.environment ∙ ap marker_text (sym is.environment);
-      };
+      lawful = lawful;
+      met = λ wanted there.
+          let m : (v : VersionParts) × (version_for (versions_of lock.entries) wanted.name ≡ Some v) × (admits given wanted v ≡ true) = solution.lines_met wanted (rw asked at there) in
+          met-by given lock.entries alike is.entries released wanted m.0 m.1 m.2;
+      closed = closed-by given lock.entries is.entries solution;
+      reached = λ e there. rw asked (entry-reached given lock.entries is.entries solution e there);
+      named = is.environment;
     }

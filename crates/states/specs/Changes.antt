@@ -1,7 +1,10 @@
 -- Changes: what differs between two states, with what stood there before. All of it is reqlock's own rule.
-use Rattle.std.specs.Prelude.{◌≡◌, ◌≢◌, ℕ, ◌+◌, ◌-◌, ◌^◌, ◌<◌, ◌≤◌, true, List, [], ◌∷◌, ◌++◌, find, length, map, slice_get, Option, Some, None, option_map, IfSome}
-use Rattle.std.specs.List.{AllByRecursion, Contains}
+use Rattle.std.specs.Prelude.{◌≡◌, ◌≢◌, ℕ, ◌+◌, ◌-◌, ◌^◌, ◌<◌, ◌≤◌, ◌&&◌, Bool, true, List, [], ◌∷◌, ◌++◌, find, length, map, slice_get, Option, Some, None, option_map, IfSome}
+use Rattle.std.specs.Cmp.Lexicographic.{slice_cmp}
+use Rattle.std.specs.List.{AllByRecursion, AllZip, Contains, filter}
+use Rattle.std.specs.Ordering.{is_lt, nat_cmp, on, then_cmp}
 use Rattle.std.specs.Str.{bytes_eq}
+use Rattle.std.specs.declared.cmp.Ordering.{Ordering}
 use Rattle.pylock.specs.Locks.{LockParts, are_entries}
 use Rattle.pylock.specs.Order.{rises}
 use Rattle.pylock.specs.Packages.{EntryParts}
@@ -10,6 +13,7 @@ use Rattle.states.specs.State.{IsState}
 use Rattle.states.specs.declared.change.parts.Splice.{Splice}
 use Rattle.states.specs.declared.change.parts.EntryChange.{EntryChange}
 use Rattle.states.specs.declared.change.parts.DigestChange.{DigestChange}
+use Rattle.states.specs.declared.target.Target.{Target}
 
 -- what a change holds: splices of the lines, changes of entries, and that of the index's digest, where it is another
 pub record ChangeParts : Type 0 where
@@ -35,7 +39,7 @@ abbrev pub Splices : ℕ → List Splice → List (List ℕ) → List (List ℕ)
 Splices from [] old new = old ≡ new
 Splices from (splice ∷ rest) old new = AtSplice from splice (λ place. Splices place rest) old new
 
--- ---- the lock of one environment
+-- ---- the lock of one target
 
 -- the entry of a name, if there is one
 abbrev pub entry_on : List EntryParts → List ℕ → Option EntryParts
@@ -64,13 +68,34 @@ pub record ChangesLock (change : ChangeParts) (old new : LockParts) : Type 0 whe
   pub digest : ChangesDigest change.digests old.snapshot new.snapshot
   pub environment : new.environment ≡ old.environment
 
+-- ---- targets
+
+-- the changes of the entries of a target's lock
+abbrev pub changes_on : List ℕ → List EntryChange → List EntryChange
+changes_on target changes = filter (λ c. bytes_eq target c.target) changes
+
+-- what a change is for one target
+abbrev pub on_target : List ℕ → ChangeParts → ChangeParts
+on_target target change = record { splices = change.splices; entries = changes_on target change.entries; digests = change.digests }
+
+-- two targets have one name and one environment
+pub record IsSameTarget (old new : Target) : Type 0 where
+  pub name : new.name ≡ old.name
+  pub environment : new.environment ≡ old.environment
+
+-- a change leads from a target to one of the same name and environment, and from its lock to the other's
+pub record ChangesTarget (change : ChangeParts) (old new : Target) : Type 0 where
+  pub same : IsSameTarget old new
+  pub lock : ChangesLock (on_target old.name change) old.lock new.lock
+
 -- ---- states
 
--- a change leads from one state to another; to none where an old part doesn't stand in its place
+-- a change leads from one state to another, target by target; to none where an old part doesn't stand in its place, or an entry's
+-- target isn't one of the state
 pub record After (old : StateParts) (change : ChangeParts) (new : StateParts) : Type 0 where
   pub lines : Splices 0 change.splices old.lines new.lines
-  pub lock : ChangesLock change old.lock new.lock
-  pub environment : new.environment ≡ old.environment
+  pub targets : AllZip (ChangesTarget change) old.targets new.targets
+  pub known : AllByRecursion (λ c. Contains (map (λ t. t.name) old.targets) c.target) change.entries
 
 -- a change leads from a state to another, for which all holds that holds of every state
 abbrev pub Leads : StateParts → ChangeParts → StateParts → Type 0
@@ -111,7 +136,7 @@ back added taken (splice ∷ rest) =
 
 -- the change of an entry back, and that of the digest: old and new are swapped
 abbrev pub entry_back : EntryChange → EntryChange
-entry_back change = record { name = change.name; old = change.new; new = change.old }
+entry_back change = record { target = change.target; name = change.name; old = change.new; new = change.old }
 
 abbrev pub digest_back : DigestChange → DigestChange
 digest_back digests = record { old = digests.new; new = digests.old }
@@ -136,15 +161,30 @@ pub record AreSplices (splices : List Splice) : Type 0 where
   pub places : PlacesFit splices
   pub places_back : PlacesFit (back 0 0 splices)
 
--- the entries' changes of a minimal change: names rise, and each entry becomes another
+-- the changes of the entries of one lock, in a minimal change: names rise, and each entry becomes another
 pub record AreEntryChanges (changes : List EntryChange) : Type 0 where
   pub names : rises (map (λ change. change.name) changes) ≡ true
+  pub each : AllByRecursion IsEntryChange changes
+
+-- the order of changes of entries: by the names of their targets, then by their own
+abbrev pub entry_change_cmp : EntryChange → EntryChange → Ordering
+entry_change_cmp = then_cmp (on (λ c. c.target) (slice_cmp nat_cmp)) (on (λ c. c.name) (slice_cmp nat_cmp))
+
+-- each change of an entry comes before the next one
+unfoldable pub rise_by_target : List EntryChange → Bool
+rise_by_target [] = true
+rise_by_target (change ∷ []) = true
+rise_by_target (change ∷ next ∷ rest) = is_lt (entry_change_cmp change next) && rise_by_target (next ∷ rest)
+
+-- those of all locks: pairs of target and name rise, and each entry becomes another
+pub record AreMinimalChanges (changes : List EntryChange) : Type 0 where
+  pub rising : rise_by_target changes ≡ true
   pub each : AllByRecursion IsEntryChange changes
 
 -- nothing in a change could be left out
 pub record IsMinimal (change : ChangeParts) : Type 0 where
   pub splices : AreSplices change.splices
-  pub entries : AreEntryChanges change.entries
+  pub entries : AreMinimalChanges change.entries
   pub digests : IfSome change.digests (λ d. d.old ≢ d.new)
 
 -- ---- laws

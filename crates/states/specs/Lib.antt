@@ -1,3 +1,5 @@
+pub mod TargetNames
+pub mod Targets
 pub mod StateParts
 pub mod Locking
 pub mod Dependencies

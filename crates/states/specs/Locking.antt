@@ -2,7 +2,7 @@
 -- All of it is reqlock's own rule.
 use Rattle.std.specs.Prelude.{◌≡◌, ◌≢◌, ◌↔◌, ℕ, List, [], map, Option, Some, None, option_map}
 use Rattle.std.specs.Cmp.Lexicographic.{slice_cmp}
-use Rattle.std.specs.List.{Contains}
+use Rattle.std.specs.List.{AllZip, Contains}
 use Rattle.std.specs.List.Sorted.{IsStrictlySortedBy}
 use Rattle.std.specs.Option.{option_and_then, option_map_or}
 use Rattle.std.specs.Ordering.{nat_cmp}
@@ -12,7 +12,7 @@ use Rattle.pep508.specs.Requirement.{RequirementParts}
 use Rattle.pylock.specs.Locks.{LockParts}
 use Rattle.pylock.specs.Packages.{EntryParts}
 use Rattle.pylock.specs.declared.file.FileEntry.{FileEntry}
-use Rattle.search.specs.Solutions.{IsBest, Needed}
+use Rattle.search.specs.Solutions.{HasNoSolution, IsBest, Needed}
 use Rattle.snapshot.specs.Packages.{Index}
 use Rattle.snapshot.specs.Release.{Release}
 use Rattle.snapshot.specs.declared.file.ReleaseFile.{ReleaseFile}
@@ -22,6 +22,8 @@ use Rattle.problems.specs.Rules.{rules_of, wants}
 use Rattle.problems.specs.Solutions.{version_for}
 use Rattle.problems.specs.declared.node.Node.{Node}
 use Rattle.states.specs.StateParts.{StateParts}
+use Rattle.states.specs.declared.locking.Unlocked.{Unlocked}
+use Rattle.states.specs.declared.target.Target.{Target}
 
 -- the names of a lock, each with its version: what a later lock keeps
 abbrev pub versions_of : List EntryParts → List (List ℕ × VersionParts)
@@ -79,8 +81,21 @@ pub record IsLockOf (given : ProblemParts) (lock : LockParts) : Type 0 where
 abbrev pub given_of : List (List ℕ) → Texts → Index → List (List ℕ × VersionParts) → ProblemParts
 given_of lines environment index kept = record { active = requirements environment lines; environment = environment; index = index; kept = kept }
 
--- the state of these lines, this environment and this index with the lock of their problem
-pub record IsLocked (given : ProblemParts) (lines : List (List ℕ)) (state : StateParts) : Type 0 where
+-- the problem of a target before it is locked, under its name
+abbrev pub given_for : List (List ℕ) → Index → Unlocked → List ℕ × ProblemParts
+given_for lines index unlocked = (unlocked.name, given_of lines unlocked.environment index unlocked.kept.entries)
+
+-- the target of a name and a problem, with the problem's lock
+pub record IsTargetLocked (given : List ℕ × ProblemParts) (target : Target) : Type 0 where
+  pub name : target.name ≡ given.0
+  pub environment : target.environment ≡ given.1.environment
+  pub lock : IsLockOf given.1 target.lock
+
+-- the state of these lines with a target for each name and problem, in their order
+pub record IsLocked (givens : List (List ℕ × ProblemParts)) (lines : List (List ℕ)) (state : StateParts) : Type 0 where
   pub lines_are : state.lines ≡ lines
-  pub environment : state.environment ≡ given.environment
-  pub lock : IsLockOf given state.lock
+  pub targets : AllZip IsTargetLocked givens state.targets
+
+-- a problem among these has no solution
+abbrev pub HasUnsolved : List (List ℕ × ProblemParts) → Type 0
+HasUnsolved givens = (given : List ℕ × ProblemParts) × Contains givens given × HasNoSolution (rules_of given.1)

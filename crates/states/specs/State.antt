@@ -1,6 +1,6 @@
 -- What holds of every state. All of it is reqlock's own rule.
-use Rattle.std.specs.Prelude.{◌≡◌, ℕ, Bool, true, false, List, Option, Some, None, Result, Ok, Err}
-use Rattle.std.specs.List.{Contains, concat}
+use Rattle.std.specs.Prelude.{◌≡◌, ◌≢◌, ◌⊎◌, ℕ, Bool, true, false, List, [], ◌∷◌, map, Option, Some, None, Result, Ok, Err}
+use Rattle.std.specs.List.{AllByRecursion, Contains, concat}
 use Rattle.std.specs.Option.{option_map_or}
 use Rattle.markers.specs.Comparisons.{version_read}
 use Rattle.markers.specs.Environment.{Texts, marker_text, text_of}
@@ -14,7 +14,9 @@ use Rattle.pep508.specs.Requirement.{RequirementParts, file_of}
 use Rattle.problems.specs.Problem.{requirements}
 use Rattle.pylock.specs.Locks.{IsLock, LockParts}
 use Rattle.pylock.specs.Packages.{EntryParts}
-use Rattle.states.specs.StateParts.{StateParts}
+use Rattle.pylock.specs.Order.{rises}
+use Rattle.states.specs.StateParts.{StateParts, digest_of}
+use Rattle.states.specs.declared.target.Target.{Target}
 
 -- whether a set that was read has a version that was read
 abbrev pub has_version : Result (List Clause) Fault → Option VersionParts → Bool
@@ -56,7 +58,27 @@ pub record IsLockFor (lines : List (List ℕ)) (environment : Texts) (lock : Loc
   pub reached : (e : EntryParts) → Contains lock.entries e → Reached (requirements environment lines) lock.entries e.name
   pub named : lock.environment ≡ marker_text environment
 
--- the lines joined read as these lines, and the lock is one for them in the environment; its digest is the state's
+-- the lines joined read as these lines; there is a target at least, names rise, each lock is one for the lines in its environment,
+-- and all have one digest
 pub record IsState (state : StateParts) : Type 0 where
   pub lines : file_of (concat state.lines) ≡ Ok state.lines
-  pub lock : IsLockFor state.lines state.environment state.lock
+  pub some : state.targets ≢ []
+  pub rising : rises (map (λ t. t.name) state.targets) ≡ true
+  pub locks : AllByRecursion (λ t. IsLockFor state.lines t.environment t.lock) state.targets
+  pub digest : AllByRecursion (λ t. t.lock.snapshot ≡ digest_of state.targets) state.targets
+
+-- the state has these lines, these names and environments, and these locks, each in its order
+pub record IsOfParts (lines : List (List ℕ)) (targets : List (List ℕ × Texts)) (locks : List LockParts) (state : StateParts) : Type 0 where
+  pub lines_are : state.lines ≡ lines
+  pub targets_are : map (λ t. (t.name, t.environment)) state.targets ≡ targets
+  pub locks_are : map (λ t. t.lock) state.targets ≡ locks
+
+-- a target fits lines: its lock is one for them in its environment, and has the digest of the first lock
+abbrev pub Fits : List (List ℕ) → List ℕ → Target → Type 0
+Fits lines digest target = IsLockFor lines target.environment target.lock × (target.lock.snapshot ≡ digest)
+
+-- the name is that of the first target that doesn't fit
+abbrev pub IsFirstUnfit : List (List ℕ) → List ℕ → List Target → List ℕ → Type 0
+IsFirstUnfit lines digest [] name = ⊥
+IsFirstUnfit lines digest (target ∷ targets) name =
+    (Fits lines digest target × IsFirstUnfit lines digest targets name) ⊎ ((Fits lines digest target → ⊥) × (name ≡ target.name))

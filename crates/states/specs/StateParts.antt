@@ -1,10 +1,13 @@
 -- What a state holds.
-use Rattle.std.specs.Prelude.{ℕ, List}
-use Rattle.markers.specs.Environment.{Texts}
-use Rattle.pylock.specs.Locks.{LockParts}
+use Rattle.std.specs.Prelude.{ℕ, List, [], ◌∷◌}
+use Rattle.states.specs.declared.target.Target.{Target}
 
--- the lines of the requirements file, each with its ending, the environment, and the lock, which has the digest of the index
+-- the lines of the requirements file, each with its ending, and the targets
 pub record StateParts : Type 0 where
   pub lines : List (List ℕ)
-  pub environment : Texts
-  pub lock : LockParts
+  pub targets : List Target
+
+-- the digest of the index that locks were made from: that of the first target's lock
+abbrev pub digest_of : List Target → List ℕ
+digest_of [] = []
+digest_of (target ∷ rest) = target.lock.snapshot

@@ -4,6 +4,8 @@ pub mod Carried
 pub mod Deciding
 pub mod Ends
 pub mod Exchanging
+pub mod Joining
+pub mod Locking
 pub mod Moving
 pub mod Only
 pub mod Splicing

@@ -8,6 +8,8 @@ mod applying;
 pub(crate) mod between;
 mod between_entries;
 mod between_lines;
+mod between_targets;
+mod by_target;
 mod ends;
 mod exchanging;
 mod file;
@@ -65,9 +67,9 @@ impl Model for Change {
 impl Change {
     /// The change of these parts; `None` where they aren't minimal: a splice whose old and new lines
     /// begin or end with an equal line, or are both empty; splices that don't rise with a kept line
-    /// between two; names that don't rise by their bytes; an entry on another name; an old entry that
-    /// equals its new one to the text; equal digests; a place that the inverse moves above 2 ^ 64 - 1.
-    /// It has no other refusal.
+    /// between two; pairs of a target and a name that don't rise by their bytes; an entry on another
+    /// name; an old entry that equals its new one to the text; equal digests; a place that the inverse
+    /// moves above 2 ^ 64 - 1. It has no other refusal.
     pub fn new(
         splices: Seq<Splice>,
         entries: Seq<EntryChange>,
@@ -97,7 +99,7 @@ impl Change {
         self.splices.as_slice()
     }
 
-    /// The changes of entries, in the order of their names.
+    /// The changes of entries, in the order of their targets, and of their names in each.
     pub fn entries(&self) -> &[EntryChange]
         ensures { result.now ≡ self.now.entries }
     {
@@ -119,8 +121,8 @@ impl Change {
     }
 
     /// The state that the change of `state` leads to; `None` where one of the change's old parts doesn't
-    /// stand in its place, or where what it leads to is no state: lines that don't read, or a lock that
-    /// doesn't belong to them.
+    /// stand in its place, where the state lacks the target of an entry, or where what it leads to is no
+    /// state: lines that don't read, or a lock that doesn't belong to them.
     pub fn apply(&self, alloc: Global, state: &State) -> Result<Option<State>, AllocError>
         ensures { IfOk result (λ applied. MatchOption applied (LeadsNowhere state.now self.now)
             (Leads state.now self.now)) }

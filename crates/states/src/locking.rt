@@ -1,8 +1,8 @@
-// The lock of a solution, and the state of lines with the lock of their problem.
+// The lock of a solution, and the state of lines with the locks of the problems of its targets.
 
-ghost use Rattle.std.specs.Prelude.{◌≡◌, ℕ, List, IfOk, IsSome, MatchOption, Some, map, true};
+ghost use Rattle.std.specs.Prelude.{◌≡◌, ◌≢◌, ℕ, List, [], IfOk, IsSome, MatchOption, Some, map, true};
 ghost use Rattle.std.specs.Cmp.Lexicographic.{slice_cmp};
-ghost use Rattle.std.specs.List.{Contains, list_all};
+ghost use Rattle.std.specs.List.{AllZip, Contains, list_all};
 ghost use Rattle.std.specs.List.Sorted.{IsStrictlySortedBy};
 ghost use Rattle.std.specs.Map.{keys_of};
 ghost use Rattle.std.specs.Ordering.{nat_cmp};
@@ -14,14 +14,19 @@ ghost use Rattle.problems.specs.Problem.{ProblemParts};
 ghost use Rattle.problems.specs.Rules.{rules_of};
 ghost use Rattle.problems.specs.Solutions.{version_for};
 ghost use Rattle.pylock.specs.Packages.{EntryParts};
+ghost use Rattle.pylock.specs.Order.{rises};
 ghost use Rattle.search.specs.Solutions.{HasNoSolution, IsBest};
 ghost use Rattle.states.specs.Dependencies.{names_in, names_of};
 ghost use Rattle.states.specs.Entries.{AreEntries, AreNeeds, HasRelease, entry_for};
-ghost use Rattle.states.specs.Locking.{IsLocked, given_of};
+ghost use Rattle.states.specs.Locking.{HasUnsolved, IsLockOf, IsLocked, given_for, given_of};
+ghost use Rattle.states.specs.State.{IsLockFor};
+ghost use Rattle.states.specs.Tied.Locking.{IsTargetFor};
 
 use crate::dependencies::gather;
 use crate::entry::entry;
 use crate::state::State;
+use crate::target::Target;
+use crate::target_name::TargetName;
 use lists::Seq;
 use pep440::Version;
 use pep440::laws::equal_versions_match_alike;
@@ -118,29 +123,131 @@ fn lock_of(
     }
 }
 
-/// The state of the lines with the lock of their problem, over the index, where these versions are
-/// kept; `None` where the problem has no solution.
-pub fn locked<R: Resolver>(
+/// The lock of the lines' problem in the environment over the index, where these versions are kept;
+/// `None` where the problem has no solution.
+fn lock_for<R: Resolver>(
     alloc: Global,
-    lines: ReqFile,
-    environment: Environment,
+    lines: &ReqFile,
+    environment: &Environment,
     snapshot: &Snapshot,
     kept: BTreeMap<Name, Version>,
     resolver: &R,
-) -> Result<Option<State>, AllocError>
+) -> Result<Option<Lock>, AllocError>
     ensures { IfOk result (λ made.
-        let given : ProblemParts = given_of lines environment snapshot.now kept.entries in
-        MatchOption made (HasNoSolution (rules_of given)) (IsLocked given lines)) }
+        let given : ProblemParts = given_of lines.now environment.now snapshot.now kept.entries in
+        MatchOption made (HasNoSolution (rules_of given))
+        (λ lock. IsLockOf given lock × IsLockFor lines.now environment.now lock)) }
 {
     equal_versions_match_alike();
-    lines.is_lawful();
-    let problem = Problem::new(alloc, &lines, &environment, snapshot, kept)?;
+    let problem = Problem::new(alloc, lines, environment, snapshot, kept)?;
     match resolver.resolve(alloc, &problem)? {
         Answer::Solution(versions) => {
-            let lock = lock_of(alloc, &problem, &environment, snapshot, &versions)?;
+            let lock = lock_of(alloc, &problem, environment, snapshot, &versions)?;
             lock.is_lawful();
-            Ok(Some(State::from_lawful(lines, environment, lock)))
+            Ok(Some(lock))
         }
         Answer::NoSolution => Ok(None),
+    }
+}
+
+/// A target before it is locked.
+pub struct Unlocked {
+    /// The name.
+    pub name: TargetName,
+    /// The environment that the lock is made for.
+    pub environment: Environment,
+    /// The versions that the lock keeps, where they serve.
+    pub kept: BTreeMap<Name, Version>,
+}
+
+impl Drop for Unlocked {
+    fn drop(self) {
+        let Unlocked {
+            name: _,
+            environment: _,
+            kept: _,
+        } = self;
+    }
+}
+
+impl Unlocked {
+    /// The name, the environment and the versions, each moved out.
+    pub fn into_parts(self) -> (TargetName, Environment, BTreeMap<Name, Version>)
+        ensures { result ≡ (self.name, self.environment, self.kept) }
+    {
+        let Unlocked {
+            name,
+            environment,
+            kept,
+        } = self;
+        (name, environment, kept)
+    }
+}
+
+/// The target with its lock; `None` where its problem has no solution.
+fn target_for<R: Resolver>(
+    alloc: Global,
+    lines: &ReqFile,
+    unlocked: Unlocked,
+    snapshot: &Snapshot,
+    resolver: &R,
+) -> Result<Option<Target>, AllocError>
+    ensures { IfOk result (λ made.
+        let given : List ℕ × ProblemParts = given_for lines.now snapshot.now unlocked in
+        MatchOption made (HasNoSolution (rules_of given.1)) (IsTargetFor lines.now given)) }
+{
+    let (name, environment, kept) = unlocked.into_parts();
+    match lock_for(alloc, lines, &environment, snapshot, kept, resolver)? {
+        Some(lock) => Ok(Some(Target {
+            name,
+            environment,
+            lock,
+        })),
+        None => Ok(None),
+    }
+}
+
+/// The targets with their locks; `None` where the problem of one has no solution.
+fn targets_for<R: Resolver>(
+    alloc: Global,
+    lines: &ReqFile,
+    unlocked: Seq<Unlocked>,
+    snapshot: &Snapshot,
+    resolver: &R,
+) -> Result<Option<Seq<Target>>, AllocError>
+    ensures { IfOk result (λ made.
+        let givens : List (List ℕ × ProblemParts)
+        = map (given_for lines.now snapshot.now) unlocked in
+        MatchOption made (HasUnsolved givens) (AllZip (IsTargetFor lines.now) givens)) }
+{
+    let mut made = Vec::with_capacity(alloc, unlocked.len())?;
+    for one in unlocked.into_vec() {
+        let Some(target) = target_for(alloc, lines, one, snapshot, resolver)? else {
+            return Ok(None);
+        };
+        made.push(target)?;
+    }
+    Ok(Some(Seq::from_vec(made)))
+}
+
+/// The state of the lines with the targets, each with the lock of its problem over the index; `None`
+/// where the problem of one has no solution.
+pub fn locked<R: Resolver>(
+    alloc: Global,
+    lines: ReqFile,
+    unlocked: Seq<Unlocked>,
+    snapshot: &Snapshot,
+    resolver: &R,
+) -> Result<Option<State>, AllocError>
+    requires some { unlocked ≢ [] }
+    requires rising { rises (map (λ u. u.name) unlocked) ≡ true }
+    ensures { IfOk result (λ made.
+        let givens : List (List ℕ × ProblemParts) = map (given_for lines snapshot.now) unlocked in
+        MatchOption made (HasUnsolved givens) (IsLocked givens lines)) }
+{
+    lines.is_lawful();
+    match targets_for(alloc, &lines, unlocked, snapshot, resolver)? {
+        Some(targets) => Ok(Some(State::from_lawful(lines, targets))),
+        None => Ok(None),
     }
 }

@@ -1,8 +1,11 @@
 // Whether values hold the same, compared by their texts and not by an order.
 
 ghost use Rattle.std.specs.Prelude.{◌≡◌, ◌↔◌, IsTrue};
+ghost use Rattle.std.specs.List.{AllZip};
+ghost use Rattle.states.specs.Changes.{IsSameTarget};
 
 use crate::state::State;
+use crate::target::Target;
 use lists::Text;
 use pep440::{LocalPart, Pre, Version};
 use pep508::{Line, Name};
@@ -125,10 +128,32 @@ impl Same for Lock {
     }
 }
 
-/// Whether a state has the lines and the lock of another.
-pub fn has_same(state: &State, other: &State) -> bool
-    ensures { IsTrue result ↔ ((state.now.lines ≡ other.now.lines)
-        × (state.now.lock ≡ other.now.lock)) }
+/// Whether targets of one name and one environment have the same lock.
+fn is_same_target(target: &Target, other: &Target) -> bool
+    requires { IsSameTarget target.now other.now }
+    ensures { IsTrue result ↔ (target.now ≡ other.now) }
 {
-    are_same(state.lines().lines(), other.lines().lines()) && state.lock().is_same(other.lock())
+    target.lock.is_same(&other.lock)
+}
+
+/// Whether targets, each of the same name and environment as the other, have the same locks.
+fn are_same_targets(targets: &[Target], others: &[Target]) -> bool
+    requires { AllZip IsSameTarget targets.now others.now }
+    ensures { IsTrue result ↔ (targets.now ≡ others.now) }
+{
+    for place in 0..targets.len() {
+        if !is_same_target(&targets[place], &others[place]) {
+            return false;
+        }
+    }
+    true
+}
+
+/// Whether a state holds the same as another of the same targets.
+pub fn has_same(state: &State, other: &State) -> bool
+    requires { AllZip IsSameTarget state.now.targets other.now.targets }
+    ensures { IsTrue result ↔ (state.now ≡ other.now) }
+{
+    are_same(state.lines().lines(), other.lines().lines())
+        && are_same_targets(state.targets(), other.targets())
 }

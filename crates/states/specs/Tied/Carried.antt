@@ -1,14 +1,15 @@
 -- The state that a change leads to, as a function of the state and the change.
 -- Tied to `After` by the law `a_change_leads_where_it_carries`; need not be read.
-use Rattle.std.specs.Prelude.{ℕ, ◌+◌, ◌-◌, List, [], ◌∷◌, ◌++◌, drop, length, take, Option, Some, None}
+use Rattle.std.specs.Prelude.{ℕ, ◌+◌, ◌-◌, List, [], ◌∷◌, ◌++◌, drop, length, map, take, Option, Some, None}
 use Rattle.std.specs.Option.{option_to_list}
 use Rattle.pylock.specs.Packages.{EntryParts}
-use Rattle.states.specs.Changes.{ChangeParts}
+use Rattle.states.specs.Changes.{ChangeParts, changes_on}
 use Rattle.states.specs.StateParts.{StateParts}
 use Rattle.states.specs.Tied.Exchanging.{count_below, entries_on}
 use Rattle.states.specs.declared.change.parts.Splice.{Splice}
 use Rattle.states.specs.declared.change.parts.EntryChange.{EntryChange}
 use Rattle.states.specs.declared.change.parts.DigestChange.{DigestChange}
+use Rattle.states.specs.declared.target.Target.{Target}
 
 -- the lines, of which the first has this place in the file, after the splices
 abbrev pub carried_lines : ℕ → List Splice → List (List ℕ) → List (List ℕ)
@@ -32,14 +33,18 @@ abbrev pub carried_digest : Option DigestChange → List ℕ → List ℕ
 carried_digest None digest = digest
 carried_digest (Some digests) digest = digests.new
 
--- the state after the change
-abbrev pub carried : StateParts → ChangeParts → StateParts
-carried state change = record {
-  lines = carried_lines 0 change.splices state.lines;
-  environment = state.environment;
+-- the target after the change
+abbrev pub carried_target : ChangeParts → Target → Target
+carried_target change target = record {
+  name = target.name;
+  environment = target.environment;
   lock = record {
-    environment = state.lock.environment;
-    snapshot = carried_digest change.digests state.lock.snapshot;
-    entries = carried_entries change.entries state.lock.entries;
+    environment = target.lock.environment;
+    snapshot = carried_digest change.digests target.lock.snapshot;
+    entries = carried_entries (changes_on target.name change.entries) target.lock.entries;
   };
 }
+
+-- the state after the change
+abbrev pub carried : StateParts → ChangeParts → StateParts
+carried state change = record { lines = carried_lines 0 change.splices state.lines; targets = map (carried_target change) state.targets }

@@ -1,7 +1,6 @@
 // The state that a change leads to.
 
-ghost use Rattle.std.specs.Prelude.{◌≡◌, IfOk, MatchOption, OnErr, OnOk, true};
-ghost use Rattle.pylock.specs.Locks.{are_entries};
+ghost use Rattle.std.specs.Prelude.{◌≡◌, IfOk, MatchOption, OnErr, OnOk};
 ghost use Rattle.states.specs.Changes.{Leads, LeadsNowhere};
 ghost use Rattle.states.specs.State.{IsState};
 ghost use Rattle.states.specs.StateParts.{StateParts};
@@ -10,44 +9,23 @@ use crate::change::Change;
 use crate::change::file::file_of;
 use crate::change::moving::{Outcome, outcome_of};
 use crate::state::State;
-use lists::{Seq, Text};
+use crate::state::fitting::state_of;
+use crate::target::Target;
+use lists::Seq;
 use pep508::ReqFile;
-use pylock::{Entry, Lock};
 use std::alloc::{AllocError, Global};
 
-/// The lock of the state with another digest and other entries.
-fn lock_with(
-    alloc: Global,
-    state: &State,
-    digest: [u8; 32],
-    entries: Seq<Entry>,
-) -> Result<Lock, AllocError>
-    requires { are_entries entries ≡ true }
-    ensures { IfOk result (λ lock. lock ≡ record {
-      environment = state.now.lock.environment;
-      snapshot = digest;
-      entries = entries;
-    }) }
-{
-    let environment = Text::copy_of(alloc, state.lock().environment())?;
-    Ok(Lock::in_order(environment, digest, entries))
-}
-
-/// The state of these lines and this lock in the environment of another one; `None` where they make
-/// none.
-fn state_of(
+/// The state of these lines and these targets, with what holds of it; `None` where they make none.
+fn lawful_state(
     alloc: Global,
     lines: ReqFile,
-    state: &State,
-    lock: Lock,
+    targets: Seq<Target>,
 ) -> Result<Option<State>, AllocError>
     ensures { IfOk result (λ made.
-        let parts : StateParts =
-        record { lines = lines; environment = state.now.environment; lock = lock } in
+        let parts : StateParts = record { lines = lines; targets = targets } in
         MatchOption made (IsState parts → ⊥) (λ made. (made ≡ parts) × IsState parts)) }
 {
-    let environment = state.environment().clone()?;
-    let Some(made) = State::new(alloc, lines, environment, lock)? else {
+    let Some(made) = state_of(alloc, lines, targets)? else {
         return Ok(None);
     };
     made.is_lawful();
@@ -66,16 +44,11 @@ pub(crate) fn applied(
     let Some(made) = outcome_of(alloc, change, state)? else {
         return Ok(None);
     };
-    let Outcome {
-        lines,
-        digest,
-        entries,
-    } = made;
+    let Outcome { lines, targets } = made;
     let Some(lines) = file_of(lines) else {
         return Ok(None);
     };
-    let lock = lock_with(alloc, state, digest, entries)?;
-    state_of(alloc, lines, state, lock)
+    lawful_state(alloc, lines, targets)
 }
 
 /// Moves the state along the change, which leads from it. What the change doesn't name stays where it
@@ -88,11 +61,7 @@ pub(crate) fn carried(alloc: Global, change: &Change, state: &mut State) -> Resu
     let Some(made) = outcome_of(alloc, change, state)? else {
         unreachable!();
     };
-    let Outcome {
-        lines,
-        digest,
-        entries,
-    } = made;
-    state.put(lines, digest, entries);
+    let Outcome { lines, targets } = made;
+    state.put(lines, targets);
     Ok(())
 }

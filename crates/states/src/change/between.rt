@@ -1,11 +1,12 @@
 // The change between two states.
 
 ghost use Rattle.std.specs.Prelude.{◌≡◌, ◌≢◌, ◌≤◌, length, IfOk, IfSome};
-ghost use Rattle.states.specs.Changes.{After, ChangesDigest};
+ghost use Rattle.std.specs.List.{AllZip};
+ghost use Rattle.states.specs.Changes.{After, ChangesDigest, IsSameTarget};
 
 use crate::change::Change;
-use crate::change::between_entries::entries_between;
 use crate::change::between_lines::splices_between;
+use crate::change::between_targets::targets_between;
 use crate::change::parts::DigestChange;
 use crate::state::State;
 use std::alloc::{AllocError, Global};
@@ -21,16 +22,16 @@ fn digests_between(old: [u8; 32], new: [u8; 32]) -> Option<DigestChange>
     Some(DigestChange { old, new })
 }
 
-/// The change that leads from a state to another of the same environment.
+/// The change that leads from a state to another whose targets have the same names and environments.
 pub fn change_between(alloc: Global, old: &State, new: &State) -> Result<Change, AllocError>
-    requires { new.now.environment ≡ old.now.environment }
+    requires { AllZip IsSameTarget old.now.targets new.now.targets }
     ensures change { IfOk result (λ change. After old.now change new.now) }
     ensures one_splice { IfOk result (λ change. length change.splices ≤ 1) }
 {
     old.is_lawful();
     new.is_lawful();
     let splices = splices_between(alloc, old.lines().lines(), new.lines().lines())?;
-    let entries = entries_between(alloc, old.lock().entries(), new.lock().entries())?;
+    let entries = targets_between(alloc, old.targets(), new.targets())?;
     let digests = digests_between(old.digest(), new.digest());
     Ok(Change {
         splices,

@@ -4,11 +4,12 @@ ghost use Rattle.std.specs.Prelude.{◌≡◌, [], true, IfOk, MatchOption, OnOk
 ghost use Rattle.std.specs.Option.{option_copied};
 ghost use Rattle.pylock.specs.Locks.{are_entries};
 ghost use Rattle.states.specs.Changes.{AreEntryChanges, ChangesEntries};
-ghost use Rattle.states.specs.Tied.Between.{IsLeast, IsPut, behind, first_on};
+ghost use Rattle.states.specs.Tied.Between.{AreOf, IsLeast, IsPut, behind, first_on};
 
 use crate::change::minimal::is_same_item;
 use crate::change::parts::EntryChange;
 use crate::same::Same;
+use crate::target_name::TargetName;
 use lists::Seq;
 use pep508::Name;
 use pylock::Entry;
@@ -60,29 +61,39 @@ fn copy_of(entry: Option<&Entry>) -> Result<Option<Entry>, AllocError>
     }
 }
 
-/// Puts what becomes of the name's entry behind other changes, where it becomes another.
+/// Puts what becomes of the name's entry in the target's lock behind other changes, where it becomes
+/// another.
 fn put(
     made: &mut Vec<EntryChange>,
+    target: &TargetName,
     name: &Name,
     old: Option<&Entry>,
     new: Option<&Entry>,
 ) -> Result<(), AllocError>
-    ensures { OnOk result (IsPut name.now (option_copied old.entry) (option_copied new.entry)
-        made.old.items made.new.items) }
+    ensures { OnOk result (IsPut target.now name.now (option_copied old.entry)
+        (option_copied new.entry) made.old.items made.new.items) }
 {
     if is_same_item(old, new) {
         return Ok(());
     }
+    let target = target.clone()?;
     let name = name.clone()?;
     let old = copy_of(old)?;
     let new = copy_of(new)?;
-    made.push(EntryChange { name, old, new })?;
+    made.push(EntryChange {
+        target,
+        name,
+        old,
+        new,
+    })?;
     Ok(())
 }
 
-/// The changes of the entries that aren't the same in both, in the order of their names.
+/// The changes of the entries that aren't the same in both locks of the target, in the order of their
+/// names.
 pub(crate) fn entries_between(
     alloc: Global,
+    target: &TargetName,
     old: &[Entry],
     new: &[Entry],
 ) -> Result<Seq<EntryChange>, AllocError>
@@ -90,6 +101,7 @@ pub(crate) fn entries_between(
     requires new { are_entries new.now ≡ true }
     ensures leads { IfOk result (λ changes. ChangesEntries changes old.now new.now) }
     ensures minimal { IfOk result (λ changes. AreEntryChanges changes) }
+    ensures own { IfOk result (λ changes. AreOf target.now changes) }
 {
     let mut made = Vec::new(alloc);
     let mut old_left = old;
@@ -97,7 +109,7 @@ pub(crate) fn entries_between(
     'names: while let Some(name) = least_name(old_left, new_left) {
         let (gone, old_behind) = cut(old_left, name);
         let (come, new_behind) = cut(new_left, name);
-        put(&mut made, name, gone, come)?;
+        put(&mut made, target, name, gone, come)?;
         old_left = old_behind;
         new_left = new_behind;
     }

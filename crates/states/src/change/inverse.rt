@@ -6,7 +6,7 @@ ghost use Rattle.states.specs.Tied.Ends.{DoRise};
 
 use crate::change::ends::{ends_of, place_behind};
 use crate::change::parts::{DigestChange, EntryChange, Splice};
-use lists::Seq;
+use lists::{Seq, copied};
 use std::alloc::{AllocError, Global};
 
 /// The splice back, which stands at this place.
@@ -45,10 +45,16 @@ pub(crate) fn splices_back(alloc: Global, splices: &[Splice]) -> Result<Seq<Spli
 fn entry_back(change: &EntryChange) -> Result<EntryChange, AllocError>
     ensures { IfOk result (λ back. back ≡ entry_back change.now) }
 {
+    let target = change.target.clone()?;
     let name = change.name.clone()?;
-    let old = change.new.clone()?;
-    let new = change.old.clone()?;
-    Ok(EntryChange { name, old, new })
+    let old = copied(&change.new)?;
+    let new = copied(&change.old)?;
+    Ok(EntryChange {
+        target,
+        name,
+        old,
+        new,
+    })
 }
 
 /// The changes of entries back.

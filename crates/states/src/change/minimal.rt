@@ -3,15 +3,15 @@
 ghost use Rattle.std.specs.Prelude.{◌≡◌, ◌≢◌, ◌↔◌, ◌-◌, ◌<◌, IfSome, IsTrue, true};
 ghost use Rattle.std.specs.List.{AllByRecursion};
 ghost use Rattle.std.specs.Option.{option_copied};
-ghost use Rattle.pylock.specs.Order.{rises};
-ghost use Rattle.states.specs.Changes.{AreEntryChanges, AreSplices, IsEntryChange, IsExchange, IsOn};
+ghost use Rattle.states.specs.Changes.{AreMinimalChanges, AreSplices, IsEntryChange, IsExchange, IsOn};
 ghost use Rattle.states.specs.Tied.Ends.{DoRise};
 
+use crate::change::by_target::rise_by_target;
 use crate::change::ends::{ends_of, place_behind};
 use crate::change::parts::{DigestChange, EntryChange, Splice};
 use crate::same::Same;
 use pep508::Name;
-use pylock::{Entry, Named, rises};
+use pylock::Entry;
 
 /// A part of a change that may be minimal.
 trait Part {
@@ -73,14 +73,6 @@ impl Part for EntryChange {
     }
 }
 
-impl Named for EntryChange {
-    ghost named = { λ c. c.name };
-
-    fn text(&self) -> &str {
-        self.name.normal()
-    }
-}
-
 /// Whether the splices rise with a kept line between two, and each place fits, in the new lines too.
 fn do_rise(splices: &[Splice]) -> bool
     ensures { IsTrue result ↔ DoRise splices.now }
@@ -108,9 +100,9 @@ pub(crate) fn are_splices(splices: &[Splice]) -> bool
 
 /// Whether these are the entries' changes of a minimal change.
 pub(crate) fn are_entries(changes: &[EntryChange]) -> bool
-    ensures { IsTrue result ↔ AreEntryChanges changes.now }
+    ensures { IsTrue result ↔ AreMinimalChanges changes.now }
 {
-    rises(changes) && are_parts(changes)
+    rise_by_target(changes) && are_parts(changes)
 }
 
 /// Whether the digest becomes another, where it changes.

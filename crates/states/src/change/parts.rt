@@ -2,7 +2,8 @@
 
 ghost use Rattle.std.specs.Prelude.{◌≡◌};
 
-use lists::{Faithful, Seq, Text};
+use crate::target_name::TargetName;
+use lists::{Faithful, Seq, Text, copied};
 use pep508::Name;
 use pylock::Entry;
 use std::alloc::AllocError;
@@ -19,9 +20,11 @@ pub struct Splice {
     pub new: Seq<Text>,
 }
 
-/// What becomes of the entry of a name.
+/// What becomes of the entry of a name in the lock of a target.
 #[derive(Debug, Drop)]
 pub struct EntryChange {
+    /// The name of the target.
+    pub target: TargetName,
     /// The name of the entry.
     pub name: Name,
     /// The entry that gives way; `None` where there is none.
@@ -61,10 +64,16 @@ impl Clone for EntryChange {
     ghost is_clone = { λ c d. d ≡ c };
 
     fn clone(&self) -> Result<EntryChange, AllocError> {
+        let target = self.target.clone()?;
         let name = self.name.clone()?;
-        let old = self.old.clone()?;
-        let new = self.new.clone()?;
-        Ok(EntryChange { name, old, new })
+        let old = copied(&self.old)?;
+        let new = copied(&self.new)?;
+        Ok(EntryChange {
+            target,
+            name,
+            old,
+            new,
+        })
     }
 }
 

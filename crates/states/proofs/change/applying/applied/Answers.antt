@@ -9,15 +9,15 @@ use Rattle.states.proofs.change.applying.applied.Goals as goal
 pub returns-in_default-file_of : goal.returns-in_default-file_of
 returns-in_default-file_of c =
     let state = c.args.state.now in
-    let after : After state c.args.change.now (with_outcome state c.in-Some.made) = rw c.in-Some.is at c.in_ok-made.ensures in
-    nowhere-lines c.args.change.now state (with_outcome state c.in-Some.made) after c.in_default-file_of.ensures
+    let after : After state c.args.change.now (with_outcome c.in-Some.made) = rw c.in-Some.is at c.in_ok-made.ensures in
+    nowhere-lines c.args.change.now state (with_outcome c.in-Some.made) after c.in_default-file_of.ensures
 
 pub returns : goal.returns
 returns c =
     let change = c.args.change.now in
     let state = c.args.state.now in
-    let made = with_outcome state c.in-Some.made in
+    let made = with_outcome c.in-Some.made in
     let after : After state change made = rw c.in-Some.is at c.in_ok-made.ensures in
     IfOk-onto (λ answer. MatchOption answer (IsState made → ⊥) (λ found. (found ≡ made) × IsState made)) (λ answer. MatchOption answer (LeadsNowhere state change) (Leads state change))
-    c.state_of.result (λ answer is. leads-by change state made after answer is)
-    (rw (c.in-Some-file_of.ensures, c.in_ok-lock.ensures) at c.state_of.ensures)
+    c.lawful_state.result (λ answer is. leads-by change state made after answer is)
+    (rw c.in-Some-file_of.ensures at c.lawful_state.ensures)

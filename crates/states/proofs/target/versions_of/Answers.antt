@@ -1,5 +1,5 @@
 use Rattle.states.proofs.VersionsFacts.{versions-more}
-use Rattle.states.proofs.state.versions_of.Goals as goal
+use Rattle.states.proofs.target.versions_of.Goals as goal
 
 pub loop-entry-preserved : goal.loop-entry-preserved
 loop-entry-preserved c = record {
