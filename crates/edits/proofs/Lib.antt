@@ -1,6 +1,7 @@
 pub mod Additions
 pub mod ChangedLines
 pub mod EditFacts
+pub mod KeepFacts
 pub mod LinesOnName
 pub mod NamesRead
 pub mod Refusals

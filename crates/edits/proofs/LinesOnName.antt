@@ -4,7 +4,7 @@ use Rattle.std.proofs.lemmas.Bool.{cases_Bool, eqb-true}
 use Rattle.markers.specs.Names.{is_name, normal_of}
 use Rattle.edits.specs.Naming.{count_on}
 use Rattle.edits.specs.Refused.{refused_count, refused_name}
-use Rattle.edits.specs.declared.refusal.Refusal.TheVariants.{Ambiguous, BadText}
+use Rattle.states.specs.declared.refusal.Refusal.TheVariants.{Ambiguous, BadText}
 
 -- a text that was read as a name is one
 named : (b : Bool) (normal name : List ℕ) → (if b then Ok normal else Err BadText) ≡ Ok name → (b ≡ true) × (normal ≡ name)

@@ -3,10 +3,10 @@ use Rattle.std.proofs.Common.{◌≡◌, ◌⊎◌, ◌∙◌, ℕ, ◌+◌, ◌
 use Rattle.std.proofs.lemmas.List.{at_drop_more}
 use Rattle.std.specs.List.{list_all}
 use Rattle.markers.specs.Names.{is_name, normal_of}
-use Rattle.pylock.specs.Packages.{EntryParts}
-use Rattle.edits.specs.Refused.{is_locked, refused_upgrade}
-use Rattle.edits.specs.declared.refusal.Refusal.{Refusal}
-use Rattle.edits.specs.declared.refusal.Refusal.TheVariants.{BadText, NotLocked, OutOfMemory}
+use Rattle.states.specs.declared.target.Target.{Target}
+use Rattle.edits.specs.Refused.{is_locked_for, refused_upgrade}
+use Rattle.states.specs.declared.refusal.Refusal.{Refusal}
+use Rattle.states.specs.declared.refusal.Refusal.TheVariants.{BadText, NotLocked, OutOfMemory}
 use Rattle.edits.proofs.Refusals.{bad-so, read-so}
 
 -- the text at a place, and those behind it
@@ -45,6 +45,6 @@ names-refused texts i text e within is before (inr refused) =
     inr (rw none (ap (λ (x : Refusal). Err x) (sym k.1)))
 
 -- the first name that isn't locked refuses an upgrade
-pub refused-first : (entries : List EntryParts) (texts names : List (List ℕ)) (name copy : List ℕ) → list_all is_name texts ≡ true → map normal_of texts ≡ names
-    → Some name ≡ find (λ n. not (is_locked entries n)) names → copy ≡ name → refused_upgrade entries texts ≡ Some (NotLocked copy)
-refused-first entries texts names name copy all are found same = rw (all, are, ← found, same) refl
+pub refused-first : (targets : List Target) (texts names : List (List ℕ)) (name copy : List ℕ) → list_all is_name texts ≡ true → map normal_of texts ≡ names
+    → Some name ≡ find (λ n. not (is_locked_for targets n)) names → copy ≡ name → refused_upgrade targets texts ≡ Some (NotLocked copy)
+refused-first targets texts names name copy all are found same = rw (all, are, ← found, same) refl

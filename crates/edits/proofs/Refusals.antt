@@ -1,8 +1,8 @@
 -- Refusals that calls pass on.
 use Rattle.std.proofs.Common.{◌≡◌, ◌⊎◌, Bool, true, false, Option, Some, None, Ok, Err, refl, ap, inl, inr, if◌then◌else◌}
 use Rattle.edits.specs.Refused.{or_refused}
-use Rattle.edits.specs.declared.refusal.Refusal.{Refusal}
-use Rattle.edits.specs.declared.refusal.Refusal.TheVariants.{BadText, OutOfMemory}
+use Rattle.states.specs.declared.refusal.Refusal.{Refusal}
+use Rattle.states.specs.declared.refusal.Refusal.TheVariants.{BadText, OutOfMemory}
 
 -- what refuses a part refuses the whole
 pub refused-on : {A B : Type 0} (refusal : Option Refusal) (a : A) (b : B) (e : Refusal) → (e ≡ OutOfMemory) ⊎ (or_refused refusal a ≡ Err e)
@@ -25,3 +25,10 @@ read-so false x y e = cc
 pub bad-so : {A : Type 0} (b : Bool) (x : A) (e : Refusal) → (if b then Ok x else Err BadText) ≡ Err e → (b ≡ false) × (e ≡ BadText)
 bad-so true x e h = cc
 bad-so false x e h = (refl, cc)
+
+-- a text that doesn't read refuses what needs it
+pub bad-on : {A B : Type 0} (b : Bool) (x : A) (given : Option Refusal) (y : B) (e : Refusal) → (e ≡ OutOfMemory) ⊎ ((if b then Ok x else Err BadText) ≡ Err e)
+    → (e ≡ OutOfMemory) ⊎ (or_refused (if b then given else Some BadText) y ≡ Err e)
+bad-on b x given y e (inl memory) = inl memory
+bad-on true x given y e (inr refused) = cc
+bad-on false x given y e (inr refused) = let same : BadText ≡ e = cc in inr (ap (λ (r : Refusal). Err r) same)

@@ -3,3 +3,4 @@ pub mod Adding
 pub mod Naming
 pub mod Refused
 pub mod Edits
+pub mod Keeping

@@ -1,17 +1,18 @@
--- The refusals that lines and lock alone give to an edit. All of it is reqlock's own rule.
+-- The refusals that lines and locks alone give to an edit. All of it is reqlock's own rule.
 use Rattle.std.specs.Prelude.{ℕ, ◌==◌, not, Bool, List, find, is_some, map, Option, Some, None, option_map, Result, Ok, Err, if◌then◌else◌}
-use Rattle.std.specs.List.{list_all}
+use Rattle.std.specs.List.{list_all, list_any}
 use Rattle.markers.specs.Names.{is_name, normal_of}
 use Rattle.pep508.specs.Requirement.{RequirementParts}
 use Rattle.pylock.specs.Packages.{EntryParts}
 use Rattle.problems.specs.Solutions.{version_for}
 use Rattle.states.specs.Locking.{versions_of}
+use Rattle.states.specs.declared.target.Target.{Target}
 use Rattle.edits.specs.Adding.{asked_by, line_number}
 use Rattle.edits.specs.Naming.{count_on, is_specifier}
 use Rattle.edits.specs.declared.request.Edit.{Edit}
 use Rattle.edits.specs.declared.request.Edit.TheVariants.{Add, Constrain, Remove, Upgrade}
-use Rattle.edits.specs.declared.refusal.Refusal.{Refusal}
-use Rattle.edits.specs.declared.refusal.Refusal.TheVariants.{AlreadyPresent, Ambiguous, BadText, NotLocked, NotPresent}
+use Rattle.states.specs.declared.refusal.Refusal.{Refusal}
+use Rattle.states.specs.declared.refusal.Refusal.TheVariants.{AlreadyPresent, Ambiguous, BadText, NotLocked, NotPresent}
 
 -- of an added line, given what it asks for: its name may not be that of a line that is there
 abbrev pub refused_addition : List (List ℕ) → Option RequirementParts → Option Refusal
@@ -41,15 +42,19 @@ refused_by_lines lines edit = None
 abbrev pub is_locked : List EntryParts → List ℕ → Bool
 is_locked entries name = is_some (version_for (versions_of entries) name)
 
--- of an upgrade of the names that texts are: all of them are names, and in the lock; the first that isn't there is told
-abbrev pub refused_upgrade : List EntryParts → List (List ℕ) → Option Refusal
-refused_upgrade entries texts =
-    if list_all is_name texts then option_map NotLocked (find (λ name. not (is_locked entries name)) (map normal_of texts)) else Some BadText
+-- whether the lock of some target has the name
+abbrev pub is_locked_for : List Target → List ℕ → Bool
+is_locked_for targets name = list_any (λ target. is_locked target.lock.entries name) targets
 
--- the first refusal that the entries of the lock give
-abbrev pub refused_by_lock : List EntryParts → Edit → Option Refusal
-refused_by_lock entries (Upgrade names) = refused_upgrade entries names
-refused_by_lock entries edit = None
+-- of an upgrade of the names that texts are: all of them are names, and each is locked for some target; the first that isn't is told
+abbrev pub refused_upgrade : List Target → List (List ℕ) → Option Refusal
+refused_upgrade targets texts =
+    if list_all is_name texts then option_map NotLocked (find (λ name. not (is_locked_for targets name)) (map normal_of texts)) else Some BadText
+
+-- the first refusal that the locks of the targets give
+abbrev pub refused_by_locks : List Target → Edit → Option Refusal
+refused_by_locks targets (Upgrade names) = refused_upgrade targets names
+refused_by_locks targets edit = None
 
 -- what is expected where a refusal may apply
 abbrev pub or_refused : {T : Type 0} → Option Refusal → T → Result T Refusal

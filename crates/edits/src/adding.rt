@@ -6,14 +6,14 @@ ghost use Rattle.pep508.specs.Parts.{IsEnding};
 ghost use Rattle.edits.specs.Asking.{wanted_of};
 ghost use Rattle.edits.specs.Adding.{asked_by, line_number, usual_ending, with_line};
 ghost use Rattle.edits.specs.Refused.{or_refused, refused_addition};
-ghost use Rattle.edits.specs.declared.refusal.Refusal.TheVariants.{OutOfMemory};
+ghost use Rattle.states.specs.declared.refusal.Refusal.TheVariants.{OutOfMemory};
 ghost use Rattle.lists.specs.Answers.{Answers};
 
 use crate::naming::is_on;
-use crate::refusal::Refusal;
 use lists::{Seq, Text};
 use pep508::laws::{a_file_reads_as_lines, lines_may_get_one_more};
 use pep508::{Cause, Line, Name, ReqFile};
+use states::Refusal;
 use std::alloc::{AllocError, Global};
 
 /// Whether an LF is among the bytes.

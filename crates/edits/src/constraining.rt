@@ -4,15 +4,15 @@ ghost use Rattle.lists.specs.Answers.{Answers};
 ghost use Rattle.std.specs.Prelude.{◌≡◌, IfOk, Ok, Err, if◌then◌else◌};
 ghost use Rattle.edits.specs.Naming.{is_specifier, line_with, with_set_on};
 ghost use Rattle.edits.specs.Refused.{or_refused, refused_constraint};
-ghost use Rattle.edits.specs.declared.refusal.Refusal.TheVariants.{BadText, OutOfMemory};
+ghost use Rattle.states.specs.declared.refusal.Refusal.TheVariants.{BadText, OutOfMemory};
 ghost use Rattle.markers.specs.Names.{normal_of};
 ghost use Rattle.pep508.specs.Parts.{trim};
 
 use crate::naming::{is_on, name_of_one};
-use crate::refusal::Refusal;
 use lists::{Seq, Text};
 use pep508::laws::{a_file_reads_as_lines, a_line_may_get_specifiers, lines_may_be_exchanged};
 use pep508::{Cause, Line, Name, ReqFile, SpecifierText};
+use states::Refusal;
 use std::alloc::{AllocError, Global};
 
 /// The specifiers that the text is.

@@ -1,69 +1,68 @@
 // Edits, and what they lead to.
 
 ghost use Rattle.lists.specs.Answers.{Answers};
-ghost use Rattle.std.specs.Prelude.{◌≡◌, ◌⊎◌, ◌≤◌, length, IfOk, IfErr, None, Some, Ok, Err};
+ghost use Rattle.std.specs.Prelude.{◌≡◌, ◌≢◌, ◌⊎◌, ◌≤◌, [], length, map, IfOk, IfErr, None, Some, Ok, Err, true};
 ghost use Rattle.edits.specs.Edits.{
   EditResult,
   InitResult,
   Locks,
-  kept_pins,
   lines_after,
-  problem_after,
+  problems_after,
   refusal_of,
 };
-ghost use Rattle.edits.specs.Refused.{or_refused, refused_by_lines, refused_by_lock};
-ghost use Rattle.edits.specs.declared.refusal.Refusal.TheVariants.{OutOfMemory};
+ghost use Rattle.edits.specs.Refused.{or_refused, refused_by_lines};
+ghost use Rattle.lists.specs.Rising.{rises};
 ghost use Rattle.states.specs.Changes.{After, IsMinimal};
-ghost use Rattle.states.specs.Locking.{given_of, versions_of};
+ghost use Rattle.states.specs.Locking.{given_for};
+ghost use Rattle.states.specs.declared.refusal.Refusal.TheVariants.{OutOfMemory};
 
 use crate::adding::added;
 use crate::constraining::constrained;
-use crate::refusal::Refusal;
+use crate::keeping::{all_first, unlocked};
 use crate::removing::removed;
 use crate::request::{Edit, Edited};
-use crate::upgrading::upgraded;
-use pep440::Version;
-use pep508::{Environment, Name, ReqFile};
+use lists::Seq;
+use pep508::ReqFile;
 use resolve::{Problem, Resolver};
 use snapshot::Snapshot;
-use states::{State, change_between, has_same, locked};
-use std::alloc::Global;
-use std::collections::BTreeMap;
+use states::{Refusal, State, TargetName, Targets, Unlocked, change_between, has_same, locked};
+use std::alloc::{AllocError, Global};
 
-/// The state of the lines, with their lock over the versions that are kept.
-fn with_lock<R: Resolver>(
+/// The state of the lines, with the targets' locks over the versions that are kept.
+fn with_locks<R: Resolver>(
     alloc: Global,
     lines: ReqFile,
-    environment: Environment,
+    targets: Seq<Unlocked>,
     snapshot: &Snapshot,
-    kept: BTreeMap<Name, Version>,
     resolver: &R,
 ) -> Result<State, Refusal>
+    requires some { targets ≢ [] }
+    requires rising { rises (map (λ u. u.name) targets) ≡ true }
     ensures ok { IfOk result (λ state.
-        Locks None (given_of lines environment snapshot.now kept.entries) lines (Ok state)) }
+        Locks None (map (given_for lines snapshot.now) targets) lines (Ok state)) }
     ensures err { IfErr result (λ refusal. (refusal ≡ OutOfMemory)
-        ⊎ Locks None (given_of lines environment snapshot.now kept.entries) lines (Err refusal)) }
+        ⊎ Locks None (map (given_for lines snapshot.now) targets) lines (Err refusal)) }
 {
-    match locked(alloc, lines, environment, snapshot, kept, resolver)? {
+    match locked(alloc, lines, targets, snapshot, resolver)? {
         Some(state) => Ok(state),
         None => Err(Refusal::NoSolution),
     }
 }
 
-/// The state that a history of the file begins with: its lines, with their lock in the environment.
+/// The state that a history of the file begins with: its lines, with a lock for each of the targets.
 pub fn init<R: Resolver>(
     alloc: Global,
     lines: ReqFile,
-    environment: Environment,
+    targets: Targets,
     snapshot: &Snapshot,
     resolver: &R,
 ) -> Result<State, Refusal>
-    ensures ok { IfOk result (λ state. InitResult lines environment snapshot.now (Ok state)) }
+    ensures ok { IfOk result (λ state. InitResult lines targets snapshot.now (Ok state)) }
     ensures err { IfErr result (λ refusal. (refusal ≡ OutOfMemory)
-        ⊎ InitResult lines environment snapshot.now (Err refusal)) }
+        ⊎ InitResult lines targets snapshot.now (Err refusal)) }
 {
-    let kept = BTreeMap::new(alloc);
-    with_lock(alloc, lines, environment, snapshot, kept, resolver)
+    let targets = all_first(alloc, targets)?;
+    with_locks(alloc, lines, targets, snapshot, resolver)
 }
 
 /// The lines after the edit.
@@ -79,44 +78,60 @@ fn lines_after(alloc: Global, lines: &ReqFile, edit: &Edit) -> Result<ReqFile, R
     }
 }
 
-/// The locked versions that the edit keeps.
-fn kept_pins(alloc: Global, state: &State, edit: &Edit) -> Result<BTreeMap<Name, Version>, Refusal>
-    ensures ok { IfOk result (λ kept. (refused_by_lock state.now.lock.entries edit.now ≡ None)
-        × (kept.entries ≡ kept_pins (versions_of state.now.lock.entries) edit.now)) }
-    ensures err { IfErr result (λ refusal. (refusal ≡ OutOfMemory)
-        ⊎ (refused_by_lock state.now.lock.entries edit.now ≡ Some refusal)) }
+/// The problem of the target, under its name.
+fn problem_for<'a>(
+    alloc: Global,
+    lines: &ReqFile,
+    target: Unlocked,
+    snapshot: &'a Snapshot,
+) -> Result<(TargetName, Problem<'a>), AllocError>
+    ensures { IfOk result (λ problem. problem ≡ given_for lines.now snapshot.now target) }
 {
-    match edit {
-        Edit::Upgrade(names) => upgraded(alloc, state, names.as_slice()),
-        Edit::UpgradeAll => Ok(BTreeMap::new(alloc)),
-        Edit::Add(_) | Edit::Remove(_) | Edit::Constrain(_, _) | Edit::Relock => {
-            Ok(state.kept(alloc)?)
-        }
-    }
+    let (name, environment, kept) = target.into_parts();
+    let problem = Problem::new(alloc, lines, &environment, snapshot, kept)?;
+    Ok((name, problem))
 }
 
-/// The problem whose best solution the edit of the state would lock, over the snapshot: that of the
-/// lines after the edit, with the versions that it keeps. It may have no solution. Where lines and
-/// lock refuse the edit, the first refusal is answered. The state stays.
+/// The problems of the targets, under their names.
+fn problems_for<'a>(
+    alloc: Global,
+    lines: &ReqFile,
+    targets: Seq<Unlocked>,
+    snapshot: &'a Snapshot,
+) -> Result<Seq<(TargetName, Problem<'a>)>, AllocError>
+    ensures { IfOk result
+        (λ problems. problems ≡ map (given_for lines.now snapshot.now) targets) }
+{
+    let mut problems = Vec::with_capacity(alloc, targets.len())?;
+    for target in targets.into_vec() {
+        problems.push(problem_for(alloc, lines, target, snapshot)?)?;
+    }
+    Ok(Seq::from_vec(problems))
+}
+
+/// The problems whose best solutions the edit of the state would lock, over the snapshot: for each
+/// target, under its name and in the order of names, that of the lines after the edit, with the versions
+/// that the edit keeps of the target's lock. They may have no solution. Where lines and locks refuse the
+/// edit, the first refusal is answered. The state stays.
 pub fn problem_after<'a>(
     alloc: Global,
     state: &State,
     edit: &Edit,
     snapshot: &'a Snapshot,
-) -> Result<Problem<'a>, Refusal>
-    ensures ok { IfOk result (λ problem. (refusal_of state.now edit.now ≡ None)
-        × (problem ≡ problem_after state.now edit.now snapshot.now)) }
+) -> Result<Seq<(TargetName, Problem<'a>)>, Refusal>
+    ensures ok { IfOk result (λ problems. (refusal_of state.now edit.now ≡ None)
+        × (problems ≡ problems_after state.now edit.now snapshot.now)) }
     ensures err { IfErr result (λ refusal. (refusal ≡ OutOfMemory)
         ⊎ (refusal_of state.now edit.now ≡ Some refusal)) }
 {
     let after = lines_after(alloc, state.lines(), edit)?;
-    let kept = kept_pins(alloc, state, edit)?;
-    let problem = Problem::new(alloc, &after, state.environment(), snapshot, kept)?;
-    Ok(problem)
+    let targets = unlocked(alloc, state, edit)?;
+    let problems = problems_for(alloc, &after, targets, snapshot)?;
+    Ok(problems)
 }
 
 /// What the edit of the state leads to, over the snapshot: the new state, and the minimal change that
-/// leads to it. The state stays.
+/// leads to it. Each target gets a new lock, or none does. The state stays.
 pub fn edit<R: Resolver>(
     alloc: Global,
     state: &State,
@@ -133,9 +148,8 @@ pub fn edit<R: Resolver>(
         ⊎ EditResult state.now edit.now snapshot.now (Err refusal)) }
 {
     let lines = lines_after(alloc, state.lines(), edit)?;
-    let kept = kept_pins(alloc, state, edit)?;
-    let environment = state.environment().clone()?;
-    let edited = with_lock(alloc, lines, environment, snapshot, kept, resolver)?;
+    let targets = unlocked(alloc, state, edit)?;
+    let edited = with_locks(alloc, lines, targets, snapshot, resolver)?;
     if has_same(&edited, state) {
         return Err(Refusal::NothingChanges);
     }

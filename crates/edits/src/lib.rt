@@ -13,15 +13,14 @@
 mod adding;
 mod constraining;
 mod editing;
+mod keeping;
 pub mod laws;
 mod naming;
-mod refusal;
 mod removing;
 mod request;
 mod upgrading;
 
 pub use crate::editing::{edit, init, problem_after};
-pub use crate::refusal::{Refusal, SavedFile};
 pub use crate::request::{Edit, Edited};
 pub use pep508::{Cause, Environment, Fault, Line, Name, ReqFile, Requirement};
 pub use pylock::{Entry, FileEntry, Lock};
@@ -30,4 +29,7 @@ pub use resolve::{
     ground_of,
 };
 pub use snapshot::{Release, Snapshot};
-pub use states::{Change, DigestChange, EntryChange, Splice, State};
+pub use states::{
+    Change, DigestChange, EntryChange, Refusal, SavedFile, Splice, State, Target, TargetName,
+    Targets, first_unfit,
+};

@@ -5,12 +5,12 @@ ghost use Rattle.std.specs.Prelude.{◌≡◌, Ok, Err, if◌then◌else◌};
 ghost use Rattle.edits.specs.Asking.{is_on, wanted_of};
 ghost use Rattle.edits.specs.Naming.{count_on};
 ghost use Rattle.edits.specs.Refused.{or_refused, refused_name};
-ghost use Rattle.edits.specs.declared.refusal.Refusal.TheVariants.{BadText, OutOfMemory};
+ghost use Rattle.states.specs.declared.refusal.Refusal.TheVariants.{BadText, OutOfMemory};
 ghost use Rattle.markers.specs.Names.{is_name, normal_of};
 
-use crate::refusal::Refusal;
 use lists::Text;
 use pep508::{Cause, Line, Name};
+use states::Refusal;
 use std::alloc::Global;
 
 /// Whether the line is on the name.

@@ -4,14 +4,14 @@ ghost use Rattle.lists.specs.Answers.{Answers};
 ghost use Rattle.std.specs.Prelude.{◌≡◌, IfOk};
 ghost use Rattle.edits.specs.Naming.{without_line};
 ghost use Rattle.edits.specs.Refused.{or_refused, refused_name};
-ghost use Rattle.edits.specs.declared.refusal.Refusal.TheVariants.{OutOfMemory};
+ghost use Rattle.states.specs.declared.refusal.Refusal.TheVariants.{OutOfMemory};
 ghost use Rattle.markers.specs.Names.{normal_of};
 
 use crate::naming::{is_on, name_of_one};
-use crate::refusal::Refusal;
 use lists::{Seq, Text};
 use pep508::laws::{a_file_reads_as_lines, lines_may_be_left_out};
 use pep508::{Line, Name, ReqFile};
+use states::Refusal;
 use std::alloc::{AllocError, Global};
 
 /// The lines that aren't on the name.

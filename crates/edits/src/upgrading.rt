@@ -1,24 +1,20 @@
-// The locked versions that an edit keeps.
+// The names that an upgrade drops the versions of.
 
 ghost use Rattle.lists.specs.Answers.{Answers};
 ghost use Rattle.std.specs.Prelude.{◌≡◌, ◌⊎◌, not, find, map, IfOk, IfErr, None, Some, Ok, Err, if◌then◌else◌};
-ghost use Rattle.std.specs.List.{list_all, list_any};
+ghost use Rattle.std.specs.List.{list_all};
 ghost use Rattle.std.specs.Option.{option_copied};
-ghost use Rattle.std.specs.Str.{bytes_eq};
-ghost use Rattle.edits.specs.Edits.{without_pins};
-ghost use Rattle.edits.specs.Refused.{is_locked, refused_upgrade};
-ghost use Rattle.edits.specs.declared.refusal.Refusal.TheVariants.{BadText, OutOfMemory};
+ghost use Rattle.edits.specs.Keeping.{named_in};
+ghost use Rattle.edits.specs.Refused.{is_locked_for, refused_by_locks, refused_upgrade};
+ghost use Rattle.states.specs.declared.refusal.Refusal.TheVariants.{BadText, OutOfMemory};
 ghost use Rattle.markers.specs.Names.{is_name, normal_of};
-ghost use Rattle.states.specs.Locking.{versions_of};
 
 use crate::naming::name_in;
-use crate::refusal::Refusal;
+use crate::request::Edit;
 use lists::{Seq, Text};
-use pep440::Version;
 use pep508::Name;
-use states::State;
-use std::alloc::{AllocError, Global};
-use std::collections::BTreeMap;
+use states::{Refusal, Target};
+use std::alloc::Global;
 
 /// The names that the texts are.
 fn names_in(alloc: Global, texts: &[Text]) -> Result<Seq<Name>, Refusal>
@@ -32,44 +28,45 @@ fn names_in(alloc: Global, texts: &[Text]) -> Result<Seq<Name>, Refusal>
     Ok(Seq::from_vec(names))
 }
 
-/// The first name that isn't locked.
-fn not_locked<'a>(state: &State, names: &'a [Name]) -> Option<&'a Name>
+/// Whether the name is locked for one of the targets.
+fn is_locked(targets: &[Target], name: &Name) -> bool
+    ensures { result ≡ is_locked_for targets.now name.now }
+{
+    targets.iter().any(|target| target.locked(name).is_some())
+}
+
+/// The first name that is locked for none of the targets.
+fn not_locked<'a>(targets: &[Target], names: &'a [Name]) -> Option<&'a Name>
     ensures { option_copied result ≡ find
-        (λ name. not (is_locked state.now.lock.entries name)) names.now }
+        (λ name. not (is_locked_for targets.now name)) names.now }
 {
-    names.iter().find(|name| state.locked(name).is_none())
+    names.iter().find(|name| !is_locked(targets, name))
 }
 
-/// Whether the name is one of these.
-pub(crate) fn is_among(names: &[Name], name: &Name) -> bool
-    ensures { result ≡ list_any (bytes_eq name.now) names.now }
-{
-    names.iter().any(|other| name.normal() == other.normal())
-}
-
-/// The versions but for those of these names.
-fn without(mut versions: BTreeMap<Name, Version>, names: &[Name]) -> BTreeMap<Name, Version>
-    ensures { result.entries ≡ without_pins names.now versions.entries }
-{
-    versions.retain(|name, _version| !is_among(names, name));
-    versions
-}
-
-/// The locked versions but for those of the names that the texts are.
-pub(crate) fn upgraded(
-    alloc: Global,
-    state: &State,
-    texts: &[Text],
-) -> Result<BTreeMap<Name, Version>, Refusal>
-    ensures ok { IfOk result (λ kept. (refused_upgrade state.now.lock.entries texts.now ≡ None)
-        × (kept.entries
-        ≡ without_pins (map normal_of texts.now) (versions_of state.now.lock.entries))) }
+/// The names that the texts are, each of which is locked for some target.
+fn upgraded(alloc: Global, targets: &[Target], texts: &[Text]) -> Result<Seq<Name>, Refusal>
+    ensures ok { IfOk result (λ names. (refused_upgrade targets.now texts.now ≡ None)
+        × (names ≡ map normal_of texts.now)) }
     ensures err { IfErr result (λ refusal. (refusal ≡ OutOfMemory)
-        ⊎ (refused_upgrade state.now.lock.entries texts.now ≡ Some refusal)) }
+        ⊎ (refused_upgrade targets.now texts.now ≡ Some refusal)) }
 {
     let names = names_in(alloc, texts)?;
-    if let Some(name) = not_locked(state, names.as_slice()) {
+    if let Some(name) = not_locked(targets, names.as_slice()) {
         return Err(Refusal::NotLocked(Text::copy_of(alloc, name.normal())?));
     }
-    Ok(without(state.kept(alloc)?, names.as_slice()))
+    Ok(names)
+}
+
+/// The names whose versions the edit drops, where it is an upgrade of some.
+pub(crate) fn named_in(alloc: Global, targets: &[Target], edit: &Edit) -> Result<Seq<Name>, Refusal>
+    ensures ok { IfOk result (λ names. (refused_by_locks targets.now edit.now ≡ None)
+        × (names ≡ named_in edit.now)) }
+    ensures err { IfErr result (λ refusal. (refusal ≡ OutOfMemory)
+        ⊎ (refused_by_locks targets.now edit.now ≡ Some refusal)) }
+{
+    match edit {
+        Edit::Upgrade(texts) => upgraded(alloc, targets, texts.as_slice()),
+        Edit::Add(_) | Edit::Remove(_) | Edit::Constrain(_, _) | Edit::UpgradeAll | Edit::Relock =>
+            Ok(Seq::new(alloc)),
+    }
 }

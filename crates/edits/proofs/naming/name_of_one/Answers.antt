@@ -1,6 +1,13 @@
 use Rattle.std.proofs.Common.{Ok, ap, arith, inr, refl}
+use Rattle.std.proofs.lemmas.Result.{err_from_is_err_and}
 use Rattle.edits.proofs.LinesOnName.{refused-at, refused-many}
+use Rattle.edits.proofs.Refusals.{bad-on}
 use Rattle.edits.proofs.naming.name_of_one.Goals as goal
+
+pub returns-in_err-name : goal.returns-in_err-name
+returns-in_err-name c =
+    let p = err_from_is_err_and c.from_residual.result c.from_residual.ensures.1 in
+    rw (p.1, p.2) (bad-on _ _ _ _ c.in_err-name.field-0.0 c.in_err-name.ensures)
 
 pub returns-in-0 : goal.returns-in-0
 returns-in-0 c =
