@@ -7,6 +7,7 @@ use Rattle.markers.specs.Environment.{IsEnvironment, Texts, all_variables, text_
 use Rattle.markers.specs.Variables.{variable_name}
 use Rattle.markers.specs.declared.variable.Variable.{Variable}
 use Rattle.markers.specs.declared.variable.Variable.TheVariants as variables
+use Rattle.states.specs.TargetNames.{is_target_name}
 use Rattle.serde_json.specs.Data.{string}
 use Rattle.serde_json.specs.Find.{get}
 use Rattle.serde_json.specs.View.{items_of}
@@ -14,10 +15,10 @@ use Rattle.journal.specs.declared.format.header.Header.{Header}
 use Rattle.journal.specs.declared.format.header.HeaderTarget.{HeaderTarget}
 use Rattle.journal.specs.declared.format.header.JournalVersion.TheVariants.{Two}
 use Rattle.journal.specs.Format.Forms.{each}
-use Rattle.journal.specs.Format.Lines.{environment_in, header_in, target_in, targets_in}
+use Rattle.journal.specs.Format.Lines.{are_targets, environment_in, header_in, target_in, targets_in}
 use Rattle.journal.specs.Format.Written.{environment_data, header_data, target_data}
 use Rattle.journal.proofs.KeptTexts.{kept-lawful}
-use Rattle.journal.proofs.StepsBack.{Back, IsDigest, digest-back, list-back}
+use Rattle.journal.proofs.StepsBack.{Back, IsDigest, digest-back, list-back, target_name-back}
 
 text-at : (texts : Texts) (variable : Variable) → get (variable_name variable) (environment_data texts) ≡ Some (string (text_of texts variable))
 unfolding environment_data
@@ -56,16 +57,17 @@ environment-back texts h = environment_by texts (texts-back texts h all_variable
 
 -- what a target has to have to be read back
 pub record IsTarget (t : HeaderTarget) : Type 0 where
+  pub name : is_target_name t.name ≡ true
   pub environment : IsEnvironment t.environment
   pub lock : IsDigest t.lock
 
-target_by : (t : HeaderTarget) → environment_in (environment_data t.environment) ≡ Ok t.environment → IsDigest t.lock → target_in (target_data t) ≡ Ok t
+target_by : (t : HeaderTarget) → environment_in (environment_data t.environment) ≡ Ok t.environment → IsDigest t.lock → is_target_name t.name ≡ true → target_in (target_data t) ≡ Ok t
 unfolding target_in target_data
-target_by t environment lock = rw (environment, digest-back t.lock lock) refl
+target_by t environment lock name = rw (environment, digest-back t.lock lock, target_name-back t.name name) refl
 
 targets-back : (ts : List HeaderTarget) → AllByRecursion IsTarget ts → Back target_data target_in ts
 targets-back [] h = tt
-targets-back (t ∷ ts) h = (target_by t (environment-back t.environment h.0.environment) h.0.lock, targets-back ts h.1)
+targets-back (t ∷ ts) h = (target_by t (environment-back t.environment h.0.environment) h.0.lock h.0.name, targets-back ts h.1)
 
 -- what a header has to have to be read back
 pub record IsHeader (h : Header) : Type 0 where
@@ -73,13 +75,15 @@ pub record IsHeader (h : Header) : Type 0 where
   pub requirements : IsDigest h.requirements
   pub within : h.cursor ≤ h.steps
   pub targets : AllByRecursion IsTarget h.targets
+  pub rising : are_targets h.targets ≡ true
 
-header_by : (h : Header) → h.version ≡ Two → IsDigest h.requirements → nat_le h.cursor h.steps ≡ true → each target_in (items_of (map target_data h.targets)) ≡ Ok h.targets → header_in (header_data h) ≡ Ok h
+header_by : (h : Header) → h.version ≡ Two → IsDigest h.requirements → nat_le h.cursor h.steps ≡ true → each target_in (items_of (map target_data h.targets)) ≡ Ok h.targets → are_targets h.targets ≡ true
+    → header_in (header_data h) ≡ Ok h
 unfolding header_in header_data targets_in
-header_by h version requirements within targets = rw (targets, digest-back h.requirements requirements, within, version) refl
+header_by h version requirements within targets rising = rw (targets, rising, digest-back h.requirements requirements, within, version) refl
 
 -- a header is read back
 pub header-back : (h : Header) → IsHeader h → header_in (header_data h) ≡ Ok h
 header-back h is =
     let within : nat_le h.cursor h.steps ≡ true = let least = is.within in grind (arith, nat_tests) in
-    header_by h is.version is.requirements within (list-back target_data target_in h.targets (targets-back h.targets is.targets))
+    header_by h is.version is.requirements within (list-back target_data target_in h.targets (targets-back h.targets is.targets)) is.rising

@@ -1,11 +1,11 @@
 -- Histories with the change of each step.
-use Rattle.std.proofs.Common.{◌≡◌, ℕ, suc, zero, ◌+◌, ◌-◌, ◌<◌, List, [], ◌∷◌, ◌++◌, length, take, Option, Some, None, refl, subst, add-one, arith}
+use Rattle.std.proofs.Common.{◌≡◌, ℕ, suc, zero, ◌+◌, ◌-◌, ◌<◌, ◌≤◌, List, [], ◌∷◌, ◌++◌, length, take, Option, Some, None, refl, sym, ap, ◌∙◌, subst, add-one, arith}
 use Rattle.std.specs.Prelude.{IsSomeAnd, slice_get}
 use Rattle.std.proofs.lemmas.Option.{slice_get_within}
 use Rattle.states.specs.Changes.{ChangeParts}
 use Rattle.journal.specs.Values.{State}
 use Rattle.journal.specs.Past.{Past, present, pushed}
-use Rattle.journal.specs.Changes.{AreSteps, IsChange, IsStepOf}
+use Rattle.journal.specs.Changes.{AreSteps, IsChange, IsStepOf, with_change}
 
 -- there is one state more than changes
 pub AreSteps-count : (states : List State) (changes : List ChangeParts) → AreSteps states changes → length states ≡ length changes + 1
@@ -95,3 +95,12 @@ pushed_step_by (Some old) past change new at leads =
 pub pushed_step : (past : Past) (change : ChangeParts) (new : State) → IsSomeAnd (present past) (λ old. IsChange old change new)
     → IsStepOf (pushed past new) (past.cursor + 1) change
 pushed_step past change new leads = pushed_step_by (present past) past change new refl leads
+
+-- what an edit does to the past and to the changes
+pub edit-changes : (old new : Past) (changes more : List ChangeParts) (state edited : State) (change : ChangeParts) (k : ℕ) → present old ≡ Some state → IsChange state change edited
+    → new ≡ pushed old edited → more ≡ with_change old.cursor changes change → k ≡ new.cursor → length change.splices ≤ 1
+    → (x : ChangeParts) × IsStepOf new k x × (length x.splices ≤ 1) × (more ≡ with_change old.cursor changes x)
+edit-changes old new changes more state edited change k at leads past all cursor one =
+    let step : IsStepOf (pushed old edited) (old.cursor + 1) change = pushed_step old change edited (rw at leads) in
+    let here : old.cursor + 1 ≡ k = ap (λ (p : Past). p.cursor) (sym past) ∙ sym cursor in
+    (change, subst (λ (n : ℕ). IsStepOf new n change) here (subst (λ (p : Past). IsStepOf p (old.cursor + 1) change) (sym past) step), one, all)

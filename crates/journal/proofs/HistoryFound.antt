@@ -1,17 +1,14 @@
 -- What the changes of a journal lead to from the present state, in both directions, is its history.
 use Rattle.std.proofs.Common.{◌≡◌, ℕ, zero, suc, ◌+◌, ◌≤◌, List, [], ◌∷◌, ◌++◌, drop, length, take, Some, Result, Ok, Err, refl, ap, ◌∙◌, inl, inr, arith}
-use Rattle.std.specs.Prelude.{IfOk, reverse, slice_get}
-use Rattle.std.specs.Result.{result_map_both}
+use Rattle.std.specs.Prelude.{reverse, slice_get}
 use Rattle.std.specs.List.{AllByRecursion}
 use Rattle.std.proofs.lemmas.List.{length-append, length-reverse, length-take-le}
 use Rattle.states.specs.Changes.{ChangeParts, IsMinimal}
 use Rattle.states.specs.State.{IsState}
-use Rattle.edits.specs.declared.refusal.Refusal.TheVariants.{JournalBroken}
+use Rattle.states.specs.declared.refusal.Refusal.TheVariants.{JournalBroken}
 use Rattle.journal.specs.Values.{State, Refusal}
 use Rattle.journal.specs.Neighbours.{IsHistory, states_of}
-use Rattle.journal.specs.Changes.{HistoryParts}
-use Rattle.journal.specs.Opening.{BeginsWith, IsAnswer, GoesOn, Opens, PastOf, Present, StatesBefore, StatesBehind, StepLines, Tells}
-use Rattle.journal.specs.declared.format.header.Header.{Header}
+use Rattle.journal.specs.Opening.{IsAnswer, GoesOn, PastOf, StatesBefore, StatesBehind}
 use Rattle.journal.proofs.Neighbours.{IsFound, found}
 use Rattle.journal.proofs.StatesLawful.{lawful-joined}
 use Rattle.journal.proofs.StepsJoined.{steps-joined}

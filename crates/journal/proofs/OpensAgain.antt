@@ -1,40 +1,41 @@
 -- A history that was saved opens again.
-use Rattle.std.proofs.Common.{◌≡◌, ℕ, zero, suc, ◌+◌, ◌<◌, true, List, [], ◌∷◌, ◌++◌, length, Some, Ok, refl, sym, subst, inl, arith}
+use Rattle.std.proofs.Common.{◌≡◌, ◌≢◌, ℕ, zero, suc, ◌+◌, ◌<◌, true, List, [], ◌∷◌, ◌++◌, length, Option, None, Ok, refl, sym, ap, subst, ◌∙◌, inl, inr, arith}
 use Rattle.std.specs.Int.{byte_at, bytes_high_first, to_be_bytes, w32}
 use Rattle.std.specs.Prelude.{slice_index}
 use Rattle.std.proofs.lemmas.Option.{slice_get_within}
-use Rattle.std.specs.List.{AllByRecursion, concat, flat_map}
-use Rattle.std.specs.Str.{is_utf8}
+use Rattle.std.specs.List.{AllByRecursion, AllZip, Contains, concat, flat_map}
 use Rattle.hex.specs.Hex.{IsBytes}
+use Rattle.lists.specs.Rising.{rises}
+use Rattle.lists.proofs.Members.{Contains-cons_cases, Contains-nil}
 use Rattle.sha2.specs.Sha256.{digest_bytes, sha256}
 use Rattle.sha2.proofs.Facts256.{length-sha256}
-use Rattle.toml.specs.Parse.{parse_document}
-use Rattle.markers.specs.Environment.{IsEnvironment}
 use Rattle.pep508.specs.Requirement.{file_of}
-use Rattle.pylock.specs.Locks.{IsLock, LockParts}
-use Rattle.pylock.specs.Reading.{lock_in, lock_in_text, toml_of}
-use Rattle.pylock.specs.Tables.{table_of}
 use Rattle.serde_json.specs.Data.{Data}
 use Rattle.serde_json.specs.Written.{compact_text}
 use Rattle.states.specs.Changes.{ChangeParts}
 use Rattle.states.specs.Laws.{AChangeLeadsToOneState}
-use Rattle.states.specs.State.{IsState}
-use Rattle.journal.specs.Values.{State}
+use Rattle.states.specs.State.{IsLockFor, IsState}
+use Rattle.states.specs.StateParts.{digest_of}
+use Rattle.states.specs.TargetNames.{is_target_name}
+use Rattle.journal.specs.Values.{State, Target}
 use Rattle.journal.specs.Changes.{HistoryParts}
 use Rattle.journal.specs.Format.Forms.{json_of}
-use Rattle.journal.specs.Format.Lines.{IsStepLine, header_of_line, step_of_line}
+use Rattle.journal.specs.Format.Lines.{IsStepLine, are_targets, header_of_line, step_of_line}
 use Rattle.journal.specs.Format.Written.{header_data, line_of, step_data}
-use Rattle.journal.specs.Opening.{BeginsWith, IsOnlyTarget, Opens, Present, StepLines}
-use Rattle.journal.specs.Saving.{IsSaved, OpensAs, header_for}
+use Rattle.journal.specs.Locks.{LockTexts, odd_lock}
+use Rattle.journal.specs.LocksWritten.{IsLawfulTarget, IsWrittenLock}
+use Rattle.journal.specs.Opening.{Agrees, BeginsWith, Fit, IsAnswer, NamesEnvironment, Opens, Present, StepLines}
+use Rattle.journal.specs.Saving.{IsSaved, OpensAs, header_for, targets_for}
 use Rattle.journal.specs.Tied.{AreWritten, IsWritten}
 use Rattle.journal.specs.declared.format.header.Header.{Header}
-use Rattle.journal.specs.declared.format.header.HeaderTarget.{HeaderTarget}
 use Rattle.journal.specs.declared.saving.Saved.{Saved}
-use Rattle.journal.proofs.ChangesRead.{IsRead, changes-read}
-use Rattle.journal.proofs.HeaderBack.{IsHeader, header-back}
+use Rattle.journal.proofs.ChangesRead.{IsRead, Knows, all-known, changes-read}
+use Rattle.journal.proofs.HeaderBack.{IsHeader, IsTarget, header-back}
 use Rattle.journal.proofs.Histories.{AreSteps-count}
 use Rattle.journal.proofs.LinesCut.{cut-written}
+use Rattle.journal.proofs.LocksAgain.{name-known, names, names-for, none-odd, targets-again}
 use Rattle.journal.proofs.OpensOnce.{opens-once}
+use Rattle.journal.proofs.PresentFacts.{reads_present}
 use Rattle.journal.proofs.StatesAgain.{past-again, state-at}
 use Rattle.journal.proofs.StepsBack.{IsDigest, ReadsVersions}
 
@@ -89,32 +90,58 @@ begins-again header rest written is = record {
   header = rw (json-back (header_data header) written, header-back header is) refl;
 }
 
--- the table of a lock is read as the lock
-abbrev pub ReadsLocks : Type 0
-ReadsLocks = (l : LockParts) → IsLock l → lock_in (table_of l) ≡ Ok l
+-- ---- the present state
 
-lock-again : ReadsLocks → (lock : LockParts) (text : List ℕ) → IsLock lock → is_utf8 text ≡ true → parse_document text ≡ Some (table_of lock) → lock_in_text text ≡ Ok lock
-unfolding lock_in_text toml_of
-lock-again reads lock text lawful utf8 table = rw (utf8, table, reads lock lawful) refl
+-- the locks of the targets fit the state
+fit-again : (state : State) (targets : List Target) → AllByRecursion (λ t. IsLockFor state.lines t.environment t.lock) targets
+    → AllByRecursion (λ t. t.lock.snapshot ≡ digest_of state.targets) targets → Fit state targets (IsAnswer state) (Ok state)
+fit-again state [] locks digests = refl
+fit-again state (t ∷ targets) locks digests = inl ((locks.0, digests.0), fit-again state targets locks.1 digests.1)
 
--- the one target of a history with this present state and this lock
-abbrev pub target_for : State → List ℕ → HeaderTarget
-target_for state lock = record { name = []; environment = state.environment; lock = sha256 lock }
+named-again : (lines : List (List ℕ)) (targets : List Target) → AllByRecursion (λ t. IsLockFor lines t.environment t.lock) targets → AllByRecursion NamesEnvironment targets
+named-again lines [] locks = tt
+named-again lines (t ∷ targets) locks = (locks.0.named, named-again lines targets locks.1)
 
-present-again : ReadsLocks → (state : State) (cursor steps : ℕ) (requirements lock : List ℕ) → IsState state → requirements ≡ concat state.lines → is_utf8 lock ≡ true
-    → parse_document lock ≡ Some (table_of state.lock) → Present (header_for state cursor steps requirements lock) (target_for state lock) requirements lock (Ok state)
-present-again reads state cursor steps requirements lock is lines utf8 table =
-    let locked = lock-again reads state.lock lock is.lock.lawful utf8 table in
+present-again : (state : State) (cursor steps : ℕ) (requirements : List ℕ) (locks : LockTexts) → IsState state → requirements ≡ concat state.lines → AllZip IsWrittenLock state.targets locks
+    → Present (header_for state cursor steps requirements locks) requirements locks (Ok state)
+present-again state cursor steps requirements locks is lines written =
+    let header = header_for state cursor steps requirements locks in
     let read : file_of requirements ≡ Ok state.lines = rw lines is.lines in
-    (Ok state, inl (refl, inl (refl, inl (state.lines, read, inl (state.lock, locked, inl (is.lock.named, refl))))), inl (is, refl))
+    let odd : odd_lock header locks ≡ None = none-odd header state.targets locks refl is.rising written in
+    let behind : reads_present header requirements locks (Ok state) =
+    inl (state.lines, read, (Ok state.targets, targets-again state.targets locks is.rising written, inl (named-again state.lines state.targets is.locks, refl))) in
+    let agreed : Agrees (odd_lock header locks) (reads_present header requirements locks) (Ok state) =
+    subst (λ (o : Option (List ℕ)). Agrees o (reads_present header requirements locks) (Ok state)) (sym odd) behind in
+    (Ok state, inl (refl, agreed), fit-again state state.targets is.locks is.digest)
 
-pub opens-again : ReadsVersions → ReadsLocks → (history : HistoryParts) (saved : Saved) (is : IsSaved history saved) → AllByRecursion IsState history.past.states → IsEnvironment is.state.environment
-    → is_utf8 saved.lock ≡ true → AreWritten (header_for is.state history.past.cursor (length history.changes) saved.requirements saved.lock) history.changes
-    → Opens saved.requirements saved.lock saved.journal (Ok history)
-opens-again versions locks history saved is lawful environment utf8 written =
+-- ---- the header
+
+targets-lawful : (targets : List Target) (locks : LockTexts) → AllZip IsWrittenLock targets locks → AllByRecursion IsLawfulTarget targets → AllByRecursion IsTarget (targets_for targets locks)
+targets-lawful [] locks written lawful = tt
+targets-lawful (t ∷ targets) [] written lawful = absurd written
+targets-lawful (t ∷ targets) (l ∷ locks) written lawful =
+    (record { name = lawful.0.name; environment = lawful.0.environment; lock = sha256-digest l.1 }, targets-lawful targets locks written.1 lawful.1)
+
+targets-rise : (targets : List Target) (locks : LockTexts) → AllZip IsWrittenLock targets locks → targets ≢ [] → rises (names targets) ≡ true → are_targets (targets_for targets locks) ≡ true
+targets-rise [] locks written some rise = absurd (some refl)
+targets-rise (t ∷ targets) [] written some rise = absurd written
+targets-rise (t ∷ targets) (l ∷ locks) written some rise = ap rises (names-for (t ∷ targets) (l ∷ locks) written) ∙ rise
+
+name-lawful : (targets : List Target) (name : List ℕ) → AllByRecursion IsLawfulTarget targets → Contains (names targets) name → is_target_name name ≡ true
+name-lawful [] name lawful there = absurd (Contains-nil name there)
+name-lawful (t ∷ targets) name lawful there = elim (Contains-cons_cases t.name (names targets) name there) [
+  | inl same ↦ subst (λ (n : List ℕ). is_target_name n ≡ true) same lawful.0.name
+  | inr more ↦ name-lawful targets name lawful.1 more
+]
+
+pub opens-again : ReadsVersions → (history : HistoryParts) (saved : Saved) (is : IsSaved history saved) → AllByRecursion IsState history.past.states → AllByRecursion IsLawfulTarget is.state.targets
+    → AllZip IsWrittenLock is.state.targets saved.locks.entries → AreWritten (header_for is.state history.past.cursor (length history.changes) saved.requirements saved.locks.entries) history.changes
+    → Opens saved.requirements saved.locks.entries saved.journal (Ok history)
+opens-again versions history saved is lawful targets files written =
     let past = history.past in
     let changes = history.changes in
-    let header = header_for is.state past.cursor (length changes) saved.requirements saved.lock in
+    let locks = saved.locks.entries in
+    let header = header_for is.state past.cursor (length changes) saved.requirements locks in
     let rest = flat_map (λ c. line_of (step_data c)) changes in
     let state_lawful : IsState is.state = state-at past.states past.cursor is.state lawful is.state_is in
     let count = AreSteps-count past.states changes is.steps in
@@ -123,22 +150,28 @@ opens-again versions locks history saved is lawful environment utf8 written =
       version = refl;
       requirements = sha256-digest saved.requirements;
       within = omega (arith, count, within);
-      targets = (record { environment = environment; lock = sha256-digest saved.lock }, tt);
+      targets = targets-lawful is.state.targets locks files targets;
+      rising = targets-rise is.state.targets locks files state_lawful.some state_lawful.rising;
     } in
     let begins : BeginsWith saved.journal (header, rest) = subst (λ journal. BeginsWith journal (header, rest)) (sym is.journal) (begins-again header rest written.header_line header_is) in
-    let present = present-again locks is.state past.cursor (length changes) saved.requirements saved.lock state_lawful is.requirements utf8 is.lock in
-    let read = changes-read versions header (record { version = refl; known = refl }) past.states changes is.steps lawful in
+    let present = present-again is.state past.cursor (length changes) saved.requirements locks state_lawful is.requirements files in
+    let knows : Knows header (names is.state.targets) = record {
+      version = refl;
+      lawful = λ name there. name-lawful is.state.targets name targets there;
+      known = λ name there. name-known is.state.targets locks name files there;
+    } in
+    let read = changes-read versions header past.states changes is.steps lawful (all-known header past.states changes past.cursor is.state is.steps is.state_is knows) in
     let steps = steps-again header 2 changes written.step_lines read in
-    let only : IsOnlyTarget header (target_for is.state saved.lock) = record { alone = refl; unnamed = refl } in
     let walked = past-again past changes is.state is.steps lawful is.state_is in
-    inl ((header, rest), begins, inl (target_for is.state saved.lock, only, (Ok is.state, present, (Ok changes, steps, (Ok past, walked, refl)))))
+    inl ((header, rest), begins, (Ok is.state, present, (Ok changes, steps, (Ok past, walked, refl))))
 
 -- a saved history opens again, and as nothing else
-pub opens-as : AChangeLeadsToOneState → ReadsVersions → ReadsLocks → (history : HistoryParts) (saved : Saved) (is : IsSaved history saved) → AllByRecursion IsState history.past.states → IsEnvironment is.state.environment → is_utf8 saved.lock ≡ true
-    → AreWritten (header_for is.state history.past.cursor (length history.changes) saved.requirements saved.lock) history.changes → OpensAs history saved
-opens-as one versions locks history saved is lawful environment utf8 written =
-    let opens = opens-again versions locks history saved is lawful environment utf8 written in
+pub opens-as : AChangeLeadsToOneState → ReadsVersions → (history : HistoryParts) (saved : Saved) (is : IsSaved history saved) → AllByRecursion IsState history.past.states → AllByRecursion IsLawfulTarget is.state.targets
+    → AllZip IsWrittenLock is.state.targets saved.locks.entries → AreWritten (header_for is.state history.past.cursor (length history.changes) saved.requirements saved.locks.entries) history.changes
+    → OpensAs history saved
+opens-as one versions history saved is lawful targets files written =
+    let opens = opens-again versions history saved is lawful targets files written in
     record {
       opens = opens;
-      alone = λ answer other. opens-once one saved.requirements saved.lock saved.journal answer (Ok history) other opens;
+      alone = λ answer other. opens-once one saved.requirements saved.locks.entries saved.journal answer (Ok history) other opens;
     }

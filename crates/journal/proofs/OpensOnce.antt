@@ -1,12 +1,13 @@
--- Three byte strings stand for one history, or have one first fault.
-use Rattle.std.proofs.Common.{◌≡◌, ℕ, zero, suc, ◌+◌, List, [], ◌∷◌, ◌++◌, drop, reverse, take, Option, Some, Result, Ok, Err, sym, ap, subst, ◌∙◌, inl, inr}
+-- Files stand for one history, or have one first fault.
+use Rattle.std.proofs.Common.{◌≡◌, ℕ, zero, suc, ◌+◌, List, [], ◌∷◌, ◌++◌, drop, reverse, take, Option, Some, None, Result, Ok, Err, sym, ap, subst, ◌∙◌, inl, inr}
 use Rattle.pep508.specs.Requirement.{file_of}
 use Rattle.pylock.specs.Reading.{lock_in_text}
 use Rattle.states.specs.Changes.{ChangeParts, Leads, inverse}
 use Rattle.states.specs.Laws.{AChangeLeadsToOneState}
-use Rattle.journal.specs.Values.{State, Refusal}
+use Rattle.journal.specs.Values.{State, Target, Refusal}
 use Rattle.journal.specs.Format.Lines.{cut_line, header_of_line, step_of_line}
-use Rattle.journal.specs.Opening.{Asks, BeginsWith, Finds, IsAnswer, IsOnlyTarget, GoesOn, Opens, PastOf, Present, PresentParts, StatesBefore, StatesBehind, StepAt, StepLines, Then}
+use Rattle.journal.specs.Locks.{LockTexts, odd_lock}
+use Rattle.journal.specs.Opening.{Agrees, Asks, BeginsWith, Finds, Fit, IsAnswer, IsReadTarget, GoesOn, Opens, PastOf, Present, PresentParts, StatesBefore, StatesBehind, StepAt, StepLines, TargetsRead, Then}
 use Rattle.journal.specs.declared.format.header.Header.{Header}
 use Rattle.journal.specs.declared.format.header.HeaderTarget.{HeaderTarget}
 
@@ -62,18 +63,36 @@ module _ {X E : Type 0} (bytes : List ℕ) (reading : List ℕ → Result X E) w
 begins-alone : (journal : List ℕ) → IsAlone (BeginsWith journal)
 begins-alone journal x y p q = one-line journal header_of_line x y p.line q.line p.cut q.cut p.header q.header
 
-only-alone : (header : Header) → IsAlone (IsOnlyTarget header)
-only-alone header x y p q = let same : x ∷ [] ≡ y ∷ [] = sym p.alone ∙ q.alone in cc
-
 step-alone : (header : Header) (bytes : List ℕ) → IsAlone (StepAt header bytes)
 step-alone header bytes x y p q = one-line bytes (step_of_line header) x y p.line q.line p.cut q.cut p.is_step.reads q.is_step.reads
 
-parts-once : (header : Header) (target : HeaderTarget) (requirements lock : List ℕ) → IsOnce (PresentParts header target requirements lock)
-parts-once header target requirements lock =
-    asks-once _ _ _ (asks-once _ _ _ (finds-once _ _ _ (read-alone (file_of requirements)) (λ lines. finds-once _ _ _ (read-alone (lock_in_text lock)) (λ locked. asks-once _ _ _ (gives-once _)))))
+agrees-once : {A : Type 0} (odd : Option (List ℕ)) (go_on : Result A Refusal → Type 0) → IsOnce go_on → IsOnce (Agrees odd go_on)
+agrees-once None go_on on a b p q = on a b p q
+agrees-once (Some name) go_on on a b p q = p ∙ sym q
 
-present-once : (header : Header) (target : HeaderTarget) (requirements lock : List ℕ) → IsOnce (Present header target requirements lock)
-present-once header target requirements lock = then-once _ _ (parts-once header target requirements lock) (λ state. asks-once _ _ _ (gives-once state))
+read-target-alone : (locks : LockTexts) (given : HeaderTarget) → IsAlone (IsReadTarget locks given)
+read-target-alone locks given x y p q =
+    let texts : p.text ≡ q.text = let same : Some p.text ≡ Some q.text = sym p.there ∙ q.there in cc in
+    let locked : x.lock ≡ y.lock = read-alone (lock_in_text q.text) x.lock y.lock (subst (λ (t : List ℕ). lock_in_text t ≡ Ok x.lock) texts p.reads) q.reads in
+    let names : x.name ≡ y.name = p.name ∙ sym q.name in
+    let environments : x.environment ≡ y.environment = p.environment ∙ sym q.environment in
+    λ i. record { name = names i; environment = environments i; lock = locked i }
+
+targets-once : (locks : LockTexts) (targets : List HeaderTarget) → IsOnce (TargetsRead locks targets)
+targets-once locks [] = gives-once []
+targets-once locks (given ∷ others) = finds-once _ _ _ (read-target-alone locks given) (λ target. then-once _ _ (targets-once locks others) (λ targets. gives-once (target ∷ targets)))
+
+parts-once : (header : Header) (requirements : List ℕ) (locks : LockTexts) → IsOnce (PresentParts header requirements locks)
+parts-once header requirements locks =
+    asks-once _ _ _ (agrees-once (odd_lock header locks) _
+    (finds-once _ _ _ (read-alone (file_of requirements)) (λ lines. then-once _ _ (targets-once locks header.targets) (λ targets. asks-once _ _ _ (gives-once _)))))
+
+fit-once : (state : State) (targets : List Target) (go_on : Result State Refusal → Type 0) → IsOnce go_on → IsOnce (Fit state targets go_on)
+fit-once state [] go_on on = on
+fit-once state (target ∷ targets) go_on on = asks-once _ _ _ (fit-once state targets go_on on)
+
+present-once : (header : Header) (requirements : List ℕ) (locks : LockTexts) → IsOnce (Present header requirements locks)
+present-once header requirements locks = then-once _ _ (parts-once header requirements locks) (λ state. fit-once state state.targets _ (gives-once state))
 
 -- ---- steps and states
 
@@ -97,11 +116,10 @@ module _ (one : AChangeLeadsToOneState) where
   past-once cursor changes state =
       then-once _ _ (before-once (reverse (take cursor changes)) state) (λ before. then-once _ _ (behind-once (cursor + 2) (drop cursor changes) state) (λ behind. gives-once _))
 
-  -- three byte strings stand for one history, or have one first fault
-  pub opens-once : (requirements lock journal : List ℕ) → IsOnce (Opens requirements lock journal)
-  opens-once requirements lock journal =
+  -- files stand for one history, or have one first fault
+  pub opens-once : (requirements : List ℕ) (locks : LockTexts) (journal : List ℕ) → IsOnce (Opens requirements locks journal)
+  opens-once requirements locks journal =
       finds-once _ _ _ (begins-alone journal)
-      (λ begin. finds-once _ _ _ (only-alone begin.0)
-      (λ target. then-once _ _ (present-once begin.0 target requirements lock)
+      (λ begin. then-once _ _ (present-once begin.0 requirements locks)
       (λ state. then-once _ _ (steps-once begin.0 begin.0.steps 2 begin.1)
-      (λ changes. then-once _ _ (past-once begin.0.cursor changes state) (λ past. gives-once _)))))
+      (λ changes. then-once _ _ (past-once begin.0.cursor changes state) (λ past. gives-once _))))

@@ -4,7 +4,7 @@ use Rattle.std.specs.Prelude.{reverse}
 use Rattle.std.proofs.Math.ListN.{length-drop}
 use Rattle.std.proofs.lemmas.List.{append-nil, drop_all, drop_more, get_or-reverse, length-reverse, reverse-append}
 use Rattle.states.specs.Changes.{ChangeParts, Leads, inverse}
-use Rattle.edits.specs.declared.refusal.Refusal.TheVariants.{JournalBroken}
+use Rattle.states.specs.declared.refusal.Refusal.TheVariants.{JournalBroken}
 use Rattle.journal.specs.Values.{State, Refusal, OutOfMemory}
 use Rattle.journal.specs.Opening.{StatesBefore}
 use Rattle.journal.proofs.StateFacts.{last_or, last_or-more}

@@ -3,7 +3,7 @@ use Rattle.std.proofs.Common.{◌≡◌, ◌⊎◌, ◌==◌, true, false, lengt
 use Rattle.std.proofs.lemmas.Bool.Decides.{nat_tests}
 use Rattle.std.proofs.lemmas.List.{append-nil}
 use Rattle.states.specs.Changes.{ChangeParts}
-use Rattle.edits.specs.declared.refusal.Refusal.TheVariants.{JournalBroken}
+use Rattle.states.specs.declared.refusal.Refusal.TheVariants.{JournalBroken}
 use Rattle.journal.specs.Values.{Refusal, OutOfMemory}
 use Rattle.journal.specs.declared.format.header.Header.{Header}
 use Rattle.journal.specs.Opening.{IsAnswer, GoesOn, StepAt, StepLines}

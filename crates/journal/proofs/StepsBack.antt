@@ -18,6 +18,7 @@ use Rattle.serde_json.specs.Data.{Data, string}
 use Rattle.serde_json.specs.Find.{as_null}
 use Rattle.serde_json.specs.View.{items_of}
 use Rattle.states.specs.Changes.{ChangeParts}
+use Rattle.states.specs.TargetNames.{is_target_name}
 use Rattle.states.specs.declared.change.parts.DigestChange.{DigestChange}
 use Rattle.states.specs.declared.change.parts.EntryChange.{EntryChange}
 use Rattle.states.specs.declared.change.parts.Splice.{Splice}
@@ -26,7 +27,7 @@ use Rattle.journal.specs.declared.format.header.Header.{Header}
 use Rattle.journal.specs.declared.format.header.JournalVersion.TheVariants.{Two}
 use Rattle.journal.specs.Format.Entries.{digest_in, entry_in, file_in, name_in, version_in}
 use Rattle.journal.specs.Format.Forms.{each, or_null, text_of}
-use Rattle.journal.specs.Format.Lines.{digests_in, entry_change_in, has_target, splice_in, step_in, targeted}
+use Rattle.journal.specs.Format.Lines.{digests_in, entry_change_in, has_target, splice_in, step_in, target_name_in, targeted}
 use Rattle.journal.specs.Format.Written.{digest_data, digests_data, entry_change_data, entry_data, file_data, nullable, splice_data, step_data}
 
 same_bytes : (t : List ℕ) → bytes_eq t t ≡ true
@@ -57,6 +58,10 @@ texts-back texts = list-back string text_of texts (all-back string text_of texts
 name-back : (name : List ℕ) → is_normal name ≡ true → name_in (string name) ≡ Ok name
 unfolding name_in
 name-back name normal = rw normal refl
+
+pub target_name-back : (name : List ℕ) → is_target_name name ≡ true → target_name_in (string name) ≡ Ok name
+unfolding target_name_in
+target_name-back name is = rw is refl
 
 names-back : (own : List ℕ) (names : List (List ℕ)) → list_all (is_other own) names ≡ true → Back string name_in names
 names-back own [] h = tt
@@ -111,27 +116,25 @@ entry-on-back : ReadsVersions → (name : List ℕ) (o : Option EntryParts) → 
 entry-on-back reads name None h = tt
 entry-on-back reads name (Some p) h = subst (λ n. entry_in n (entry_data p) ≡ Ok p) h.1 (entry-back reads p h.0)
 
--- the entries of a change are lawful, and on its name, which is a normal one
-pub record IsLawfulChange (c : EntryChange) : Type 0 where
+-- the entries of a change are lawful, and on its name, which is a normal one; its target is the header's
+pub record IsLawfulChange (header : Header) (c : EntryChange) : Type 0 where
+  pub target : is_target_name c.target ≡ true
+  pub known : has_target header c.target ≡ true
   pub name : is_normal c.name ≡ true
   pub old : IsEntryOn c.name c.old
   pub new : IsEntryOn c.name c.new
 
--- the steps behind a header are in the form that is written, of version 2, and it has the target whose name is empty
-pub record ReadsWritten (header : Header) : Type 0 where
-  pub version : header.version ≡ Two
-  pub known : has_target header [] ≡ true
+module _ (reads : ReadsVersions) (header : Header) (version : header.version ≡ Two) where
+  entry_change-back : (c : EntryChange) → IsLawfulChange header c → entry_change_in header (entry_change_data c) ≡ Ok c
+  unfolding entry_change_in entry_change_data targeted
+  entry_change-back c h =
+      let old = nullable-back entry_data (entry_in c.name) c.old entry-there (entry-on-back reads c.name c.old h.old) in
+      let new = nullable-back entry_data (entry_in c.name) c.new entry-there (entry-on-back reads c.name c.new h.new) in
+      rw (version, target_name-back c.target h.target, h.known, name-back c.name h.name, old, new) refl
 
-entry_change-back : ReadsVersions → (header : Header) → ReadsWritten header → (c : EntryChange) → IsLawfulChange c → entry_change_in header (entry_change_data c) ≡ Ok c
-unfolding entry_change_in entry_change_data targeted
-entry_change-back reads header written c h =
-    let old = nullable-back entry_data (entry_in c.name) c.old entry-there (entry-on-back reads c.name c.old h.old) in
-    let new = nullable-back entry_data (entry_in c.name) c.new entry-there (entry-on-back reads c.name c.new h.new) in
-    rw (written.version, written.known, name-back c.name h.name, old, new) refl
-
-changes-back : ReadsVersions → (header : Header) → ReadsWritten header → (cs : List EntryChange) → AllByRecursion IsLawfulChange cs → Back entry_change_data (entry_change_in header) cs
-changes-back reads header written [] h = tt
-changes-back reads header written (c ∷ cs) h = (entry_change-back reads header written c h.0, changes-back reads header written cs h.1)
+  changes-back : (cs : List EntryChange) → AllByRecursion (IsLawfulChange header) cs → Back entry_change_data (entry_change_in header) cs
+  changes-back [] h = tt
+  changes-back (c ∷ cs) h = (entry_change-back c h.0, changes-back cs h.1)
 
 splice-back : (s : Splice) → splice_in (splice_data s) ≡ Ok s
 unfolding splice_in splice_data
@@ -160,10 +163,10 @@ digests-back None h = tt
 digests-back (Some d) h = rw (digest-back d.old h.0, digest-back d.new h.1) refl
 
 -- a step is read as the change
-pub step-back : ReadsVersions → (header : Header) → ReadsWritten header → (c : ChangeParts) → AllByRecursion IsLawfulChange c.entries → AreDigests c.digests → step_in header (step_data c) ≡ Ok c
+pub step-back : ReadsVersions → (header : Header) → header.version ≡ Two → (c : ChangeParts) → AllByRecursion (IsLawfulChange header) c.entries → AreDigests c.digests → step_in header (step_data c) ≡ Ok c
 unfolding step_in step_data
-step-back reads header written c entries digests =
-    let changes = list-back entry_change_data (entry_change_in header) c.entries (changes-back reads header written c.entries entries) in
+step-back reads header version c entries digests =
+    let changes = list-back entry_change_data (entry_change_in header) c.entries (changes-back reads header version c.entries entries) in
     let splices = list-back splice_data splice_in c.splices (all-back splice_data splice_in c.splices splice-back) in
     let both = nullable-back digests_data digests_in c.digests digests-there (digests-back c.digests digests) in
     rw (changes, splices, both) refl

@@ -4,7 +4,7 @@ use Rattle.std.specs.Prelude.{reverse}
 use Rattle.std.specs.List.{AllByRecursion}
 use Rattle.std.proofs.lemmas.List.{reverse-append, reverse-reverse, take-append-drop}
 use Rattle.states.specs.Changes.{After, ChangeParts, IsMinimal, inverse}
-use Rattle.edits.specs.declared.refusal.Refusal.TheVariants.{JournalBroken}
+use Rattle.states.specs.declared.refusal.Refusal.TheVariants.{JournalBroken}
 use Rattle.states.proofs.ChangeFacts.{After-inverse, inverse-inverse}
 use Rattle.journal.specs.Values.{State, Refusal}
 use Rattle.journal.specs.Changes.{AreSteps, IsChange}

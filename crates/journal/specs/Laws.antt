@@ -8,6 +8,7 @@ use Rattle.journal.specs.Changes.{HistoryParts}
 use Rattle.journal.specs.Commands.{Asked, Editing, Undoing, Redoing}
 use Rattle.journal.specs.Histories.{RunWithChanges}
 use Rattle.journal.specs.Steps.{Run, Step}
+use Rattle.journal.specs.Locks.{LockTexts}
 use Rattle.journal.specs.Opening.{Opens}
 
 -- an undo after an accepted edit gives back the present state before the edit, and its cursor
@@ -26,6 +27,7 @@ AnEditCanBeUndone = (before edited after : Past) (edit : Edit) (snapshot : Snaps
 abbrev pub ARunWithChangesIsARun : Type 0
 ARunWithChangesIsARun = (old new : HistoryParts) (asked : List Asked) (replies : List Reply) → RunWithChanges old asked replies new → Run old.past asked replies new.past
 
--- three byte strings stand for one history at most, or have one first fault
+-- a requirements file, lock files and a journal stand for one history at most, or have one first fault
 abbrev pub FilesStandForOneHistory : Type 0
-FilesStandForOneHistory = (requirements lock journal : List ℕ) (one another : Result HistoryParts Refusal) → Opens requirements lock journal one → Opens requirements lock journal another → one ≡ another
+FilesStandForOneHistory =
+    (requirements : List ℕ) (locks : LockTexts) (journal : List ℕ) (one another : Result HistoryParts Refusal) → Opens requirements locks journal one → Opens requirements locks journal another → one ≡ another

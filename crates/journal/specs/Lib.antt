@@ -8,6 +8,8 @@ pub mod Histories
 pub mod Laws
 pub mod Neighbours
 pub mod Format
+pub mod Locks
 pub mod Saving
+pub mod LocksWritten
 pub mod Opening
 pub mod Tied

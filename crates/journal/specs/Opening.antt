@@ -1,17 +1,20 @@
--- What three byte strings stand for: a history, or the first of their faults. All of it is reqlock's own rule.
-use Rattle.std.specs.Prelude.{◌≡◌, ◌⊎◌, ℕ, zero, suc, ◌+◌, List, [], ◌∷◌, ◌++◌, drop, length, reverse, take, Some, ⊤, Result, Ok, Err}
+-- What a requirements file, lock files and a journal stand for: a history, or the first of their faults. All of it is reqlock's own rule.
+use Rattle.std.specs.Prelude.{◌≡◌, ◌⊎◌, ℕ, zero, suc, ◌+◌, List, [], ◌∷◌, ◌++◌, drop, length, map, reverse, take, Option, Some, None, ⊤, Result, Ok, Err}
+use Rattle.std.specs.List.{AllByRecursion}
 use Rattle.markers.specs.Environment.{marker_text}
 use Rattle.pep508.specs.Requirement.{file_of}
 use Rattle.pylock.specs.Reading.{lock_in_text}
 use Rattle.sha2.specs.Sha256.{sha256}
 use Rattle.states.specs.Changes.{ChangeParts, Leads, inverse}
-use Rattle.states.specs.State.{IsState}
-use Rattle.edits.specs.declared.refusal.Refusal.TheVariants.{FilesDisagree, JournalBroken}
-use Rattle.edits.specs.declared.refusal.SavedFile.TheVariants.{Lock, Requirements}
-use Rattle.journal.specs.Values.{State, Refusal, OutOfMemory}
+use Rattle.states.specs.State.{Fits}
+use Rattle.states.specs.StateParts.{digest_of}
+use Rattle.states.specs.declared.refusal.Refusal.TheVariants.{FilesDisagree, JournalBroken}
+use Rattle.states.specs.declared.refusal.SavedFile.TheVariants.{Lock, Requirements}
+use Rattle.journal.specs.Values.{State, Target, Refusal, OutOfMemory}
 use Rattle.journal.specs.Past.{Past}
 use Rattle.journal.specs.Changes.{HistoryParts, parts_of}
 use Rattle.journal.specs.Format.Lines.{IsStepLine, cut_line, header_of_line}
+use Rattle.journal.specs.Locks.{LockTexts, lock_at, odd_lock}
 use Rattle.journal.specs.declared.format.header.Header.{Header}
 use Rattle.journal.specs.declared.format.header.HeaderTarget.{HeaderTarget}
 
@@ -56,25 +59,52 @@ pub record BeginsWith (journal : List ℕ) (begin : Header × List ℕ) : Type 0
   pub cut : cut_line journal ≡ Some (line, begin.1)
   pub header : header_of_line line ≡ Ok begin.0
 
--- the header has one target, whose name is empty
-pub record IsOnlyTarget (header : Header) (target : HeaderTarget) : Type 0 where
-  pub alone : header.targets ≡ target ∷ []
-  pub unnamed : target.name ≡ []
+-- no lock file is odd, and the answer goes on; or the odd one is told
+abbrev pub Agrees : {A : Type 0} → Option (List ℕ) → (Result A Refusal → Type 0) → Result A Refusal → Type 0
+Agrees None go_on answer = go_on answer
+Agrees (Some name) go_on answer = answer ≡ Err (FilesDisagree (Lock name))
 
--- the parts of the present state: the digests of both files agree, both files read, and the lock names the target's environment
-abbrev pub PresentParts : Header → HeaderTarget → List ℕ → List ℕ → Result State Refusal → Type 0
-PresentParts header target requirements lock =
+-- a target of the header, with the lock that its lock file is read as
+pub record IsReadTarget (locks : LockTexts) (given : HeaderTarget) (target : Target) : Type 0 where
+  pub name : target.name ≡ given.name
+  pub environment : target.environment ≡ given.environment
+  pub text : List ℕ
+  pub there : lock_at locks given.name ≡ Some text
+  pub reads : lock_in_text text ≡ Ok target.lock
+
+-- each target of the header with its lock
+abbrev pub TargetsRead : LockTexts → List HeaderTarget → Result (List Target) Refusal → Type 0
+TargetsRead locks [] = IsAnswer []
+TargetsRead locks (given ∷ others) =
+    Finds (IsReadTarget locks given) (FilesDisagree (Lock given.name)) (λ target.
+    Then (TargetsRead locks others) (λ targets.
+    IsAnswer (target ∷ targets)))
+
+-- the lock names the target's environment
+abbrev pub NamesEnvironment : Target → Type 0
+NamesEnvironment target = target.lock.environment ≡ marker_text target.environment
+
+-- the parts of the present state: the digests of all files agree, all files read, and each lock names its target's environment
+abbrev pub PresentParts : Header → List ℕ → LockTexts → Result State Refusal → Type 0
+PresentParts header requirements locks =
     Asks (header.requirements ≡ sha256 requirements) (FilesDisagree Requirements) (
-    Asks (target.lock ≡ sha256 lock) (FilesDisagree Lock) (
+    Agrees (odd_lock header locks) (
     Finds (λ lines. file_of requirements ≡ Ok lines) (FilesDisagree Requirements) (λ lines.
-    Finds (λ locked. lock_in_text lock ≡ Ok locked) (FilesDisagree Lock) (λ locked.
-    Asks (locked.environment ≡ marker_text target.environment) (JournalBroken 1) (
-    IsAnswer (record { lines = lines; environment = target.environment; lock = locked }))))))
+    Then (TargetsRead locks header.targets) (λ targets.
+    Asks (AllByRecursion NamesEnvironment targets) (JournalBroken 1) (
+    IsAnswer (record { lines = lines; targets = targets }))))))
+
+-- the lock of each of these targets is one for the lines of the state, with the digest of its first lock
+abbrev pub Fit : State → List Target → (Result State Refusal → Type 0) → Result State Refusal → Type 0
+Fit state [] go_on = go_on
+Fit state (target ∷ targets) go_on =
+    Asks (Fits state.lines (digest_of state.targets) target) (FilesDisagree (Lock target.name)) (
+    Fit state targets go_on)
 
 -- the present state, for which all holds that holds of every state
-abbrev pub Present : Header → HeaderTarget → List ℕ → List ℕ → Result State Refusal → Type 0
-Present header target requirements lock =
-    Then (PresentParts header target requirements lock) (λ state. Asks (IsState state) (FilesDisagree Lock) (IsAnswer state))
+abbrev pub Present : Header → List ℕ → LockTexts → Result State Refusal → Type 0
+Present header requirements locks =
+    Then (PresentParts header requirements locks) (λ state. Fit state state.targets (IsAnswer state))
 
 -- ---- the steps
 
@@ -117,15 +147,19 @@ PastOf cursor changes state =
     Then (StatesBehind (cursor + 2) (drop cursor changes) state) (λ behind.
     IsAnswer (record { states = before ++ state ∷ behind; cursor = cursor })))
 
--- what three byte strings stand for, or the first of their faults. The history's changes are the steps that the journal's lines are
-abbrev pub Opens : List ℕ → List ℕ → List ℕ → Result HistoryParts Refusal → Type 0
-Opens requirements lock journal =
+-- what a requirements file, lock files and a journal stand for, or the first of their faults. The history's changes are the steps
+-- that the journal's lines are
+abbrev pub Opens : List ℕ → LockTexts → List ℕ → Result HistoryParts Refusal → Type 0
+Opens requirements locks journal =
     Finds (BeginsWith journal) (JournalBroken 1) (λ begin.
-    Finds (IsOnlyTarget begin.0) (JournalBroken 1) (λ target.
-    Then (Present begin.0 target requirements lock) (λ state.
+    Then (Present begin.0 requirements locks) (λ state.
     Then (StepLines begin.0 begin.0.steps 2 begin.1) (λ changes.
     Then (PastOf begin.0.cursor changes state) (λ past.
-    IsAnswer (parts_of past changes))))))
+    IsAnswer (parts_of past changes)))))
+
+-- the names of a journal's targets, or that it doesn't begin with a header
+abbrev pub NamesTargets : List ℕ → Result (List (List ℕ)) Refusal → Type 0
+NamesTargets journal = Finds (BeginsWith journal) (JournalBroken 1) (λ begin. IsAnswer (map (λ t. t.name) begin.0.targets))
 
 -- what a call that takes memory answers: what the relation asks for, or that there was no memory
 abbrev pub Tells : {A : Type 0} → (Result A Refusal → Type 0) → Result A Refusal → Type 0

@@ -1,7 +1,6 @@
 -- What commands do to a history, over whole states. All of it is reqlock's own rule.
 use Rattle.std.specs.Prelude.{◌≡◌, ◌≢◌, ◌⊎◌, List, [], ◌∷◌, Result, Ok, Err, IsSomeAnd}
-use Rattle.journal.specs.Values.{State, Edit, Snapshot, ReqFile, Refusal, NothingChanges, NothingToUndo, NothingToRedo, OutOfMemory}
-use Rattle.markers.specs.Environment.{Texts}
+use Rattle.journal.specs.Values.{State, Targets, Edit, Snapshot, ReqFile, Refusal, NothingChanges, NothingToUndo, NothingToRedo, OutOfMemory}
 use Rattle.edits.specs.Edits.{InitResult, EditResult}
 use Rattle.journal.specs.declared.commands.Reply.{Reply}
 use Rattle.journal.specs.declared.commands.Reply.TheVariants.{Done, Same, Refused}
@@ -39,6 +38,6 @@ Run old (asked ∷ more) (reply ∷ replies) new = (next : Past) × Step old ask
 Run old [] (reply ∷ replies) new = ⊥
 Run old (asked ∷ more) [] new = ⊥
 
--- the history begins with the state of these lines in the environment
-abbrev pub IsStart : ReqFile → Texts → Snapshot → Past → Type 0
-IsStart lines environment snapshot past = (state : State) × InitResult lines environment snapshot (Ok state) × (past ≡ starts state)
+-- the history begins with the state of these lines for the targets
+abbrev pub IsStart : ReqFile → Targets → Snapshot → Past → Type 0
+IsStart lines targets snapshot past = (state : State) × InitResult lines targets snapshot (Ok state) × (past ≡ starts state)

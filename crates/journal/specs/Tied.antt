@@ -1,5 +1,5 @@
 -- What serves the proofs alone. Tied to `Opens` by the contracts of `Session::open` and `Session::save`; need not be read.
-use Rattle.std.specs.Prelude.{◌≡◌, ◌⊎◌, true, List, Some, ⊤, Result, Ok, Err}
+use Rattle.std.specs.Prelude.{◌≡◌, ◌⊎◌, true, ℕ, List, Option, Some, None, IsSomeAnd, ⊤, Result, Ok, Err}
 use Rattle.std.specs.List.{AllByRecursion}
 use Rattle.std.specs.Str.{is_utf8}
 use Rattle.serde_json.specs.Data.{Data}
@@ -8,6 +8,8 @@ use Rattle.serde_json.specs.Written.{compact_text}
 use Rattle.states.specs.Changes.{ChangeParts}
 use Rattle.journal.specs.Format.Written.{header_data, step_data}
 use Rattle.journal.specs.declared.format.header.Header.{Header}
+use Rattle.states.specs.declared.refusal.Refusal.TheVariants.{FilesDisagree}
+use Rattle.states.specs.declared.refusal.SavedFile.TheVariants.{Lock}
 use Rattle.journal.specs.Values.{Refusal, OutOfMemory}
 
 -- what a call answers that walks along what a relation asks for and keeps nothing: that there is such a value; or that there was
@@ -15,6 +17,11 @@ use Rattle.journal.specs.Values.{Refusal, OutOfMemory}
 abbrev pub Walks : {A : Type 0} → (Result A Refusal → Type 0) → Result ⊤ Refusal → Type 0
 Walks {A} Is (Ok u) = (value : A) × Is (Ok value)
 Walks Is (Err refusal) = (refusal ≡ OutOfMemory) ⊎ Is (Err refusal)
+
+-- what a call answers that looks for an odd lock file: that there is none; or that there was no memory; or the odd one
+abbrev pub IsClear : Option (List ℕ) → Result ⊤ Refusal → Type 0
+IsClear odd (Ok u) = odd ≡ None
+IsClear odd (Err refusal) = (refusal ≡ OutOfMemory) ⊎ IsSomeAnd odd (λ name. refusal ≡ FilesDisagree (Lock name))
 
 -- the compact text of a JSON value is text, and is read as the value
 pub record IsWritten (d : Data) : Type 0 where

@@ -24,7 +24,7 @@ pub fn a_run_with_changes_is_a_run()
     ensures law { ARunWithChangesIsARun }
 {}
 
-/// Three byte strings stand for one history at most, or have one first fault.
+/// A requirements file, lock files and a journal stand for one history at most, or have one first fault.
 pub fn files_stand_for_one_history()
     ensures law { FilesStandForOneHistory }
 {

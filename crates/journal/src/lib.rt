@@ -1,4 +1,4 @@
-//! The history of a requirements file and its lock: edits, undo and redo over whole states.
+//! The history of a requirements file and its locks: edits, undo and redo over whole states.
 //!
 //! A history is seen as the list of its states and a cursor, and each command is one step of it.
 //! Each lock in it is the best solution of its lines, by whatever resolver it was found.
@@ -6,7 +6,7 @@
 //! A session in which an edit is undone:
 //!
 //! ```rust
-//! let mut session = Session::init(alloc, lines, environment, index, &Learning)?;
+//! let mut session = Session::init(alloc, lines, targets, index, &Learning)?;
 //! let add = Edit::Add(Text::copy_of(alloc, "d  # new")?);
 //! let added = session.apply(alloc, &Command::Edit(add, index), &Learning);
 //! let undone = session.apply(alloc, &Command::Undo, &Learning);
@@ -28,12 +28,13 @@ mod whole;
 pub use crate::change_history::ChangeHistory;
 pub use crate::commands::{Command, Reply};
 pub use crate::history::History;
+pub use crate::opening::targets;
 pub use crate::running::{apply, run};
 pub use crate::saving::Saved;
 pub use crate::session::Session;
 pub use crate::whole::WholeHistory;
 pub use edits::{
     Change, Edit, Environment, Learning, Plain, Refusal, ReqFile, Resolver, SavedFile, Snapshot,
-    State,
+    State, Target, TargetName, Targets,
 };
 pub use lists::{Seq, Text};

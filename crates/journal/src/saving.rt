@@ -1,34 +1,43 @@
-// A history as three byte strings: a requirements file, its lock, and a journal.
+// A history as texts: a requirements file, a lock file for each target, and a journal.
 
-ghost use Rattle.std.specs.Prelude.{◌≡◌, ◌≤◌, ◌++◌, IfOk, OnOk, false, string_bytes};
+ghost use Rattle.std.specs.Prelude.{◌≡◌, ◌≤◌, ◌++◌, IfOk, Ok, OnOk, Some, false, map, string_bytes, true};
+ghost use Rattle.std.specs.BTreeMap.{insert_entry};
+ghost use Rattle.std.specs.Cmp.Lexicographic.{slice_cmp};
+ghost use Rattle.std.specs.List.{AllByRecursion};
+ghost use Rattle.std.specs.Ordering.{nat_cmp};
+ghost use Rattle.lists.specs.Rising.{rises};
+ghost use Rattle.pylock.specs.Reading.{lock_in_text};
+ghost use Rattle.pylock.specs.Tables.{table_of};
+ghost use Rattle.toml.specs.Parse.{parse_document};
 ghost use Rattle.serde_json.specs.Data.{depth};
 ghost use Rattle.serde_json.specs.Read.{max_depth};
 ghost use Rattle.serde_json.specs.View.{view};
 ghost use Rattle.serde_json.specs.Written.{has_float};
 ghost use Rattle.journal.specs.Format.Written.{header_data, journal_of, line_of, step_data};
 ghost use Rattle.journal.specs.Changes.{parts_of};
-ghost use Rattle.journal.specs.Saving.{IsSaved, OpensAs, header_for};
+ghost use Rattle.journal.specs.Saving.{IsSaved, OpensAs};
 ghost use Rattle.journal.specs.Tied.{AreWritten, IsWritten};
+ghost use Rattle.journal.specs.LocksWritten.{AreLocked, IsLawfulTarget, IsPut};
 
 use crate::format::header::{Header, HeaderTarget, JournalVersion};
 use crate::format::writing::{header_value, step_value};
 use crate::history::History;
 use edits::laws::a_change_leads_to_one_state;
-use edits::{Change, State};
+use edits::{Change, Target, TargetName};
 use lists::{Seq, Text};
 use pep440::laws::a_canonical_text_is_read;
-use pylock::laws::a_table_is_that_of_its_lock;
 use serde_json::Value;
 use sha2::{Digest, Sha256};
 use std::alloc::{AllocError, Global};
+use std::collections::BTreeMap;
 
-/// A history as three byte strings: what the requirements file, the lock and the journal hold.
+/// A history as texts: what the requirements file, the lock file of each target and the journal hold.
 #[derive(Drop)]
 pub struct Saved {
     /// The requirements file: the lines of the present state.
     pub requirements: Text,
-    /// The lock of the present state (PEP 751).
-    pub lock: Text,
+    /// The lock of each target of the present state (PEP 751).
+    pub locks: BTreeMap<TargetName, Text>,
     /// The journal: a header and a change for each step, a line each.
     pub journal: Text,
 }
@@ -46,32 +55,62 @@ fn push_line(alloc: Global, lines: &mut String, value: &Value) -> Result<(), All
     lines.push_str("\n")
 }
 
-/// The header of a history with this present state, so many steps and these two files.
-fn header_of(
-    alloc: Global,
-    state: &State,
-    cursor: usize,
-    steps: usize,
-    requirements: &str,
-    lock: &str,
-) -> Result<Header, AllocError>
-    ensures { IfOk result
-        (λ header. header ≡ header_for state.now cursor steps requirements.now lock.now) }
+/// The lock files of targets, and the targets as a header has them.
+#[derive(Drop)]
+struct Locked {
+    locks: BTreeMap<TargetName, Text>,
+    targets: Seq<HeaderTarget>,
+}
+
+/// The lock file of the target.
+fn lock_text(alloc: Global, target: &Target) -> Result<Text, AllocError>
+    ensures table { IfOk result (λ text. parse_document text ≡ Some (table_of target.now.lock)) }
+    ensures reads_back { IfOk result (λ text. lock_in_text text ≡ Ok target.now.lock) }
 {
-    let environment = state.environment().clone()?;
-    let mut targets = Seq::new(alloc);
-    targets.push(HeaderTarget {
-        name: Text::new(alloc),
+    Ok(Text::from_string(target.lock.print(alloc)?))
+}
+
+/// Puts a lock file to the others, by the name of its target.
+fn put_lock(
+    locks: &mut BTreeMap<TargetName, Text>,
+    name: TargetName,
+    text: Text,
+) -> Result<(), AllocError>
+    ensures { OnOk result (locks.new.entries
+        ≡ insert_entry (slice_cmp nat_cmp) locks.old.entries name text) }
+{
+    locks.insert(name, text)?;
+    Ok(())
+}
+
+/// Puts the lock file of the target to the others, and the target to those of a header.
+fn put_target(alloc: Global, locked: &mut Locked, target: &Target) -> Result<(), AllocError>
+    ensures { OnOk result (IsPut target.now locked.old locked.new) }
+{
+    let text = lock_text(alloc, target)?;
+    let name = target.name.clone()?;
+    let environment = target.environment.clone()?;
+    locked.targets.push(HeaderTarget {
+        name,
         environment,
-        lock: Sha256::digest(lock.as_bytes()),
+        lock: Sha256::digest(text.as_str().as_bytes()),
     })?;
-    Ok(Header {
-        version: JournalVersion::Two,
-        cursor: cursor as u64,
-        requirements: Sha256::digest(requirements.as_bytes()),
-        steps: steps as u64,
-        targets,
-    })
+    put_lock(&mut locked.locks, target.name.clone()?, text)
+}
+
+/// The lock file of each target, and the targets as a header has them.
+fn locked_of(alloc: Global, targets: &[Target]) -> Result<Locked, AllocError>
+    requires rising { rises (map (λ t. t.name) targets.now) ≡ true }
+    ensures { IfOk result (AreLocked targets.now) }
+{
+    let mut locked = Locked {
+        locks: BTreeMap::new(alloc),
+        targets: Seq::new(alloc),
+    };
+    for place in 0..targets.len() {
+        put_target(alloc, &mut locked, &targets[place])?;
+    }
+    Ok(locked)
 }
 
 /// Puts the line of a header behind others.
@@ -108,7 +147,24 @@ fn journal_of<H: History>(alloc: Global, history: &H, header: &Header) -> Result
     Ok(lines)
 }
 
-/// The three byte strings of the history.
+/// What holds of a target anyway.
+fn is_lawful(target: &Target)
+    ensures { IsLawfulTarget target.now }
+{
+    target.name.is_lawful();
+    target.environment.is_lawful();
+}
+
+/// What holds of targets anyway.
+fn are_lawful(targets: &[Target])
+    ensures { AllByRecursion IsLawfulTarget targets.now }
+{
+    for place in 0..targets.len() {
+        is_lawful(&targets[place]);
+    }
+}
+
+/// The files of the history.
 pub(crate) fn files_of<H: History>(alloc: Global, history: &H) -> Result<Saved, AllocError>
     ensures saved { IfOk result (λ saved. IsSaved
         (parts_of (H.past history.now) (H.changes history.now)) saved) }
@@ -117,23 +173,23 @@ pub(crate) fn files_of<H: History>(alloc: Global, history: &H) -> Result<Saved, 
 {
     a_change_leads_to_one_state();
     a_canonical_text_is_read();
-    a_table_is_that_of_its_lock();
     let state = history.state();
-    state.environment().is_lawful();
+    state.is_lawful();
+    let given = state.targets();
+    are_lawful(given);
     let requirements = state.lines().bytes(alloc)?;
-    let lock = Text::from_string(state.lock().print(alloc)?);
-    let header = header_of(
-        alloc,
-        state,
-        history.cursor(),
-        history.steps(),
-        requirements.as_str(),
-        lock.as_str(),
-    )?;
+    let Locked { locks, targets } = locked_of(alloc, given)?;
+    let header = Header {
+        version: JournalVersion::Two,
+        cursor: history.cursor() as u64,
+        requirements: Sha256::digest(requirements.as_str().as_bytes()),
+        steps: history.steps() as u64,
+        targets,
+    };
     let journal = Text::from_string(journal_of(alloc, history, &header)?);
     Ok(Saved {
         requirements,
-        lock,
+        locks,
         journal,
     })
 }

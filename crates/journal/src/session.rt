@@ -17,12 +17,13 @@ use crate::commands::{Command, Reply};
 use crate::history::History;
 use crate::saving::{self, Saved};
 use crate::{opening, running};
-use edits::{Change, Environment, Refusal, ReqFile, Resolver, Snapshot, State};
+use edits::{Change, Refusal, ReqFile, Resolver, Snapshot, State, TargetName, Targets};
 use lists::Seq;
 use std::alloc::{AllocError, Global};
+use std::collections::BTreeMap;
 use std::marker::Model;
 
-/// A requirements file and its lock, with their history. The present state is kept, and the change of
+/// A requirements file and its locks, with their history. The present state is kept, and the change of
 /// each step; in a clause it is the whole past, and these changes.
 pub struct Session {
     history: ChangeHistory,
@@ -43,34 +44,37 @@ impl Model for Session {
 }
 
 impl Session {
-    /// Locks the lines in the environment, and begins a history with that state. The lock is the
-    /// best solution of their problem over the index, whatever the resolver.
+    /// Locks the lines for each of the targets, and begins a history with that state. Each lock is the
+    /// best solution of its own problem over the index, whatever the resolver.
     pub fn init<R: Resolver>(
         alloc: Global,
         lines: ReqFile,
-        environment: Environment,
+        targets: Targets,
         snapshot: &Snapshot,
         resolver: &R,
     ) -> Result<Session, Refusal>
-        ensures start { IfOk result
-            (λ session. IsStart lines environment snapshot.now session.past) }
+        ensures start { IfOk result (λ session. IsStart lines targets snapshot.now session.past) }
         ensures changes { IfOk result (λ session. session.changes ≡ []) }
         ensures refused { IfErr result (λ r. (r ≡ Refusal.OutOfMemory)
-            ⊎ InitResult lines environment snapshot.now (Err r)) }
+            ⊎ InitResult lines targets snapshot.now (Err r)) }
     {
-        let state = edits::init(alloc, lines, environment, snapshot, resolver)?;
+        let state = edits::init(alloc, lines, targets, snapshot, resolver)?;
         let history = ChangeHistory::new(alloc, state);
         Ok(Session { history })
     }
 
-    /// Opens the history that was saved as these three byte strings: a requirements file, a lock and a
-    /// journal. It is tested in this order, and the first fault is answered:
+    /// Opens the history that was saved as these files: a requirements file, lock files by the names of
+    /// their targets, and a journal. They are tested in this order, and the first fault is answered:
     ///
     /// - `JournalBroken(1)` where the journal doesn't begin with a header;
-    /// - `FilesDisagree` where a file has another digest than the header says, then where one doesn't
-    ///   read, the requirements first each time;
-    /// - `JournalBroken(1)` where the lock names another environment than the header;
-    /// - `FilesDisagree(Lock)` where the lock doesn't belong to the requirements;
+    /// - `FilesDisagree(Requirements)` where the requirements file has another digest than the header says;
+    /// - `FilesDisagree(Lock(name))` for the first name by its bytes that isn't both a target's in the
+    ///   header and a lock file's, or whose lock file has another digest;
+    /// - `FilesDisagree` of the first file that doesn't read, the requirements before the locks, and these
+    ///   in the order of their names;
+    /// - `JournalBroken(1)` where a lock names another environment than the header;
+    /// - `FilesDisagree(Lock(name))` for the first lock that doesn't belong to the requirements, or was
+    ///   made from another index than the first one;
     /// - `JournalBroken(n)` where line `n` isn't a minimal change, or something stands behind the last
     ///   step;
     /// - `JournalBroken(k + 1)` where step `k` leads nowhere: from the cursor back to the start, then
@@ -78,17 +82,17 @@ impl Session {
     pub fn open(
         alloc: Global,
         requirements: &[u8],
-        lock: &[u8],
+        locks: &BTreeMap<TargetName, Seq<u8>>,
         journal: &[u8],
     ) -> Result<Session, Refusal>
-        ensures opens { Tells (Opens requirements.now lock.now journal.now) result }
+        ensures opens { Tells (Opens requirements.now locks.now.entries journal.now) result }
     {
-        let history = opening::opened(alloc, requirements, lock, journal)?;
+        let history = opening::opened(alloc, requirements, locks, journal)?;
         Ok(Session { history })
     }
 
-    /// The history as three byte strings. `open` reads them as the same history: the same states, the same
-    /// cursor, and the same change of each step.
+    /// The history as a requirements file, a lock file for each target, and a journal. `open` reads them as
+    /// the same history: the same states, the same cursor, and the same change of each step.
     pub fn save(&self, alloc: Global) -> Result<Saved, AllocError>
         ensures saved { IfOk result (λ saved. IsSaved self.now saved) }
         ensures opens { IfOk result (λ saved. OpensAs self.now saved) }
@@ -130,7 +134,7 @@ impl Session {
         self.history.change(step)
     }
 
-    /// Applies one command. The lock of an edited state is the best solution, whatever the
+    /// Applies one command. Each lock of an edited state is the best solution, whatever the
     /// resolver. Where it is refused, states, cursor and changes are what they were.
     pub fn apply<R: Resolver>(
         &mut self,
@@ -146,7 +150,7 @@ impl Session {
         running::apply(alloc, &mut self.history, command, resolver)
     }
 
-    /// Applies the commands in turn and gives their replies. The lock of each edited state is the
+    /// Applies the commands in turn and gives their replies. Each lock of an edited state is the
     /// best solution, whatever the resolver. The room for the replies is taken first, and where
     /// that is refused no command is applied.
     pub fn run<R: Resolver>(

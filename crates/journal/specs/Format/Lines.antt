@@ -1,11 +1,14 @@
 -- The lines of a journal (reqlock's own format).
-use Rattle.std.specs.Prelude.{◌≡◌, ℕ, ◌+◌, ◌==◌, Bool, nat_le, List, [], ◌∷◌, codes, drop, map, take, position, Option, Some, None, option_map, Result, Ok, Err, if◌then◌else◌}
+use Rattle.std.specs.Prelude.{◌≡◌, ℕ, ◌+◌, ◌==◌, Bool, false, nat_le, List, [], ◌∷◌, codes, drop, map, take, position, Option, Some, None, option_map, Result, Ok, Err, if◌then◌else◌}
 use Rattle.std.specs.List.{list_any}
+use Rattle.std.specs.Result.{result_ok}
 use Rattle.std.specs.Str.{bytes_eq}
 use Rattle.states.specs.Changes.{ChangeParts, IsMinimal}
 use Rattle.states.specs.declared.change.parts.DigestChange.{DigestChange}
 use Rattle.states.specs.declared.change.parts.EntryChange.{EntryChange}
 use Rattle.states.specs.declared.change.parts.Splice.{Splice}
+use Rattle.lists.specs.Rising.{rises}
+use Rattle.states.specs.Targets.{target_name_of}
 use Rattle.markers.specs.Environment.{Texts, all_variables, texts_in}
 use Rattle.markers.specs.Variables.{variable_name}
 use Rattle.markers.specs.declared.fault.Cause.{Cause}
@@ -18,6 +21,14 @@ use Rattle.journal.specs.declared.format.header.JournalVersion.{JournalVersion}
 use Rattle.journal.specs.declared.format.header.JournalVersion.TheVariants.{One, Two}
 use Rattle.journal.specs.Format.Forms.{◌>>=◌, asked, at, found, json_of, list_of, number_of, only_keys, or_null, pair_of, quadruple_of, text_of, triple_of}
 use Rattle.journal.specs.Format.Entries.{digest_in, entry_in, name_in}
+
+-- ---- names of targets
+
+-- the name of a target
+unfoldable pub target_name_in : Data → Result (List ℕ) Flaw
+target_name_in d = do
+  text ← text_of d
+  found (result_ok (target_name_of text))
 
 -- ---- steps
 
@@ -38,7 +49,7 @@ targeted One d = do
   Ok ([], parts.0, parts.1, parts.2)
 targeted Two d = do
   parts ← quadruple_of d
-  target ← text_of parts.0
+  target ← target_name_in parts.0
   Ok (target, parts.1, parts.2, parts.3)
 
 -- a target of the header has this name
@@ -53,7 +64,7 @@ entry_change_in header d = do
   name ← name_in parts.1
   old ← or_null (entry_in name) parts.2
   new ← or_null (entry_in name) parts.3
-  Ok (record { name = name; old = old; new = new })
+  Ok (record { target = parts.0; name = name; old = old; new = new })
 
 -- `[old, new]`
 unfoldable pub digests_in : Data → Result DigestChange Flaw
@@ -123,8 +134,13 @@ target_in d = do
   _ ← only_keys target_keys d
   environment ← at (codes "environment") environment_in d
   lock ← at (codes "lock") digest_in d
-  name ← at (codes "name") text_of d
+  name ← at (codes "name") target_name_in d
   Ok (record { name = name; environment = environment; lock = lock })
+
+-- there is a target at least, and their names rise by their bytes
+abbrev pub are_targets : List HeaderTarget → Bool
+are_targets [] = false
+are_targets (target ∷ targets) = rises (map (λ t. t.name) (target ∷ targets))
 
 -- the targets of a header; in version 1 its own environment and lock are those of the one target, whose name is empty
 unfoldable pub targets_in : JournalVersion → Data → Result (List HeaderTarget) Flaw
@@ -132,7 +148,10 @@ targets_in One d = do
   environment ← at (codes "environment") environment_in d
   lock ← at (codes "lock") digest_in d
   Ok (record { name = []; environment = environment; lock = lock } ∷ [])
-targets_in Two d = at (codes "targets") (list_of target_in) d
+targets_in Two d = do
+  targets ← at (codes "targets") (list_of target_in) d
+  _ ← asked (are_targets targets)
+  Ok targets
 
 -- a header, in the form of its version, whose cursor is at most the number of steps
 unfoldable pub header_in : Data → Result Header Flaw

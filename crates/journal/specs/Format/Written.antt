@@ -52,9 +52,9 @@ entry_data p = object (
     member (codes "version") (string (canonical p.version)) (
     member (codes "wheels") (array_of file_data p.wheels) no_members)))))
 
--- `[target, name, old, new]`; the name of the one target is empty
+-- `[target, name, old, new]`
 unfoldable pub entry_change_data : EntryChange → Data
-entry_change_data c = array (item (string []) (item (string c.name) (item (nullable entry_data c.old) (item (nullable entry_data c.new) no_items))))
+entry_change_data c = array (item (string c.target) (item (string c.name) (item (nullable entry_data c.old) (item (nullable entry_data c.new) no_items))))
 
 -- `[place, [old lines], [new lines]]`
 unfoldable pub splice_data : Splice → Data

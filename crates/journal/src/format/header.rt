@@ -3,13 +3,15 @@
 ghost use Rattle.std.specs.Prelude.{◌≡◌};
 ghost use Rattle.markers.specs.Environment.{all_variables, texts_in};
 ghost use Rattle.journal.specs.Format.Forms.{Gives, found, only_keys};
-ghost use Rattle.journal.specs.Format.Lines.{environment_in, has_target, header_in, header_keys, header_of_line, target_in, targets_in, texts_read, journal_version};
+ghost use Rattle.journal.specs.Format.Lines.{are_targets, environment_in, has_target, header_in, header_keys, header_of_line, target_in, target_name_in, targets_in, texts_read, journal_version};
 ghost use Rattle.serde_json.specs.View.{view};
+ghost use Rattle.std.specs.Result.{result_ok};
+ghost use Rattle.states.specs.Targets.{target_name_of};
 
 use crate::format::flaw::Flaw;
-use crate::format::forms::{Read, asked, at, json_of, only_keys};
-use edits::Environment;
-use lists::{Seq, Text};
+use crate::format::forms::{Read, asked, at, json_of, only_keys, text_of};
+use edits::{Environment, Refusal, TargetName};
+use lists::{Named, Seq, rises};
 use markers::Cause;
 use serde_json::Value;
 use std::alloc::Global;
@@ -25,7 +27,7 @@ pub(crate) enum JournalVersion {
 
 /// A target of a header: its name, its environment, and the SHA-256 digest of its lock file.
 pub(crate) struct HeaderTarget {
-    pub(crate) name: Text,
+    pub(crate) name: TargetName,
     pub(crate) environment: Environment,
     pub(crate) lock: [u8; 32],
 }
@@ -62,13 +64,42 @@ impl Drop for Header {
     }
 }
 
+impl Named for HeaderTarget {
+    ghost named = { λ t. t.name };
+
+    fn text(&self) -> &str {
+        self.name.as_str()
+    }
+}
+
 impl Header {
     /// Whether a target has this name.
-    pub(crate) fn has_target(&self, name: &str) -> bool
+    pub(crate) fn has_target(&self, name: &TargetName) -> bool
         ensures { result ≡ has_target self.now name.now }
     {
         let targets = self.targets.as_slice();
+        let name = name.as_str();
         targets.iter().any(|target| target.name.as_str() == name)
+    }
+}
+
+/// The name of a target that a text is.
+fn target_name(alloc: Global, text: &str) -> Result<TargetName, Flaw>
+    ensures { Gives (λ n. n) (found (result_ok (target_name_of text.now))) result }
+{
+    match TargetName::parse(alloc, text) {
+        Ok(name) => Ok(name),
+        Err(Refusal::OutOfMemory) => Err(Flaw::OutOfMemory),
+        Err(_) => Err(Flaw::OtherForm),
+    }
+}
+
+impl Read for TargetName {
+    ghost reading = { target_name_in };
+
+    #[tactic(auto, unfolding(crate::specs::Format::Lines::target_name_in))]
+    fn from_value(alloc: Global, value: &Value) -> Result<TargetName, Flaw> {
+        target_name(alloc, text_of(value)?)
     }
 }
 
@@ -148,7 +179,7 @@ impl Read for HeaderTarget {
         only_keys(&["environment", "lock", "name"], value)?;
         let environment: Environment = at(alloc, "environment", value)?;
         let lock: [u8; 32] = at(alloc, "lock", value)?;
-        let name: Text = at(alloc, "name", value)?;
+        let name: TargetName = at(alloc, "name", value)?;
         Ok(HeaderTarget {
             name,
             environment,
@@ -164,17 +195,34 @@ fn own_target(alloc: Global, value: &Value) -> Result<Seq<HeaderTarget>, Flaw>
 {
     let environment: Environment = at(alloc, "environment", value)?;
     let lock: [u8; 32] = at(alloc, "lock", value)?;
+    let name = TargetName::empty(alloc);
     let mut targets = Seq::new(alloc);
     targets.push(HeaderTarget {
-        name: Text::new(alloc),
+        name,
         environment,
         lock,
     })?;
     Ok(targets)
 }
 
-/// The targets of a header of this version.
+/// Whether there is a target at least, and their names rise.
+fn are_targets(targets: &[HeaderTarget]) -> bool
+    ensures { result ≡ are_targets targets.now }
+{
+    !targets.is_empty() && rises(targets)
+}
+
+/// The targets that a header of version 2 lists.
 #[tactic(auto, unfolding(crate::specs::Format::Lines::targets_in))]
+fn listed_targets(alloc: Global, value: &Value) -> Result<Seq<HeaderTarget>, Flaw>
+    ensures { Gives (λ targets. targets) (targets_in JournalVersion.Two (view value.now)) result }
+{
+    let targets: Seq<HeaderTarget> = at(alloc, "targets", value)?;
+    asked(are_targets(targets.as_slice()))?;
+    Ok(targets)
+}
+
+/// The targets of a header of this version.
 fn targets_of(
     alloc: Global,
     version: JournalVersion,
@@ -184,7 +232,7 @@ fn targets_of(
 {
     match version {
         JournalVersion::One => own_target(alloc, value),
-        JournalVersion::Two => at(alloc, "targets", value),
+        JournalVersion::Two => listed_targets(alloc, value),
     }
 }
 

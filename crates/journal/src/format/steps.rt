@@ -10,11 +10,10 @@ ghost use Rattle.serde_json.specs.View.{items_view, view};
 use crate::format::entries::entry_or_null;
 use crate::format::flaw::Flaw;
 use crate::format::forms::{
-    Read, asked, at, items_of, json_of, only_keys, pair_of, quadruple_of, text_of, triple_of,
-    value_at,
+    Read, asked, at, items_of, json_of, only_keys, pair_of, quadruple_of, triple_of, value_at,
 };
 use crate::format::header::{Header, JournalVersion};
-use edits::{Change, DigestChange, EntryChange, Name, Splice};
+use edits::{Change, DigestChange, EntryChange, Name, Splice, TargetName};
 use lists::{Seq, Text};
 use serde_json::Value;
 use std::alloc::Global;
@@ -34,18 +33,23 @@ impl Read for Splice {
 
 /// The name of an entry's target, and the entry's name, its old and its new form.
 #[tactic(auto, unfolding(crate::specs::Format::Lines::targeted))]
-fn targeted(version: JournalVersion, value: &Value) -> Result<(&str, &Value, &Value, &Value), Flaw>
-    ensures { Gives (λ p. (p.0.now, view p.1.now, view p.2.now, view p.3.now)) (targeted version
+fn targeted(
+    alloc: Global,
+    version: JournalVersion,
+    value: &Value,
+) -> Result<(TargetName, &Value, &Value, &Value), Flaw>
+    ensures { Gives (λ p. (p.0, view p.1.now, view p.2.now, view p.3.now)) (targeted version
         (view value.now)) result }
 {
     match version {
         JournalVersion::One => {
             let (name, old, new) = triple_of(value)?;
-            Ok(("", name, old, new))
+            Ok((TargetName::empty(alloc), name, old, new))
         }
         JournalVersion::Two => {
             let (target, name, old, new) = quadruple_of(value)?;
-            Ok((text_of(target)?, name, old, new))
+            let target = TargetName::from_value(alloc, target)?;
+            Ok((target, name, old, new))
         }
     }
 }
@@ -55,12 +59,17 @@ fn targeted(version: JournalVersion, value: &Value) -> Result<(&str, &Value, &Va
 fn entry_change_of(alloc: Global, header: &Header, value: &Value) -> Result<EntryChange, Flaw>
     ensures { Gives (λ c. c) (entry_change_in header.now (view value.now)) result }
 {
-    let (target, name, old, new) = targeted(header.version, value)?;
-    asked(header.has_target(target))?;
+    let (target, name, old, new) = targeted(alloc, header.version, value)?;
+    asked(header.has_target(&target))?;
     let name = Name::from_value(alloc, name)?;
     let old = entry_or_null(alloc, &name, old)?;
     let new = entry_or_null(alloc, &name, new)?;
-    Ok(EntryChange { name, old, new })
+    Ok(EntryChange {
+        target,
+        name,
+        old,
+        new,
+    })
 }
 
 /// The changes of entries that an array's items are, behind this header.

@@ -129,7 +129,7 @@ impl Written for EntryChange {
     #[tactic(auto, unfolding(crate::specs::Format::Written::entry_change_data))]
     fn to_value(&self, alloc: Global) -> Result<Value, AllocError> {
         let mut values = Vec::with_capacity(alloc, 4)?;
-        values.push_reserved(text_value(alloc, "")?);
+        values.push_reserved(text_value(alloc, self.target.as_str())?);
         values.push_reserved(self.name.to_value(alloc)?);
         values.push_reserved(nullable(alloc, &self.old)?);
         values.push_reserved(nullable(alloc, &self.new)?);

@@ -1,23 +1,24 @@
 // The header of a journal, and the present state.
 
-ghost use Rattle.std.specs.Prelude.{◌≡◌, ◌==◌, ◌<◌, IfSome, length, option_map, position};
+ghost use Rattle.std.specs.Prelude.{◌≡◌, ◌==◌, ◌<◌, IfSome, Ok, length, option_map, position, true};
+ghost use Rattle.std.specs.List.{AllByRecursion};
 ghost use Rattle.std.specs.Result.{result_map_both};
-ghost use Rattle.markers.specs.Environment.{marker_text};
 ghost use Rattle.pep508.specs.Requirement.{file_of};
-ghost use Rattle.pylock.specs.Reading.{lock_in_text};
 ghost use Rattle.sha2.specs.Sha256.{sha256};
-ghost use Rattle.states.specs.State.{IsState};
-ghost use Rattle.edits.specs.declared.refusal.Refusal.TheVariants as refusals;
-ghost use Rattle.edits.specs.declared.refusal.SavedFile.TheVariants as files;
-ghost use Rattle.journal.specs.Format.Lines.{cut_line};
-ghost use Rattle.journal.specs.Opening.{BeginsWith, Found, Holds, IsOnlyTarget, Present, PresentParts, Tells};
+ghost use Rattle.states.specs.declared.refusal.Refusal.TheVariants as refusals;
+ghost use Rattle.states.specs.declared.refusal.SavedFile.TheVariants as files;
+ghost use Rattle.journal.specs.Format.Lines.{are_targets, cut_line};
+ghost use Rattle.journal.specs.Opening.{BeginsWith, Found, Holds, NamesEnvironment, Present, PresentParts, Tells};
 
 use crate::format::flaw::Flaw;
-use crate::format::header::{Header, HeaderTarget, header_of_line};
-use edits::{Cause, Environment, Lock, Refusal, ReqFile, SavedFile, State};
-use pylock::Fault;
+use crate::format::header::{Header, header_of_line};
+use crate::opening::locks::{check_locks, targets_of};
+use edits::{Cause, Refusal, ReqFile, SavedFile, State, TargetName};
+use lists::Seq;
 use sha2::{Digest, Sha256};
+use states::{Target, first_unfit};
 use std::alloc::Global;
+use std::collections::BTreeMap;
 
 /// A journal's header, and the bytes behind its line.
 #[derive(Drop)]
@@ -59,23 +60,13 @@ pub(crate) fn begin_of(alloc: Global, journal: &[u8]) -> Result<Begin<'_>, Refus
     }
 }
 
-/// The target of the header, which has one, whose name is empty.
-pub(crate) fn only_target(header: &Header) -> Result<&HeaderTarget, Refusal>
-    ensures { Found (IsOnlyTarget header.now) (refusals.JournalBroken 1) (result_map_both
-        (λ t. t.now) (λ e. e) result) }
-{
-    match header.targets.as_slice() {
-        [target] if target.name.as_str().is_empty() => Ok(target),
-        _ => Err(Refusal::JournalBroken(1)),
-    }
-}
-
-/// Asks that the file has this digest.
-fn check_digest(bytes: &[u8], digest: [u8; 32], file: SavedFile) -> Result<(), Refusal>
-    ensures { Holds (digest ≡ sha256 bytes.now) (refusals.FilesDisagree file) result }
+/// Asks that the requirements file has this digest.
+fn check_requirements(bytes: &[u8], digest: [u8; 32]) -> Result<(), Refusal>
+    ensures { Holds (digest ≡ sha256 bytes.now)
+        (refusals.FilesDisagree files.Requirements) result }
 {
     if Sha256::digest(bytes) != digest {
-        return Err(Refusal::FilesDisagree(file));
+        return Err(Refusal::FilesDisagree(SavedFile::Requirements));
     }
     Ok(())
 }
@@ -94,84 +85,66 @@ fn lines_of(alloc: Global, bytes: &[u8]) -> Result<ReqFile, Refusal>
     }
 }
 
-/// The lock of the lock file.
-fn lock_of(alloc: Global, bytes: &[u8]) -> Result<Lock, Refusal>
-    ensures { Found
-        (λ lock. lock_in_text bytes.now ≡ Ok lock) (refusals.FilesDisagree files.Lock) result }
+/// Asks that the lock names the target's environment.
+fn check_environment(alloc: Global, target: &Target) -> Result<(), Refusal>
+    ensures { Holds (NamesEnvironment target.now) (refusals.JournalBroken 1) result }
 {
-    match Lock::read(alloc, bytes) {
-        Ok(lock) => Ok(lock),
-        Err(Fault::OutOfMemory) => Err(Refusal::OutOfMemory),
-        Err(_) => Err(Refusal::FilesDisagree(SavedFile::Lock)),
-    }
-}
-
-/// Asks that the lock names the environment.
-fn check_environment(alloc: Global, lock: &Lock, environment: &Environment) -> Result<(), Refusal>
-    ensures { Holds
-        (lock.now.environment ≡ marker_text environment.now) (refusals.JournalBroken 1) result }
-{
-    let text = environment.marker_text(alloc)?;
-    if lock.environment() != text.as_str() {
+    let text = target.environment.marker_text(alloc)?;
+    if target.lock.environment() != text.as_str() {
         return Err(Refusal::JournalBroken(1));
     }
     Ok(())
 }
 
-/// The lines and the lock of the present state: the digests of the files agree, both read, and the
-/// lock names the environment.
+/// Asks that each lock names its target's environment.
+fn check_environments(alloc: Global, targets: &[Target]) -> Result<(), Refusal>
+    ensures { Holds (AllByRecursion NamesEnvironment targets.now) (refusals.JournalBroken 1)
+        result }
+{
+    for place in 0..targets.len() {
+        check_environment(alloc, &targets[place])?;
+    }
+    Ok(())
+}
+
+/// The lines and the targets of the present state: the digests of all files agree, all read, and each
+/// lock names its target's environment.
 fn parts_of(
     alloc: Global,
     header: &Header,
-    target: &HeaderTarget,
     requirements: &[u8],
-    lock: &[u8],
-) -> Result<(ReqFile, Lock), Refusal>
-    ensures { Tells (PresentParts header.now target.now requirements.now lock.now) (result_map_both
-        (λ p. record { lines = p.0; environment = target.now.environment; lock = p.1 })
-        (λ e. e) result) }
+    locks: &BTreeMap<TargetName, Seq<u8>>,
+) -> Result<(ReqFile, Seq<Target>), Refusal>
+    ensures { Tells (PresentParts header.now requirements.now locks.now.entries) (result_map_both
+        (λ p. record { lines = p.0; targets = p.1 }) (λ e. e) result) }
 {
-    check_digest(requirements, header.requirements, SavedFile::Requirements)?;
-    check_digest(lock, target.lock, SavedFile::Lock)?;
+    check_requirements(requirements, header.requirements)?;
+    check_locks(header, locks)?;
     let lines = lines_of(alloc, requirements)?;
-    let lock = lock_of(alloc, lock)?;
-    check_environment(alloc, &lock, &target.environment)?;
-    Ok((lines, lock))
-}
-
-/// The state of these parts.
-fn state_of(
-    alloc: Global,
-    lines: ReqFile,
-    environment: Environment,
-    lock: Lock,
-) -> Result<State, Refusal>
-    ensures { Found (λ state. (state ≡ record {
-      lines = lines;
-      environment = environment;
-      lock = lock;
-    }) × IsState state) (refusals.FilesDisagree files.Lock) result }
-{
-    match State::new(alloc, lines, environment, lock)? {
-        Some(state) => {
-            state.is_lawful();
-            Ok(state)
-        }
-        None => Err(Refusal::FilesDisagree(SavedFile::Lock)),
-    }
+    let targets = targets_of(alloc, header.targets.as_slice(), locks)?;
+    check_environments(alloc, targets.as_slice())?;
+    Ok((lines, targets))
 }
 
 /// The present state.
 pub(crate) fn present_of(
     alloc: Global,
     header: &Header,
-    target: &HeaderTarget,
     requirements: &[u8],
-    lock: &[u8],
+    locks: &BTreeMap<TargetName, Seq<u8>>,
 ) -> Result<State, Refusal>
-    ensures { Tells (Present header.now target.now requirements.now lock.now) result }
+    requires targets { are_targets header.now.targets ≡ true }
+    ensures { Tells (Present header.now requirements.now locks.now.entries) result }
 {
-    let (lines, lock) = parts_of(alloc, header, target, requirements, lock)?;
-    let environment = target.environment.clone()?;
-    state_of(alloc, lines, environment, lock)
+    let (lines, targets) = parts_of(alloc, header, requirements, locks)?;
+    match first_unfit(alloc, &lines, targets.as_slice())? {
+        Some(name) => {
+            let name = name.clone()?;
+            Err(Refusal::FilesDisagree(SavedFile::Lock(name)))
+        }
+        None => {
+            lines.is_lawful();
+            Ok(State::from_lawful(lines, targets))
+        }
+    }
 }

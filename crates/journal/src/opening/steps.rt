@@ -2,7 +2,7 @@
 
 ghost use Rattle.std.specs.Prelude.{◌+◌, ◌≤◌, IfOk, length};
 ghost use Rattle.std.specs.Result.{result_map_both};
-ghost use Rattle.edits.specs.declared.refusal.Refusal.TheVariants as refusals;
+ghost use Rattle.states.specs.declared.refusal.Refusal.TheVariants as refusals;
 ghost use Rattle.journal.specs.Opening.{Found, StepAt, StepLines, Tells};
 
 use crate::format::flaw::Flaw;
