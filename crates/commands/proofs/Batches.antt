@@ -12,7 +12,7 @@ use Rattle.std.proofs.lemmas.List.Folds.{list_any-append}
 use Rattle.snapshot.specs.declared.snapshot.Snapshot.{Snapshot}
 use Rattle.journal.specs.declared.commands.Reply.{Reply}
 use Rattle.journal.specs.declared.commands.Reply.TheVariants.{Refused}
-use Rattle.edits.specs.declared.refusal.Refusal.TheVariants as refusals
+use Rattle.states.specs.declared.refusal.Refusal.TheVariants as refusals
 use Rattle.edits.specs.declared.request.Edit.{Edit as EditValue}
 use Rattle.journal.specs.Changes.{HistoryParts}
 use Rattle.journal.specs.Commands.{Asked, Editing, Undoing, Redoing}

@@ -1,7 +1,7 @@
 -- Worked values of the definitions.
 use Rattle.std.proofs.Common.{◌≡◌, List, [], ◌∷◌, Option, None, Some, ℕ, map, refl, codes}
 use Rattle.lists.specs.Spaces.{trim_start}
-use Rattle.edits.specs.declared.refusal.Refusal.TheVariants.{NothingToUndo, AlreadyPresent}
+use Rattle.states.specs.declared.refusal.Refusal.TheVariants.{NothingToUndo, AlreadyPresent}
 use Rattle.edits.specs.declared.request.Edit.TheVariants.{Add, Constrain, Relock, Remove, Upgrade, UpgradeAll}
 use Rattle.journal.specs.declared.commands.Reply.TheVariants.{Same, Refused}
 use Rattle.commands.specs.declared.batch_line.Item.{Item}

@@ -1,8 +1,8 @@
 -- How replies are written. All of it is reqlock's own rule.
 use Rattle.std.specs.Prelude.{ℕ, Bool, true, false, List, ◌++◌, codes, decimal}
 use Rattle.std.specs.List.{flat_map}
-use Rattle.edits.specs.declared.refusal.Refusal.{Refusal}
-use Rattle.edits.specs.declared.refusal.Refusal.TheVariants as refusals
+use Rattle.states.specs.declared.refusal.Refusal.{Refusal}
+use Rattle.states.specs.declared.refusal.Refusal.TheVariants as refusals
 use Rattle.journal.specs.declared.commands.Reply.{Reply}
 use Rattle.journal.specs.declared.commands.Reply.TheVariants.{Done, Same, Refused}
 
@@ -21,6 +21,9 @@ word_of refusals.NothingToRedo = codes "nothing-to-redo"
 word_of (refusals.FilesDisagree file) = codes "files-disagree"
 word_of (refusals.JournalBroken line) = codes "journal-broken"
 word_of refusals.BadCommand = codes "bad-command"
+word_of refusals.BadTarget = codes "bad-target"
+word_of (refusals.DuplicateTarget name) = codes "duplicate-target"
+word_of refusals.NoTarget = codes "no-target"
 
 -- one reply: the cursor where it was done, no details where it was refused
 abbrev pub text_of_reply : Reply → List ℕ

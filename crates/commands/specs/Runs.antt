@@ -3,7 +3,7 @@ use Rattle.std.specs.Prelude.{ℕ, ◌≡◌, ◌<◌, Bool, List, [], ◌∷◌
 use Rattle.std.specs.List.{filter_map, list_any}
 use Rattle.std.specs.Io.KnownBytes.{Appends, Consumes, IsAtEnd}
 use Rattle.snapshot.specs.declared.snapshot.Snapshot.{Snapshot}
-use Rattle.edits.specs.declared.refusal.Refusal.TheVariants as refusals
+use Rattle.states.specs.declared.refusal.Refusal.TheVariants as refusals
 use Rattle.journal.specs.declared.commands.Reply.{Reply}
 use Rattle.journal.specs.declared.commands.Reply.TheVariants.{Refused}
 use Rattle.journal.specs.Changes.{HistoryParts}

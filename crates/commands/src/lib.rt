@@ -17,11 +17,13 @@ pub mod batch;
 mod batch_line;
 mod command_words;
 mod counted;
+mod options;
 mod pending_line;
 mod reply_text;
 pub mod request;
 mod sink;
 mod source;
+mod subcommand_help;
 mod words;
 
 pub use crate::batch_line::{Item, LONGEST_LINE, read_item};

@@ -16,7 +16,7 @@ const LONGEST_REPLY: usize = 64;
 /// none of the refusal's details.
 pub fn refusal_word(refusal: &Refusal) -> &'static str
     ensures word { result.now ≡ word_of refusal.now }
-    ensures short { length result.now ≤ 15 }
+    ensures short { length result.now ≤ 16 }
 {
     match refusal {
         Refusal::BadText => "bad-text",
@@ -32,6 +32,9 @@ pub fn refusal_word(refusal: &Refusal) -> &'static str
         Refusal::FilesDisagree(_) => "files-disagree",
         Refusal::JournalBroken(_) => "journal-broken",
         Refusal::BadCommand => "bad-command",
+        Refusal::BadTarget => "bad-target",
+        Refusal::DuplicateTarget(_) => "duplicate-target",
+        Refusal::NoTarget => "no-target",
     }
 }
 

@@ -1,13 +1,14 @@
 // What the words of the command line ask for.
 
-ghost use Rattle.std.specs.Prelude.{◌≡◌, [], codes, map, option_map, unwrap_or, Some, None, IfOk, IfErr};
+ghost use Rattle.std.specs.Prelude.{◌≡◌, [], codes, false, map, true, option_map, unwrap_or, Some, None, IfOk, IfErr};
 ghost use Rattle.clap.specs.Words.{fault_of, found_of, kind_of, matches_of, one_of, rows_of, subcommand_of, subcommand_rows_of};
 ghost use Rattle.commands.specs.CommandWords.{reqlock_app};
-ghost use Rattle.commands.specs.Requests.{FaultOf, FaultWith, HasInputs, IsAsked, IsFault, IsFlag, IsLacking, IsRequest, LacksInput, edit_of, questioned, text_of, texts_of, upgrade_with};
+ghost use Rattle.commands.specs.Requests.{FaultOf, FaultWith, HasInputs, IsAsked, IsFault, IsFlag, IsLacking, IsRequest, LacksInput, edit_of, has_twice, questioned, text_of, texts_of, upgrade_with};
 ghost use Rattle.edits.specs.declared.request.Edit.TheVariants.{Add, Constrain, Remove};
 ghost use Rattle.commands.specs.declared.request.RequestFault.TheVariants.{OutOfMemory};
 
 use crate::command_words::command;
+use crate::options::{all_chosen, chosen, copies, is_twice};
 use clap::error::ErrorKind;
 use clap::{ArgMatches, Error};
 use edits::Edit;
@@ -38,8 +39,8 @@ pub enum Subcommand<'a> {
     Try(Inputs<'a>),
     /// Prints the lock.
     Show,
-    /// Prints the history.
-    Log,
+    /// Prints the history; each changed entry on a line of its own, or none.
+    Log(bool),
     /// Tells whether the three files belong together.
     Check,
     /// Prints what was left out of this index.
@@ -49,10 +50,11 @@ pub enum Subcommand<'a> {
 }
 
 /// The files that a new history begins with, beside the requirements file.
-#[derive(Clone, Copy, Debug)]
+#[derive(Debug, Drop)]
 pub struct Inputs<'a> {
     pub index: &'a str,
-    pub environment: &'a str,
+    /// The values of `--env` as they stand, in their order; there is at least one.
+    pub environments: Seq<Text>,
 }
 
 /// An option that a subcommand needs.
@@ -80,13 +82,6 @@ impl From<AllocError> for RequestFault {
     }
 }
 
-// The files that the words name.
-#[derive(Clone, Copy)]
-struct Options<'a> {
-    index: Option<&'a str>,
-    environment: Option<&'a str>,
-}
-
 /// What the words of a command line ask for, the first of them the program's name.
 pub fn request<'a, S: AsStr>(alloc: Global, words: &'a [S]) -> Result<Invocation<'a>, RequestFault>
     ensures request { IfOk result (IsRequest (map S.text words.entry.now)) }
@@ -96,14 +91,46 @@ pub fn request<'a, S: AsStr>(alloc: Global, words: &'a [S]) -> Result<Invocation
     let Some((name, given)) = matches.subcommand() else {
         return Err(no_subcommand(alloc));
     };
-    let options = Options {
-        index: matches.get_str("index"),
-        environment: matches.get_str("env"),
-    };
+    refuse_twice(alloc, &matches, given)?;
+    let index = chosen(&matches, given, "index");
+    let environments = all_chosen(alloc, &matches, given, "env")?;
     Ok(Invocation {
-        dir: matches.get_str("dir").unwrap_or("."),
-        subcommand: read_subcommand(alloc, name, given, options)?,
+        dir: chosen(&matches, given, "dir").unwrap_or("."),
+        subcommand: read_subcommand(alloc, name, given, index, environments)?,
     })
+}
+
+// Refuses an option that stands in both places, as clap does one that stands twice in one place.
+fn refuse_twice(
+    alloc: Global,
+    before: &ArgMatches<'_>,
+    behind: &ArgMatches<'_>,
+) -> Result<(), RequestFault>
+    ensures once { IfOk result
+        (λ _. has_twice (rows_of (found_of before.now)) (rows_of (found_of behind.now)) ≡ false) }
+    ensures twice { IfErr result
+        (λ e. (has_twice (rows_of (found_of before.now)) (rows_of (found_of behind.now)) ≡ true)
+        × FaultWith ErrorKind.ArgumentConflict e) }
+{
+    if is_twice(before, behind, "dir") {
+        return Err(conflict(
+            alloc,
+            "the argument '--dir <DIR>' cannot be used multiple times",
+        ));
+    }
+    if is_twice(before, behind, "index") {
+        return Err(conflict(
+            alloc,
+            "the argument '--index <FILE>' cannot be used multiple times",
+        ));
+    }
+    if is_twice(before, behind, "env") {
+        return Err(conflict(
+            alloc,
+            "the argument '--env <FILE>' cannot be used multiple times",
+        ));
+    }
+    Ok(())
 }
 
 fn read_words<'a, S: AsStr>(alloc: Global, words: &'a [S]) -> Result<ArgMatches<'a>, RequestFault>
@@ -125,40 +152,43 @@ fn read_subcommand<'a>(
     alloc: Global,
     name: &str,
     given: &ArgMatches<'a>,
-    options: Options<'a>,
+    index: Option<&'a str>,
+    environments: Seq<Text>,
 ) -> Result<Subcommand<'a>, RequestFault>
     ensures asked { IfOk result (IsAsked
-        (text_of options.entry.index) (text_of options.entry.environment)
+        (text_of index.entry) environments
         name.now (rows_of (found_of given.now))) }
     ensures fault { IfErr result (IsLacking
-        (text_of options.entry.index) (text_of options.entry.environment)
+        (text_of index.entry) environments
         name.now (rows_of (found_of given.now))) }
 {
     if let Some(edit) = read_edit(alloc, name, given)? {
-        return Ok(Subcommand::Edit(edit, needed_index(options)?));
+        return Ok(Subcommand::Edit(edit, needed_index(index)?));
     }
     if name == "init" {
-        return Ok(Subcommand::Init(needed_inputs(options)?));
+        return Ok(Subcommand::Init(needed_inputs(index, environments)?));
     }
     if name == "try" {
-        return Ok(Subcommand::Try(needed_inputs(options)?));
+        return Ok(Subcommand::Try(needed_inputs(index, environments)?));
     }
     if name == "batch" {
-        return Ok(Subcommand::Batch(needed_index(options)?));
+        return Ok(Subcommand::Batch(needed_index(index)?));
     }
     if name == "skipped" {
-        return Ok(Subcommand::Skipped(needed_index(options)?));
+        return Ok(Subcommand::Skipped(needed_index(index)?));
     }
     if name == "why" {
         let edit = read_question(alloc, given)?;
-        let index = needed_index(options)?;
-        return Ok(Subcommand::Why(edit, index, is_explained(given)));
+        let index = needed_index(index)?;
+        return Ok(Subcommand::Why(edit, index, is_flagged(given, "explain")));
+    }
+    if name == "log" {
+        return Ok(Subcommand::Log(is_flagged(given, "long")));
     }
     match name {
         "undo" => Ok(Subcommand::Undo),
         "redo" => Ok(Subcommand::Redo),
         "show" => Ok(Subcommand::Show),
-        "log" => Ok(Subcommand::Log),
         "check" => Ok(Subcommand::Check),
         _ => Err(no_subcommand(alloc)),
     }
@@ -198,11 +228,11 @@ fn read_question(alloc: Global, given: &ArgMatches<'_>) -> Result<Edit, AllocErr
     Ok(addition.unwrap_or(Edit::Relock))
 }
 
-// Whether it is to be told in sentences.
-fn is_explained(given: &ArgMatches<'_>) -> bool
-    ensures flag { IsFlag (one_of (codes "explain") (rows_of (found_of given.now))) result }
+// Whether a flag is given.
+fn is_flagged(given: &ArgMatches<'_>, flag: &str) -> bool
+    ensures flag { IsFlag (one_of flag.now (rows_of (found_of given.now))) result }
 {
-    given.get_flag("explain")
+    given.get_flag(flag)
 }
 
 fn read_removal(alloc: Global, name: Option<&str>) -> Result<Option<Edit>, AllocError>
@@ -245,39 +275,33 @@ fn read_upgrade(alloc: Global, names: Option<&[&str]>) -> Result<Edit, AllocErro
     Ok(Edit::Upgrade(copies(alloc, names)?))
 }
 
-fn copies(alloc: Global, names: &[&str]) -> Result<Seq<Text>, AllocError>
-    ensures { IfOk result (λ copies. copies ≡ map (λ n. n.now) names.now) }
-{
-    let mut copies = Vec::new(alloc);
-    for name in names {
-        copies.push(Text::copy_of(alloc, name)?)?;
-    }
-    Ok(Seq::from_vec(copies))
-}
-
-fn needed_index<'a>(options: Options<'a>) -> Result<&'a str, RequestFault>
-    ensures index { IfOk result (λ index. text_of options.entry.index ≡ Some index.now) }
+fn needed_index<'a>(index: Option<&'a str>) -> Result<&'a str, RequestFault>
+    ensures index { IfOk result (λ given. text_of index.entry ≡ Some given.now) }
     ensures missing { IfErr result (λ e. (e ≡ RequestFault.Needed NeededOption.Index)
-        × (text_of options.entry.index ≡ None)) }
+        × (text_of index.entry ≡ None)) }
 {
-    match options.index {
+    match index {
         Some(index) => Ok(index),
         None => Err(RequestFault::Needed(NeededOption::Index)),
     }
 }
 
 // The index is asked for first.
-fn needed_inputs<'a>(options: Options<'a>) -> Result<Inputs<'a>, RequestFault>
-    ensures inputs { IfOk result
-        (HasInputs (text_of options.entry.index) (text_of options.entry.environment)) }
-    ensures missing { IfErr result
-        (LacksInput (text_of options.entry.index) (text_of options.entry.environment)) }
+fn needed_inputs<'a>(
+    index: Option<&'a str>,
+    environments: Seq<Text>,
+) -> Result<Inputs<'a>, RequestFault>
+    ensures inputs { IfOk result (HasInputs (text_of index.entry) environments) }
+    ensures missing { IfErr result (LacksInput (text_of index.entry) environments) }
 {
-    let index = needed_index(options)?;
-    match options.environment {
-        Some(environment) => Ok(Inputs { index, environment }),
-        None => Err(RequestFault::Needed(NeededOption::Environment)),
+    let index = needed_index(index)?;
+    if environments.is_empty() {
+        return Err(RequestFault::Needed(NeededOption::Environment));
     }
+    Ok(Inputs {
+        index,
+        environments,
+    })
 }
 
 // clap's error, or want of memory.
@@ -295,14 +319,31 @@ fn fault_of_clap(error: Error) -> RequestFault
 fn no_subcommand(alloc: Global) -> RequestFault
     ensures fault { FaultWith ErrorKind.MissingSubcommand result }
 {
-    match missing_subcommand(alloc) {
+    usage_fault(
+        alloc,
+        ErrorKind::MissingSubcommand,
+        "a subcommand is needed",
+    )
+}
+
+// The usage fault of arguments that don't go together.
+fn conflict(alloc: Global, message: &str) -> RequestFault
+    ensures fault { FaultWith ErrorKind.ArgumentConflict result }
+{
+    usage_fault(alloc, ErrorKind::ArgumentConflict, message)
+}
+
+fn usage_fault(alloc: Global, kind: ErrorKind, message: &str) -> RequestFault
+    ensures fault { FaultWith kind result }
+{
+    match error_of(alloc, kind, message) {
         Ok(error) => RequestFault::Usage(error),
         Err(AllocError) => RequestFault::OutOfMemory,
     }
 }
 
-fn missing_subcommand(alloc: Global) -> Result<Error, AllocError>
-    ensures kind { IfOk result (λ e. kind_of e ≡ ErrorKind.MissingSubcommand) }
+fn error_of(alloc: Global, kind: ErrorKind, message: &str) -> Result<Error, AllocError>
+    ensures kind { IfOk result (λ e. kind_of e ≡ kind) }
 {
-    command(alloc)?.error(ErrorKind::MissingSubcommand, "a subcommand is needed")
+    command(alloc)?.error(kind, message)
 }

@@ -1,7 +1,6 @@
 use Rattle.std.proofs.Common.{◌≡◌, ◌∙◌, [], ◌∷◌, ap, ap₂, codes}
 use Rattle.std.proofs.lemmas.Result.{IfOk-weaker}
 use Rattle.clap.specs.Words.{App, Rule, rule_of, with_subcommand}
-use Rattle.clap.specs.Simple.{new_shape}
 use Rattle.commands.specs.CommandWords.{needed_rule, shape_with, text_rule, texts_rule}
 use Rattle.commands.proofs.Requests.{some_with}
 use Rattle.commands.proofs.command_words.with_edits.Goals as goal
@@ -17,4 +16,4 @@ returns c =
     let constrain = c.in_ok-constrain.ensures.app
     ∙ ap (λ (a : App). with_subcommand a (shape_with (codes "constrain") (needed_rule (codes "name") ∷ text_rule (codes "specifiers") ∷ []))) remove in
     let upgrade = c.in_ok-upgrade.ensures.app ∙ ap₂ (λ (a : App) (r : Rule). with_subcommand a (shape_with (codes "upgrade") (r ∷ []))) constrain names_is in
-    record { app = IfOk-weaker c.plain-2.result _ _ (λ made is. is ∙ ap (λ (a : App). with_subcommand a (new_shape (codes "relock"))) upgrade) c.plain-2.ensures.app }
+    record { app = IfOk-weaker c.plain-2.result _ _ (λ made is. is ∙ ap (λ (a : App). with_subcommand a (shape_with (codes "relock") [])) upgrade) c.plain-2.ensures.app }
