@@ -104,6 +104,8 @@ fn of_lines(
     match kind {
         "marker" => marker_rows::marker(alloc, background, first, behind(texts)),
         "environment" => environment_rows::environment(alloc, background, first),
+        "target" => environment_rows::target(alloc, background, first),
+        "no targets" => environment_rows::no_targets(alloc, background),
         "changed" => environment_rows::changed(alloc, background, first, second),
         "value" => environment_rows::value(alloc, background, first),
         "requirement" => requirement_rows::requirement(alloc, background, first),

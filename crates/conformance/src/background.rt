@@ -1,5 +1,7 @@
 // What rows are answered with.
 
+use crate::targets::{copies, unnamed};
+use edits::{TargetName, Targets};
 use journal::{Session, WholeHistory};
 use markers::Environment;
 use pep440::Version;
@@ -28,6 +30,9 @@ pub struct Background {
     /// The JSON text of the environment.
     pub json: String,
     pub environment: Option<Environment>,
+    /// The named targets that lines are locked for. Where there are none, they are locked for one of the
+    /// empty name, in the environment.
+    pub targets: Vec<(TargetName, Environment)>,
     /// The index that lines are locked over.
     pub index: Option<Snapshot>,
     pub histories: Option<Histories>,
@@ -41,6 +46,7 @@ impl Drop for Background {
             candidates: _,
             json: _,
             environment: _,
+            targets: _,
             index: _,
             histories: _,
             lock: _,
@@ -55,6 +61,7 @@ impl Background {
             candidates: Vec::new(alloc),
             json: String::new(alloc),
             environment: None,
+            targets: Vec::new(alloc),
             index: None,
             histories: None,
             lock: String::new(alloc),
@@ -64,6 +71,15 @@ impl Background {
     /// The environment, which an earlier row has set.
     pub fn environment(&self) -> Option<&Environment> {
         self.environment.as_ref()
+    }
+
+    /// The targets that lines are locked for.
+    pub fn targets(&self, alloc: Global) -> Option<Targets> {
+        if self.targets.is_empty() {
+            let environment = self.environment()?.clone().ok()?;
+            return unnamed(alloc, environment).ok();
+        }
+        copies(alloc, self.targets.as_slice()).ok()
     }
 
     /// The index, which an earlier row has set.

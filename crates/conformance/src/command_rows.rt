@@ -38,12 +38,19 @@ pub fn command(alloc: Global, line: &str, is_ended: bool) -> Option<String> {
     text.told()
 }
 
+/// Pushes a subcommand with the files that a history begins with.
+fn push_inputs(text: &mut Telling, name: &str, inputs: &Inputs<'_>) {
+    let index = inputs.index;
+    write!(text, "{name} {index}");
+    for environment in inputs.environments.as_slice() {
+        write!(text, " {environment}");
+    }
+}
+
 /// Pushes what words ask for.
 fn push_subcommand(text: &mut Telling, subcommand: Subcommand<'_>) {
     match subcommand {
-        Subcommand::Init(Inputs { index, environment }) => {
-            write!(text, "init {index} {environment}");
-        }
+        Subcommand::Init(inputs) => push_inputs(text, "init", &inputs),
         Subcommand::Edit(edit, index) => {
             push_edit(text, &edit);
             write!(text, " {index}");
@@ -51,11 +58,9 @@ fn push_subcommand(text: &mut Telling, subcommand: Subcommand<'_>) {
         Subcommand::Undo => text.push_str("undo"),
         Subcommand::Redo => text.push_str("redo"),
         Subcommand::Batch(index) => write!(text, "batch {index}"),
-        Subcommand::Try(Inputs { index, environment }) => {
-            write!(text, "try {index} {environment}");
-        }
+        Subcommand::Try(inputs) => push_inputs(text, "try", &inputs),
         Subcommand::Show => text.push_str("show"),
-        Subcommand::Log => text.push_str("log"),
+        Subcommand::Log(long) => text.push_str(if long { "log long" } else { "log" }),
         Subcommand::Check => text.push_str("check"),
         Subcommand::Skipped(index) => write!(text, "skipped {index}"),
         Subcommand::Why(edit, index, explains) => {

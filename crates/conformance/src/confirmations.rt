@@ -1,9 +1,13 @@
 // What an edit answers, held against what other calls say of it.
 
 use crate::problem_rows::{NONE, solved};
-use crate::state_texts::{versions_text, whole_text};
-use edits::{Change, Edit, Lock, Refusal, Snapshot, State, problem_after};
+use crate::state_texts::{pins_text, whole_text};
+use crate::targets::{locks_of, targets_of};
+use edits::{
+    Change, Edit, Lock, Problem, Refusal, Snapshot, State, Target, TargetName, problem_after,
+};
 use journal::{Command, History, Plain, Reply, WholeHistory, apply};
+use lists::Seq;
 use std::alloc::Global;
 
 /// Whether two states are told alike.
@@ -25,30 +29,77 @@ fn is_between(alloc: Global, change: &Change, before: &State, after: &State) -> 
     Some(leads(alloc, change, before, after)? && leads(alloc, &back, after, before)?)
 }
 
-/// The lock of a state, read back from its text, and that from its table.
-fn lock_read_back(alloc: Global, state: &State) -> Option<Lock> {
-    let text = state.lock().print(alloc).ok()?;
+/// A lock, read back from its text, and that from its table.
+fn read_back(alloc: Global, lock: &Lock) -> Option<Lock> {
+    let text = lock.print(alloc).ok()?;
     let lock = Lock::read(alloc, text.as_bytes()).ok()?;
     let table = lock.to_table(alloc).ok()?;
     Lock::from_table(alloc, &table).ok()
 }
 
-/// Whether a state is made of its parts again, and its lock is read back from its text and from its table.
+/// The locks of a state, each read back.
+fn locks_read_back(alloc: Global, state: &State) -> Option<Seq<Lock>> {
+    let mut locks = Vec::new(alloc);
+    for lock in locks_of(alloc, state).ok()?.as_slice() {
+        locks.push(read_back(alloc, lock)?).ok()?;
+    }
+    Some(Seq::from_vec(locks))
+}
+
+/// Whether a state is made of its parts again, and its locks are read back from their texts and from their
+/// tables.
 fn is_made_again(alloc: Global, state: &State) -> Option<bool> {
-    let lock = lock_read_back(alloc, state)?;
+    let locks = locks_read_back(alloc, state)?;
     let lines = state.lines().clone().ok()?;
-    let environment = state.environment().clone().ok()?;
-    let again = State::new(alloc, lines, environment, lock).ok()??;
+    let targets = targets_of(alloc, state).ok()?;
+    let again = State::new(alloc, lines, targets, locks).ok()??;
     are_same(alloc, &again, state)
 }
 
-/// Whether the versions of a state are those that solve a problem.
-fn is_solution(alloc: Global, state: &State, solution: &str) -> Option<bool> {
-    let (_, versions) = solution.split_once(':')?;
-    Some(versions_text(alloc, state)?.as_str() == versions)
+/// Whether a target has the name that stands with a problem, and the versions that solve it.
+fn is_solved(
+    alloc: Global,
+    target: &Target,
+    name: &TargetName,
+    problem: &Problem<'_>,
+) -> Option<bool> {
+    let solution = solved(alloc, problem)?;
+    match solution.as_str().split_once(':') {
+        Some((_, versions)) => {
+            Some(target.name == *name && pins_text(alloc, target)?.as_str() == versions)
+        }
+        None => Some(false),
+    }
 }
 
-/// Whether the reply to an edit is what the problem of the edit asks for.
+/// Whether each target of a state is solved.
+fn are_solved(
+    alloc: Global,
+    state: &State,
+    problems: &[(TargetName, Problem<'_>)],
+) -> Option<bool> {
+    if state.targets().len() != problems.len() {
+        return Some(false);
+    }
+    for (target, (name, problem)) in state.targets().iter().zip(problems) {
+        if !is_solved(alloc, target, name, problem)? {
+            return Some(false);
+        }
+    }
+    Some(true)
+}
+
+/// Whether one of the problems has no solution.
+fn is_unsolved(alloc: Global, problems: &[(TargetName, Problem<'_>)]) -> Option<bool> {
+    for (_, problem) in problems {
+        if solved(alloc, problem)?.as_str() == NONE {
+            return Some(true);
+        }
+    }
+    Some(false)
+}
+
+/// Whether the reply to an edit is what the problems of the edit ask for.
 fn is_answer(
     alloc: Global,
     before: &State,
@@ -57,14 +108,13 @@ fn is_answer(
     reply: &Reply,
     after: &State,
 ) -> Option<bool> {
-    let problem = match problem_after(alloc, before, edit, index) {
-        Ok(problem) => problem,
+    let problems = match problem_after(alloc, before, edit, index) {
+        Ok(problems) => problems,
         Err(refusal) => return Some(*reply == Reply::Refused(refusal)),
     };
-    let solution = solved(alloc, &problem)?;
     match reply {
-        Reply::Done(_) | Reply::Same => is_solution(alloc, after, solution.as_str()),
-        Reply::Refused(Refusal::NoSolution) => Some(solution.as_str() == NONE),
+        Reply::Done(_) | Reply::Same => are_solved(alloc, after, problems.as_slice()),
+        Reply::Refused(Refusal::NoSolution) => is_unsolved(alloc, problems.as_slice()),
         Reply::Refused(_) => Some(false),
     }
 }

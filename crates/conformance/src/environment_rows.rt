@@ -3,7 +3,9 @@
 use crate::background::Background;
 use crate::marker_rows::told_fault;
 use crate::notation::{agreed, owned};
+use crate::targets::copies;
 use crate::telling::Telling;
+use edits::{Refusal, TargetName, Targets};
 use markers::{Environment, Fault, Variable};
 use std::alloc::Global;
 
@@ -116,6 +118,42 @@ pub fn environment(alloc: Global, background: &mut Background, json: &str) -> Op
         background.environment = Some(environment);
     }
     Some(answer)
+}
+
+/// The environment as that of a target of this name, for which lines are locked below; the targets so far.
+pub fn target(alloc: Global, background: &mut Background, name: &str) -> Option<String> {
+    let environment = background.environment()?.clone().ok()?;
+    match TargetName::parse(alloc, name) {
+        Ok(name) => background.targets.push((name, environment)).ok()?,
+        Err(Refusal::OutOfMemory) => return None,
+        Err(refusal) => return format!(in alloc; "{refusal}").ok(),
+    }
+    match copies(alloc, background.targets.as_slice()) {
+        Ok(targets) => told_targets(alloc, &targets),
+        Err(refusal) => {
+            background.targets.pop();
+            format!(in alloc; "{refusal}").ok()
+        }
+    }
+}
+
+/// The names of targets with those of their lock files.
+fn told_targets(alloc: Global, targets: &Targets) -> Option<String> {
+    let mut text = Telling::new(alloc);
+    for (name, _) in targets.as_slice() {
+        let file = name.file_name(alloc).ok()?;
+        write!(text, "({name} {file})");
+    }
+    text.told()
+}
+
+/// No named targets; what is told of an empty list of them.
+pub fn no_targets(alloc: Global, background: &mut Background) -> Option<String> {
+    background.targets.clear();
+    match copies(alloc, background.targets.as_slice()) {
+        Ok(_) => None,
+        Err(refusal) => format!(in alloc; "{refusal}").ok(),
+    }
 }
 
 /// The environment with a new text in the place of an old one of its JSON text, or why there is none.

@@ -1,8 +1,9 @@
 // The examples at the heads of the libraries: the body of `of_NAME` stands in `lib.rt` of NAME.
 
 use crate::scenarios::data;
+use crate::targets::unnamed;
 use commands::request::{RequestFault, Subcommand, request};
-use edits::{Edit, Refusal, State, edit};
+use edits::{Edit, Refusal, State, Target, TargetName, Targets, edit};
 use journal::{Command, Reply, Session};
 use lists::{Seq, Text, trim_end};
 use markers::{Environment, Marker, Name};
@@ -11,7 +12,7 @@ use pep508::{ReqFile, Requirement};
 use pylock::{Lock, rises};
 use resolve::{Learning, Problem, Refutation, check};
 use snapshot::Snapshot;
-use states::{change_between, locked};
+use states::{Unlocked, locked};
 use std::alloc::{AllocError, Global};
 use std::collections::BTreeMap;
 
@@ -33,22 +34,31 @@ pub fn example(alloc: Global, library: &str) -> Option<String> {
 fn over_index(alloc: Global, library: &str) -> Option<bool> {
     let index = data::read_indexes(alloc)?;
     let state = data::state(alloc, &index)?;
+    let environment = data::environment(alloc)?;
     match library {
-        "problems" => of_problems(alloc, state.lines(), state.environment(), &index.now).ok(),
+        "problems" => of_problems(alloc, state.lines(), &environment, &index.now).ok(),
         "resolve" => {
             // `a` 2 needs `b-b<2`, and `c` needs `b-b>=2`.
             let lines = ReqFile::read(alloc, "a>=2\nc".as_bytes()).ok()?;
-            of_resolve(alloc, &lines, state.environment(), &index.now).ok()
+            of_resolve(alloc, &lines, &environment, &index.now).ok()
         }
-        "pylock" => of_pylock(alloc, state.lock().print(alloc).ok()?.as_bytes()).ok(),
-        "states" => of_states(alloc, &state, &index.later).ok(),
+        "pylock" => of_first_lock(alloc, state.targets()),
+        "states" => {
+            let count = of_states(alloc, data::lines(alloc)?, environment, &index.now);
+            Some(count.ok()? == 2)
+        }
         "edits" => of_edits(alloc, &state, &index.now).ok(),
         "journal" => {
-            let environment = data::environment(alloc)?;
-            of_journal(alloc, data::lines(alloc)?, environment, &index.now).ok()
+            let targets = unnamed(alloc, environment).ok()?;
+            of_journal(alloc, data::lines(alloc)?, targets, &index.now).ok()
         }
         _ => None,
     }
+}
+
+/// Whether the example of locks comes out true of the first target's.
+fn of_first_lock(alloc: Global, targets: &[Target]) -> Option<bool> {
+    of_pylock(alloc, targets.first()?.lock.print(alloc).ok()?.as_bytes()).ok()
 }
 
 fn of_lists(alloc: Global) -> Result<bool, AllocError> {
@@ -114,16 +124,23 @@ fn of_pylock(alloc: Global, bytes: &[u8]) -> Result<bool, pylock::Fault> {
     Ok(rises(lock.entries()))
 }
 
-fn of_states(alloc: Global, state: &State, later: &Snapshot) -> Result<bool, AllocError> {
-    let kept = state.kept(alloc)?;
-    let (lines, environment, _) = state.clone()?.into_parts();
-    match locked(alloc, lines, environment, later, kept, &Learning)? {
-        // What changes is the digest of the index, and no line.
-        Some(next) => {
-            let change = change_between(alloc, state, &next)?;
-            Ok(change.digests().is_some() && change.splices().is_empty())
-        }
-        None => Ok(false),
+fn of_states(
+    alloc: Global,
+    lines: ReqFile,
+    environment: Environment,
+    index: &Snapshot,
+) -> Result<usize, AllocError> {
+    let kept = BTreeMap::new(alloc);
+    let name = TargetName::empty(alloc);
+    let mut targets = Vec::new(alloc);
+    targets.push(Unlocked {
+        name,
+        environment,
+        kept,
+    })?;
+    match locked(alloc, lines, Seq::from_vec(targets), index, &Learning)? {
+        Some(state) => Ok(state.targets()[0].lock.entries().len()),
+        None => Ok(0),
     }
 }
 
@@ -137,10 +154,10 @@ fn of_edits(alloc: Global, state: &State, index: &Snapshot) -> Result<bool, Refu
 fn of_journal(
     alloc: Global,
     lines: ReqFile,
-    environment: Environment,
+    targets: Targets,
     index: &Snapshot,
 ) -> Result<bool, Refusal> {
-    let mut session = Session::init(alloc, lines, environment, index, &Learning)?;
+    let mut session = Session::init(alloc, lines, targets, index, &Learning)?;
     let add = Edit::Add(Text::copy_of(alloc, "d  # new")?);
     let added = session.apply(alloc, &Command::Edit(add, index), &Learning);
     let undone = session.apply(alloc, &Command::Undo, &Learning);

@@ -26,6 +26,7 @@ mod specifier_rows;
 mod state_texts;
 mod streams;
 mod table_rows;
+mod targets;
 mod telling;
 mod version_rows;
 

@@ -2,19 +2,31 @@
 
 use crate::notation::owned;
 use crate::state_texts::whole_text;
-use edits::Refusal;
-use journal::{Saved, Session};
+use crate::targets::bytes_of;
+use edits::{Refusal, TargetName};
+use journal::{Saved, Session, targets};
+use lists::Text;
 use std::alloc::Global;
+use std::collections::BTreeMap;
 
-/// Opens what three files hold.
+/// Opens what files hold.
 fn opened(
     alloc: Global,
     requirements: &str,
-    lock: &str,
+    locks: &BTreeMap<TargetName, Text>,
     journal: &str,
 ) -> Result<Session, Refusal> {
-    let requirements = requirements.as_bytes();
-    Session::open(alloc, requirements, lock.as_bytes(), journal.as_bytes())
+    let locks = bytes_of(alloc, locks)?;
+    Session::open(alloc, requirements.as_bytes(), &locks, journal.as_bytes())
+}
+
+/// Whether the journal names the targets whose locks were saved.
+fn names_locks(alloc: Global, saved: &Saved) -> Option<bool> {
+    let names = targets(alloc, saved.journal.as_str().as_bytes()).ok()?;
+    let names = names.as_slice();
+    Some(
+        names.len() == saved.locks.len() && names.iter().all(|name| saved.locks.contains_key(name)),
+    )
 }
 
 /// Whether what was saved of a session stands for it.
@@ -28,23 +40,14 @@ fn stands_for(alloc: Global, session: &Session, again: &Session) -> Option<bool>
 
 /// Saves the session, and opens what was saved: its place among the steps, and the lines of the journal.
 pub fn saved(alloc: Global, session: &Session) -> Option<String> {
-    let Saved {
-        requirements,
-        lock,
-        journal,
-    } = session.save(alloc).ok()?;
-    let again = opened(
-        alloc,
-        requirements.as_str(),
-        lock.as_str(),
-        journal.as_str(),
-    )
-    .ok()?;
-    if !stands_for(alloc, session, &again)? {
+    let saved = session.save(alloc).ok()?;
+    let (requirements, journal) = (saved.requirements.as_str(), saved.journal.as_str());
+    let again = opened(alloc, requirements, &saved.locks, journal).ok()?;
+    if !stands_for(alloc, session, &again)? || !names_locks(alloc, &saved)? {
         return None;
     }
     let (cursor, steps) = (again.cursor(), again.steps());
-    let lines = journal.as_str().lines().count();
+    let lines = journal.lines().count();
     format!(in alloc; "{cursor} of {steps}, {lines} lines").ok()
 }
 
@@ -56,7 +59,22 @@ fn altered_text(alloc: Global, text: &str, old: &str, new: &str) -> Option<Strin
     text.replace(alloc, old, new).ok()
 }
 
-/// What the saved files open as with another text in one of them.
+/// The lock files with another text in that of a target.
+fn altered_locks(
+    alloc: Global,
+    mut locks: BTreeMap<TargetName, Text>,
+    target: &str,
+    old: &str,
+    new: &str,
+) -> Option<BTreeMap<TargetName, Text>> {
+    let name = TargetName::parse(alloc, target).ok()?;
+    let altered = altered_text(alloc, locks.get(&name)?.as_str(), old, new)?;
+    locks.insert(name, Text::from_string(altered)).ok()?;
+    Some(locks)
+}
+
+/// What the saved files open as with another text in one of them: `lock` is the file of the empty name, and
+/// `lock NAME` that of another one.
 pub fn altered(
     alloc: Global,
     session: &Session,
@@ -64,21 +82,24 @@ pub fn altered(
     old: &str,
     new: &str,
 ) -> Option<String> {
-    let saved = session.save(alloc).ok()?;
-    let (requirements, lock) = (saved.requirements.as_str(), saved.lock.as_str());
-    let journal = saved.journal.as_str();
-    let answer = match file {
-        "requirements" => {
+    let Saved {
+        requirements,
+        locks,
+        journal,
+    } = session.save(alloc).ok()?;
+    let (requirements, journal) = (requirements.as_str(), journal.as_str());
+    let answer = match file.split_once(' ').unwrap_or((file, "")) {
+        ("requirements", _) => {
             let altered = altered_text(alloc, requirements, old, new)?;
-            opened(alloc, altered.as_str(), lock, journal)
+            opened(alloc, altered.as_str(), &locks, journal)
         }
-        "lock" => {
-            let altered = altered_text(alloc, lock, old, new)?;
-            opened(alloc, requirements, altered.as_str(), journal)
+        ("lock", target) => {
+            let altered = altered_locks(alloc, locks, target, old, new)?;
+            opened(alloc, requirements, &altered, journal)
         }
         _ => {
             let altered = altered_text(alloc, journal, old, new)?;
-            opened(alloc, requirements, lock, altered.as_str())
+            opened(alloc, requirements, &locks, altered.as_str())
         }
     };
     match answer {

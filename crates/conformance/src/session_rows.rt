@@ -51,9 +51,8 @@ fn file_of(alloc: Global, lines: &str) -> Option<ReqFile> {
 
 /// The first state of the lines over the index.
 fn begun(alloc: Global, background: &Background, lines: &str) -> Option<Result<State, Refusal>> {
-    let environment = background.environment()?.clone().ok()?;
-    let index = background.index()?;
-    Some(init(alloc, file_of(alloc, lines)?, environment, index, &Plain))
+    let (targets, index) = (background.targets(alloc)?, background.index()?);
+    Some(init(alloc, file_of(alloc, lines)?, targets, index, &Plain))
 }
 
 /// A session of the lines over the index.
@@ -62,9 +61,8 @@ pub fn session_of(
     background: &Background,
     lines: &str,
 ) -> Option<Result<Session, Refusal>> {
-    let environment = background.environment()?.clone().ok()?;
-    let index = background.index()?;
-    Some(Session::init(alloc, file_of(alloc, lines)?, environment, index, &Learning))
+    let (targets, index) = (background.targets(alloc)?, background.index()?);
+    Some(Session::init(alloc, file_of(alloc, lines)?, targets, index, &Learning))
 }
 
 /// Keeps one history in both ways: what its first state locks.

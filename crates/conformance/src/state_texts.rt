@@ -1,7 +1,7 @@
 // States and changes as they are told.
 
 use crate::telling::Telling;
-use edits::{Change, Entry, FileEntry, State};
+use edits::{Change, Entry, FileEntry, State, Target, TargetName};
 use std::alloc::Global;
 
 /// Pushes what is asked of Python, and each name that is needed.
@@ -21,12 +21,22 @@ fn push_pin(text: &mut Telling, entry: &Entry) {
     write!(text, " {name}={version}");
 }
 
-/// Pushes what is locked, a space before each name: its version, what it asks of Python, and behind a `>`
-/// each name that it needs.
+/// Pushes the name of a named target behind a space, in brackets.
+fn push_target(text: &mut Telling, name: &TargetName) {
+    if !name.is_empty() {
+        write!(text, " [{name}]");
+    }
+}
+
+/// Pushes what is locked for each target, a space before each name: its version, what it asks of Python,
+/// and behind a `>` each name that it needs.
 pub fn push_lock(text: &mut Telling, state: &State) {
-    for entry in state.lock().entries() {
-        push_pin(text, entry);
-        push_needs(text, entry);
+    for target in state.targets() {
+        push_target(text, &target.name);
+        for entry in target.lock.entries() {
+            push_pin(text, entry);
+            push_needs(text, entry);
+        }
     }
 }
 
@@ -37,25 +47,38 @@ pub fn lock_text(alloc: Global, state: &State) -> Option<String> {
     text.told()
 }
 
-/// Pushes the names and versions alone.
-pub fn push_versions(text: &mut Telling, state: &State) {
-    for entry in state.lock().entries() {
+fn push_pins(text: &mut Telling, target: &Target) {
+    for entry in target.lock.entries() {
         push_pin(text, entry);
     }
 }
 
-/// The names and versions alone.
-pub fn versions_text(alloc: Global, state: &State) -> Option<String> {
+/// Pushes the names and versions alone.
+pub fn push_versions(text: &mut Telling, state: &State) {
+    for target in state.targets() {
+        push_target(text, &target.name);
+        push_pins(text, target);
+    }
+}
+
+/// The names and versions of a target's lock.
+pub fn pins_text(alloc: Global, target: &Target) -> Option<String> {
     let mut text = Telling::new(alloc);
-    push_versions(&mut text, state);
+    push_pins(&mut text, target);
     text.told()
 }
 
-/// All of a state: its lines, and its lock as it is printed.
+/// All of a state: its lines, and its locks as they are printed.
 pub fn whole_text(alloc: Global, state: &State) -> Option<String> {
+    let mut text = Telling::new(alloc);
     let lines = state.lines().bytes(alloc).ok()?;
-    let lock = state.lock().print(alloc).ok()?;
-    format!(in alloc; "{lines}{lock}").ok()
+    write!(text, "{lines}");
+    for target in state.targets() {
+        let lock = target.lock.print(alloc).ok()?;
+        push_target(&mut text, &target.name);
+        write!(text, "{lock}");
+    }
+    text.told()
 }
 
 fn push_file(text: &mut Telling, file: &FileEntry) {
@@ -77,14 +100,21 @@ fn push_files(text: &mut Telling, entry: &Entry) {
     }
 }
 
-/// The environment of a lock, and the files of each entry.
-pub fn files_text(alloc: Global, state: &State) -> Option<String> {
-    let mut text = Telling::new(alloc);
-    text.push_str(state.lock().environment());
-    for entry in state.lock().entries() {
+fn push_lock_files(text: &mut Telling, target: &Target) {
+    push_target(text, &target.name);
+    text.push_str(target.lock.environment());
+    for entry in target.lock.entries() {
         let name = entry.name().normal();
         write!(text, "; {name}");
-        push_files(&mut text, entry);
+        push_files(text, entry);
+    }
+}
+
+/// The environment of each lock, and the files of each of its entries.
+pub fn files_text(alloc: Global, state: &State) -> Option<String> {
+    let mut text = Telling::new(alloc);
+    for target in state.targets() {
+        push_lock_files(&mut text, target);
     }
     text.told()
 }
@@ -105,13 +135,15 @@ fn push_splices(text: &mut Telling, change: &Change) {
     }
 }
 
-/// A change: its splices, each name with the versions before and behind, and whether the digest changes.
+/// A change: its splices, each name, behind that of a named target, with the versions before and behind, and
+/// whether the digest changes.
 pub fn change_text(alloc: Global, change: &Change) -> Option<String> {
     let mut text = Telling::new(alloc);
     push_splices(&mut text, change);
     for entry in change.entries() {
-        let name = entry.name.normal();
-        write!(text, "{name} ");
+        let (target, name) = (entry.target.as_str(), entry.name.normal());
+        let mark = if target.is_empty() { "" } else { ":" };
+        write!(text, "{target}{mark}{name} ");
         push_version(&mut text, &entry.old);
         text.push_str(">");
         push_version(&mut text, &entry.new);

@@ -1,11 +1,11 @@
 // The subcommands that begin a history or make steps in it.
 
-use crate::input_files::{InputFile, read_bytes, read_environment, read_index, read_requirements};
+use crate::input_files::{InputFile, read_bytes, read_index, read_requirements};
 use crate::saved_files::SavedFiles;
 use crate::stop::{Stop, in_file, print};
 use crate::stopped_save::{end_left, remove_left};
+use crate::target_files::{TargetFile, read_all, targets_of};
 use commands::batch::{RESOLVER, accepted_in, batch};
-use commands::request::Inputs;
 use commands::{Counted, ReplyText};
 use edits::Edit;
 use journal::{Command, Reply, Session};
@@ -18,7 +18,8 @@ use std::rt::Files;
 pub fn init<R: Files + AllocGlobal, O: Write>(
     rt: &R,
     dir: &str,
-    inputs: Inputs<'_>,
+    index: &str,
+    targets: Vec<TargetFile>,
     output: &mut O,
 ) -> Result<(), Stop> {
     end_left(rt, dir)?;
@@ -26,10 +27,10 @@ pub fn init<R: Files + AllocGlobal, O: Write>(
         files,
         session,
         snapshot: _,
-    } = begin(rt, dir, inputs)?;
+    } = begin(rt, dir, index, targets)?;
     let mut text = ReplyText::new(rt.alloc())?;
     text.set(&Reply::Done(session.cursor()));
-    remove_left(rt, dir)?;
+    remove_left(rt, dir, &session)?;
     files.replace(rt, dir, &session)?;
     Ok(print(output, text.as_bytes())?)
 }
@@ -115,7 +116,8 @@ pub fn run_batch<R: Files + AllocGlobal, I: Read + Drop, O: Write>(
 pub fn try_commands<R: Files + AllocGlobal, I: Read + Drop, O: Write>(
     rt: &R,
     dir: &str,
-    inputs: Inputs<'_>,
+    index: &str,
+    targets: Vec<TargetFile>,
     input: I,
     output: &mut O,
 ) -> Result<(), Stop> {
@@ -123,7 +125,7 @@ pub fn try_commands<R: Files + AllocGlobal, I: Read + Drop, O: Write>(
         files: _,
         mut session,
         snapshot,
-    } = begin(rt, dir, inputs)?;
+    } = begin(rt, dir, index, targets)?;
     let mut source = Counted::new(input);
     let mut sink = Counted::new(&mut *output);
     batch(rt.alloc(), &mut source, &mut sink, &mut session, &snapshot)?;
@@ -154,17 +156,21 @@ fn open<R: Files + AllocGlobal>(rt: &R, dir: &str, index: &str) -> Result<Opened
 }
 
 // The same of a history that begins.
-fn begin<R: Files + AllocGlobal>(rt: &R, dir: &str, inputs: Inputs<'_>) -> Result<Opened, Stop> {
+fn begin<R: Files + AllocGlobal>(
+    rt: &R,
+    dir: &str,
+    index: &str,
+    targets: Vec<TargetFile>,
+) -> Result<Opened, Stop> {
     let alloc = rt.alloc();
     let files = SavedFiles::requirements_alone(rt, dir)?;
-    let index = in_file(InputFile::Index, read_bytes(rt, inputs.index))?;
-    let environment = in_file(InputFile::Environment, read_bytes(rt, inputs.environment))?;
+    let index = in_file(InputFile::Index, read_bytes(rt, index))?;
+    let environments = read_all(rt, targets)?;
     let lines = read_requirements(alloc, files.requirements());
     let lines = in_file(InputFile::Requirements, lines)?;
     let snapshot = in_file(InputFile::Index, read_index(alloc, index.as_slice()))?;
-    let environment = read_environment(alloc, environment.as_slice());
-    let environment = in_file(InputFile::Environment, environment)?;
-    let session = Session::init(alloc, lines, environment, &snapshot, &RESOLVER)?;
+    let targets = targets_of(alloc, environments)?;
+    let session = Session::init(alloc, lines, targets, &snapshot, &RESOLVER)?;
     Ok(Opened {
         files,
         session,

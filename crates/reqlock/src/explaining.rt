@@ -1,11 +1,12 @@
 // Refutations in sentences.
 
+use crate::plain_text::add_plain;
 use crate::refutation_text::add_conflict;
 use crate::requirement_text::add_requirement;
 use crate::skipped_text::add_skipped;
 use edits::{
-    Choice, Edit, Ground, Line, Name, Need, Problem, Refutation, Requirement, Snapshot, State,
-    completed, ground_of,
+    Choice, Edit, Environment, Ground, Line, Name, Need, Problem, Refutation, Requirement,
+    Snapshot, completed, ground_of,
 };
 use lists::Seq;
 use std::alloc::{AllocError, Global};
@@ -15,19 +16,22 @@ use std::collections::BTreeSet;
 #[derive(Clone, Copy)]
 pub struct Told<'a> {
     pub problem: &'a Problem<'a>,
-    pub state: &'a State,
+    /// The lines of the state.
+    pub lines: &'a [Line],
+    /// The environment of the target.
+    pub environment: &'a Environment,
     pub edit: &'a Edit,
     pub snapshot: &'a Snapshot,
 }
 
-/// A line for each conflict, in their order, with its ground, and then a line for each release of
-/// their names that was left out of the index.
-pub fn explanation(
+/// Puts a line for each conflict behind the text, in their order, with its ground, and then a line for
+/// each release of their names that was left out of the index.
+pub fn add_explanation(
     alloc: Global,
+    text: &mut String,
     told: Told<'_>,
     refutation: &Refutation,
-) -> Result<String, AllocError> {
-    let mut text = String::new(alloc);
+) -> Result<(), AllocError> {
     let mut names = BTreeSet::new(alloc);
     let conflicts = refutation.conflicts();
     for place in 0..conflicts.len() {
@@ -36,15 +40,14 @@ pub fn explanation(
         let earlier = &conflicts[..place];
         add_sentence(
             alloc,
-            &mut text,
+            text,
             &mut names,
             told,
             earlier,
             conflicts[place].as_slice(),
         )?;
     }
-    add_left_out(&mut text, told.snapshot, &names)?;
-    Ok(text)
+    add_left_out(text, told.snapshot, &names)
 }
 
 // A conflict with its ground.
@@ -194,25 +197,31 @@ fn add_exhausted(
 // The active line at a place: its number in the file, from 1, and its text. Behind the lines of the
 // file stands the one that would be added.
 fn add_line(text: &mut String, told: Told<'_>, place: usize) -> Result<(), AllocError> {
-    if let Some((number, line)) = active_line(told.state, told.state.lines().lines(), place) {
-        let line = line.text().trim();
-        return write!(text, "line {number} ({line})");
+    if let Some((number, line)) = active_line(told.environment, told.lines, place) {
+        write!(text, "line {number} (")?;
+        add_plain(text, line.text().trim())?;
+        return text.push_str(")");
     }
     match told.edit {
         Edit::Add(added) => {
-            let line = added.as_str().trim();
-            write!(text, "the new line ({line})")
+            text.push_str("the new line (")?;
+            add_plain(text, added.as_str().trim())?;
+            text.push_str(")")
         }
         _ => text.push_str("a line"),
     }
 }
 
 // The active line that has as many active ones before it, with its number from 1.
-fn active_line<'a>(state: &State, lines: &'a [Line], place: usize) -> Option<(usize, &'a Line)> {
+fn active_line<'a>(
+    environment: &Environment,
+    lines: &'a [Line],
+    place: usize,
+) -> Option<(usize, &'a Line)> {
     let mut left = place;
     for index in 0..lines.len() {
         let line = &lines[index];
-        if is_active(state, line.requirement()) {
+        if is_active(environment, line.requirement()) {
             if left == 0 {
                 return Some((index + 1, line));
             }
@@ -222,9 +231,9 @@ fn active_line<'a>(state: &State, lines: &'a [Line], place: usize) -> Option<(us
     None
 }
 
-fn is_active(state: &State, requirement: Option<&Requirement>) -> bool {
+fn is_active(environment: &Environment, requirement: Option<&Requirement>) -> bool {
     match requirement {
-        Some(wanted) => wanted.is_active(state.environment()),
+        Some(wanted) => wanted.is_active(environment),
         None => false,
     }
 }

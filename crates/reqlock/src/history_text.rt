@@ -1,39 +1,52 @@
 // The history for people: a line for each step.
 
-use edits::{Change, EntryChange, Splice};
+use crate::plain_text::add_plain;
+use crate::requirement_text::add_specifiers;
+use edits::{Cause, Change, EntryChange, Line, Splice, TargetName};
 use journal::Session;
+use lists::Text;
 use std::alloc::{AllocError, Global};
 
-/// A line for the first state, and one for each step behind it, with what the step did: entries that
-/// came, went or changed, and how many lines changed. The present state is marked.
-pub fn history_text(alloc: Global, session: &Session) -> Result<String, AllocError> {
+/// How many characters a line of the history has at most.
+const WIDTH: usize = 100;
+
+/// A line for the first state, and one for each step behind it that tells what was asked, as far as its
+/// change shows that. The present state is marked. A longer line is cut. Where `long` is asked for, a line for each
+/// entry that came, went or changed stands under the step's.
+pub fn history_text(alloc: Global, session: &Session, long: bool) -> Result<String, AllocError> {
     let mut text = String::new(alloc);
     add_number(&mut text, 0, session.cursor())?;
     text.push_str("init\n")?;
     for step in 1..=session.steps() {
-        add_number(&mut text, step, session.cursor())?;
-        add_change(&mut text, session.change(step))?;
+        let mut line = String::new(alloc);
+        add_number(&mut line, step, session.cursor())?;
+        add_step(alloc, &mut line, session.change(step))?;
+        add_cut(&mut text, line.as_str())?;
         text.push_str("\n")?;
+        if long {
+            add_entries(&mut text, session.change(step).entries())?;
+        }
     }
     Ok(text)
 }
 
-fn add_number(text: &mut String, step: usize, cursor: usize) -> Result<(), AllocError> {
-    let mark = if step == cursor { "*" } else { " " };
-    write!(text, "{mark} {step} ")
+fn add_entries(text: &mut String, changes: &[EntryChange]) -> Result<(), AllocError> {
+    for change in changes {
+        text.push_str("      ")?;
+        add_target(text, &change.target)?;
+        add_entry(text, change)?;
+        text.push_str("\n")?;
+    }
+    Ok(())
 }
 
-fn add_change(text: &mut String, change: &Change) -> Result<(), AllocError> {
-    for entry in change.entries() {
-        add_entry(text, entry)?;
-        text.push_str(", ")?;
+// The name of a named target.
+fn add_target(text: &mut String, target: &TargetName) -> Result<(), AllocError> {
+    let name = target.as_str();
+    if name.is_empty() {
+        return Ok(());
     }
-    if change.digests().is_some() {
-        text.push_str("another index, ")?;
-    }
-    let lines = changed_lines(change.splices());
-    let word = if lines == 1 { "line" } else { "lines" };
-    write!(text, "{lines} {word}")
+    write!(text, "{name}: ")
 }
 
 fn add_entry(text: &mut String, change: &EntryChange) -> Result<(), AllocError> {
@@ -55,11 +68,84 @@ fn add_entry(text: &mut String, change: &EntryChange) -> Result<(), AllocError> 
     }
 }
 
-// How many lines changed: a line that gave way to another one counts once.
-fn changed_lines(splices: &[Splice]) -> usize {
-    let mut count = 0usize;
-    for splice in splices {
-        count = count.saturating_add(splice.old.len().max(splice.new.len()));
+fn add_number(text: &mut String, step: usize, cursor: usize) -> Result<(), AllocError> {
+    let mark = if step == cursor { "*" } else { " " };
+    write!(text, "{mark} {step} ")
+}
+
+// A line, or as much of it as a line may have.
+fn add_cut(text: &mut String, line: &str) -> Result<(), AllocError> {
+    if line.chars().count() <= WIDTH {
+        return text.push_str(line);
     }
-    count
+    for letter in line.chars().take(WIDTH - 3) {
+        text.push(letter)?;
+    }
+    text.push_str("...")
+}
+
+// What was asked: an edit of one line, or a new lock, of which the number of changed entries is told.
+fn add_step(alloc: Global, text: &mut String, change: &Change) -> Result<(), AllocError> {
+    match change.splices().first() {
+        Some(splice) => add_edit(alloc, text, splice),
+        None => add_new_lock(text, change),
+    }
+}
+
+fn add_new_lock(text: &mut String, change: &Change) -> Result<(), AllocError> {
+    if change.digests().is_some() {
+        text.push_str("another index, ")?;
+    }
+    let entries = change.entries().len();
+    let word = if entries == 1 { "entry" } else { "entries" };
+    write!(text, "{entries} {word}")
+}
+
+// The line that came behind others, the one that went, or the one with other specifiers.
+fn add_edit(alloc: Global, text: &mut String, splice: &Splice) -> Result<(), AllocError> {
+    let (old, new) = (splice.old.as_slice(), splice.new.as_slice());
+    if new.len() > old.len() {
+        text.push_str("add ")?;
+        return add_line(text, new.last());
+    }
+    if new.len() < old.len() {
+        text.push_str("remove ")?;
+        return add_name(alloc, text, old.first(), false);
+    }
+    text.push_str("constrain ")?;
+    add_name(alloc, text, new.first(), true)
+}
+
+// A line without its ending.
+fn add_line(text: &mut String, line: Option<&Text>) -> Result<(), AllocError> {
+    match line {
+        Some(line) => add_plain(text, line.as_str().trim_end()),
+        None => Ok(()),
+    }
+}
+
+// The name of the requirement of a line, and its specifiers where they are asked for.
+fn add_name(
+    alloc: Global,
+    text: &mut String,
+    line: Option<&Text>,
+    with_specifiers: bool,
+) -> Result<(), AllocError> {
+    let Some(line) = line else {
+        return Ok(());
+    };
+    let line = match Line::read(alloc, line.as_str()) {
+        Ok(line) => line,
+        Err(Cause::OutOfMemory) => return Err(AllocError),
+        Err(_) => return Ok(()),
+    };
+    let Some(requirement) = line.requirement() else {
+        return Ok(());
+    };
+    text.push_str(requirement.name().normal())?;
+    if with_specifiers && !requirement.specifiers().clauses().is_empty() {
+        text.push_str(" ")?;
+        add_specifiers(text, requirement)?;
+    }
+    Ok(())
 }

@@ -6,6 +6,7 @@ ghost use Rattle.reqlock.specs.Inputs.{environment_in, index_in, requirements_in
 ghost use Rattle.reqlock.specs.InputWords.{word_of};
 ghost use Rattle.reqlock.specs.declared.input_files.InputFault.TheVariants.{OutOfMemory};
 
+use edits::TargetName;
 use pep440::Fault as SpecifierFault;
 use pep508::{Cause, Environment, Fault as LineFault, ReqFile};
 use snapshot::{Fault as IndexFault, Snapshot};
@@ -14,24 +15,47 @@ use std::rt::Files;
 use std::{fmt, fs, io};
 
 /// A file that the program reads. The first three stand in its folder, and are written too.
-#[derive(Clone, Copy, Debug, PartialEq, Eq)]
+#[derive(Debug, Drop)]
 pub enum InputFile {
     Requirements,
-    Lock,
+    /// The lock of this target.
+    Lock(TargetName),
     Journal,
     Index,
-    Environment,
+    /// The environment of this target.
+    Environment(TargetName),
+}
+
+impl Clone for InputFile {
+    fn clone(&self) -> Result<InputFile, AllocError> {
+        Ok(match self {
+            InputFile::Requirements => InputFile::Requirements,
+            InputFile::Lock(name) => InputFile::Lock(name.clone()?),
+            InputFile::Journal => InputFile::Journal,
+            InputFile::Index => InputFile::Index,
+            InputFile::Environment(name) => InputFile::Environment(name.clone()?),
+        })
+    }
 }
 
 impl fmt::Display for InputFile {
     fn fmt<W: fmt::Write>(&self, f: &mut fmt::Formatter<W>) -> fmt::Result {
         match self {
             InputFile::Requirements => write!(f, "requirements.txt"),
-            InputFile::Lock => write!(f, "pylock.toml"),
+            InputFile::Lock(name) => write_lock_name(f, name.as_str()),
             InputFile::Journal => write!(f, "reqlock.journal"),
             InputFile::Index => write!(f, "index"),
-            InputFile::Environment => write!(f, "environment"),
+            InputFile::Environment(name) => write_detail(f, "environment", name.as_str()),
         }
+    }
+}
+
+// The name of a target's lock file.
+fn write_lock_name<W: fmt::Write>(f: &mut fmt::Formatter<W>, name: &str) -> fmt::Result {
+    if name.is_empty() {
+        write!(f, "pylock.toml")
+    } else {
+        write!(f, "pylock.{name}.toml")
     }
 }
 

@@ -1,6 +1,7 @@
-// The lock as a table for people: what is locked, and what asks for it.
+// Locks as tables for people: what is locked, and what asks for it.
 
-use edits::{Entry, Line, State};
+use crate::target_files::add_target_line;
+use edits::{Entry, Environment, Line, State, Target};
 use std::alloc::{AllocError, Global};
 
 // One row of the table.
@@ -22,23 +23,42 @@ struct Widths {
     lines: usize,
 }
 
-/// A line for each entry of the lock, below a head line: the name, the version, the numbers of the
-/// lines that ask for it, and the names of the entries that need it.
+/// A table for each target of the state, in the order of the names, with an empty line between two.
+/// Above the table of a named target stands its name.
 pub fn lock_text(alloc: Global, state: &State) -> Result<String, AllocError> {
-    let entries = state.lock().entries();
+    let mut text = String::new(alloc);
+    for target in state.targets() {
+        if !text.is_empty() {
+            text.push_str("\n")?;
+        }
+        add_target_line(&mut text, &target.name)?;
+        add_table(alloc, &mut text, state.lines().lines(), target)?;
+    }
+    Ok(text)
+}
+
+// A line for each entry of the lock, below a head line: the name, the version, the numbers of the
+// lines that ask for it, and the names of the entries that need it.
+fn add_table(
+    alloc: Global,
+    text: &mut String,
+    lines: &[Line],
+    target: &Target,
+) -> Result<(), AllocError> {
+    let entries = target.lock.entries();
     let mut rows = Vec::with_capacity(alloc, entries.len())?;
     for entry in entries {
         rows.push(new_row(alloc, entry)?)?;
     }
-    for (place, line) in state.lines().lines().iter().enumerate() {
-        if is_asking(state, line) {
+    for (place, line) in lines.iter().enumerate() {
+        if is_asking(&target.environment, line) {
             add_line(alloc, &mut rows, entries, line, place.saturating_add(1))?;
         }
     }
     for entry in entries {
         add_needs(&mut rows, entries, entry)?;
     }
-    table_text(alloc, rows.as_slice())
+    add_rows(alloc, text, rows.as_slice())
 }
 
 fn new_row(alloc: Global, entry: &Entry) -> Result<Row, AllocError> {
@@ -51,10 +71,10 @@ fn new_row(alloc: Global, entry: &Entry) -> Result<Row, AllocError> {
     })
 }
 
-// Whether the line asks for something in the state's environment.
-fn is_asking(state: &State, line: &Line) -> bool {
+// Whether the line asks for something in the environment.
+fn is_asking(environment: &Environment, line: &Line) -> bool {
     match line.requirement() {
-        Some(requirement) => requirement.is_active(state.environment()),
+        Some(requirement) => requirement.is_active(environment),
         None => false,
     }
 }
@@ -117,21 +137,21 @@ fn add_item(list: &mut String, item: &str) -> Result<(), AllocError> {
     list.push_str(item)
 }
 
-fn table_text(alloc: Global, rows: &[Row]) -> Result<String, AllocError> {
+// The head line, and a line for each row.
+fn add_rows(alloc: Global, text: &mut String, rows: &[Row]) -> Result<(), AllocError> {
     let widths = widths_of(rows);
-    let mut text = String::new(alloc);
     add_row(
         alloc,
-        &mut text,
+        text,
         widths,
         ["name", "version", "line", "needed by"],
     )?;
     for row in rows {
         let (name, version) = (row.name.as_str(), row.version.as_str());
         let cells = [name, version, row.lines.as_str(), row.needed_by.as_str()];
-        add_row(alloc, &mut text, widths, cells)?;
+        add_row(alloc, text, widths, cells)?;
     }
-    Ok(text)
+    Ok(())
 }
 
 // Each column is as wide as its head at least.

@@ -5,6 +5,7 @@ use crate::folder_lock::{LockFile, lock_to_save};
 use crate::input_files::{InputFault, InputFile};
 use crate::looking::{print_check, print_history, print_lock, print_skipped, print_why};
 use crate::stop::{Status, Stop, report};
+use crate::target_files::target_files;
 use commands::request::{Invocation, Subcommand, request};
 use journal::Command;
 use std::io::{Read, Write};
@@ -38,17 +39,18 @@ where
     R::File: LockFile,
 {
     let Invocation { dir, subcommand } = request(rt.alloc(), words)?;
+    let targets = target_files(rt.alloc(), &subcommand)?;
     refuse_no_folder(dir, &subcommand)?;
     let _lock = locked(rt, dir, &subcommand)?;
     match subcommand {
-        Subcommand::Init(inputs) => init(rt, dir, inputs, output),
+        Subcommand::Init(inputs) => init(rt, dir, inputs.index, targets, output),
         Subcommand::Edit(edit, index) => edit_once(rt, dir, edit, index, output),
         Subcommand::Undo => step_once(rt, dir, &Command::Undo, output),
         Subcommand::Redo => step_once(rt, dir, &Command::Redo, output),
         Subcommand::Batch(index) => run_batch(rt, dir, index, input, output),
-        Subcommand::Try(inputs) => try_commands(rt, dir, inputs, input, output),
+        Subcommand::Try(inputs) => { try_commands(rt, dir, inputs.index, targets, input, output) }
         Subcommand::Show => print_lock(rt, dir, output),
-        Subcommand::Log => print_history(rt, dir, output),
+        Subcommand::Log(long) => print_history(rt, dir, long, output),
         Subcommand::Check => print_check(rt, dir, output),
         Subcommand::Skipped(index) => print_skipped(rt, index, output),
         Subcommand::Why(edit, index, explains) => {
@@ -84,7 +86,7 @@ where
         | Subcommand::Batch(_) => lock_to_save(rt, dir),
         Subcommand::Try(_)
         | Subcommand::Show
-        | Subcommand::Log
+        | Subcommand::Log(_)
         | Subcommand::Check
         | Subcommand::Skipped(_)
         | Subcommand::Why(_, _, _) => Ok(None),

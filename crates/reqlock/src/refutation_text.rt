@@ -4,15 +4,18 @@ use edits::{Choice, Refutation};
 use std::alloc::{AllocError, Global};
 use std::collections::BTreeSet;
 
-/// A line for each conflict, in their order: its choices sorted by bytes, each once, with one space
-/// between two, or `-` where it has none.
-pub fn refutation_text(alloc: Global, refutation: &Refutation) -> Result<String, AllocError> {
-    let mut text = String::new(alloc);
+/// Puts a line for each conflict behind the text, in their order: its choices sorted by bytes, each once,
+/// with one space between two, or `-` where it has none.
+pub fn add_refutation(
+    alloc: Global,
+    text: &mut String,
+    refutation: &Refutation,
+) -> Result<(), AllocError> {
     for conflict in refutation.conflicts() {
-        add_conflict(alloc, &mut text, conflict.as_slice())?;
+        add_conflict(alloc, text, conflict.as_slice())?;
         text.push_str("\n")?;
     }
-    Ok(text)
+    Ok(())
 }
 
 /// Puts a conflict behind the text: its choices in the order of their texts, with a space between two;

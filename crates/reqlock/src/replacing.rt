@@ -40,7 +40,7 @@ pub fn replace_all<R: Files + AllocGlobal>(
             Ok(places) => staged.push(places)?,
             Err(error) => {
                 remove_staged(rt, staged.as_slice());
-                return Err(unwritten(replacement.file, &error));
+                return Err(unwritten(replacement.file.clone()?, &error));
             }
         }
     }
@@ -73,7 +73,7 @@ pub fn put_in_place<R: Files + AllocGlobal>(rt: &R, places: &Places) -> Result<(
             sync_names(rt, places.place.as_str());
             Ok(())
         }
-        Err(error) => Err(unwritten(places.file, &error)),
+        Err(error) => Err(unwritten(places.file.clone()?, &error)),
     }
 }
 
@@ -86,7 +86,8 @@ fn sync_names<R: Files + AllocGlobal>(rt: &R, place: &str) {
 
 // Writes a file beside its place.
 fn stage<R: Files + AllocGlobal>(rt: &R, replacement: &Replacement<'_>) -> io::Result<Places> {
-    let places = places_of(rt, replacement.file, replacement.path.as_str())?;
+    let file = replacement.file.clone()?;
+    let places = places_of(rt, file, replacement.path.as_str())?;
     let replaced = metadata_at(rt, places.place.as_str())?;
     let mut file = create_anew(rt, places.beside.as_str())?;
     if let Some(metadata) = &replaced {

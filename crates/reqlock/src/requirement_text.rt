@@ -8,6 +8,11 @@ use std::alloc::AllocError;
 pub fn add_requirement(text: &mut String, wanted: &Requirement) -> Result<(), AllocError> {
     text.push_str(wanted.name().normal())?;
     add_extras(text, wanted.extras())?;
+    add_specifiers(text, wanted)
+}
+
+/// The clauses, with commas between them.
+pub fn add_specifiers(text: &mut String, wanted: &Requirement) -> Result<(), AllocError> {
     let mut mark = "";
     for clause in wanted.specifiers().clauses() {
         text.push_str(mark)?;

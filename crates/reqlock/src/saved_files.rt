@@ -1,29 +1,33 @@
-// The three files of the folder: the requirements file, its lock and the journal.
+// The files of the folder: the requirements file, the lock of each target, and the journal.
 
 use crate::input_files::{InputFault, InputFile, read_bytes};
 use crate::replacing::{Places, Replacement, places_at, replace_all};
 use crate::stop::{Stop, in_file};
-use crate::stopped_save::{end_save, remove_left};
-use journal::Session;
+use crate::stopped_save::{Beside, end_save, remove_left};
+use edits::{Refusal, TargetName};
+use journal::{Session, targets};
+use lists::Seq;
 use std::alloc::Global;
+use std::collections::BTreeMap;
 use std::rt::Files;
 
-/// What the three files held when they were read.
+/// What the files held when they were read.
 #[derive(Drop)]
 pub struct SavedFiles {
     requirements: Vec<u8>,
-    lock: Vec<u8>,
+    locks: BTreeMap<TargetName, Seq<u8>>,
     journal: Vec<u8>,
 }
 
 impl SavedFiles {
-    /// Reads the three files of a folder. The requirements file is read first and the lock last.
+    /// Reads the files of a folder: the requirements file first, then the journal, and the locks last,
+    /// in the order of the names that the journal has.
     pub fn read<R: Files + AllocGlobal>(rt: &R, dir: &str) -> Result<SavedFiles, Stop> {
-        SavedFiles::read_with(rt, dir, &[])
+        SavedFiles::read_with(rt, dir, &Beside::none(rt.alloc()))
     }
 
-    /// Reads the three files to save others in their place. Where one can't be read, a save may
-    /// have been stopped: then that is ended first.
+    /// Reads the files to save others in their place. Where one can't be read, a save may have been
+    /// stopped: then that is ended first.
     pub fn read_to_save<R: Files + AllocGlobal>(rt: &R, dir: &str) -> Result<SavedFiles, Stop> {
         match SavedFiles::read(rt, dir) {
             Err(Stop::Input(file, fault)) => {
@@ -37,32 +41,37 @@ impl SavedFiles {
         }
     }
 
-    /// Reads the requirements file alone. The other two count as empty, and since neither ever is,
-    /// both are written.
+    /// Reads the requirements file alone. The journal counts as empty, and no lock as there, so that
+    /// all of them are written.
     pub fn requirements_alone<R: Files + AllocGlobal>(
         rt: &R,
         dir: &str,
     ) -> Result<SavedFiles, Stop> {
-        let requirements = read_in(rt, dir, InputFile::Requirements, &[])?;
+        let beside = Beside::none(rt.alloc());
+        let requirements = read_in(rt, dir, InputFile::Requirements, &beside)?;
         Ok(SavedFiles {
             requirements,
-            lock: Vec::new(rt.alloc()),
+            locks: BTreeMap::new(rt.alloc()),
             journal: Vec::new(rt.alloc()),
         })
     }
 
-    /// Reads the three files, and of these the one that stands beside its place.
+    /// Reads the files, and of these the one that stands beside its place.
     pub fn read_with<R: Files + AllocGlobal>(
         rt: &R,
         dir: &str,
-        beside: &[InputFile],
+        beside: &Beside,
     ) -> Result<SavedFiles, Stop> {
         let requirements = read_in(rt, dir, InputFile::Requirements, beside)?;
         let journal = read_in(rt, dir, InputFile::Journal, beside)?;
-        let lock = read_in(rt, dir, InputFile::Lock, beside)?;
+        let mut locks = BTreeMap::new(rt.alloc());
+        for name in names_in(rt.alloc(), journal.as_slice())?.into_vec() {
+            let lock = read_in(rt, dir, InputFile::Lock(name.clone()?), beside)?;
+            locks.insert(name, Seq::from_vec(lock))?;
+        }
         Ok(SavedFiles {
             requirements,
-            lock,
+            locks,
             journal,
         })
     }
@@ -75,8 +84,7 @@ impl SavedFiles {
     /// The history that the files stand for.
     pub fn open(&self, alloc: Global) -> Result<Session, Stop> {
         let requirements = self.requirements.as_slice();
-        let lock = self.lock.as_slice();
-        Ok(Session::open(alloc, requirements, lock, self.journal.as_slice())?)
+        Ok(Session::open(alloc, requirements, &self.locks, self.journal.as_slice())?)
     }
 
     /// The files, with the history that they stand for, to save another in their place. Where they
@@ -86,7 +94,7 @@ impl SavedFiles {
         rt: &R,
         dir: &str,
     ) -> Result<(SavedFiles, Session), Stop> {
-        let opened = match self.open(rt.alloc()) {
+        let (files, session) = match self.open(rt.alloc()) {
             Ok(session) => (self, session),
             Err(Stop::Input(file, fault)) => {
                 if !end_save(rt, dir)? {
@@ -98,11 +106,12 @@ impl SavedFiles {
             }
             Err(stop) => return Err(stop),
         };
-        remove_left(rt, dir)?;
-        Ok(opened)
+        remove_left(rt, dir, &session)?;
+        Ok((files, session))
     }
 
-    /// Saves a history in the place of these files. A file that doesn't change isn't touched.
+    /// Saves a history in the place of these files: the requirements file, the locks by name, and the
+    /// journal. A file that doesn't change isn't touched.
     pub fn replace<R: Files + AllocGlobal>(
         &self,
         rt: &R,
@@ -111,24 +120,46 @@ impl SavedFiles {
     ) -> Result<(), Stop> {
         let alloc = rt.alloc();
         let saved = session.save(alloc)?;
-        let written = [
-            (
-                InputFile::Requirements,
-                &self.requirements,
-                &saved.requirements,
-            ),
-            (InputFile::Lock, &self.lock, &saved.lock),
-            (InputFile::Journal, &self.journal, &saved.journal),
-        ];
         let mut changed = Vec::new(alloc);
-        for (file, old, new) in written {
-            let bytes = new.as_str().as_bytes();
-            if old.as_slice() != bytes {
-                let path = path_of(alloc, dir, file)?;
-                changed.push(Replacement { file, path, bytes })?;
-            }
+        let old = Some(self.requirements.as_slice());
+        let new = saved.requirements.as_str();
+        add_changed(&mut changed, alloc, dir, InputFile::Requirements, old, new)?;
+        for (name, lock) in saved.locks.iter() {
+            let old = self.locks.get(name).map(|lock| lock.as_slice());
+            let file = InputFile::Lock(name.clone()?);
+            add_changed(&mut changed, alloc, dir, file, old, lock.as_str())?;
         }
+        let old = Some(self.journal.as_slice());
+        let new = saved.journal.as_str();
+        add_changed(&mut changed, alloc, dir, InputFile::Journal, old, new)?;
         replace_all(rt, changed.as_slice())
+    }
+}
+
+// Notes a file that is to hold this text, where it doesn't hold it.
+fn add_changed<'a>(
+    changed: &mut Vec<Replacement<'a>>,
+    alloc: Global,
+    dir: &str,
+    file: InputFile,
+    old: Option<&[u8]>,
+    new: &'a str,
+) -> Result<(), Stop> {
+    let bytes = new.as_bytes();
+    if old == Some(bytes) {
+        return Ok(());
+    }
+    let path = path_of(alloc, dir, &file)?;
+    Ok(changed.push(Replacement { file, path, bytes })?)
+}
+
+/// The names of the targets that a journal has. A broken one has none: what is broken is told where it
+/// is opened.
+pub fn names_in(alloc: Global, journal: &[u8]) -> Result<Seq<TargetName>, Stop> {
+    match targets(alloc, journal) {
+        Ok(names) => Ok(names),
+        Err(Refusal::JournalBroken(_)) => Ok(Seq::new(alloc)),
+        Err(refusal) => Err(Stop::from(refusal)),
     }
 }
 
@@ -138,12 +169,18 @@ pub fn places_in<R: Files + AllocGlobal>(
     dir: &str,
     file: InputFile,
 ) -> Result<Option<Places>, Stop> {
-    let path = path_of(rt.alloc(), dir, file)?;
+    let path = path_of(rt.alloc(), dir, &file)?;
     places_at(rt, file, path.as_str())
 }
 
-fn path_of(alloc: Global, dir: &str, file: InputFile) -> Result<String, Stop> {
-    Ok(format!(in alloc; "{dir}/{file}")?)
+fn path_of(alloc: Global, dir: &str, file: &InputFile) -> Result<String, Stop> {
+    match file {
+        InputFile::Lock(name) => {
+            let name = name.file_name(alloc)?;
+            Ok(format!(in alloc; "{dir}/{name}")?)
+        }
+        _ => Ok(format!(in alloc; "{dir}/{file}")?),
+    }
 }
 
 /// The bytes of a file, in its place or, where it is among these, beside it.
@@ -151,13 +188,13 @@ pub fn read_in<R: Files + AllocGlobal>(
     rt: &R,
     dir: &str,
     file: InputFile,
-    beside: &[InputFile],
+    beside: &Beside,
 ) -> Result<Vec<u8>, Stop> {
-    if !beside.contains(&file) {
-        let path = path_of(rt.alloc(), dir, file)?;
+    if !beside.has(&file) {
+        let path = path_of(rt.alloc(), dir, &file)?;
         return in_file(file, read_bytes(rt, path.as_str()));
     }
-    match places_in(rt, dir, file)? {
+    match places_in(rt, dir, file.clone()?)? {
         Some(places) => in_file(file, read_bytes(rt, places.beside.as_str())),
         None => Err(Stop::Input(file, InputFault::Unreadable)),
     }

@@ -8,7 +8,7 @@ use crate::input_files::{InputFault, InputFile};
 use commands::batch::BatchFault;
 use commands::refusal_word;
 use commands::request::{NeededOption, RequestFault};
-use edits::{Refusal, SavedFile};
+use edits::{Refusal, SavedFile, TargetName};
 use std::alloc::{AllocError, AllocFailed};
 use std::io::{self, ErrorKind, Write};
 
@@ -30,9 +30,15 @@ pub enum Status {
 pub enum Stop {
     Usage(clap::Error),
     Needed(NeededOption),
+    /// A value of `--env` has a bad name.
+    BadTarget,
+    /// Two values of `--env` have this name.
+    DuplicateTarget(TargetName),
     Refused(Refusal),
     /// There is no solution, as this text shows.
     Refuted(String),
+    /// There is no solution, as these sentences tell.
+    Explained(String),
     Input(InputFile, InputFault),
     /// This file can't be written.
     Unwritten(InputFile),
@@ -80,12 +86,15 @@ impl From<Refusal> for Stop {
             Refusal::FilesDisagree(SavedFile::Requirements) => {
                 Stop::Input(InputFile::Requirements, InputFault::Disagrees)
             }
-            Refusal::FilesDisagree(SavedFile::Lock) => {
-                Stop::Input(InputFile::Lock, InputFault::Disagrees)
+            Refusal::FilesDisagree(SavedFile::Lock(name)) => {
+                Stop::Input(InputFile::Lock(name), InputFault::Disagrees)
             }
             Refusal::JournalBroken(line) => {
                 Stop::Input(InputFile::Journal, InputFault::JournalBroken(line))
             }
+            Refusal::BadTarget => Stop::BadTarget,
+            Refusal::DuplicateTarget(name) => Stop::DuplicateTarget(name),
+            Refusal::NoTarget => Stop::Needed(NeededOption::Environment),
             refusal => Stop::Refused(refusal),
         }
     }
@@ -124,6 +133,18 @@ pub fn print<O: Write>(output: &mut O, text: &[u8]) -> Result<(), BatchFault> {
     }
 }
 
+/// Writes a text that people read to the output, and tells whether all of it went. Who closes the output early,
+/// as `head` does, has read what they wanted, and that is no fault.
+pub fn show<O: Write>(output: &mut O, text: &[u8]) -> Result<bool, BatchFault> {
+    match output.write_all(text) {
+        Ok(()) => Ok(true),
+        Err(error) => match error.kind() {
+            ErrorKind::BrokenPipe => Ok(false),
+            _ => Err(BatchFault::Write),
+        },
+    }
+}
+
 /// Tells why the program stops, and gives its status. A text that can't be written to `errors`
 /// changes no status.
 pub fn report<O: Write, E: Write>(stop: &Stop, output: &mut O, errors: &mut E) -> Status {
@@ -137,8 +158,14 @@ pub fn report<O: Write, E: Write>(stop: &Stop, output: &mut O, errors: &mut E) -
             let _ = writeln!(errors, "reqlock: --env is needed");
             Status::Usage
         }
+        Stop::BadTarget => {
+            let _ = writeln!(errors, "reqlock: --env has a bad name");
+            Status::Usage
+        }
+        Stop::DuplicateTarget(name) => report_twice(name.as_str(), errors),
         Stop::Refused(refusal) => report_refusal(refusal, output, errors),
         Stop::Refuted(text) => report_refutation(text.as_str(), output, errors),
+        Stop::Explained(text) => report_explanation(text.as_str(), output, errors),
         Stop::Input(file, fault) => {
             let _ = writeln!(errors, "reqlock: {file}: {fault}");
             Status::InputRefused
@@ -160,6 +187,13 @@ pub fn report_fault<E: Write>(fault: BatchFault, errors: &mut E) -> Status {
     };
     let _ = writeln!(errors, "reqlock: {text}");
     Status::Fault
+}
+
+// The empty name is left out with its space.
+fn report_twice<E: Write>(name: &str, errors: &mut E) -> Status {
+    let space = if name.is_empty() { "" } else { " " };
+    let _ = writeln!(errors, "reqlock: --env {name}{space}twice");
+    Status::Usage
 }
 
 // Help goes to the output, and is no mistake.
@@ -188,6 +222,14 @@ fn report_refusal<O: Write, E: Write>(refusal: &Refusal, output: &mut O, errors:
 fn report_refutation<O: Write, E: Write>(text: &str, output: &mut O, errors: &mut E) -> Status {
     match print(output, text.as_bytes()) {
         Ok(()) => Status::NoSolution,
+        Err(fault) => report_fault(fault, errors),
+    }
+}
+
+fn report_explanation<O: Write, E: Write>(text: &str, output: &mut O, errors: &mut E) -> Status {
+    match show(output, text.as_bytes()) {
+        Ok(true) => Status::NoSolution,
+        Ok(false) => Status::Done,
         Err(fault) => report_fault(fault, errors),
     }
 }

@@ -2,33 +2,77 @@
 
 use crate::input_files::InputFile;
 use crate::replacing::{Places, put_in_place};
-use crate::saved_files::{SavedFiles, places_in, read_in};
+use crate::saved_files::{SavedFiles, names_in, places_in, read_in};
 use crate::stop::Stop;
 use commands::batch::RESOLVER;
+use edits::TargetName;
 use journal::{Command, Reply, Session};
-use std::alloc::Global;
+use std::alloc::{AllocError, Global};
+use std::collections::BTreeSet;
 use std::fs;
 use std::rt::Files;
 
-const FILES: [InputFile; 3] = [InputFile::Requirements, InputFile::Lock, InputFile::Journal];
+/// Files that are taken from beside their places.
+#[derive(Drop)]
+pub struct Beside {
+    requirements: bool,
+    // the targets whose locks are taken from there
+    locks: BTreeSet<TargetName>,
+    journal: bool,
+}
 
-// What can be left beside: the files behind the one that came last, or others where the system made a
-// later name last before an earlier one. It isn't all three, since then none is in its place.
-const LEFT_BESIDE: [&[InputFile]; 6] = [
-    &[InputFile::Journal],
-    &[InputFile::Lock, InputFile::Journal],
-    &[InputFile::Lock],
-    &[InputFile::Requirements],
-    &[InputFile::Requirements, InputFile::Journal],
-    &[InputFile::Requirements, InputFile::Lock],
-];
+impl Beside {
+    /// No file.
+    pub fn none(alloc: Global) -> Beside {
+        Beside::of(alloc, false, false)
+    }
+
+    // No lock, and of the other two those that are told.
+    fn of(alloc: Global, requirements: bool, journal: bool) -> Beside {
+        Beside {
+            requirements,
+            locks: BTreeSet::new(alloc),
+            journal,
+        }
+    }
+
+    /// Whether this file is one of them.
+    pub fn has(&self, file: &InputFile) -> bool {
+        match file {
+            InputFile::Requirements => self.requirements,
+            InputFile::Lock(name) => self.locks.contains(name),
+            InputFile::Journal => self.journal,
+            InputFile::Index | InputFile::Environment(_) => false,
+        }
+    }
+
+    // The files, in the order in which a save puts them into their places.
+    fn files(&self, alloc: Global) -> Result<Vec<InputFile>, AllocError> {
+        let mut files = Vec::new(alloc);
+        if self.requirements {
+            files.push(InputFile::Requirements)?;
+        }
+        for name in self.locks.iter() {
+            files.push(InputFile::Lock(name.clone()?))?;
+        }
+        if self.journal {
+            files.push(InputFile::Journal)?;
+        }
+        Ok(files)
+    }
+}
+
+// Whether the requirements file and whether the journal is taken from beside its place, in the order in
+// which this is tried: the journal comes last in a save, and is the one that is mostly left.
+const LEFT_BESIDE: [(bool, bool); 4] = [(false, true), (false, false), (true, true), (true, false)];
 
 /// Ends a save that was stopped, where the files open with those in place that it left beside. It
 /// answers whether there was one.
 pub fn end_save<R: Files + AllocGlobal>(rt: &R, dir: &str) -> Result<bool, Stop> {
-    for left in LEFT_BESIDE {
-        if is_left(rt, dir, left)? {
-            put_left(rt, dir, left)?;
+    for (requirements, journal) in LEFT_BESIDE {
+        let beside = Beside::of(rt.alloc(), requirements, journal);
+        if let Some(left) = left_with(rt, dir, beside)? {
+            put_left(rt, dir, &left)?;
             return Ok(true);
         }
     }
@@ -38,24 +82,31 @@ pub fn end_save<R: Files + AllocGlobal>(rt: &R, dir: &str) -> Result<bool, Stop>
 /// Ends a save that was stopped, for a call that doesn't open the files. What opens as it stands stays,
 /// and so does what nothing makes whole.
 pub fn end_left<R: Files + AllocGlobal>(rt: &R, dir: &str) -> Result<(), Stop> {
-    if is_any_left(rt, dir)? && opened_with(rt, dir, &[])?.is_none() {
+    if is_any_left(rt, dir)? && does_not_open(rt, dir)? {
         end_save(rt, dir)?;
     }
     Ok(())
 }
 
-/// Removes what a save that was stopped has left beside the places of the files.
-pub fn remove_left<R: Files + AllocGlobal>(rt: &R, dir: &str) -> Result<(), Stop> {
-    let found = all_places(rt, dir, FILES.as_slice())?;
-    for places in found.as_slice() {
+/// Removes what a save that was stopped has left beside the places of the files: of the locks, those of
+/// this history's targets, and those that the journal names, in its place and beside it.
+pub fn remove_left<R: Files + AllocGlobal>(
+    rt: &R,
+    dir: &str,
+    session: &Session,
+) -> Result<(), Stop> {
+    let mut beside = named_files(rt, dir)?;
+    for target in session.state().targets() {
+        beside.locks.insert(target.name.clone()?)?;
+    }
+    for places in all_places(rt, dir, &beside)? {
         let _ = fs::remove_file(rt, places.beside.as_str());
     }
     Ok(())
 }
 
 fn is_any_left<R: Files + AllocGlobal>(rt: &R, dir: &str) -> Result<bool, Stop> {
-    let found = all_places(rt, dir, FILES.as_slice())?;
-    for places in found.as_slice() {
+    for places in all_places(rt, dir, &named_files(rt, dir)?)? {
         if fs::symlink_metadata(rt, places.beside.as_str()).is_ok() {
             return Ok(true);
         }
@@ -63,7 +114,29 @@ fn is_any_left<R: Files + AllocGlobal>(rt: &R, dir: &str) -> Result<bool, Stop> 
     Ok(false)
 }
 
-fn put_left<R: Files + AllocGlobal>(rt: &R, dir: &str, left: &[InputFile]) -> Result<(), Stop> {
+// All files that can be left beside: of the locks, those that the journal names, in its place and
+// beside it.
+fn named_files<R: Files + AllocGlobal>(rt: &R, dir: &str) -> Result<Beside, Stop> {
+    let mut all = Beside::of(rt.alloc(), true, true);
+    for is_beside in [false, true] {
+        let journal = Beside::of(rt.alloc(), false, is_beside);
+        match read_in(rt, dir, InputFile::Journal, &journal) {
+            Ok(journal) => add_names(rt.alloc(), &mut all, journal.as_slice())?,
+            Err(Stop::Input(_file, _fault)) => {}
+            Err(stop) => return Err(stop),
+        }
+    }
+    Ok(all)
+}
+
+fn add_names(alloc: Global, beside: &mut Beside, journal: &[u8]) -> Result<(), Stop> {
+    for name in names_in(alloc, journal)?.into_vec() {
+        beside.locks.insert(name)?;
+    }
+    Ok(())
+}
+
+fn put_left<R: Files + AllocGlobal>(rt: &R, dir: &str, left: &Beside) -> Result<(), Stop> {
     let found = all_places(rt, dir, left)?;
     for places in found.as_slice() {
         put_in_place(rt, places)?;
@@ -76,47 +149,76 @@ fn put_left<R: Files + AllocGlobal>(rt: &R, dir: &str, left: &[InputFile]) -> Re
 fn all_places<R: Files + AllocGlobal>(
     rt: &R,
     dir: &str,
-    files: &[InputFile],
+    beside: &Beside,
 ) -> Result<Vec<Places>, Stop> {
-    let mut found = Vec::with_capacity(rt.alloc(), files.len())?;
-    for file in files {
-        if let Some(places) = places_in(rt, dir, *file)? {
+    let mut found = Vec::new(rt.alloc());
+    for file in beside.files(rt.alloc())? {
+        if let Some(places) = places_in(rt, dir, file)? {
             found.push(places)?;
         }
     }
     Ok(found)
 }
 
-// Whether a save left these files beside. A requirements file gives way only where its history has it:
-// one that was changed by hand stays.
-fn is_left<R: Files + AllocGlobal>(rt: &R, dir: &str, left: &[InputFile]) -> Result<bool, Stop> {
-    match opened_with(rt, dir, left)? {
-        Some(session) if left.contains(&InputFile::Requirements) => {
-            let standing = read_in(rt, dir, InputFile::Requirements, &[])?;
-            has_requirements(rt.alloc(), session, standing.as_slice())
+// What a save left beside, where the files open with these from there and with each lock that doesn't
+// fit in its place. A requirements file gives way only where its history has it: one that was changed by
+// hand stays.
+fn left_with<R: Files + AllocGlobal>(
+    rt: &R,
+    dir: &str,
+    beside: Beside,
+) -> Result<Option<Beside>, Stop> {
+    let Some((left, session)) = completed(rt, dir, beside)? else {
+        return Ok(None);
+    };
+    if left.requirements {
+        let standing = read_in(rt, dir, InputFile::Requirements, &Beside::none(rt.alloc()))?;
+        if !has_requirements(rt.alloc(), session, standing.as_slice())? {
+            return Ok(None);
         }
-        opened => Ok(opened.is_some()),
+    }
+    Ok(Some(left))
+}
+
+// The files with which the folder opens, and what it stands for with them. A lock that is told not to
+// fit is taken from beside, each once.
+fn completed<R: Files + AllocGlobal>(
+    rt: &R,
+    dir: &str,
+    mut beside: Beside,
+) -> Result<Option<(Beside, Session)>, Stop> {
+    for _ in 0..usize::MAX {
+        match open_with(rt, dir, &beside) {
+            Ok(session) => return Ok(Some((beside, session))),
+            Err(Stop::Input(file, _fault)) => {
+                if !add_lock(&mut beside, file)? {
+                    return Ok(None);
+                }
+            }
+            Err(stop) => return Err(stop),
+        }
+    }
+    Ok(None)
+}
+
+// Takes the lock of a fault from beside too. It answers whether it is a lock's, and wasn't taken from there.
+fn add_lock(beside: &mut Beside, file: InputFile) -> Result<bool, Stop> {
+    match file {
+        InputFile::Lock(name) => Ok(beside.locks.insert(name)?),
+        _other => Ok(false),
     }
 }
 
-// The history that the files stand for with these from beside their places, where they stand for one.
-fn opened_with<R: Files + AllocGlobal>(
-    rt: &R,
-    dir: &str,
-    beside: &[InputFile],
-) -> Result<Option<Session>, Stop> {
-    match open_with(rt, dir, beside) {
-        Ok(session) => Ok(Some(session)),
-        Err(Stop::Input(_, _)) => Ok(None),
+// Whether the files stand for no history in their places.
+fn does_not_open<R: Files + AllocGlobal>(rt: &R, dir: &str) -> Result<bool, Stop> {
+    match open_with(rt, dir, &Beside::none(rt.alloc())) {
+        Ok(_) => Ok(false),
+        Err(Stop::Input(_, _)) => Ok(true),
         Err(stop) => Err(stop),
     }
 }
 
-fn open_with<R: Files + AllocGlobal>(
-    rt: &R,
-    dir: &str,
-    beside: &[InputFile],
-) -> Result<Session, Stop> {
+fn open_with<R: Files + AllocGlobal>(rt: &R, dir: &str, beside: &Beside) -> Result<Session, Stop> {
     SavedFiles::read_with(rt, dir, beside)?.open(rt.alloc())
 }
 

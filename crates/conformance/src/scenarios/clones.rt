@@ -18,7 +18,7 @@ const REQUIREMENT: &str = "B.b[x,y]>=1.0,!=2.* ; os_name=='posix'";
 
 /// The wheel of the first entry of a state.
 fn wheel(alloc: Global, state: &State) -> Option<FileEntry> {
-    let entry = state.lock().entries().first()?;
+    let entry = state.targets().first()?.lock.entries().first()?;
     entry.wheels().first()?.clone().ok()
 }
 

@@ -1,7 +1,8 @@
 // What the scenarios begin with.
 
+use crate::targets::unnamed;
 use crate::telling::Telling;
-use edits::{Environment, ReqFile, Snapshot, State, init};
+use edits::{Environment, ReqFile, Snapshot, State, Targets, init};
 use journal::Plain;
 use std::alloc::Global;
 
@@ -70,8 +71,13 @@ pub fn environment(alloc: Global) -> Option<Environment> {
     Environment::read(alloc, ENVIRONMENT.as_bytes()).ok()
 }
 
+/// The one target of that environment.
+pub fn targets(alloc: Global) -> Option<Targets> {
+    unnamed(alloc, environment(alloc)?).ok()
+}
+
 /// The state that a history of the lines begins with.
 pub fn state(alloc: Global, indexes: &Indexes) -> Option<State> {
-    let (lines, environment) = (lines(alloc)?, environment(alloc)?);
-    init(alloc, lines, environment, &indexes.now, &Plain).ok()
+    let (lines, targets) = (lines(alloc)?, targets(alloc)?);
+    init(alloc, lines, targets, &indexes.now, &Plain).ok()
 }

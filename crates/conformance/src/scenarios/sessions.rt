@@ -3,14 +3,15 @@
 use crate::scenarios::calls::{play, surely};
 use crate::scenarios::data::{self, Indexes, read_indexes};
 use crate::scenarios::told_commands::{BEFORE, all_commands, commands_of};
+use crate::targets::{bytes_of, targets_of};
 use journal::{Command, Learning, Session};
 use std::alloc::Global;
 use std::io::Write;
 
 /// A session behind these commands.
 fn prepared(alloc: Global, indexes: &Indexes, commands: &[Command<'_>]) -> Option<Session> {
-    let (lines, environment) = (data::lines(alloc)?, data::environment(alloc)?);
-    let session = Session::init(alloc, lines, environment, &indexes.now, &Learning);
+    let (lines, targets) = (data::lines(alloc)?, data::targets(alloc)?);
+    let session = Session::init(alloc, lines, targets, &indexes.now, &Learning);
     let mut session = session.ok()?;
     for command in commands {
         let _ = session.apply(alloc, command, &Learning);
@@ -63,20 +64,20 @@ fn begin<W: Write>(alloc: Global, out: &mut W, indexes: &Indexes) -> Option<()> 
     let mut state = data::state(alloc, indexes)?;
     play(alloc, out, &mut state, |state| {
         let lines = state.lines().clone()?;
-        let environment = state.environment().clone()?;
-        Session::init(alloc, lines, environment, &indexes.now, &Learning)
+        let targets = targets_of(alloc, &*state)?;
+        Session::init(alloc, lines, targets, &indexes.now, &Learning)
     })
 }
 
 fn opened<W: Write>(alloc: Global, out: &mut W, session: &Session) -> Option<()> {
     let saved = session.save(alloc).ok()?;
     let requirements = saved.requirements.as_str().as_bytes();
-    let lock = saved.lock.as_str().as_bytes();
+    let locks = bytes_of(alloc, &saved.locks).ok()?;
     let journal = saved.journal.as_str().as_bytes();
     play(
         alloc,
         out,
         &mut (),
-        |_| Session::open(alloc, requirements, lock, journal),
+        |_| Session::open(alloc, requirements, &locks, journal),
     )
 }

@@ -4,8 +4,9 @@ use crate::scenarios::calls::{play, surely};
 use crate::scenarios::data::{read_indexes, state};
 use crate::scenarios::told::Told;
 use crate::scenarios::told_commands::edit_of;
+use crate::targets::{locks_of, targets_of};
 use crate::telling::Telling;
-use edits::{Edit, Snapshot, State, problem_after};
+use edits::{Edit, Refusal, Snapshot, State, problem_after};
 use journal::Learning;
 use resolve::{Problem, check};
 use std::alloc::Global;
@@ -33,7 +34,11 @@ fn problem_of<'a>(
     edit: &Edit,
     index: &'a Snapshot,
 ) -> Option<Problem<'a>> {
-    problem_after(alloc, state, edit, index).ok()
+    let (_, problem) = problem_after(alloc, state, edit, index)
+        .ok()?
+        .into_vec()
+        .pop()?;
+    Some(problem)
 }
 
 /// A state, and the problem of an edit of it once that is found.
@@ -75,17 +80,25 @@ fn asked<W: Write>(
         problem: None,
     };
     play(alloc, out, &mut question, |question| {
-        question.problem = Some(problem_after(alloc, &question.state, edit, index)?);
+        question.problem = problem_after(alloc, &question.state, edit, index)?
+            .into_vec()
+            .pop()
+            .map(|(_, problem)| problem);
         surely(())
     })
 }
 
 fn again<W: Write>(alloc: Global, out: &mut W, state: &mut State) -> Option<()> {
-    play(alloc, out, state, |state| {
-        let lines = state.lines().clone()?;
-        let environment = state.environment().clone()?;
-        State::new(alloc, lines, environment, state.lock().clone()?)
-    })
+    play(
+        alloc,
+        out,
+        state,
+        |state| -> Result<Option<State>, Refusal> {
+            let lines = state.lines().clone()?;
+            let targets = targets_of(alloc, &*state)?;
+            Ok(State::new(alloc, lines, targets, locks_of(alloc, &*state)?)?)
+        },
+    )
 }
 
 fn refuted<W: Write>(alloc: Global, out: &mut W, mut problem: Problem<'_>) -> Option<()> {
