@@ -7,7 +7,8 @@ _reqlock_names() {
 
 _reqlock() {
     local subcommands="init add remove constrain upgrade relock undo redo batch try show log check skipped why help"
-    local options="--dir --index --env --help --version"
+    local common="--dir --index --env --help"
+    local options="$common --version"
     local word=${COMP_WORDS[COMP_CWORD]} before=${COMP_WORDS[COMP_CWORD - 1]}
     local place subcommand="" folder=. words=""
     COMPREPLY=()
@@ -19,10 +20,7 @@ _reqlock() {
             ;;
         --index | --env) ((place++)) ;;
         -*) ;;
-        *)
-            subcommand=${COMP_WORDS[place]}
-            break
-            ;;
+        *) subcommand=${subcommand:-${COMP_WORDS[place]}} ;;
         esac
     done
     case $before in
@@ -39,11 +37,12 @@ _reqlock() {
     "") words="$subcommands $options" ;;
     help) words=$subcommands ;;
     remove | constrain | upgrade)
-        words=--help
+        words="$common"
         if [ "$subcommand" = upgrade ] || [ "$before" = "$subcommand" ]; then words+=" $(_reqlock_names "$folder")"; fi
         ;;
-    why) words="--explain --help" ;;
-    *) words=--help ;;
+    log) words="$common --long" ;;
+    why) words="$common --explain" ;;
+    *) words="$common" ;;
     esac
     mapfile -t COMPREPLY < <(compgen -W "$words" -- "$word")
 }

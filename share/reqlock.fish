@@ -32,9 +32,9 @@ function __reqlock_names
 end
 
 complete -c reqlock -f
-complete -c reqlock -n __reqlock_before -l dir -x -a '(__fish_complete_directories)' -d 'The folder of requirements.txt'
-complete -c reqlock -n __reqlock_before -l index -r -F -d 'The snapshot of the index'
-complete -c reqlock -n __reqlock_before -l env -r -F -d 'The environment that the lock is for'
+complete -c reqlock -l dir -x -a '(__fish_complete_directories)' -d 'The folder of requirements.txt'
+complete -c reqlock -l index -r -F -d 'The snapshot of the index'
+complete -c reqlock -l env -r -F -d 'The environment that a lock is for; or NAME=FILE'
 complete -c reqlock -s h -l help -d 'Print help'
 complete -c reqlock -n __reqlock_before -s V -l version -d 'Print version'
 complete -c reqlock -n __reqlock_before -a init -d 'Lock the file and begin a new history'
@@ -55,4 +55,5 @@ complete -c reqlock -n __reqlock_before -a why -d 'Print a proof that nothing ca
 complete -c reqlock -n __reqlock_before -a help -d 'Print help of the program or of a subcommand'
 complete -c reqlock -n '__reqlock_in help' -a 'init add remove constrain upgrade relock undo redo batch try show log check skipped why help'
 complete -c reqlock -n '__reqlock_in remove constrain upgrade' -a '(__reqlock_names)'
+complete -c reqlock -n '__reqlock_in log' -l long -d 'Print each entry that a step changed on a line of its own'
 complete -c reqlock -n '__reqlock_in why' -l explain -d 'Tell it in sentences'
