@@ -1,4 +1,4 @@
-"""What `check` and `log` of the program answer of three files, beside what the rules of journal_rules.py say. They need the
+"""What `check` and `log` of the program answer of the files of a folder, beside what the rules of rules/journals.py say. They need the
 program, which ./check builds first."""
 
 import re
@@ -6,9 +6,7 @@ import subprocess
 import tempfile
 from pathlib import Path
 
-from test_readme import PROGRAM
-
-NAMES = "requirements.txt", "pylock.toml", "reqlock.journal"
+from places import PROGRAM
 
 
 def knows(subcommand):
@@ -24,8 +22,8 @@ def told(answer, *others):
         cursor, steps = others
         heads = [f"{'*' if place == cursor else ' '} {place} " for place in range(steps + 1)]
         return 0, f"ok {cursor}\n", "", heads
-    if answer == "files-disagree":
-        return 4, "", f"reqlock: {others[0]}: files-disagree\n", []
+    if answer in ("files-disagree", "unreadable"):
+        return 4, "", f"reqlock: {others[0]}: {answer}\n", []
     return 4, "", f"reqlock: reqlock.journal: line {others[0]}: journal-broken\n", []
 
 
@@ -34,12 +32,12 @@ def heads_of(log):
     return [re.match("(?:[* ] [0-9]+ )?", line)[0] for line in log.splitlines()]
 
 
-def checked(given):
-    """What `check` answers in a folder of these files: status, standard output and standard error; and where it finds no fault,
-    what the lines of `log` begin with. The files stay."""
+def checked(files):
+    """What `check` answers in a folder of these files, by their names: status, standard output and standard error; and where it finds no
+    fault, what the lines of `log` begin with. The files stay."""
     with tempfile.TemporaryDirectory() as name:
         folder = Path(name)
-        for file, data in zip(NAMES, given):
+        for file, data in files.items():
             (folder / file).write_bytes(data)
 
         def call(subcommand):
@@ -47,6 +45,6 @@ def checked(given):
 
         done = call("check")
         heads = heads_of(call("log").stdout) if done.returncode == 0 else []
-        if tuple((folder / file).read_bytes() for file in NAMES) != tuple(given):
+        if {path.name: path.read_bytes() for path in folder.iterdir()} != files:
             raise AssertionError("`check` or `log` changed a file")
     return done.returncode, done.stdout, done.stderr, heads

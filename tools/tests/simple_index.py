@@ -5,20 +5,17 @@ import io
 import json
 import os
 import re
-import sys
 import tempfile
 import unittest
 from pathlib import Path
 from unittest import mock
 
-from made_index import MadeIndex
+from made.served_index import MadeIndex
+from places import TOP
 
-TOOLS = Path(__file__).resolve().parent.parent
-sys.path.insert(0, str(TOOLS))
+import snapshot  # (it stands in tools/)
 
-import snapshot  # noqa: E402  (it stands in tools/)
-
-LINUX = TOOLS.parent / "examples" / "web" / "environment.json"
+LINUX = TOP / "examples" / "web" / "environment.json"
 
 
 class Simple(unittest.TestCase):

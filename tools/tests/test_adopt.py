@@ -2,7 +2,6 @@
 begins nothing. The lines of docs/FROM_PIP_TOOLS.md are run by a shell."""
 
 import os
-import re
 import shutil
 import subprocess
 import sys
@@ -11,10 +10,12 @@ import tomllib
 import unittest
 from pathlib import Path
 
-from made_archives import wheel
-from test_program import FILES, PROGRAM, TOP, Program
+from made.archives import wheel
+from places import PROGRAM, TOOLS, TOP
+from program import FILES, Program
+from shown import indented_blocks
 
-SCRIPT = TOP / "tools" / "adopt.py"
+SCRIPT = TOOLS / "adopt.py"
 ZEROS, ONES = "0" * 64, "1" * 64
 INDEX = (
     ("Flask", "2.3", ["werkzeug>=2"]), ("Flask", "3.0", ["werkzeug>=3"]), ("werkzeug", "2.0", []), ("werkzeug", "2.1", []),
@@ -164,10 +165,10 @@ class Page(unittest.TestCase):
     @unittest.skipUnless(shutil.which("git"), "there is no git")
     def test_the_lines_of_the_page(self):
         page = (TOP / "docs" / "FROM_PIP_TOOLS.md").read_text(encoding="utf-8")
-        [block] = re.findall(r"(?m)(?:^ {4}.*\n)+", page)
+        [block] = indented_blocks(page)
         with tempfile.TemporaryDirectory() as name:
             folder = Path(name)
-            os.symlink(TOP / "tools", folder / "tools")
+            os.symlink(TOOLS, folder / "tools")
             for version in "1.0", "2.0":
                 wheel(folder / "wheels", "click", version)
                 wheel(folder / "wheels", "flask", version, "click")

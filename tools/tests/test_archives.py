@@ -1,13 +1,12 @@
 """Tests of tools/snapshot.py over wheels and sdists, which the tests make."""
 
 import hashlib
-import os
-import pty
 import subprocess
 import sys
 import unittest
 
-from made_archives import headers, sdist, tarred, wheel, zipped
+from made.archives import headers, sdist, tarred, wheel, zipped
+from terminals import shown_on_terminal
 from test_snapshot import SCRIPT, Folder, body, file
 
 
@@ -216,18 +215,10 @@ class Refusals(Archives):
 class Progress(Archives):
     def on_terminal(self):
         """What a terminal shows that is standard error, as lines are told on it."""
-        ours, theirs = pty.openpty()
         command = [sys.executable, "-B", SCRIPT, self.folder]
-        subprocess.run(command, stdout=subprocess.DEVNULL, stderr=theirs, check=True)
-        os.close(theirs)
-        shown = b""
-        try:
-            while piece := os.read(ours, 1000):
-                shown += piece
-        except OSError:
-            pass  # (Linux tells the end of a terminal so)
-        os.close(ours)
-        return shown.decode()
+        status, shown = shown_on_terminal(lambda terminal: subprocess.Popen(command, stdout=subprocess.DEVNULL, stderr=terminal))
+        self.assertEqual(status, 0)
+        return shown
 
     def test_is_shown_on_a_terminal_alone(self):
         for version in range(30):

@@ -5,7 +5,7 @@ import os
 import select
 import subprocess
 
-from test_program import Program
+from program import Program
 
 # each line and its reply, of a blank one none
 TALK = (
@@ -22,9 +22,8 @@ class Talk(Program):
         self.begin(b"a\n", ("a", "1", []), ("c", "1", []))
         self.assertEqual(self.call("init"), (0, "ok 0\n"))
 
-    def start(self, word):
-        options = "--dir", self.folder, "--index", self.outside / "index.json", "--env", self.outside / "environment.json"
-        done = subprocess.Popen([self.program, *options, word], stdin=subprocess.PIPE, stdout=subprocess.PIPE, bufsize=0)
+    def talk(self, word):
+        done = subprocess.Popen([self.program, *self.options(), word], stdin=subprocess.PIPE, stdout=subprocess.PIPE, bufsize=0)
         self.addCleanup(done.stdout.close)
         self.addCleanup(done.wait)
         self.addCleanup(done.kill)
@@ -43,7 +42,7 @@ class Talk(Program):
     def test_each_line_is_answered_before_the_next_one_is_given(self):
         for word, end in ("try", "a\nc\n"), ("batch", ""):
             with self.subTest(word=word):
-                done = self.start(word)
+                done = self.talk(word)
                 for line, reply in TALK:
                     done.stdin.write(line.encode())
                     self.assertEqual(self.heard(done, len(reply)), reply)
@@ -52,7 +51,7 @@ class Talk(Program):
         self.assertEqual(self.call("check"), (0, "ok 1\n"))
 
     def test_lines_that_come_in_parts(self):
-        done = self.start("batch")
+        done = self.talk("batch")
         for parts, reply in (["ad", "d c\nun"], "ok 1\n"), (["do\nre"], "ok 0\n"), (["d", "o", "\n"], "ok 1\n"):
             for part in parts:
                 done.stdin.write(part.encode())

@@ -7,7 +7,9 @@ import tempfile
 import unittest
 from pathlib import Path
 
-CHECK = Path(__file__).resolve().parent.parent.parent / "check"
+from places import TOP
+
+CHECK = TOP / "check"
 
 
 class Check(unittest.TestCase):

@@ -1,32 +1,31 @@
-"""Tests of tools/check_refutation.py beside the rules of lock_rules.py: over what `why` prints of drawn problems, and over that with
+"""Tests of tools/check_refutation.py beside the rules of rules/locks.py: over what `why` prints of drawn problems, and over that with
 a conflict dropped, a choice changed, or two conflicts exchanged. There are 100 refutations, or 1,000 with LONG_TESTS=1."""
 
 import io
 import json
-import os
-import random
 import subprocess
 import sys
 import unittest
 from collections import Counter
 from contextlib import redirect_stderr, redirect_stdout
 from itertools import count
-from pathlib import Path
 
 import test_why
-from lock_rules import Problem, is_refutation, read_index, read_refutation
-from made_sessions import VERSIONS, Draw
-from requirement_rules import Fault, cut_lines, holds, matches, read_line, read_marker, read_requirement, read_set, read_version
-from test_program import ENVIRONMENT, Program, index_of
+from made.environments import LINUX
+from made.releases import index_of
+from made.sessions import VERSIONS, Draw
+from places import IS_LONG, TOOLS
+from program import Program
+from rules.locks import Problem, is_refutation, read_index, read_refutation
+from rules.requirements import Fault, cut_lines, holds, matches, read_line, read_marker, read_requirement, read_set, read_version
 
-SCRIPT = Path(__file__).resolve().parent.parent / "check_refutation.py"
-sys.path.insert(0, str(SCRIPT.parent))
+SCRIPT = TOOLS / "check_refutation.py"
 try:
     import check_refutation as checker
 except SystemExit:
     checker = None
 
-REFUTATIONS = 1000 if os.environ.get("LONG_TESTS") == "1" else 100
+REFUTATIONS = 1000 if IS_LONG else 100
 PROCESSES = 10
 NAMES = tuple("abcdefgh")
 
@@ -90,8 +89,8 @@ class Readings(unittest.TestCase):
         for text in MARKER_TEXTS:
             for extra in None, "e", "e-1":
                 tree = answer(read_marker, text)
-                wanted = None if tree is None else holds(tree, ENVIRONMENT, extra)
-                self.assertEqual(answer(checker.holds, text, ENVIRONMENT, extra), wanted, ascii(text))
+                wanted = None if tree is None else holds(tree, LINUX, extra)
+                self.assertEqual(answer(checker.holds, text, LINUX, extra), wanted, ascii(text))
 
     def test_requirements_and_lines(self):
         for read, theirs, texts in (
@@ -186,7 +185,7 @@ class Worked(unittest.TestCase):
             if words[0] != "--explain":
                 packages = checker.read_index(json.dumps(index_of(*releases)))
                 lines = list(map(checker.read_line, [*cut_lines(file.decode()), *words]))
-                problem = checker.Problem(packages, checker.read_environment(json.dumps(ENVIRONMENT)), lines)
+                problem = checker.Problem(packages, checker.read_environment(json.dumps(LINUX)), lines)
                 conflicts = [checker.read_conflict(line) for line in cut_lines(told)]
                 self.assertEqual(checker.check(problem, conflicts), [])
                 for place in range(len(conflicts)):
@@ -238,9 +237,9 @@ class Drawn(Program):
     def check(self, draw, index, text, line, output):
         """The checker and the rules in Python answer alike, of what was printed and of what was altered."""
         self.assertEqual(self.told(line, output), (0, "accepted\n", ""))
-        theirs = Problem([*cut_lines(text), line], ENVIRONMENT, read_index(index), {})
+        theirs = Problem([*cut_lines(text), line], LINUX, read_index(index), {})
         lines = [checker.read_line(it) for it in [*cut_lines(text), line]]
-        ours = checker.Problem(checker.read_index(index), checker.read_environment(json.dumps(ENVIRONMENT)), lines)
+        ours = checker.Problem(checker.read_index(index), checker.read_environment(json.dumps(LINUX)), lines)
         self.assertTrue(is_refutation(theirs, read_refutation(output)))
         for kind, some in altered(draw, output.splitlines()):
             wanted = is_refutation(theirs, read_refutation("".join(f"{it}\n" for it in some)))

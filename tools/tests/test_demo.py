@@ -8,7 +8,7 @@ import tempfile
 import unittest
 from pathlib import Path
 
-TOP = Path(__file__).resolve().parent.parent.parent
+from places import TOP
 
 RT = """#!/bin/bash
 name=$(basename "$PWD")
@@ -87,6 +87,8 @@ class Demo(unittest.TestCase):
         self.assertIn(f"built: --dir crates/reqlock/out/demo {files} init\n", output)
         self.assertIn("$ reqlock --dir crates/reqlock/out/demo --index examples/web/index.json add 'werkzeug<2'\n", output)
         self.assertIn("built: --dir crates/reqlock/out/demo log\n", output)
+        files = "--index examples/web/index.json --env linux=examples/web/environment.json --env windows=examples/web/windows.json"
+        self.assertIn(f"built: --dir crates/reqlock/out/demo {files} init\n", output)
         copied = (self.copy / "crates" / "reqlock" / "out" / "demo" / "requirements.txt").read_text(encoding="utf-8")
         self.assertEqual(copied, (TOP / "examples" / "web" / "requirements.txt").read_text(encoding="utf-8"))
 
@@ -119,7 +121,7 @@ class Demo(unittest.TestCase):
             with self.subTest(status=status):
                 is_refusal = status in (1, 3)
                 found, output, errors, _ = self.demo()
-                self.assertEqual((found, output.count("replied")), (0, 9) if is_refusal else (1, 1))
+                self.assertEqual((found, output.count("replied")), (0, 11) if is_refusal else (1, 1))
                 self.assertEqual(errors, "" if is_refusal else f"demo: reqlock ended with status {status}\n")
 
     def test_a_missing_rt_is_told(self):

@@ -5,12 +5,10 @@ import subprocess
 import sys
 import unittest
 from collections import namedtuple
-from pathlib import Path
 
-TOOLS = Path(__file__).resolve().parent.parent
-sys.path.insert(0, str(TOOLS))
+from places import TOOLS
 
-import environment  # noqa: E402
+import environment  # (it stands in tools/)
 
 Info = namedtuple("Info", "major minor micro releaselevel serial")
 VARIABLES = (

@@ -4,7 +4,8 @@ import os
 import subprocess
 import unittest
 
-from test_program import FILES, PROGRAM, Program
+from places import PROGRAM
+from program import FILES, Program
 
 UNWRITTEN = "reqlock: output: write failed\n"
 PAGE = os.sysconf("SC_PAGESIZE")
@@ -16,11 +17,10 @@ class Faults(Program):
         self.begin(b"a\n", ("a", "1", []), ("c", "1", []))
         self.assertEqual(self.call("init"), (0, "ok 0\n"))
 
-    def told(self, *words, output, text="", before=None):
+    def told_into(self, output, *words, text="", before=None):
         """The status of a call with this output, and what it writes to standard error."""
-        options = "--dir", self.folder, "--index", self.outside / "index.json", "--env", self.outside / "environment.json"
         done = subprocess.run(
-            [PROGRAM, *options, *words], input=text, stdout=output, stderr=subprocess.PIPE, encoding="utf-8", check=False,
+            [PROGRAM, *self.options(), *words], input=text, stdout=output, stderr=subprocess.PIPE, encoding="utf-8", check=False,
             preexec_fn=before,
         )
         return done.returncode, done.stderr
@@ -33,28 +33,28 @@ class Faults(Program):
             for words in ["show"], ["log"], ["check"], ["try"], ["--help"]:
                 with self.subTest(output=name, words=words):
                     files = self.files()
-                    self.assertEqual(self.told(*words, output=output, before=before), (5, UNWRITTEN))
+                    is_enough = name == "a closed pipe" and words in (["show"], ["log"])
+                    self.assertEqual(self.told_into(output, *words, before=before), (0, "") if is_enough else (5, UNWRITTEN))
                     self.assertEqual(self.files(), files)
             with self.subTest(output=name, words="batch"):
                 files = self.files()
-                self.assertEqual(self.told("batch", output=output, text="add c\n", before=before), (5, UNWRITTEN))
+                self.assertEqual(self.told_into(output, "batch", text="add c\n", before=before), (5, UNWRITTEN))
                 self.assertEqual(self.files(), files)
         outputs["a full device"][0].close()
         os.close(writings)
 
     def test_a_single_command_is_saved_before_its_reply(self):
         with open("/dev/full", "wb") as full:
-            self.assertEqual(self.told("add", "c", output=full), (5, UNWRITTEN))
+            self.assertEqual(self.told_into(full, "add", "c"), (5, UNWRITTEN))
         self.assertEqual(self.call("check"), (0, "ok 1\n"))
         self.assertEqual(len(self.files()), 3)
 
     def test_an_input_that_cannot_be_read(self):
         files = self.files()
-        options = "--dir", self.folder, "--index", self.outside / "index.json", "--env", self.outside / "environment.json"
         for word in "batch", "try":
             with self.subTest(word=word):
                 folder = os.open(self.folder, os.O_RDONLY)
-                done = subprocess.run([PROGRAM, *options, word], stdin=folder, capture_output=True, check=False)
+                done = subprocess.run([PROGRAM, *self.options(), word], stdin=folder, capture_output=True, check=False)
                 os.close(folder)
                 self.assertEqual((done.returncode, done.stdout, done.stderr), (5, b"", b"reqlock: input: read failed\n"))
                 self.assertEqual(self.files(), files)
@@ -145,7 +145,7 @@ class Faults(Program):
 
     def test_a_folder_without_a_name(self):
         # no path is made of it, which would lead to files at the root
-        options = "--dir", "", "--index", self.outside / "index.json", "--env", self.outside / "environment.json"
+        options = self.options("")
         for words in (
             ["init"], ["add", "c"], ["remove", "a"], ["constrain", "a"], ["upgrade"], ["relock"], ["undo"], ["redo"], ["batch"],
             ["try"], ["show"], ["log"], ["check"], ["why"],

@@ -6,19 +6,18 @@ import os
 import subprocess
 import sys
 import unittest
-from pathlib import Path
 
-from test_program import FILES
-from test_together import Folders
+from made.environments import LINUX, WINDOWS
+from places import TESTS
+from program import Fifty
 
-sys.path.insert(0, str(Path(__file__).resolve().parent.parent))
-import growths  # noqa: E402
+import growths  # (it stands in tools/)
 
-SOURCE = Path(__file__).resolve().parent / "file_calls.c"
+SOURCE = TESTS / "file_calls.c"
 
 
 @unittest.skipUnless(sys.platform == "linux" and growths.compiler(), "there is no C compiler, or no Linux")
-class FileCalls(Folders):
+class FileCalls(Fifty):
     def setUp(self):
         super().setUp()
         self.library = self.outside / "file_calls.so"
@@ -30,9 +29,8 @@ class FileCalls(Folders):
         for it."""
         self.report.unlink(missing_ok=True)
         variables = {"LD_PRELOAD": str(self.library), "FILE_CALLS_REPORT": str(self.report), **variables}
-        options = "--dir", name, "--index", self.outside / "index.json", "--env", self.outside / "environment.json"
         done = subprocess.run(
-            [self.program, *options, *words], stdin=subprocess.DEVNULL, stdout=subprocess.PIPE, stderr=subprocess.STDOUT,
+            [self.program, *self.options(name), *words], stdin=subprocess.DEVNULL, stdout=subprocess.PIPE, stderr=subprocess.STDOUT,
             encoding="utf-8", check=False, env={**os.environ, **variables}, cwd=self.folder,
         )
         calls = self.report.read_text(encoding="utf-8").splitlines() if self.report.exists() else []
@@ -40,8 +38,8 @@ class FileCalls(Folders):
 
     def test_all_is_made_last_in_its_order(self):
         self.begin_all()
-        written = [[f"fsync {name}.new", "fsync folder"] for name in FILES]
-        put = [[f"rename {name}", "fsync folder"] for name in FILES]
+        written = [[f"fsync {name}.new", "fsync folder"] for name in self.names()]
+        put = [[f"rename {name}", "fsync folder"] for name in self.names()]
         for place, name in enumerate((".", self.folder, f"{self.folder}/"), 1):
             with self.subTest(name=name):
                 told = self.watched("add", f"p{place:02}", name=name)
@@ -49,14 +47,14 @@ class FileCalls(Folders):
 
     def test_the_folder_that_a_link_leads_to_is_synced_too(self):
         self.begin_all()
-        other = self.outside / "other"
+        other, lock = self.outside / "other", self.names()[1]
         other.mkdir()
-        (self.folder / "pylock.toml").rename(other / "pylock.toml")
-        (self.folder / "pylock.toml").symlink_to("../other/pylock.toml")
+        (self.folder / lock).rename(other / lock)
+        (self.folder / lock).symlink_to(f"../other/{lock}")
         status, output, calls = self.watched("add", "p01")
         self.assertEqual((status, output), (0, "ok 1\n"))
-        place = calls.index("rename pylock.toml")
-        self.assertEqual(calls[place : place + 2], ["rename pylock.toml", "fsync other"])
+        place = calls.index(f"rename {lock}")
+        self.assertEqual(calls[place : place + 2], [f"rename {lock}", "fsync other"])
 
     def test_a_stop_at_each_call(self):
         self.begin_all()
@@ -77,11 +75,13 @@ class FileCalls(Folders):
         before = self.files()
         self.assertEqual(self.call("add", "p01"), (0, "ok 1\n"))
         after = self.files()
-        stopped = before | {"requirements.txt": after["requirements.txt"]} | {f"{name}.new": after[name] for name in FILES[1:]}
+        left = self.names()[1:]
+        stopped = before | {"requirements.txt": after["requirements.txt"]} | {f"{name}.new": after[name] for name in left}
         for words in ["relock"], ["init"]:
             self.put(stopped)
             _, _, calls = self.watched(*words)
-            self.assertEqual(calls[1:5], ["rename pylock.toml", "fsync folder", "rename reqlock.journal", "fsync folder"])
+            ending = sum(([f"rename {name}", "fsync folder"] for name in left), [])
+            self.assertEqual(calls[1 : len(ending) + 1], ending)
             ended = self.files()
             for number, call in enumerate(calls, 1):
                 with self.subTest(words=words, number=number, call=call):
@@ -118,6 +118,12 @@ class FileCalls(Folders):
         for words in ["init"], ["add", "p01"], ["check"]:
             told = 4, "reqlock: requirements.txt: unreadable\n", []
             self.assertEqual(self.watched(*words, name=""), told)
+
+
+class FileCallsWithTargets(FileCalls):
+    """The same of saves of four files."""
+
+    environments = {"linux": LINUX, "win": WINDOWS}
 
 
 if __name__ == "__main__":

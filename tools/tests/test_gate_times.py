@@ -7,9 +7,9 @@ import tempfile
 import unittest
 from pathlib import Path
 
-TOOLS = Path(__file__).resolve().parent.parent
-sys.path.insert(0, str(TOOLS))
-import gate_times  # noqa: E402
+from places import TOOLS
+
+import gate_times  # (it stands in tools/)
 
 # A stand-in for the prover, which works for a second.
 WORKS = "import time\nend = time.process_time() + 1\nwhile time.process_time() < end: pass\n"

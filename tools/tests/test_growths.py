@@ -7,9 +7,9 @@ import unittest
 import unittest.mock
 from pathlib import Path
 
-TOOLS = Path(__file__).resolve().parent.parent
-sys.path.insert(0, str(TOOLS))
-import growths  # noqa: E402
+from places import TOOLS
+
+import growths  # (it stands in tools/)
 
 # It tells each call that gives nothing, and ends with the count of these as its status.
 PROGRAM = r"""

@@ -6,7 +6,9 @@ import tempfile
 import unittest
 from pathlib import Path
 
-SCRIPT = Path(__file__).resolve().parent.parent / "hashed_requirements.py"
+from places import TOOLS
+
+SCRIPT = TOOLS / "hashed_requirements.py"
 
 LOCK = """lock-version = "1.0"
 environments = ["os_name == \\"posix\\""]

@@ -1,26 +1,21 @@
 """Files and options that aren't there, and which fault is told where several files have one."""
 
-import subprocess
 import unittest
 
-from test_program import PROGRAM, Program
+from program import Program
 
 
 class Words(Program):
     """Files and options that aren't there."""
 
-    def told(self, *words):
-        done = subprocess.run([PROGRAM, *words], capture_output=True, check=False, encoding="utf-8")
-        return done.returncode, done.stdout, done.stderr
-
     def test_a_missing_file_is_named(self):
         words = "--dir", "/nowhere", "--index", "/nowhere/index.json", "--env", "/nowhere/environment.json", "try"
-        self.assertEqual(self.told(*words), (4, "", "reqlock: requirements.txt: unreadable\n"))
+        self.assertEqual(self.answered(*words), (4, "", "reqlock: requirements.txt: unreadable\n"))
 
     def test_a_missing_option_is_named(self):
         for words, option in (["try"], "--index"), (["--env", "e", "try"], "--index"), (["--index", "i", "try"], "--env"):
             with self.subTest(words=words):
-                self.assertEqual(self.told(*words), (2, "", f"reqlock: {option} is needed\n"))
+                self.assertEqual(self.answered(*words), (2, "", f"reqlock: {option} is needed\n"))
 
 
 class Order(Program):
@@ -89,8 +84,15 @@ class Order(Program):
     def test_a_file_that_cannot_be_read_is_told_before_any_fault(self):
         for words, names in self.NEEDED:
             for name in names:
-                others = [fault for fault in self.faults(names) if fault[0] != name]
+                # (without a header nothing says which locks there are)
+                left = {name, "reqlock.journal"} if name == "pylock.toml" else {name}
+                others = [fault for fault in self.faults(names) if fault[0] not in left]
                 self.check_told(words, [(name, None, "unreadable"), *others])
+
+    def test_of_a_journal_without_a_header_no_lock_is_read(self):
+        for words, names in self.NEEDED:
+            if "pylock.toml" in names:
+                self.check_told(words, [("reqlock.journal", b"[", "line 1: journal-broken"), ("pylock.toml", None, "unreadable")])
 
     def test_a_broken_step_is_told_behind_files_that_disagree(self):
         self.assertEqual(self.call("add", "c"), (0, "ok 1\n"))

@@ -10,7 +10,9 @@ import tempfile
 import unittest
 from pathlib import Path
 
-from test_program import ENVIRONMENT, PROGRAM, TOP, index_of
+from made.environments import LINUX
+from made.releases import index_of
+from places import PROGRAM, TOP
 
 INSTALL = TOP / "install"
 SHARE = TOP / "share"
@@ -53,7 +55,7 @@ class Installed(unittest.TestCase):
     def check_runs(self):
         """A history is adopted, and a refutation of it is checked, by the installed commands."""
         (self.folder / "index.json").write_text(json.dumps(index_of(("a", "1", []), ("a", "2", []))), encoding="utf-8")
-        (self.folder / "environment.json").write_text(json.dumps(ENVIRONMENT), encoding="utf-8")
+        (self.folder / "environment.json").write_text(json.dumps(LINUX), encoding="utf-8")
         (self.folder / "in").write_bytes(b"a\n")
         (self.folder / "txt").write_bytes(b"a==1\n")
         files = "--index", "index.json", "--env", "environment.json"
@@ -87,11 +89,13 @@ class Installed(unittest.TestCase):
 
     def test_bash_completes(self):
         self.install(self.prefix)
+        options = {"--dir", "--index", "--env", "--help"}
         for words, wanted in (
             (["reqlock", "re"], {"remove", "relock", "redo"}), (["reqlock", "--i"], {"--index"}),
-            (["reqlock", "--index", "x", "why", "--e"], {"--explain"}), (["reqlock", "--dir", "d", "upgrade", ""], {"a", "--help"}),
-            (["reqlock", "--dir", "a p"], {"a prefix"}), (["reqlock", "help", "ba"], {"batch"}), (["reqlock", "undo", ""], {"--help"}),
-            (["reqlock", "--index", "file"], {"file.json"}),
+            (["reqlock", "--index", "x", "why", "--ex"], {"--explain"}), (["reqlock", "--dir", "d", "upgrade", ""], {"a", *options}),
+            (["reqlock", "upgrade", "--dir", "d", ""], {"a", *options}), (["reqlock", "log", "--l"], {"--long"}),
+            (["reqlock", "--dir", "a p"], {"a prefix"}), (["reqlock", "help", "ba"], {"batch"}), (["reqlock", "undo", ""], options),
+            (["reqlock", "--index", "file"], {"file.json"}), (["reqlock", "add", "a", "--index", "file"], {"file.json"}),
         ):
             with self.subTest(words=words):
                 self.assertEqual(self.completed(words), wanted)
@@ -102,7 +106,7 @@ class Installed(unittest.TestCase):
             (self.folder / "d").mkdir()
             (self.folder / "d" / "requirements.txt").write_bytes(b"a\n")
             (self.folder / "file.json").write_text(json.dumps(index_of(("a", "1", []))), encoding="utf-8")
-            (self.folder / "environment").write_text(json.dumps(ENVIRONMENT), encoding="utf-8")
+            (self.folder / "environment").write_text(json.dumps(LINUX), encoding="utf-8")
             self.run_installed("reqlock", "--dir", "d", "--index", "file.json", "--env", "environment", "init")
         script = (
             f"source '{self.prefix}/share/bash-completion/completions/reqlock'\n"
@@ -122,7 +126,8 @@ class Words(unittest.TestCase):
         told = self.help_of()
         self.subcommands = set(re.findall(r"(?m)^  ([a-z]+) ", told.split("Commands:")[1].split("Options:")[0])) | {"help"}
         self.options = self.options_of(told)
-        self.own = {name: self.options_of(self.help_of(name)) - {"--help"} for name in self.subcommands - {"help"}}
+        own = {name: self.options_of(self.help_of(name)) - {"--help"} for name in self.subcommands - {"help"}}
+        self.own = {name: options - self.options for name, options in own.items()}
         self.assertIn("init", self.subcommands)
         self.assertIn("--index", self.options)
 
@@ -143,10 +148,12 @@ class Words(unittest.TestCase):
     def test_bash(self):
         text = self.read("reqlock.bash")
         self.assertEqual(set(re.search('subcommands="([^"]*)"', text)[1].split()), self.subcommands)
-        self.assertEqual(set(re.search('options="([^"]*)"', text)[1].split()), self.options)
+        common = set(re.search('common="([^"]*)"', text)[1].split())
+        self.assertEqual(common | set(re.search('options="([^"]*)"', text)[1].split()) - {"$common"}, self.options)
+        self.assertEqual(common, self.options - {"--version"})
         for name, options in self.own.items():
             if options:
-                self.assertEqual(set(re.search(rf'\b{name}\) words="([^"]*)"', text)[1].split()), options | {"--help"})
+                self.assertEqual(set(re.search(rf'\b{name}\) words="([^"]*)"', text)[1].split()), options | {"$common"})
 
     def test_zsh_and_fish(self):
         zsh, fish = self.read("_reqlock"), self.read("reqlock.fish")

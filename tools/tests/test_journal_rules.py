@@ -1,12 +1,14 @@
-"""Tests of journal_rules.py, by worked examples of the rules. Where the program is built, `check` answers each of them alike."""
+"""Tests of rules/journals.py, by worked examples of the rules. Where the program is built, `check` answers each of them alike."""
 
 import unittest
 
 from checked_files import IS_BUILT, checked, told
-from journal_rules import Change, State, after, digest_of, inverse, is_minimal, is_state, opens, read_header, read_step
-from made_journals import ZEROS, altered, compact, entry, header, in_version, journal, lock_text, step
-from requirement_rules import Fault
-from test_requirement_rules import LINUX
+from made.environments import LINUX
+from made.journals import ZEROS, altered, compact, entry, header, in_version, journal, lock_text, step
+from program import FILES
+from rules.journals import digest_of, opens, opens_in, read_header, read_step
+from rules.requirements import Fault
+from rules.states import Change, State, after, inverse, is_minimal, is_state
 
 ONES = "1" * 64
 BROKEN, DISAGREE = "journal-broken", "files-disagree"
@@ -47,9 +49,13 @@ class Example(unittest.TestCase):
     def check(self, wanted, *, journal=None, lock=None, requirements=None):
         own = self.requirements, self.lock, self.journal()
         given = [mine if other is None else other for other, mine in zip((requirements, lock, journal), own)]
-        self.assertEqual(opens(*given), wanted)
+        self.check_files(wanted, dict(zip(FILES, given)))
+
+    def check_files(self, wanted, files):
+        """What files stand for, by their names, and what the program answers of them."""
+        self.assertEqual(opens_in(files), wanted)
         if IS_BUILT:
-            self.assertEqual(checked(given), told(*wanted))
+            self.assertEqual(checked(files), told(*wanted))
 
 
 class Opening(Example):
@@ -258,7 +264,7 @@ class Steps(Example):
         one, other = entry("a", "1"), entry("a", "1.0")
         for splices, entries in ([], []), ([], [("a", one, other)]), ([(0, [], ["a"]), (2**64 - 2, [], ["b"])], []):
             change = step(splices, entries)
-            self.assertEqual(self.read(change), Change(splices, entries, None))
+            self.assertEqual(self.read(change), Change(splices, [("", *entry) for entry in entries], None))
             self.check_form(change, True)
 
     def test_through_a_state_that_is_none(self):
@@ -323,10 +329,18 @@ class Targets(Example):
 
     def test_of_a_header(self):
         one = self.one()
-        self.check_targets([], {}, None, "", one, {"0": one}, [[one]], [None], [one, one], [one, {**one, "name": "win"}])
-        self.check_targets(*([{**one, "name": name}] for name in ("win", " ", "-", None, 0, [])))
+        self.check_targets([], {}, None, "", one, {"0": one}, [[one]], [None], [one, one])
+        self.check_targets([{**one, "name": "win"}, one], [{**one, "name": "b"}, {**one, "name": "a"}])
+        names = " ", "-", None, 0, [], "Win", "1", "-a", "a_b", "a.b", "a ", "a\n", "\u00e9", "a" * 33
+        self.check_targets(*([{**one, "name": name}] for name in names), *([one, {**one, "name": name}] for name in names))
         self.check_targets(*([{**one, **change}] for change in ({"x": 1}, *Opening.BAD_TARGETS)))
         self.check_targets(*([{name: value for name, value in one.items() if name != key}] for key in one))
+
+    def test_of_a_lock_that_is_not_there(self):
+        for name in "win", "a", "a" * 32, "z-9", "b--", "x1":
+            for targets in [{**self.one(), "name": name}], [self.one(), {**self.one(), "name": name}]:
+                whole = compact({**self.header(), "targets": targets}) + self.line()
+                self.check(("unreadable", f"pylock.{name}.toml"), journal=whole)
 
     def added(self, *targets):
         """The line of `add c` with these words in front of its entry's name."""
@@ -357,7 +371,7 @@ class Targets(Example):
 
 class Laws(Example):
     def test_an_inverse_leads_back(self):
-        state = State(["a\n", "b\n", "c\n", "d\n", "e"], LINUX, ZEROS, {})
+        state = State.of_one(["a\n", "b\n", "c\n", "d\n", "e"], LINUX, ZEROS, {})
         change = Change([(0, ["a\n"], ["x\n", "y\n"]), (2, ["c\n"], []), (5, [], ["z"])], [], (ZEROS, ONES))
         found = after(state, change)
         self.assertEqual(found.lines, ["x\n", "y\n", "b\n", "d\n", "e", "z"])
@@ -368,10 +382,10 @@ class Laws(Example):
 
     def test_a_state_has_no_entry_that_nothing_needs(self):
         lines, entries = ["a\n"], {"a": entry("a", "1", "b"), "b": entry("b", "1")}
-        self.assertTrue(is_state(State(lines, LINUX, ZEROS, entries)))
-        self.assertFalse(is_state(State(["# a\n"], LINUX, ZEROS, entries)))
-        self.assertFalse(is_state(State(['a;os_name=="nt"\n'], LINUX, ZEROS, entries)))
-        self.assertFalse(is_state(State(["b\n"], LINUX, ZEROS, entries)))
+        self.assertTrue(is_state(State.of_one(lines, LINUX, ZEROS, entries)))
+        self.assertFalse(is_state(State.of_one(["# a\n"], LINUX, ZEROS, entries)))
+        self.assertFalse(is_state(State.of_one(['a;os_name=="nt"\n'], LINUX, ZEROS, entries)))
+        self.assertFalse(is_state(State.of_one(["b\n"], LINUX, ZEROS, entries)))
 
     def test_alterations_are_others_than_the_journal_and_answered(self):
         self.steps.append(step([[4, [], ["d\r\n"]]], [["d", None, entry("d", "1")]]))
@@ -381,7 +395,7 @@ class Laws(Example):
         self.assertIn(("cut at byte 0", b""), found)
         self.assertEqual(found[-1][0], "lines 2 and 3 exchanged")
         for _, data in found[::9]:
-            answers.add(opens(self.requirements, self.lock, data)[0])
+            answers.add(opens(self.requirements, {"": self.lock}, data)[0])
         self.assertEqual(answers, {"ok", BROKEN, DISAGREE})
 
 

@@ -8,9 +8,10 @@ import tempfile
 import unittest
 from pathlib import Path
 
-from requirement_rules import read_requirement
+from places import TOP
+from rules.requirements import read_requirement
 
-BENCH = Path(__file__).resolve().parent.parent.parent / "bench"
+BENCH = TOP / "bench"
 sys.path.append(str(BENCH))
 from shapes import SHAPES, write  # noqa: E402
 

@@ -3,9 +3,10 @@
 import re
 import textwrap
 import unittest
-from pathlib import Path
 
-CRATES = Path(__file__).resolve().parent.parent.parent / "crates"
+from places import TOP
+
+CRATES = TOP / "crates"
 CONFORMANCE = CRATES / "conformance"
 
 
@@ -24,7 +25,12 @@ def bodies():
     """The body of each example that conformance has, by the library's name."""
     source = (CONFORMANCE / "src/examples.rt").read_text(encoding="utf-8")
     found = re.findall(r"^fn of_(\w+)\b[^{]*\{\n(.*?)^\}", source, re.DOTALL | re.MULTILINE)
-    return {name: textwrap.dedent(body) for name, body in found}
+    return {name: textwrap.dedent(body) for name, body in found if (CRATES / name).is_dir()}
+
+
+def without_layout(code):
+    """Code without white space, and without the commas at the ends of lists, which its layout may ask for."""
+    return "".join(code.split()).replace(",}", "}").replace(",)", ")")
 
 
 class Examples(unittest.TestCase):
@@ -32,7 +38,7 @@ class Examples(unittest.TestCase):
         ran = bodies()
         self.assertEqual(len(ran), 12)
         for library, body in ran.items():
-            self.assertEqual(head_of(library), body, library)
+            self.assertEqual(without_layout(head_of(library)), without_layout(body), library)
 
     def test_come_out_true(self):
         rows = (CONFORMANCE / "stdin").read_text(encoding="utf-8").splitlines()

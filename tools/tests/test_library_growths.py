@@ -6,20 +6,18 @@ A call answers as with ample memory, or that memory was refused, and then all is
 may be answered so, and all else is as if it hadn't been given; or the `run` as a whole, and then none was done."""
 
 import functools
-import os
 import sys
 import tempfile
 import unittest
-from pathlib import Path
 
-from library_scenarios import CRATE, scenario_text, scenarios, wanted
+from places import IS_LONG
+from rules.library_scenarios import CRATE, scenario_text, scenarios, wanted
 
-sys.path.insert(0, str(Path(__file__).resolve().parent.parent))
-import growths  # noqa: E402
-from conformance_rows import behind_answers  # noqa: E402
+import growths  # (these stand in tools/)
+from conformance_rows import behind_answers
 
 PROGRAM = CRATE / "out" / "conformance"
-PACE = 1 if os.environ.get("LONG_TESTS") == "1" else 50
+PACE = 1 if IS_LONG else 50
 LAST = 40
 AMPLE = 10**12
 REFUSED = "out of memory", "line 0: out of memory", "memory allocation failed"

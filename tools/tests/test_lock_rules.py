@@ -1,43 +1,20 @@
-"""Tests of lock_rules.py and edit_rules.py by worked examples of the rules and by a law; and the program in drawn sessions, where
-it must answer what these rules do. There are 60 sessions, or 1,000 with LONG_TESTS=1."""
+"""Tests of rules/locks.py and rules/edits.py by worked examples of the rules and by a law."""
 
 import json
-import os
-import subprocess
 import unittest
-from collections import Counter
 from itertools import combinations
 
-from edit_rules import History, Refused, begun, edited, problem_after, status_of, with_set
-from journal_rules import is_state, opens, read_lock
-from lock_rules import (
+from made.environments import LINUX
+from made.releases import index_in, problem_in
+from made.sessions import Draw
+from rules.edits import History, Refused, begun, edited, with_set
+from rules.locks import (
     Choice, Problem, best_solution, case_of, entries_of, is_refutation, read_index, read_refutation, solutions,
 )
-from made_sessions import Draw
-from requirement_rules import Fault, cut_lines, marker_text, order_key, read_line
-from test_program import FILES, PROGRAM, Program, index_of
-from test_requirement_rules import LINUX
+from rules.requirements import Fault, cut_lines, order_key
+from rules.states import is_state
 
-SESSIONS = 1000 if os.environ.get("LONG_TESTS") == "1" else 60
-EDITS = 6
-# what some session must have come to
-SEEN = {
-    "ok", "same", "bad-text", "already-present", "not-present", "ambiguous", "not-locked", "no-solution", "nothing-to-undo",
-    "nothing-to-redo", "refused init", "refuted", "solvable", "refused drop",
-}
-
-
-def names_on(lines):
-    """The names of lines, each once, in the order of bytes."""
-    return sorted({requirement.name for requirement in map(read_line, lines) if requirement is not None})
-
-
-def index_in(*releases):
-    return read_index(json.dumps(index_of(*releases)).encode())
-
-
-def problem_in(lines, *releases):
-    return Problem(lines.split("\n"), LINUX, index_in(*releases), {})
+PROBLEMS = 60
 
 
 class Locks(unittest.TestCase):
@@ -89,7 +66,7 @@ class Locks(unittest.TestCase):
 
     def test_kept_versions_come_first(self):
         index = index_in(("a", "1", []), ("a", "2", []), ("b", "1", ["a>=2"]))
-        state = begun(["a==1\n"], LINUX, index)
+        state = begun(["a==1\n"], {"": LINUX}, index)
         for command, wanted in (
             (("constrain", "a"), "1"), (("add", "b"), None), (("constrain", "a", ">=1"), "1"), (("constrain", "a", ">1"), "2"),
         ):
@@ -97,7 +74,7 @@ class Locks(unittest.TestCase):
                 if wanted is None:
                     self.assertRaises(Refused, edited, state, command, index)
                 else:
-                    self.assertEqual(edited(state, command, index).entries["a"]["version"], wanted)
+                    self.assertEqual(edited(state, command, index).entries()["a"]["version"], wanted)
 
     def test_releases_that_are_left_out(self):
         self.check("a 1.0", "a", ("a", "1.0", []), ("a", "1.0.0", []))
@@ -110,7 +87,7 @@ class Edits(unittest.TestCase):
 
     def check(self, text, releases, *commands):
         index = index_in(*releases)
-        history = History(begun(cut_lines(text), LINUX, index))
+        history = History(begun(cut_lines(text), {"": LINUX}, index))
         for words, reply, *texts in commands:
             with self.subTest(words=words):
                 self.assertEqual(history.reply(words, index), reply)
@@ -193,7 +170,7 @@ class Refutations(unittest.TestCase):
 
     def test_the_empty_conflict_is_reached_where_there_is_no_solution(self):
         answers = set()
-        for seed in range(SESSIONS):
+        for seed in range(PROBLEMS):
             draw = Draw(seed, ("a", "b-b"))
             index, lines = read_index(json.dumps(draw.index()).encode()), cut_lines(draw.requirements())
             problem = Problem(lines, LINUX, index, {})
@@ -216,112 +193,6 @@ def reaches_the_empty_conflict(problem):
         found += more
         left = [conflict for conflict in left if not any(map(conflict.issuperset, found))]
     return frozenset() in found
-
-
-@unittest.skipUnless(PROGRAM.exists(), "the program isn't built")
-class Sessions(Program):
-    """Each session begins with a drawn index and file. Each command is a process over the files that the last one saved."""
-
-    def test_drawn_sessions(self):
-        self.seen = Counter()
-        for seed in range(SESSIONS):
-            with self.subTest(seed=seed):
-                self.play(Draw(seed))
-        self.assertLessEqual(SEEN, set(self.seen), self.seen)
-
-    def play(self, draw):
-        for path in self.folder.iterdir():
-            path.unlink()
-        self.take_index(draw.index())
-        history = History(self.begun_session(draw))
-        for _ in range(EDITS):
-            if draw.happens(40):
-                self.take_index(draw.index())
-            state = history.state()
-            command = draw.command(names_on(state.lines), list(state.entries))
-            reply = self.check_command(history, command)
-            if reply == "refused no-solution":
-                self.check_why(history.state(), command if command[0] == "add" else ("relock",))
-            elif draw.happens(15):
-                self.check_why(history.state(), ("add", draw.line()) if draw.happens(50) else ("relock",))
-
-    def check_command(self, history, command):
-        """A command is answered as the rules do, and where it isn't accepted the files stay. It gives the reply."""
-        before = self.files()
-        reply = history.reply(command, self.index)
-        self.seen[reply.removeprefix("refused ").split()[0]] += 1
-        self.assertEqual(self.told(*command), (status_of(reply), f"{reply}\n", ""), command)
-        if reply.startswith("ok"):
-            self.check_files(history)
-        else:
-            self.assertEqual(self.files(), before, command)
-        return reply
-
-    def take_index(self, index):
-        data = json.dumps(index).encode()
-        (self.outside / "index.json").write_bytes(data)
-        self.index = read_index(data)
-
-    def begun_session(self, draw):
-        """The first state that `init` makes of drawn files, which it refuses where they have no solution."""
-        for _ in range(100):
-            text = draw.requirements()
-            (self.folder / FILES[0]).write_bytes(text.encode())
-            try:
-                state = begun(cut_lines(text), LINUX, self.index)
-            except Refused as refused:
-                self.assertEqual(self.told("init"), (3, f"refused {refused.word}\n", ""), text)
-                self.assertEqual(self.files(), {FILES[0]: text.encode()})
-                self.seen["refused init"] += 1
-                continue
-            self.assertEqual(self.told("init"), (0, "ok 0\n", ""), text)
-            self.check_files(History(state))
-            return state
-        raise AssertionError("no file that was drawn has a solution")
-
-    def told(self, *words):
-        """What a command answers: its status, its standard output and its standard error."""
-        options = "--dir", self.folder, "--index", self.outside / "index.json", "--env", self.outside / "environment.json"
-        done = subprocess.run([PROGRAM, *options, *words], capture_output=True, encoding="utf-8", check=False)
-        return done.returncode, done.stdout, done.stderr
-
-    def check_files(self, history):
-        """The three files are those of the present state of a history."""
-        requirements, lock, journal = (self.files()[name] for name in FILES)
-        state = history.state()
-        self.assertEqual(requirements.decode(), "".join(state.lines))
-        self.assertEqual(read_lock(lock), (marker_text(LINUX), state.digest, state.entries))
-        self.assertEqual(opens(requirements, lock, journal), ("ok", history.cursor, len(history.states) - 1))
-
-    def check_why(self, state, command):
-        """`why` answers of an addition, or of a relock, what the rules do, and where there is no solution by a refutation."""
-        before = self.files()
-        status, output, error = self.told("why", *command[1:])
-        self.assertEqual((self.files(), error), (before, ""), command)
-        try:
-            problem = problem_after(state, command, self.index)[1]
-        except Refused as refused:
-            self.assertEqual((status, output), (1, f"refused {refused.word}\n"), command)
-            return
-        if best_solution(problem) is not None:
-            self.seen["solvable"] += 1
-            self.assertEqual((status, output), (0, "solvable\n"), command)
-            return
-        self.seen["refuted"] += 1
-        self.assertEqual(status, 3)
-        self.check_refutation(problem, read_refutation(output), state)
-
-    def check_refutation(self, problem, conflicts, state):
-        """A printed list is accepted. Altered lists aren't, and neither is it where there is a solution."""
-        self.assertTrue(is_refutation(problem, conflicts), conflicts)
-        self.assertFalse(is_refutation(problem, conflicts[:-1]))
-        self.assertFalse(is_refutation(problem, [*conflicts[:-1], *read_refutation("a==1\n")]))
-        for place in range(len(conflicts) - 1):
-            is_kept = is_refutation(problem, conflicts[:place] + conflicts[place + 1 :])
-            self.seen["needless conflict" if is_kept else "refused drop"] += 1
-        present = problem_after(state, ("relock",), self.index)[1]
-        if best_solution(present) is not None:
-            self.assertFalse(is_refutation(present, conflicts))
 
 
 if __name__ == "__main__":

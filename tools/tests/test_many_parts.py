@@ -2,10 +2,10 @@
 
 import unittest
 
-from journal_rules import opens, read_lock
-from made_journals import entry
-from test_program import FILES
-from test_worked_examples import HEAD, Calls
+from made.journals import entry
+from program import HEAD, Program
+from rules.journals import opens_in
+from rules.lock_tables import read_lock
 
 COUNT = 120
 NAMES = [f"p{number:03}" for number in range(COUNT)]
@@ -14,7 +14,7 @@ CHAIN = tuple((name, "1", [other]) for name, other in zip(NAMES, NAMES[1:])) + (
 CHAIN_ENTRIES = {name: entry(name, "1", *needs) for name, _, needs in CHAIN}
 
 
-class Printed(Calls):
+class Printed(Program):
     """What only prints."""
 
     def test_the_lock_as_a_table(self):
@@ -75,7 +75,7 @@ class Printed(Calls):
         self.plays((["why", "--explain", first], 3, "".join(f"{line}\n" for line in sentences + left_out)))
 
 
-class Changed(Calls):
+class Changed(Program):
     """Steps that change more than a hundred entries, undone and redone."""
 
     def entries(self):
@@ -83,7 +83,7 @@ class Changed(Calls):
 
     def check_opens(self, cursor, steps):
         self.plays((["check"], 0, f"ok {cursor}\n"))
-        self.assertEqual(opens(*(self.files()[name] for name in FILES)), ("ok", cursor, steps))
+        self.assertEqual(opens_in(self.files()), ("ok", cursor, steps))
 
     def check_undone_and_redone(self):
         """The one step is undone, redone and opened: the files are those of before and of after it. It gives both locks."""
@@ -102,8 +102,8 @@ class Changed(Calls):
         self.assertEqual(self.entries(), CHAIN_ENTRIES)
         self.plays((["remove", NAMES[0]], 0, "ok 1\n"))
         self.holds("# head\n")
-        gone = ", ".join(f"- {name} 1" for name in NAMES)
-        self.plays((["log"], 0, f"  0 init\n* 1 {gone}, 1 line\n"))
+        gone = "".join(f"      - {name} 1\n" for name in NAMES)
+        self.plays((["log", "--long"], 0, f"  0 init\n* 1 remove {NAMES[0]}\n{gone}"))
         self.assertEqual(self.check_undone_and_redone(), [CHAIN_ENTRIES, {}])
 
     def test_names_that_are_upgraded(self):

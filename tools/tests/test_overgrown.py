@@ -1,14 +1,13 @@
 """The program on inputs that are far larger than any real one, in a stack of 256 KiB: each ends with its answer. With
 LONG_TESTS=1 in the environment each has its largest count, without it a thousandth; a history then has 10,000 steps."""
 
-import os
 import resource
 import unittest
 
-from overgrown import SIZES, SMALL
-from test_program import Program
+from made.overgrown import SIZES, SMALL
+from places import IS_LONG
+from program import Program
 
-IS_LONG = os.environ.get("LONG_TESTS") == "1"
 STACK = 256 * 1024
 
 

@@ -11,8 +11,10 @@ import tomllib
 import unittest
 from pathlib import Path
 
-from made_journals import entry, lock_text
-from test_program import ENVIRONMENT, index_of
+from made.environments import LINUX
+from made.journals import entry, lock_text
+from made.releases import index_of
+from places import TOOLS
 
 try:
     from packaging.markers import Marker
@@ -22,7 +24,7 @@ except ImportError:
     except ImportError:
         Marker = None
 
-SCRIPT = Path(__file__).resolve().parent.parent / "portable_lock.py"
+SCRIPT = TOOLS / "portable_lock.py"
 LINES = b"# web\na[e]>=1\nb ; sys_platform == 'linux'\nc ; os_name == 'nt' or 'x' == 'y'\nd ; implementation_name == 'pypy' and 'x' == 'y'\n"
 RELEASES = (
     ("a", "1.0", ["b>=1 ; platform_machine == 'x86_64'", "d ; extra == 'e' and python_version < '4'", "z ; extra == 'f' and os_name == 'nt'"]),
@@ -47,7 +49,7 @@ class PortableLock(unittest.TestCase):
         index = json.dumps(index_of(*releases)).encode()
         (self.folder / "index.json").write_bytes(index)
         (self.folder / "requirements.txt").write_bytes(lines)
-        lock = lock_text(ENVIRONMENT, entries, hashlib.sha256(index).hexdigest())
+        lock = lock_text(LINUX, entries, hashlib.sha256(index).hexdigest())
         (self.folder / "pylock.toml").write_bytes(lock)
 
     def run_on(self, *words):
@@ -60,7 +62,7 @@ class PortableLock(unittest.TestCase):
         status, output, errors = self.run_on()
         self.assertEqual(status, 0, errors)
         before, after = tomllib.loads((self.folder / "pylock.toml").read_text()), tomllib.loads(output.decode())
-        marker = " and ".join(f'{name} == "{ENVIRONMENT[name]}"' for name in sorted(names))
+        marker = " and ".join(f'{name} == "{LINUX[name]}"' for name in sorted(names))
         self.assertEqual(after.pop("environments", [""]), [marker])
         del before["environments"]
         self.assertEqual(after, before)
@@ -79,9 +81,9 @@ class PortableLock(unittest.TestCase):
 
     def check_meaning(self, marker):
         """To packaging the marker holds wherever the kept variables are what they were, and nowhere else."""
-        for name, value in ENVIRONMENT.items():
-            other = ENVIRONMENT | {name: value + "0"}
-            self.assertTrue(Marker(marker).evaluate(ENVIRONMENT))
+        for name, value in LINUX.items():
+            other = LINUX | {name: value + "0"}
+            self.assertTrue(Marker(marker).evaluate(LINUX))
             self.assertEqual(Marker(marker).evaluate(other), name not in KEPT, name)
 
     def test_keeps_what_decides_the_python(self):

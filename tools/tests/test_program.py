@@ -1,83 +1,19 @@
-"""Tests of the built program: each command is a process of its own over the files that the last one saved, and the lock is
-read by Python's TOML reader. They need the program, which ./check builds first."""
+"""Tests of the built program: its help, a day of work, the lock as Python's TOML reader finds it, and how files are replaced."""
 
 import hashlib
 import json
 import os
-import resource
-import shutil
-import signal
+import re
 import stat
 import subprocess
 import sys
-import tempfile
 import unittest
-from pathlib import Path
 
-TOP = Path(__file__).resolve().parent.parent.parent
-PROGRAM = TOP / "crates" / "reqlock" / "out" / "reqlock"
-FILES = "requirements.txt", "pylock.toml", "reqlock.journal"
-ENVIRONMENT = {
-    "implementation_name": "cpython", "implementation_version": "3.12.3", "os_name": "posix", "platform_machine": "x86_64",
-    "platform_python_implementation": "CPython", "platform_release": "6.1.0-13-amd64", "platform_system": "Linux",
-    "platform_version": "#1 SMP Debian 6.1.55-1", "python_full_version": "3.12.3", "python_version": "3.12",
-    "sys_platform": "linux",
-}
-NOBODY = 65534
-MARKER = " and ".join(f'{name} == "{value}"' for name, value in sorted(ENVIRONMENT.items()))
-
-
-def file_of(name, version, ending="-py3-none-any.whl"):
-    file = f"{name.replace('-', '_')}-{version}{ending}"
-    return {"name": file, "url": f"https://files.example/{file}", "size": 1000, "sha256": "0" * 64}
-
-
-def index_of(*releases):
-    """The index of releases, each a name, a version, its requirements, and what else its object has."""
-    packages = {}
-    for name, version, needs, *more in releases:
-        release = {"version": version, "requires_dist": needs, "files": [file_of(name, version)]}
-        packages.setdefault(name, []).append(release | dict(*more))
-    return {"snapshot": 1, "packages": [{"name": name, "releases": found} for name, found in packages.items()]}
-
-
-@unittest.skipUnless(PROGRAM.exists(), "the program isn't built")
-class Program(unittest.TestCase):
-    program, user = PROGRAM, {}
-
-    def setUp(self):
-        folder = tempfile.TemporaryDirectory()
-        self.addCleanup(folder.cleanup)
-        self.outside = Path(folder.name)
-        self.folder = self.outside / "folder"
-        self.folder.mkdir()
-        (self.outside / "environment.json").write_text(json.dumps(ENVIRONMENT), encoding="utf-8")
-
-    def begin(self, requirements, *releases):
-        (self.folder / "requirements.txt").write_bytes(requirements)
-        (self.outside / "index.json").write_text(json.dumps(index_of(*releases)), encoding="utf-8")
-
-    def call(self, *words, text="", before=None, seconds=None):
-        """The status of a call of the program, and all that it writes. It may take these seconds at most."""
-        options = "--dir", self.folder, "--index", self.outside / "index.json", "--env", self.outside / "environment.json"
-        done = subprocess.run(
-            [self.program, *options, *words], input=text, stdout=subprocess.PIPE, stderr=subprocess.STDOUT, encoding="utf-8",
-            check=False, preexec_fn=before, timeout=seconds, **self.user,
-        )
-        return done.returncode, done.stdout
-
-    def leave_root(self):
-        """From here on the program runs without the rights of root, and what stands there now belongs to the one who runs it."""
-        if os.geteuid() != 0:
-            return
-        self.program = Path(shutil.copy(PROGRAM, self.outside))
-        for path in [self.outside, *self.outside.rglob("*")]:
-            os.chown(path, NOBODY, NOBODY)
-        self.user = {"user": NOBODY, "group": NOBODY, "extra_groups": []}
-
-    def files(self):
-        """What stands in the folder."""
-        return {path.name: path.read_bytes() for path in sorted(self.folder.iterdir())}
+from made.environments import LINUX
+from made.releases import file_of, index_of
+from places import PROGRAM
+from program import FILES, NOBODY, Program, limited
+from rules.requirements import marker_text
 
 
 class Help(Program):
@@ -107,9 +43,19 @@ class Help(Program):
             "<NAME>": "The name of the line", "[SPEC]": "The specifiers, such as '>=2,<3'; without them any version will do",
         },
         "upgrade": {"[NAME]...": "Names in the lock; without any, all of them"},
+        "log": {"--long": "Print each entry that a step changed on a line of its own"},
         "why": {"[TEXT]": "The line; without it, the file as it stands", "--explain": "Tell it in sentences"},
     }
-    OPTIONS = {"--dir": "<DIR>", "--index": "<FILE>", "--env": "<FILE>"}
+    OPTIONS = {
+        "--dir <DIR>": "The folder of requirements.txt [default: .]", "--index <FILE>": "The snapshot of the index",
+        "--env <FILE>": "The environment that a lock is for; or NAME=FILE",
+    }
+    ALL = {"--dir", "--index", "--env"}
+    NEEDED = {
+        "init": ALL, "try": ALL, "skipped": {"--index"},
+        **dict.fromkeys(["add", "remove", "constrain", "upgrade", "relock", "batch", "why"], {"--dir", "--index"}),
+        **dict.fromkeys(["undo", "redo", "show", "log", "check"], {"--dir"}),
+    }
 
     def test_help_names_each_subcommand_and_each_option(self):
         status, told = self.call("--help")
@@ -118,9 +64,11 @@ class Help(Program):
         for name, about in self.SUBCOMMANDS.items():
             with self.subTest(name=name):
                 self.assertIn([name, *about.split()], lines)
-        for option, value in self.OPTIONS.items():
+        for option, about in self.OPTIONS.items():
             with self.subTest(option=option):
-                self.assertIn([option, value], [line[:2] for line in lines])
+                self.assertIn([*option.split(), *about.split()], lines)
+        listed = told.split("Commands:")[1].split("Options:")[0]
+        self.assertEqual(set(re.findall("(?m)^  ([a-z]+) ", listed)) - {"help"}, set(self.SUBCOMMANDS))
 
     def test_a_subcommand_tells_what_it_does(self):
         for name, about in self.SUBCOMMANDS.items():
@@ -131,6 +79,8 @@ class Help(Program):
                 lines = [line.split() for line in told.splitlines()]
                 for argument, text in self.ARGUMENTS.get(name, {}).items():
                     self.assertIn([argument, *text.split()], lines)
+                self.assertEqual({line[0] for line in lines if line and line[0] in self.ALL}, self.NEEDED[name])
+                self.assertEqual(lines[-1][:3], ["Example:", "reqlock", name])
 
     def test_the_version_stands_behind_the_name(self):
         status, told = self.call("--version")
@@ -252,7 +202,7 @@ class Lock(Program):
         self.assertEqual(
             tomllib.loads((self.folder / "pylock.toml").read_text(encoding="utf-8")),
             {
-                "lock-version": "1.0", "environments": [MARKER], "created-by": "reqlock",
+                "lock-version": "1.0", "environments": [marker_text(LINUX)], "created-by": "reqlock",
                 "packages": [
                     {
                         "name": "a", "version": "2.0", "requires-python": ">=3.8",
@@ -372,18 +322,8 @@ class Writing(Program):
             (self.outside / name).unlink()
         self.assertEqual(self.call("undo"), (0, "ok 0\n"))
         self.assertEqual(self.call("redo"), (0, "ok 1\n"))
-        self.assertEqual(self.call("log"), (0, "  0 init\n* 1 + c 1, 1 line\n"))
+        self.assertEqual(self.call("log"), (0, "  0 init\n* 1 add c\n"))
         self.assertEqual(self.call("add", "a"), (4, "reqlock: index: unreadable\n"))
-
-
-def limited(size):
-    """What makes a process whose files can't grow beyond this size."""
-
-    def limit():
-        signal.signal(signal.SIGXFSZ, signal.SIG_IGN)
-        resource.setrlimit(resource.RLIMIT_FSIZE, (size, size))
-
-    return limit
 
 
 if __name__ == "__main__":

@@ -2,7 +2,6 @@
 the last 40, which save. A run shows what a run with ample memory does, or that memory was refused, and then nothing has changed."""
 
 import functools
-import os
 import subprocess
 import sys
 import tempfile
@@ -10,14 +9,13 @@ import unittest
 from pathlib import Path
 
 from checked_files import knows
-from test_readme import PROGRAM
-from test_requirement_rules import LINUX
+from made.environments import LINUX, WINDOWS
+from places import IS_LONG, PROGRAM
 
-sys.path.insert(0, str(Path(__file__).resolve().parent.parent))
-import growths  # noqa: E402
-from snapshot_output import compact  # noqa: E402
+import growths  # (these stand in tools/)
+from snapshot_output import compact
 
-PACE = 1 if os.environ.get("LONG_TESTS") == "1" else 50
+PACE = 1 if IS_LONG else 50
 LAST = 40
 AMPLE = 10**12
 NEVER = b"refused nothing-to-undo", b"refused nothing-to-redo"
@@ -120,7 +118,11 @@ class Law(unittest.TestCase):
 
 @unittest.skipUnless(knows("init"), "the program isn't built, or doesn't know init")
 @unittest.skipUnless(sys.platform == "linux" and growths.compiler(), "there is no C compiler, or no glibc")
-class Program(unittest.TestCase):
+class Growths(unittest.TestCase):
+    """A test with a folder of files, in which it refuses growths of the program. It locks for these environments."""
+
+    environments = {"": LINUX}
+
     def setUp(self):
         folder = tempfile.TemporaryDirectory()
         self.addCleanup(folder.cleanup)
@@ -129,10 +131,18 @@ class Program(unittest.TestCase):
         self.library = growths.compiled(folder.name)
         (self.folder / "requirements.txt").write_bytes(REQUIREMENTS)
         (self.folder / "index.json").write_text(index_text(), encoding="utf-8")
-        (self.folder / "environment.json").write_text(compact(LINUX), encoding="utf-8")
+        for name, environment in self.environments.items():
+            (self.folder / self.environment_file(name)).write_text(compact(environment), encoding="utf-8")
+
+    @staticmethod
+    def environment_file(name):
+        return f"{name}.json" if name else "environment.json"
 
     def words(self, *words):
-        return [PROGRAM, "--index", "index.json", "--env", "environment.json", *words]
+        found = [PROGRAM, "--index", "index.json"]
+        for name in self.environments:
+            found += ["--env", f"{name}={self.environment_file(name)}" if name else self.environment_file(name)]
+        return [*found, *words]
 
     def prepare(self, *words, reply="ok"):
         """Does a subcommand with ample memory, in the folder itself."""
@@ -182,6 +192,8 @@ class Program(unittest.TestCase):
             run = growths.run_once(command, self.library, number, data=data, folder=self.folder)
             self.assertTrue(are_lawful(run, ample, before, without), run)
 
+
+class Program(Growths):
     def test_init(self):
         self.check_single("init", starts="ok 0")
 
@@ -270,6 +282,44 @@ class Program(unittest.TestCase):
         self.prepare("init")
         for subcommand in "batch", "try":
             self.check_several(subcommand)
+
+
+class Targets(Growths):
+    """With two targets all locks change, or none does."""
+
+    environments = {"linux": LINUX, "win": WINDOWS}
+
+    def setUp(self):
+        super().setUp()
+        (self.folder / "requirements.txt").write_bytes(b"a\n")
+
+    def test_init(self):
+        self.check_single("init", starts="ok 0")
+        (self.folder / "requirements.txt").write_bytes(b"a\nx[e] ; os_name == 'nt'\n")
+        self.check_single("init", starts="refused no-solution")
+
+    def test_edits(self):
+        self.prepare("init")
+        for words, starts in (
+            (["add", "d"], "ok 1"), (["add", "d ; os_name == 'nt'"], "ok 1"), (["add", "x[e] ; os_name == 'nt'"], "refused no-solution"),
+            (["upgrade", "b-b"], "same"), (["upgrade", "z"], "refused not-locked"), (["why", "x[e] ; os_name == 'nt'"], "target win\n"),
+        ):
+            self.check_single(*words, starts=starts)
+        self.prepare("add", "d ; os_name == 'nt'")
+        for words, starts in (
+            (["undo"], "ok 0"), (["show"], "target linux\n"), (["check"], "ok 1"),
+            (["log", "--long"], "  0 init\n* 1 add d ; os_name == 'nt'\n      win: + d 1\n"),
+        ):
+            self.check_single(*words, starts=starts)
+        self.prepare("undo")
+        self.check_single("redo", starts="ok 1")
+
+    def test_words_that_are_no_request(self):
+        for value, text in ("Win=win.json", "has a bad name"), ("win=linux.json", "win twice"):
+            fault = f"reqlock: --env {text}\n".encode()
+            self.check_fault(self.words("--env", value, "init"), 2, fault)
+        (self.folder / "win.json").write_bytes(b"{}")
+        self.check_fault(self.words("init"), 4, b"reqlock: environment win: bad-environment implementation_name\n")
 
 
 if __name__ == "__main__":

@@ -9,38 +9,22 @@ import tempfile
 import unittest
 from pathlib import Path
 
-from made_index import MadeIndex, wheel_of
-
-TOP = Path(__file__).resolve().parent.parent.parent
-PROGRAM = TOP / "crates" / "reqlock" / "out" / "reqlock"
-MARK = "-- next --"
-
-
-def blocks(text):
-    """The indented blocks with commands: each a list of commands with the lines shown behind them."""
-    found = []
-    for block in re.findall(r"(?m)(?:^ {4}.*\n)+", text):
-        lines = [line[4:] for line in block.splitlines()]
-        if lines[0].startswith("$ "):
-            found.append([])
-            for line in lines:
-                if line.startswith("$ "):
-                    found[-1].append((line[2:], []))
-                else:
-                    found[-1][-1][1].append(line)
-    return found
+from made.served_index import MadeIndex, wheel_of
+from places import PROGRAM, TOOLS, TOP
+from program import Program
+from shown import indented_blocks, printed_by, typed_blocks
 
 
 class Blocks(unittest.TestCase):
     def test_finds_commands_and_what_they_print(self):
         text = "a\n\n    $ one\n    1\n    $ two\n\n    no command\n\n    $ three\n    3\n    4\n"
-        self.assertEqual(blocks(text), [[("one", ["1"]), ("two", [])], [("three", ["3", "4"])]])
+        self.assertEqual(typed_blocks(text), [[("one", ["1"]), ("two", [])], [("three", ["3", "4"])]])
 
 
 @unittest.skipUnless(PROGRAM.exists(), "the program isn't built")
 class Readme(unittest.TestCase):
     def test_each_command_prints_what_is_shown(self):
-        found = blocks((TOP / "README.md").read_text(encoding="utf-8"))
+        found = typed_blocks((TOP / "README.md").read_text(encoding="utf-8"))
         self.assertTrue(found)
         for block in found:
             with self.subTest(block=block[0][0]), tempfile.TemporaryDirectory() as folder:
@@ -48,19 +32,13 @@ class Readme(unittest.TestCase):
 
     def run_block(self, block, folder):
         shutil.copytree(TOP / "examples", folder / "examples")
-        script = "".join(f"{command}\necho '{MARK}'\n" for command, _ in block)
-        variables = {**os.environ, "PATH": f"{PROGRAM.parent}:{os.environ['PATH']}"}
-        done = subprocess.run(
-            ["bash"], input=script, env=variables, cwd=folder, stdout=subprocess.PIPE, stderr=subprocess.STDOUT,
-            encoding="utf-8", check=False,
-        )
-        printed = done.stdout.split(f"{MARK}\n")[:-1]
+        printed = printed_by(block, folder, {**os.environ, "PATH": f"{PROGRAM.parent}:{os.environ['PATH']}"})
         self.assertEqual([text.splitlines() for text in printed], [shown for _, shown in block])
 
     def test_an_index_is_made_of_an_address(self):
         """The block with the address of an index: one of the test's own stands for it."""
         text = (TOP / "README.md").read_text(encoding="utf-8")
-        [block] = [block for block in re.findall(r"(?m)(?:^ {4}.*\n)+", text) if "snapshot.py simple" in block]
+        [block] = [block for block in indented_blocks(text) if "snapshot.py simple" in block]
         needs = {"flask": ["Werkzeug>=3.0.0", "Jinja2", "click"], "werkzeug": [], "jinja2": [], "click": []}
         index = MadeIndex()
         self.addCleanup(index.close)
@@ -68,9 +46,9 @@ class Readme(unittest.TestCase):
             index.add(name, wheel_of(name, "3.0.0", *dependencies))
         with tempfile.TemporaryDirectory() as name:
             folder = Path(name)
-            shutil.copytree(TOP / "tools", folder / "tools", ignore=shutil.ignore_patterns("tests", "__pycache__"))
+            shutil.copytree(TOOLS, folder / "tools", ignore=shutil.ignore_patterns("tests", "__pycache__"))
             (folder / "requirements.txt").write_bytes(b"Flask\r\n")
-            lines = [line.strip().replace("https://index.example/simple/", index.url) for line in block.splitlines()]
+            lines = [line.replace("https://index.example/simple/", index.url) for line in block.splitlines()]
             self.assertIn(index.url, lines[1])
             done = self.run_lines(lines, folder)
             self.assertEqual((done.returncode, done.stdout), (0, "ok 0\n"), done.stderr)
@@ -83,6 +61,42 @@ class Readme(unittest.TestCase):
         return subprocess.run(
             ["bash", "-e"], input="\n".join(lines), env=variables, cwd=folder, capture_output=True, encoding="utf-8", check=False,
         )
+
+
+class Tables(Program):
+    """The program has the subcommands and options of the README's tables and no others, and a subcommand needs the options that
+    stand beside it."""
+
+    def rows(self, head):
+        """The cells of the table with this head."""
+        table = (TOP / "README.md").read_text(encoding="utf-8").split(f"{head}\n")[1].split("\n\n")[0]
+        return [[cell.strip() for cell in line.strip("|").split("|")] for line in table.splitlines()[1:]]
+
+    def subcommands(self):
+        """Each subcommand with a word for each argument that it can't do without, and the options that it needs."""
+        for name, _, needs in self.rows("| Subcommand | Does | Needs |"):
+            for words in re.findall("`([^`]+)`", name):
+                subcommand, *arguments = re.sub(r"\[.*?\]", "", words).split()
+                yield [subcommand, *("a" for _ in arguments)], re.findall("--[a-z]+", needs)
+
+    def test_name_each_subcommand_and_option(self):
+        told = self.call("--help")[1]
+        commands, options = told.split("Commands:")[1].split("Options:")
+        named = {words[0] for words, _ in self.subcommands()}
+        self.assertEqual(set(re.findall("(?m)^  ([a-z]+) ", commands)) - {"help"}, named)
+        named = {re.search("--[a-z]+", name)[0] for name, _ in self.rows("| Option | Means |")}
+        self.assertEqual(set(re.findall("--[a-z]+", options)) - {"--help", "--version"}, named)
+
+    def test_tell_what_is_needed(self):
+        for words, needs in self.subcommands():
+            for count in range(len(needs) + 1):
+                given = [word for option in needs[:count] for word in (option, "none")]
+                command = [PROGRAM, "--dir", self.folder, *given, *words]
+                with self.subTest(words=words, given=given):
+                    done = subprocess.run(command, input=b"", capture_output=True, check=False)
+                    first = "index" if words == ["skipped"] else "requirements.txt"
+                    wanted = (2, f"{needs[count]} is needed") if count < len(needs) else (4, f"{first}: unreadable")
+                    self.assertEqual((done.returncode, done.stderr.decode()), (wanted[0], f"reqlock: {wanted[1]}\n"))
 
 
 if __name__ == "__main__":

@@ -1,15 +1,12 @@
-"""Tests of requirement_rules.py, by worked examples of the rules."""
+"""Tests of rules/requirements.py, by worked examples of the rules."""
 
-import json
 import unittest
-from pathlib import Path
 
-from requirement_rules import (
+from made.environments import LINUX
+from rules.requirements import (
     Fault, active_requirements, cut_lines, holds, marker_text, matches, order_key, read_environment, read_line, read_lines,
     read_marker, read_set, read_version,
 )
-
-LINUX = json.loads((Path(__file__).resolve().parents[2] / "examples" / "web" / "environment.json").read_text(encoding="utf-8"))
 
 
 class Versions(unittest.TestCase):

@@ -1,21 +1,17 @@
-"""Tests of the rows of the crate conformance, and of requirement_rules.py, with tools/versions.py below it, by what packaging 23.0
+"""Tests of the rows of the crate conformance, and of rules/requirements.py, with tools/versions.py below it, by what packaging 23.0
 answers to them. tools/versions_table.py and tools/requirements_table.py print these parts of the rows and answers, and say where
-the rules differ by design. drawn_rows.py prints those that a second reading of the rules answers."""
+the rules differ by design. made/drawn_rows.py prints those that a second reading of the rules answers."""
 
 import json
 import subprocess
-import sys
 import unittest
-from pathlib import Path
 
-import drawn_rows
-from requirement_rules import Fault, holds, matches, order_key, read_marker, read_requirement, read_set, read_version
+from made import drawn_rows
+from places import TOOLS
+from rules.requirements import Fault, holds, matches, order_key, read_marker, read_requirement, read_set, read_version
+
+from conformance_rows import lines_with_answers, printed_lines, printed_rows  # (these stand in tools/)
 from versions import canonical
-
-TOOLS = Path(__file__).resolve().parent.parent
-sys.path.insert(0, str(TOOLS))
-
-from conformance_rows import lines_with_answers, printed_lines, printed_rows  # noqa: E402  (it stands in tools/)
 
 VERSIONS, REQUIREMENTS = "versions_table.py", "requirements_table.py"
 DEBIAN = "/usr/bin/python3"
@@ -69,7 +65,6 @@ class Rows(unittest.TestCase):
             for word, lines in zip(("rows", "answers"), printed_lines(tool)):
                 done = subprocess.run([DEBIAN, "-B", TOOLS / tool, word], capture_output=True, encoding="ascii", check=True)
                 self.assertEqual(done.stdout.split("\n"), [*lines, ""])
-
 
     def test_are_those_that_are_drawn(self):
         self.assertEqual(list(zip(*printed_lines(drawn_rows.TOOL)))[:-1], drawn_rows.rows_and_answers())

@@ -2,15 +2,19 @@
 bytes until a command is accepted, and are then written in version 2. The program's tests need it built; ./check builds it."""
 
 import json
+import re
 import shutil
 import unittest
-from pathlib import Path
 
-from journal_rules import Change, State, after, inverse, is_state, opens, read_header, read_lines, read_lock, read_step
-from made_journals import compact
-from test_program import FILES, PROGRAM, Program
+from made.journals import compact
+from places import PROGRAM, TESTS
+from program import FILES, Program
+from rules.journals import opens_in, read_header, read_step
+from rules.lock_tables import read_lock
+from rules.requirements import read_lines
+from rules.states import State, after, inverse, is_state
 
-SESSIONS = Path(__file__).resolve().parent / "saved_sessions"
+SESSIONS = TESTS / "saved_sessions"
 TOLD = json.loads((SESSIONS / "told.json").read_text(encoding="utf-8"))
 # of each session the cursor, the count of its steps, and its index
 PLACES = {
@@ -21,17 +25,17 @@ JOURNAL = "reqlock.journal"
 
 
 def saved(name):
-    """The three files of a session."""
-    return [(SESSIONS / name / file).read_bytes() for file in FILES]
+    """The files of a session, by their names."""
+    return {file: (SESSIONS / name / file).read_bytes() for file in FILES}
 
 
 def states_of(name):
     """The states of a session, by the rules of changes."""
-    requirements, lock, journal = saved(name)
+    requirements, lock, journal = saved(name).values()
     first, *lines = journal.splitlines()
     header = read_header(first)
     changes = [read_step(line, header) for line in lines]
-    present = State(read_lines(requirements), header.targets[0].environment, *read_lock(lock)[1:])
+    present = State.of_one(read_lines(requirements), header.targets[0].environment, *read_lock(lock)[1:])
     states = [present]
     for change in reversed(changes[: header.cursor]):
         states.insert(0, after(states[0], inverse(change)))
@@ -43,12 +47,12 @@ def states_of(name):
 class Rules(unittest.TestCase):
     def test_each_session_opens(self):
         for name, (cursor, steps, _) in PLACES.items():
-            self.assertEqual(opens(*saved(name)), ("ok", cursor, steps), name)
+            self.assertEqual(opens_in(saved(name)), ("ok", cursor, steps), name)
             self.assertEqual((len(states_of(name)), all(map(is_state, states_of(name)))), (steps + 1, True), name)
 
     def test_each_journal_is_of_version_1(self):
         for name in PLACES:
-            first = json.loads(saved(name)[2].splitlines()[0])
+            first = json.loads(saved(name)[JOURNAL].splitlines()[0])
             self.assertEqual(list(first), ["cursor", "environment", "journal", "lock", "requirements", "steps"])
             self.assertEqual(first["journal"], 1)
 
@@ -61,7 +65,28 @@ class Calls(Program):
 
     def stands(self, name):
         """The files are those of the session, byte for byte, and nothing is beside them."""
-        self.assertEqual(self.files(), dict(zip(FILES, saved(name))))
+        self.assertEqual(self.files(), saved(name))
+
+
+def steps_told(log):
+    """The mark and the number of each step that the `log` of that program told, with its entries."""
+    steps = []
+    others = re.compile(r"init|another index|\d+ lines?")
+    for line in log.splitlines():
+        number, _, what = line[2:].partition(" ")
+        steps.append((line[:2], number, [part for part in what.split(", ") if not others.fullmatch(part)]))
+    return steps
+
+
+def steps_of(log):
+    """The same of what `log --long` tells, where each entry stands on a line of its own."""
+    steps = []
+    for line in log.splitlines():
+        if line.startswith("      "):
+            steps[-1][2].append(line.strip())
+        else:
+            steps.append((line[:2], line[2:].split(" ")[0], []))
+    return steps
 
 
 @unittest.skipUnless(PROGRAM.exists(), "the program isn't built")
@@ -71,7 +96,11 @@ class Sessions(Calls):
             self.begin_saved(name)
             for words, told in TOLD[name].items():
                 with self.subTest(name=name, words=words):
-                    self.assertEqual(self.call(*words.split()), tuple(told))
+                    if words == "log":
+                        status, text = self.call("log", "--long")
+                        self.assertEqual((status, steps_of(text)), (told[0], steps_told(told[1])))
+                    else:
+                        self.assertEqual(self.call(*words.split()), tuple(told))
             self.call("skipped")
             self.stands(name)
 
@@ -94,7 +123,7 @@ class Sessions(Calls):
         """The requirements file and the lock are those of a state."""
         files = self.files()
         self.assertEqual(read_lines(files["requirements.txt"]), state.lines)
-        self.assertEqual(read_lock(files["pylock.toml"])[1:], (state.digest, state.entries))
+        self.assertEqual(read_lock(files["pylock.toml"])[1:], (state.digest, state.entries()))
 
     def test_undo_and_redo_go_to_the_states_of_the_history(self):
         for name, (cursor, steps, _) in PLACES.items():
@@ -116,10 +145,10 @@ class Sessions(Calls):
             header = json.loads(first)
             self.assertEqual(list(header), ["cursor", "journal", "requirements", "steps", "targets"])
             self.assertEqual((header["journal"], header["cursor"], header["steps"]), (2, place, steps))
-            old = [json.loads(line) for line in saved(name)[2].splitlines()[1:]]
+            old = [json.loads(line) for line in saved(name)[JOURNAL].splitlines()[1:]]
             new = [compact({**step, "entries": [["", *entry] for entry in step["entries"]]}) for step in old]
             self.assertEqual(lines, new)
-            self.assertEqual(opens(*(self.files()[file] for file in FILES)), ("ok", place, steps))
+            self.assertEqual(opens_in(self.files()), ("ok", place, steps))
 
     def test_an_edit_cuts_the_steps_behind_the_cursor(self):
         self.begin_saved("undone")
@@ -135,7 +164,7 @@ class Sessions(Calls):
         self.assertEqual(self.call("redo"), (0, "ok 1\n"))
         self.assertEqual(len(self.files()["requirements.txt"]), 28)
         self.assertIn(b'"journal":2', self.files()[JOURNAL])
-        self.assertEqual(self.files()["requirements.txt"], saved("crlf")[0])
+        self.assertEqual(self.files()["requirements.txt"], saved("crlf")["requirements.txt"])
 
 
 @unittest.skipUnless(PROGRAM.exists(), "the program isn't built")
@@ -145,7 +174,7 @@ class StoppedSaves(Calls):
 
     def stop(self, count):
         self.begin_saved("crlf")
-        for place, (file, data) in enumerate(zip(FILES, saved("crlf_undone"))):
+        for place, (file, data) in enumerate(saved("crlf_undone").items()):
             (self.folder / (file if place < count else f"{file}.new")).write_bytes(data)
 
     def test_is_ended_by_the_next_command_that_saves(self):
@@ -157,7 +186,7 @@ class StoppedSaves(Calls):
             self.assertEqual(self.call("redo"), (0, "ok 1\n"))
             files = self.files()
             self.assertEqual(sorted(files), sorted(FILES))
-            self.assertEqual(opens(*(files[file] for file in FILES)), ("ok", 1, 1))
+            self.assertEqual(opens_in(files), ("ok", 1, 1))
             self.assertIn(b'"journal":2', files[JOURNAL])
 
     def test_is_told_by_what_only_reads(self):

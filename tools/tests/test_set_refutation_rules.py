@@ -2,9 +2,10 @@
 
 import unittest
 
-from lock_rules import solutions
-from set_refutation_rules import LISTS, case_of, is_accepted, problem_of, read_conflict
-from test_lock_rules import problem_in
+from made.releases import problem_in
+from made.set_refutation_rows import LISTS, problem_of
+from rules.locks import solutions
+from rules.set_refutations import case_of, is_accepted, read_conflict
 
 
 class SetRefutations(unittest.TestCase):

@@ -5,8 +5,8 @@ import io
 import json
 import unittest
 
-from made_index import sdist_of, wheel_of
-from requirement_rules import Fault, holds, read_environment, read_requirement
+from made.served_index import sdist_of, wheel_of
+from rules.requirements import Fault, holds, read_environment, read_requirement
 from simple_index import LINUX, Simple, snapshot
 
 from conformance_rows import printed_rows  # (these stand in tools/)

@@ -10,11 +10,11 @@ import tomllib
 import unittest
 from concurrent.futures import ThreadPoolExecutor
 
-from made_index import sdist_of, wheel_of
-from simple_index import TOOLS, Simple
-from test_readme import PROGRAM
+from made.served_index import sdist_of, wheel_of
+from places import IS_LONG, PROGRAM, TOOLS
+from simple_index import Simple
 
-WORLDS = 300 if os.environ.get("LONG_TESTS") == "1" else 30
+WORLDS = 300 if IS_LONG else 30
 SIDE_BY_SIDE = 4
 SEED = 11
 NAMES = "ant", "bee", "cow", "dog", "elk", "fly"

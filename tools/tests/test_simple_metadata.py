@@ -3,8 +3,8 @@
 import random
 import unittest
 
-from made_archives import headers, zipped
-from made_index import Served, sdist_of, wheel_of
+from made.archives import headers, zipped
+from made.served_index import Served, sdist_of, wheel_of
 from simple_index import Simple
 
 LARGE = 300_000

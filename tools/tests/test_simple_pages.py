@@ -5,7 +5,7 @@ import gzip
 import json
 import unittest
 
-from made_index import HTML_TYPE, JSON_TYPE, sdist_of, wheel_of
+from made.served_index import HTML_TYPE, JSON_TYPE, sdist_of, wheel_of
 from simple_index import Simple
 
 

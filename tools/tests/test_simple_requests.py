@@ -3,7 +3,6 @@
 import email.utils
 import json
 import os
-import pty
 import shutil
 import signal
 import socket
@@ -16,8 +15,10 @@ import unittest
 from pathlib import Path
 from unittest import mock
 
-from made_index import JSON_TYPE, sdist_of, wheel_of
-from simple_index import TOOLS, Simple
+from made.served_index import JSON_TYPE, sdist_of, wheel_of
+from places import TOOLS
+from simple_index import Simple
+from terminals import shown_on_terminal
 from test_snapshot import heed_keyboard
 
 SCRIPT = TOOLS / "snapshot.py"
@@ -372,20 +373,10 @@ class Processes(Simple):
     def test_show_on_a_terminal_how_far_they_are(self):
         index = self.serve({"a": [wheel_of("a", str(number)) for number in range(5)]})
         index.instead[PATH] = [lambda to: (time.sleep(0.4), to.give_page(index, "a"))]
-        ours, theirs = pty.openpty()
-        call = self.start(index, "a", stderr=theirs)
-        self.addCleanup(call.kill)
-        call.wait(timeout=60)
-        os.close(theirs)
-        shown = b""
-        try:
-            while piece := os.read(ours, 1000):
-                shown += piece
-        except OSError:
-            pass  # (Linux tells the end of a terminal so)
-        os.close(ours)
-        self.assertRegex(shown.decode(), r"^\r0 of 1 package, 0\.0 kB, 0 s\x1b\[K")
-        self.assertRegex(shown.decode(), r"\r\x1b\[Ksnapshot\.py: 1 package, 5 releases, 6 requests, [0-9.]+ kB, [0-9.]+ s\r\n$")
+        status, shown = shown_on_terminal(lambda terminal: self.start(index, "a", stderr=terminal))
+        self.assertEqual(status, 0)
+        self.assertRegex(shown, r"^\r0 of 1 package, 0\.0 kB, 0 s\x1b\[K")
+        self.assertRegex(shown, r"\r\x1b\[Ksnapshot\.py: 1 package, 5 releases, 6 requests, [0-9.]+ kB, [0-9.]+ s\r\n$")
 
 
 if __name__ == "__main__":

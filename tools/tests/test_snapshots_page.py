@@ -3,13 +3,13 @@
 import os
 import re
 import shutil
-import subprocess
 import tempfile
 import unittest
 from pathlib import Path
 
-from made_index import MadeIndex, sdist_of, wheel_of
-from test_readme import MARK, TOP, blocks
+from made.served_index import MadeIndex, sdist_of, wheel_of
+from places import TOP
+from shown import printed_by, typed_blocks
 
 NAMED = "https://index.example"
 FIGURES = re.compile(r"[0-9.]+ [kM]B, [0-9.]+ s$", re.MULTILINE)
@@ -49,16 +49,12 @@ class Page(unittest.TestCase):
 
     def run_block(self, block):
         """What the commands print, one after the other."""
-        script = "".join(f"{command}\necho '{MARK}'\n" for command, _ in block).replace(NAMED, self.base)
         kept = {name: value for name, value in os.environ.items() if not name.lower().endswith("proxy")}
-        done = subprocess.run(
-            ["bash"], input=script, env={**kept, "XDG_CACHE_HOME": str(self.folder / "cache"), "PYTHONDONTWRITEBYTECODE": "1"},
-            cwd=self.folder, stdout=subprocess.PIPE, stderr=subprocess.STDOUT, encoding="utf-8", check=False,
-        )
-        return done.stdout.replace(self.base, NAMED).split(f"{MARK}\n")[:-1]
+        variables = {**kept, "XDG_CACHE_HOME": str(self.folder / "cache"), "PYTHONDONTWRITEBYTECODE": "1"}
+        return printed_by(block, self.folder, variables, NAMED, self.base)
 
     def test_each_command_prints_what_is_shown(self):
-        found = blocks((TOP / "docs" / "SNAPSHOTS.md").read_text(encoding="utf-8"))
+        found = typed_blocks((TOP / "docs" / "SNAPSHOTS.md").read_text(encoding="utf-8"))
         self.assertGreater(len(found), 4)
         for block in found:
             with self.subTest(block=block[0][0]):

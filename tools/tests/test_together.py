@@ -2,7 +2,6 @@
 
 import itertools
 import json
-import os
 import random
 import shutil
 import subprocess
@@ -10,36 +9,17 @@ import time
 import unittest
 from collections import Counter
 
-from test_program import FILES, PROGRAM, Program, index_of, limited
+from made.environments import LINUX, WINDOWS
+from made.releases import index_of
+from places import IS_LONG, PROGRAM
+from program import Fifty, limited
 
-NAMES = [f"p{number:02}" for number in range(50)]
-RELEASES = [(name, version, []) for name in NAMES for version in ("1", "2")]
-STOPS = 3000 if os.environ.get("LONG_TESTS") == "1" else 300
+NAMES = Fifty.NAMES
+STOPS = 3000 if IS_LONG else 300
 SEED = 4
 
 
-class Folders(Program):
-    def start(self, *words, folder=None):
-        """A call of the program that goes on by itself. Its input is empty."""
-        options = "--dir", folder or self.folder, "--index", self.outside / "index.json", "--env", self.outside / "environment.json"
-        return subprocess.Popen(
-            [PROGRAM, *options, *words], stdin=subprocess.DEVNULL, stdout=subprocess.PIPE, stderr=subprocess.STDOUT,
-            encoding="utf-8",
-        )
-
-    def begin_all(self, requirements=b"# fifty\r\n"):
-        self.begin(requirements, *RELEASES)
-        self.assertEqual(self.call("init"), (0, "ok 0\n"))
-
-    def put(self, files):
-        """Makes these the files of the folder."""
-        for path in self.folder.iterdir():
-            path.unlink()
-        for name, content in files.items():
-            (self.folder / name).write_bytes(content)
-
-
-class Together(Folders):
+class Together(Fifty):
     def test_fifty_calls_wait_for_one_another(self):
         self.begin_all()
         first = self.files()
@@ -48,7 +28,7 @@ class Together(Folders):
         self.assertEqual([call.returncode for call in calls], [0] * 50)
         self.assertEqual(sorted(outputs), sorted(f"ok {place}\n" for place in range(1, 51)))
         last = self.files()
-        self.assertEqual(sorted(last), sorted(FILES))
+        self.assertEqual(sorted(last), sorted(self.names()))
         lines = last["requirements.txt"].decode().split("\r\n")
         self.assertEqual(sorted(lines[1:-1]), NAMES)
         status, log = self.call("log")
@@ -56,7 +36,7 @@ class Together(Folders):
         for place in reversed(range(50)):
             self.assertEqual(self.call("undo"), (0, f"ok {place}\n"))
         undone = self.files()
-        self.assertEqual([undone[name] for name in FILES[:2]], [first[name] for name in FILES[:2]])
+        self.assertEqual([undone[name] for name in self.names()[:-1]], [first[name] for name in self.names()[:-1]])
         for place in range(1, 51):
             self.assertEqual(self.call("redo"), (0, f"ok {place}\n"))
         self.assertEqual(self.files(), last)
@@ -70,12 +50,12 @@ class Together(Folders):
             output = call.communicate()[0]
             self.assertEqual(call.returncode, 0, output)
         self.assertEqual(self.call("check"), (0, "ok 20\n"))
-        self.assertEqual(sorted(self.files()), sorted(FILES))
+        self.assertEqual(sorted(self.files()), sorted(self.names()))
 
     def test_try_waits_for_nothing(self):
         self.begin_all()
         waiting = subprocess.Popen(
-            [PROGRAM, "--dir", self.folder, "--index", self.outside / "index.json", "batch"],
+            [PROGRAM, *self.options(), "batch"],
             stdin=subprocess.PIPE, stdout=subprocess.PIPE, encoding="utf-8",
         )
         waiting.stdin.write("undo\n")
@@ -91,7 +71,9 @@ class Together(Folders):
         self.assertEqual([call.communicate()[0] for call in others][0], "ok 2\n")
 
 
-class Stopped(Folders):
+class Stopped(Fifty):
+    stops = STOPS
+
     def after(self, words):
         """What a folder with the same files holds once the command is done."""
         copy = self.outside / "copy"
@@ -125,8 +107,8 @@ class Stopped(Folders):
 
     def healed(self, before, after):
         """What the files were when the call stopped; then the next call that saves makes them whole."""
-        found = {name: content for name, content in self.files().items() if name in FILES}
-        self.assertEqual(sorted(found), sorted(FILES))
+        found = {name: content for name, content in self.files().items() if name in self.names()}
+        self.assertEqual(sorted(found), sorted(self.names()))
         status, output = self.call("check")
         if found in (before, after):
             self.assertEqual(status, 0, output)
@@ -144,7 +126,7 @@ class Stopped(Folders):
         self.begin_all()
         usual = self.usual()
         came = Counter()
-        for _ in range(STOPS):
+        for _ in range(self.stops):
             if self.call("undo")[0] == 0 and chance.random() < 0.5:
                 self.call("redo")
             words = self.command(chance)
@@ -156,7 +138,7 @@ class Stopped(Folders):
             call.communicate()
             with self.subTest(words=words):
                 came[self.healed(before, after)] += 1
-        print(f"{STOPS} calls stopped: " + ", ".join(f"{count} {where}" for where, count in sorted(came.items())))
+        print(f"{self.stops} calls stopped: " + ", ".join(f"{count} {where}" for where, count in sorted(came.items())))
 
     def sides(self):
         """The files before and after an edit that changes all three."""
@@ -171,13 +153,13 @@ class Stopped(Folders):
 
     def stop(self, before, after, left):
         """Makes the files those of a save that was stopped when these were left beside. The others are in their places."""
-        changed = [name for name in FILES if before[name] != after[name]]
+        changed = [name for name in self.names() if before[name] != after[name]]
         moved = {name: after[name] for name in changed if name not in left}
         self.put(before | moved | {f"{name}.new": after[name] for name in left})
 
     def check_healed(self, before, after):
         """Whichever files were left, but all, the next call that saves ends the save."""
-        changed = [name for name in FILES if before[name] != after[name]]
+        changed = [name for name in self.names() if before[name] != after[name]]
         for left in itertools.chain.from_iterable(itertools.combinations(changed, count) for count in range(1, len(changed))):
             with self.subTest(left=left):
                 self.stop(before, after, left)
@@ -189,12 +171,13 @@ class Stopped(Folders):
 
     def test_a_save_that_stopped_between_two_files_is_ended(self):
         before, after = self.sides()
-        for moved in range(4):
+        names = self.names()
+        for moved in range(len(names) + 1):
             with self.subTest(moved=moved):
-                stopped = before | {name: after[name] for name in FILES[:moved]}
-                self.put(stopped | {f"{name}.new": after[name] for name in FILES[moved:]})
+                stopped = before | {name: after[name] for name in names[:moved]}
+                self.put(stopped | {f"{name}.new": after[name] for name in names[moved:]})
                 left = self.files()
-                if moved in (1, 2):
+                if 0 < moved < len(names):
                     self.assertEqual(self.call("check"), (4, "reqlock: requirements.txt: files-disagree\n"))
                     self.assertEqual(self.files(), left)
                 self.assertEqual(self.call("relock"), (0, "same\n"))
@@ -202,14 +185,16 @@ class Stopped(Folders):
 
     def test_the_answer_is_that_of_the_healed_files(self):
         before, after = self.sides()
-        self.put(before | {"requirements.txt": after["requirements.txt"]} | {f"{name}.new": after[name] for name in FILES[1:]})
+        left = {f"{name}.new": after[name] for name in self.names()[1:]}
+        self.put(before | {"requirements.txt": after["requirements.txt"]} | left)
         self.assertEqual(self.call("add", "p01"), (1, "refused already-present\n"))
         self.assertEqual(self.files(), after)
 
     def test_files_that_nothing_makes_whole_stay(self):
         before, after = self.sides()
-        for name, others in ("requirements.txt", {}), ("requirements.txt", {"pylock.toml.new": after["pylock.toml"]}):
-            self.put(before | {name: after[name]} | others)
+        lock = self.names()[1]
+        for others in {}, {f"{lock}.new": after[lock]}:
+            self.put(before | {"requirements.txt": after["requirements.txt"]} | others)
             left = self.files()
             for words in ["relock"], ["undo"], ["show"], ["check"]:
                 self.assertEqual(self.call(*words), (4, "reqlock: requirements.txt: files-disagree\n"))
@@ -218,9 +203,10 @@ class Stopped(Folders):
     def test_a_first_save_that_stopped_is_ended(self):
         before, _ = self.sides()
         requirements = {"requirements.txt": before["requirements.txt"]}
-        for moved in range(1, 3):
-            stopped = requirements | {name: before[name] for name in FILES[1:moved]}
-            self.put(stopped | {f"{name}.new": before[name] for name in FILES[moved:]})
+        names = self.names()
+        for moved in range(1, len(names)):
+            stopped = requirements | {name: before[name] for name in names[1:moved]}
+            self.put(stopped | {f"{name}.new": before[name] for name in names[moved:]})
             self.assertEqual(self.call("check"), (4, "reqlock: reqlock.journal: unreadable\n"))
             self.assertEqual(self.call("relock"), (0, "same\n"))
             self.assertEqual(self.files(), before)
@@ -240,13 +226,14 @@ class Stopped(Folders):
         self.assertEqual(before["requirements.txt"], after["requirements.txt"])
         self.check_healed(before, after)
         # none of them was put into its place
-        self.stop(before, after, FILES[1:])
+        self.stop(before, after, self.names()[1:])
         self.assertEqual(self.call("remove", "p99"), (1, "refused not-present\n"))
         self.assertEqual(self.files(), before)
 
     def test_requirements_that_were_changed_by_hand_stay(self):
         before, after = self.sides()
-        for left in ["requirements.txt"], ["requirements.txt", "pylock.toml"], ["requirements.txt", "reqlock.journal"], FILES:
+        names = self.names()
+        for left in names[:1], names[:2], [names[0], names[-1]], names:
             with self.subTest(left=left):
                 self.stop(before, after, left)
                 (self.folder / "requirements.txt").write_bytes(b"# by hand\r\n")
@@ -256,25 +243,37 @@ class Stopped(Folders):
                 self.assertEqual(self.files(), stopped)
                 self.assertEqual(self.call("init"), (0, "ok 0\n"))
                 self.assertEqual(self.files()["requirements.txt"], b"# by hand\r\n")
-                self.assertEqual(sorted(self.files()), sorted(FILES))
+                self.assertEqual(sorted(self.files()), sorted(self.names()))
 
     def test_a_new_history_that_cannot_be_saved_leaves_the_old_one(self):
         before, after = self.sides()
-        for left in FILES[1:], FILES[2:], FILES[:1]:
+        names = self.names()
+        for left in names[1:], names[2:], names[:1]:
             with self.subTest(left=left):
                 self.stop(before, after, left)
-                self.assertEqual(self.call("init", before=limited(0)), (5, "reqlock: pylock.toml: write failed\n"))
+                self.assertEqual(self.call("init", before=limited(0)), (5, f"reqlock: {names[1]}: write failed\n"))
                 self.assertEqual(self.call("relock"), (0, "same\n"))
                 self.assertEqual(self.files(), after)
                 self.assertEqual(self.call("init"), (0, "ok 0\n"))
                 self.assertEqual(self.files()["requirements.txt"], after["requirements.txt"])
-                self.assertEqual(sorted(self.files()), sorted(FILES))
+                self.assertEqual(sorted(self.files()), sorted(self.names()))
 
     def test_a_new_history_leaves_nothing_beside(self):
         before, after = self.sides()
-        self.put(before | {f"{name}.new": after[name] for name in FILES})
+        self.put(before | {f"{name}.new": after[name] for name in self.names()})
         self.assertEqual(self.call("init"), (0, "ok 0\n"))
         self.assertEqual(self.files(), before)
+
+
+class TogetherWithTargets(Together):
+    environments = {"linux": LINUX, "win": WINDOWS}
+
+
+class StoppedWithTargets(Stopped):
+    """The same of saves of four files."""
+
+    environments = {"linux": LINUX, "win": WINDOWS}
+    stops = STOPS // 3
 
 
 if __name__ == "__main__":

@@ -1,6 +1,7 @@
 """From a folder of wheels to an installed environment, as docs/WHEELS.md tells it: each line of that page is run by a shell, with
 wheels that the test makes, the program, and the machine's own pip. Nothing is fetched."""
 
+import json
 import os
 import re
 import shutil
@@ -10,22 +11,33 @@ import tomllib
 import unittest
 from pathlib import Path
 
-from made_archives import wheel
-from test_program import FILES
-from test_readme import PROGRAM, TOP
-from test_readme import blocks as shown_blocks
+from checked_files import knows
+from made.archives import wheel
+from made.environments import LINUX, WINDOWS
+from places import PROGRAM, TOP
+from program import FILES
+from shown import indented_blocks, typed_blocks
 
-SECTION = "# From a folder of wheels to an installed environment\n"
+HEAD = "# From a folder of wheels to an installed environment"
 REQUIREMENTS = b"# web\r\nclick<8  # the old one\r\n"
 FIRST = {"asgiref": "3.1", "click": "7.0", "flask": "2.0", "werkzeug": "2.0"}
 UPGRADED = {"asgiref": "3.2", "click": "7.0", "flask": "2.1", "werkzeug": "2.1"}
+# A repository that makes every line end in CRLF keeps the files, and two clones give them out: one does so too, one doesn't.
+KEEPING = """
+    git init --quiet
+    git config core.autocrlf true
+    git add .gitattributes requirements.txt pylock.toml reqlock.journal
+    git -c user.name=name -c user.email=name@host.example commit --quiet --message first
+    git clone --quiet --config core.autocrlf=true . true
+    git clone --quiet --config core.autocrlf=false . false
+    reqlock --dir true check
+    reqlock --dir false check
+"""
 
 
-def blocks():
-    """The indented blocks of the page, by the words that their first lines begin with."""
-    text = (TOP / "docs" / "WHEELS.md").read_text(encoding="utf-8").split(SECTION)[1].split("\n## ")[0]
-    found = re.findall(r"(?m)(?:^ {4}.*\n)+", text)
-    return [re.sub("(?m)^ {4}", "", block) for block in found]
+def section(head):
+    """The text of the page behind a head line, up to the next one."""
+    return (TOP / "docs" / "WHEELS.md").read_text(encoding="utf-8").split(f"{head}\n")[1].split("\n## ")[0]
 
 
 def make_wheels(folder):
@@ -45,12 +57,10 @@ def make_newer_wheels(folder):
     wheel(folder, "Flask", "2.1", "Werkzeug>=2.1", "click (>=7)", "asgiref>=3.2; extra == 'async'")
 
 
-def knows(subcommand):
-    return subprocess.run([PROGRAM, subcommand, "--help"], capture_output=True, check=False).returncode == 0
-
-
 @unittest.skipUnless(PROGRAM.exists(), "the program isn't built")
-class Wheels(unittest.TestCase):
+class Shell(unittest.TestCase):
+    """A test of lines that a shell runs in a folder with the repository's tools and a requirements file."""
+
     def setUp(self):
         if not knows("init"):
             self.skipTest("the program doesn't know init")
@@ -61,7 +71,6 @@ class Wheels(unittest.TestCase):
         self.folder = Path(folder.name)
         os.symlink(TOP / "tools", self.folder / "tools")
         (self.folder / "requirements.txt").write_bytes(REQUIREMENTS)
-        self.begin, self.install, self.later, self.attributes, self.job = blocks()
 
     def run_lines(self, text):
         """The status and the output of the lines, of which the first that fails ends the run."""
@@ -88,14 +97,24 @@ class Wheels(unittest.TestCase):
         found = [line for line in output.splitlines() if re.match("ok |same|refused ", line)]
         self.assertEqual(found, list(replies), output)
 
+    def check_installed(self, lock, site, wanted):
+        """What is installed in a folder is what a lock says, and that is what is wanted."""
+        table = tomllib.loads((self.folder / lock).read_text(encoding="utf-8"))
+        self.assertEqual({it["name"]: it["version"] for it in table["packages"]}, wanted)
+        found = [path.name.removesuffix(".dist-info") for path in (self.folder / site).glob("*.dist-info")]
+        self.assertEqual({name.lower(): version for name, version in (it.split("-") for it in found)}, wanted)
+
+
+class Wheels(Shell):
+    def setUp(self):
+        super().setUp()
+        self.begin, self.install, self.later, self.attributes, self.job = indented_blocks(section(HEAD))
+
     def check_installs(self, wanted):
-        """What is installed is what the lock says, and that is what is wanted."""
+        """What is installed anew is what the lock says, and that is what is wanted."""
         shutil.rmtree(self.folder / "site", ignore_errors=True)
         self.check_runs(self.install)
-        lock = tomllib.loads((self.folder / "pylock.toml").read_text(encoding="utf-8"))
-        self.assertEqual({it["name"]: it["version"] for it in lock["packages"]}, wanted)
-        found = [path.name.removesuffix(".dist-info") for path in (self.folder / "site").glob("*.dist-info")]
-        self.assertEqual({name.lower(): version for name, version in (it.split("-") for it in found)}, wanted)
+        self.check_installed("pylock.toml", "site", wanted)
 
     def files(self):
         return [(self.folder / name).read_bytes() for name in ("requirements.txt", "pylock.toml")]
@@ -129,30 +148,18 @@ class Wheels(unittest.TestCase):
         """The block with commands: what they print, with `..` for the environment and for digests."""
         make_wheels(self.folder / "wheels")
         self.check_runs(self.begin, "ok 0", "ok 1")
-        [block] = shown_blocks((TOP / "docs" / "WHEELS.md").read_text(encoding="utf-8"))
+        [block] = typed_blocks(section("## What is printed"))
         for command, shown in block:
             status, output = self.run_lines(f"{command}\n")
             self.assertEqual(status, 0, output)
             self.assertEqual(re.sub("(?m)[0-9a-f]{64}|(?<=^# for ).*", "..", output).splitlines(), shown)
-
-    # A repository that makes every line end in CRLF keeps the files, and two clones give them out: one does so too, one doesn't.
-    KEEPING = """
-        git init --quiet
-        git config core.autocrlf true
-        git add .gitattributes requirements.txt pylock.toml reqlock.journal
-        git -c user.name=name -c user.email=name@host.example commit --quiet --message first
-        git clone --quiet --config core.autocrlf=true . true
-        git clone --quiet --config core.autocrlf=false . false
-        reqlock --dir true check
-        reqlock --dir false check
-    """
 
     @unittest.skipUnless(shutil.which("git"), "there is no git")
     def test_the_attributes_keep_all_bytes(self):
         make_wheels(self.folder / "wheels")
         self.check_runs(self.begin, "ok 0", "ok 1")
         (self.folder / ".gitattributes").write_text(self.attributes, encoding="utf-8")
-        self.check_runs(self.KEEPING, "ok 1", "ok 1")
+        self.check_runs(KEEPING, "ok 1", "ok 1")
         for name in FILES:
             stands = (self.folder / name).read_bytes()
             self.assertEqual([(self.folder / clone / name).read_bytes() for clone in ("true", "false")], [stands] * 2)
@@ -172,6 +179,72 @@ class Wheels(unittest.TestCase):
             (self.folder / name).write_bytes(stands[self.folder / name] + b"# by hand\n")
             self.assertEqual(self.run_lines(job), (4, f"reqlock: {name}: files-disagree\n"))
             (self.folder / name).write_bytes(stands[self.folder / name])
+
+
+class TwoPlatforms(Shell):
+    """The section on two platforms, with wheels that only one of them takes. pip installs for each into a folder of its own."""
+
+    PLATFORMS = {"linux": "manylinux2014_x86_64", "windows": "win_amd64"}
+    WANTED = {
+        "linux": {"kettle": "1.0", "click": "8.0"}, "windows": {"kettle": "1.0", "click": "8.0", "colorama": "0.4"},
+    }
+
+    def setUp(self):
+        super().setUp()
+        [self.typed] = typed_blocks(section("## Two platforms"))
+        _, self.install = indented_blocks(section("## Two platforms"))
+        wheels = self.folder / "wheels"
+        for platform in self.PLATFORMS.values():
+            wheel(wheels, "kettle", "1.0", tag=f"py3-none-{platform}")
+        wheel(wheels, "click", "7.0")
+        wheel(wheels, "click", "8.0", 'colorama ; platform_system == "Windows"')
+        wheel(wheels, "colorama", "0.4")
+        (self.folder / "requirements.txt").write_bytes(b"kettle\n")
+        for name, environment in ("linux", LINUX), ("windows", WINDOWS):
+            (self.folder / f"{name}.json").write_text(json.dumps(environment), encoding="utf-8")
+
+    def type_all(self):
+        """Types what the page shows; what is printed is what is shown."""
+        for command, shown in self.typed:
+            status, output = self.run_lines(f"{command}\n")
+            self.assertEqual((status, output.splitlines()), (0, shown))
+
+    def install_each(self):
+        """Installs what each lock says, by the lines of the page."""
+        *print_lines, install = self.install.splitlines(keepends=True)
+        self.check_runs("".join(print_lines))
+        for name, platform in self.PLATFORMS.items():
+            line = install.rstrip("\n").replace("hashed-linux", f"hashed-{name}")
+            self.check_runs(f"{line} --only-binary :all: --platform {platform} --target {name}\n")
+
+    def test_each_gets_what_its_lock_says(self):
+        self.type_all()
+        self.install_each()
+        for name, platform in self.PLATFORMS.items():
+            self.check_installed(f"pylock.{name}.toml", name, self.WANTED[name])
+            told = (self.folder / name / "kettle-1.0.dist-info" / "WHEEL").read_text(encoding="utf-8")
+            self.assertIn(f"Tag: py3-none-{platform}\n", told)
+        self.check_runs("reqlock undo\nreqlock check\n", "ok 0", "ok 0")
+
+    def test_a_wheel_of_another_platform_is_refused_by_its_hash(self):
+        self.type_all()
+        self.install_each()
+        path = self.folder / "wheels" / f"kettle-1.0-py3-none-{self.PLATFORMS['windows']}.whl"
+        path.write_bytes(path.read_bytes() + b"x")
+        line = self.install.splitlines()[-1].replace("hashed-linux", "hashed-windows")
+        status, output = self.run_lines(f"{line} --only-binary :all: --platform win_amd64 --target other\n")
+        self.assertNotEqual(status, 0)
+        self.assertIn("DO NOT MATCH THE HASHES", output)
+
+    @unittest.skipUnless(shutil.which("git"), "there is no git")
+    def test_the_attributes_keep_both_locks(self):
+        self.type_all()
+        attributes = indented_blocks(section(HEAD))[3]
+        (self.folder / ".gitattributes").write_text(attributes, encoding="utf-8")
+        self.check_runs(KEEPING.replace("pylock.toml", "pylock.linux.toml pylock.windows.toml"), "ok 1", "ok 1")
+        for name in "requirements.txt", "pylock.linux.toml", "pylock.windows.toml", "reqlock.journal":
+            stands = (self.folder / name).read_bytes()
+            self.assertEqual([(self.folder / clone / name).read_bytes() for clone in ("true", "false")], [stands] * 2)
 
 
 if __name__ == "__main__":

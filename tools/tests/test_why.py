@@ -2,7 +2,8 @@
 
 import unittest
 
-from test_worked_examples import SHARED, UNMET_EXTRA, Calls
+from made.releases import SHARED, UNMET_EXTRA
+from program import Program
 
 # a release that is left out, since it asks for what can't be read
 LEFT_OUT = ("b", "1", ["c>1"]), ("b", "2", ["c @ https://c.example"]), ("c", "1", [])
@@ -18,7 +19,7 @@ SIGNS_TOLD = "b[f-x,e]~=2.0,==2.0,==2.*,!=3,!=3.*,<=2.5,>=2,<2.6,>1"
 CUT_AWAY = ("a", "1", []), ("a", "2", ["aa"]), ("b", "1", ["y"]), ("m", "1", ["a", "b"])
 
 
-class Why(Calls):
+class Why(Program):
     """What `why` prints of problems with a solution and without one. It saves nothing."""
 
     def test_a_solvable_problem_is_told(self):

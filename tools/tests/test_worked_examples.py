@@ -5,21 +5,16 @@ import hashlib
 import os
 import re
 import stat
-import subprocess
 import unittest
 
-from journal_rules import read_lock
-from test_program import PROGRAM, Program, file_of
+from made.releases import SHARED, UNMET_EXTRA, file_of
+from program import HEAD, Program
 
 # Indexes: releases of a name and a version, what they need, and what else their objects have.
 A_C = ("a", "1", []), ("c", "1", []), ("c", "2", [])
 A_B_C = ("a", "1", []), ("b", "1", []), ("b-b", "1", []), ("c", "1", [])
 A_B = ("a", "1", []), ("b", "1", []), ("b", "2", [])
 HYPHENED = ("b-b", "1", []), ("b-b", "2", [])
-# releases of `b` of which `a` 2 and `c` can't both have one
-SHARED = ("a", "1", ["b"]), ("a", "2", ["b<2"]), ("b", "1", []), ("b", "2", []), ("c", "1", ["b>=2"])
-# a dependency of an extra, which no release meets
-UNMET_EXTRA = ("x", "1", ['y>=2; extra=="e"']), ("y", "1", [])
 YANKED = ("a", "1", []), ("a", "2", [], {"yanked": True})
 PRE_RELEASE = ("foo", "1.0", []), ("foo", "2.0rc1", [])
 CYCLE = ("p", "1", ["q"]), ("q", "1", ["p"])
@@ -31,8 +26,6 @@ COMMENTS = "# z\nb\n# a\na\n"
 WINDOWS = "# web\r\nB_b >=1 # pin\r\na"
 KEPT = 'B.b (>=1) ; os_name=="posix" # keep'
 TOP = "# top\nb==1\n\n# tail\na\n"
-# the first line of `show` where no name is long
-HEAD = "name  version  line  needed by\n"
 # an index, a requirements file, commands, and what is printed: the replies, and then the file
 TRIED = (
     (A_C, "a\n", "add c<2", "ok 1\na\nc<2\n"),
@@ -102,23 +95,17 @@ REFUSED = (
 class Tried(Program):
     """What `try` answers."""
 
-    def try_it(self, commands):
-        """The status, standard output and standard error, to the byte."""
-        options = "--dir", self.folder, "--index", self.outside / "index.json", "--env", self.outside / "environment.json"
-        done = subprocess.run([PROGRAM, *options, "try"], input=commands.encode(), capture_output=True, check=False)
-        return done.returncode, done.stdout, done.stderr
-
     def test_commands_are_answered(self):
         for releases, file, commands, told in TRIED:
             with self.subTest(file=file, commands=commands):
                 self.begin(file.encode(), *releases)
-                self.assertEqual(self.try_it(commands), (0, told.encode(), b""))
+                self.assertEqual(self.told("try", text=commands), (0, told, ""))
 
     def test_a_file_without_a_solution_has_status_3(self):
         for releases, file in (A_C, b"z\n"), (SHARED, b"a==2\nc\n"):
             with self.subTest(file=file):
                 self.begin(file, *releases)
-                self.assertEqual(self.try_it("add c\n"), (3, b"refused no-solution\n", b""))
+                self.assertEqual(self.told("try", text="add c\n"), (3, "refused no-solution\n", ""))
 
     def test_refused_inputs_are_named(self):
         for file, index, told in REFUSED:
@@ -126,28 +113,10 @@ class Tried(Program):
                 self.begin(file, *A_C)
                 if index is not None:
                     (self.outside / "index.json").write_bytes(index)
-                self.assertEqual(self.try_it("add c\n"), (4, b"", f"reqlock: {told}\n".encode()))
+                self.assertEqual(self.told("try", text="add c\n"), (4, "", f"reqlock: {told}\n"))
 
 
-class Calls(Program):
-    """Single calls, each over the files that the last one saved."""
-
-    def plays(self, *calls):
-        """Each call is its words, its status and what it writes."""
-        for words, status, told in calls:
-            with self.subTest(words=words):
-                self.assertEqual(self.call(*words), (status, told))
-
-    def holds(self, text, name="requirements.txt"):
-        self.assertEqual((self.folder / name).read_bytes(), text.encode())
-
-    def locked(self):
-        """The versions that are locked, by name."""
-        entries = read_lock((self.folder / "pylock.toml").read_bytes())[2]
-        return {name: entry["version"] for name, entry in entries.items()}
-
-
-class Learning(Calls):
+class Learning(Program):
     """Problems in which only a search that learns from its conflicts comes to an end."""
 
     NAMES = [f"p{number:02}" for number in range(1, 41)]
@@ -173,7 +142,7 @@ class Learning(Calls):
         self.assertEqual(self.locked(), {name: "1" if name == "p01" else "2" for name in self.NAMES})
 
 
-class Saved(Calls):
+class Saved(Program):
     """What is saved, and comes back."""
 
     def test_an_added_line_is_saved_and_taken_back(self):
@@ -237,9 +206,9 @@ class Saved(Calls):
             (["upgrade", "a"], 0, "ok 2\n"),
             (["upgrade", "a"], 0, "same\n"),
             (["upgrade", "z"], 1, "refused not-locked\n"),
-            (["log"], 0, "  0 init\n  1 1 line\n* 2 a 1 -> 2, 0 lines\n"),
+            (["log"], 0, "  0 init\n  1 constrain a\n* 2 1 entry\n"),
             (["undo"], 0, "ok 1\n"),
-            (["log"], 0, "  0 init\n* 1 1 line\n  2 a 1 -> 2, 0 lines\n"),
+            (["log"], 0, "  0 init\n* 1 constrain a\n  2 1 entry\n"),
             (["constrain", "a", "~=1.0"], 0, "ok 2\n"),
             (["redo"], 1, "refused nothing-to-redo\n"),
             (["add", "--", "-r x"], 1, "refused bad-text\n"),
@@ -286,7 +255,8 @@ class Saved(Calls):
         self.begin(b"a\n", ("a", "1.0", [], {"files": [file_of("a", "1")]}))
         self.plays(
             (["relock"], 0, "ok 1\n"),
-            (["log"], 0, "  0 init\n* 1 a 1 -> 1.0, another index, 0 lines\n"),
+            (["log"], 0, "  0 init\n* 1 another index, 1 entry\n"),
+            (["log", "--long"], 0, "  0 init\n* 1 another index, 1 entry\n      a 1 -> 1.0\n"),
             (["show"], 0, f"{HEAD}a     1.0      1\n"),
             (["undo"], 0, "ok 0\n"),
             (["show"], 0, f"{HEAD}a     1        1\n"),
@@ -342,7 +312,7 @@ class Saved(Calls):
         self.plays((["init"], 0, "ok 0\n"), (["show"], 0, table), (["skipped"], 0, left_out))
 
 
-class Replaced(Calls):
+class Replaced(Program):
     """How the three files are replaced."""
 
     def test_a_file_that_cannot_be_written_replaces_none(self):

@@ -1,12 +1,12 @@
-"""What edits make of a requirements file and its lock, what is refused, and the history of states that undo and redo go through.
+"""What edits make of a requirements file and its locks, what is refused, and the history of states that undo and redo go through.
 The rules are read plainly, for tests that ask what an answer must be. It is written from the rules alone, so that it shares no
 mistake with the program. A command is a tuple of words, as they stand on the command line."""
 
 import re
 
-from journal_rules import State
-from lock_rules import Problem, best_solution, entries_of
-from requirement_rules import BLANK, Fault, read_line, read_name, read_set, read_version
+from rules.locks import Problem, best_solution, entries_of
+from rules.requirements import BLANK, Fault, read_line, read_name, read_set, read_version
+from rules.states import State, Target
 
 
 class Refused(Exception):
@@ -92,35 +92,47 @@ def lines_after(lines, command):
     return lines if change is None else change(lines, *command[1:])
 
 
-def kept_after(entries, command):
-    """The versions that are kept: all that are locked, but at an upgrade those of its names, or none where it has no names."""
-    kept = {name: read_version(entry["version"]) for name, entry in entries.items()}
-    if command[0] != "upgrade":
-        return kept
+def is_locked(state, name):
+    return any(name in target.entries for target in state.targets.values())
+
+
+def names_given_up(state, command):
+    """The names of an upgrade whose versions aren't kept. Each of them has to be in some lock. Without names all are given up."""
     names = [read_or_refuse(read_name, name) for name in command[1:]]
-    refuse_where(any(name not in kept for name in names), "not-locked")
-    return {name: version for name, version in kept.items() if names and name not in names}
+    refuse_where(any(not is_locked(state, name) for name in names), "not-locked")
+    return names or [name for target in state.targets.values() for name in target.entries]
 
 
-def problem_after(state, command, index):
-    """What an edit would lock: the edited lines, and the problem."""
+def kept_after(entries, given_up):
+    """The versions that a target keeps: its own, without those that are given up."""
+    return {name: read_version(entry["version"]) for name, entry in entries.items() if name not in given_up}
+
+
+def problems_after(state, command, index):
+    """What an edit would lock: the edited lines, and the problem of each target by name."""
     lines = lines_after(state.lines, command)
-    return lines, Problem(lines, state.environment, index, kept_after(state.entries, command))
+    given_up = names_given_up(state, command) if command[0] == "upgrade" else []
+    targets = state.targets.items()
+    return lines, {name: Problem(lines, it.environment, index, kept_after(it.entries, given_up)) for name, it in targets}
 
 
-def locked(lines, problem, index):
-    solution = best_solution(problem)
-    refuse_where(solution is None, "no-solution")
-    return State(lines, problem.environment, index.digest, entries_of(problem, solution))
+def locked(lines, problems, index):
+    """The state with a lock for each target, or none where one of them has no solution."""
+    targets = {}
+    for name, problem in problems.items():
+        solution = best_solution(problem)
+        refuse_where(solution is None, "no-solution")
+        targets[name] = Target(problem.environment, entries_of(problem, solution))
+    return State(lines, index.digest, targets)
 
 
-def begun(lines, environment, index):
-    """The first state of a history. It keeps no versions."""
-    return locked(lines, Problem(lines, environment, index, {}), index)
+def begun(lines, environments, index):
+    """The first state of a history, for environments by the names of targets. It keeps no versions."""
+    return locked(lines, {name: Problem(lines, environments[name], index, {}) for name in sorted(environments)}, index)
 
 
 def edited(state, command, index):
-    return locked(*problem_after(state, command, index), index)
+    return locked(*problems_after(state, command, index), index)
 
 
 # Histories

@@ -3,7 +3,7 @@ near each other, so that lines, dependencies and kept versions often meet."""
 
 import random
 
-from test_program import file_of
+from made.releases import file_of
 
 NAMES = "a", "b-b", "c", "d", "e"
 SPELLINGS = {"a": ("a", "A"), "b-b": ("b-b", "B_b", "b.-B")}

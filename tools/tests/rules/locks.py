@@ -8,7 +8,7 @@ import re
 from itertools import product
 from typing import NamedTuple
 
-from requirement_rules import (
+from rules.requirements import (
     BLANK, NAME, Fault, Requirement, active_requirements, holds, is_pre, matches, order_key, read_name, read_requirement,
     read_set, read_version, want,
 )

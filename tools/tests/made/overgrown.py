@@ -4,8 +4,9 @@ which SIZES has the largest, and SMALL the one of every run where that is more t
 import json
 from dataclasses import dataclass, field
 
-from made_journals import entry, journal, lock_text, step
-from test_program import ENVIRONMENT, file_of
+from made.environments import LINUX
+from made.journals import entry, journal, lock_text, step
+from made.releases import file_of
 
 NAMES = "requirements.txt", "pylock.toml", "reqlock.journal"
 
@@ -98,8 +99,8 @@ def saved(count, words, ends):
     texts = ["a>=0.1\n", "a>=0.2\n"]
     steps = [step([[0, [texts[place % 2]], [texts[1 - place % 2]]]]) for place in range(count)]
     text = texts[count % 2].encode()
-    lock = lock_text(ENVIRONMENT, {"a": entry("a", "1")})
-    contents = text, lock, journal(text, lock, ENVIRONMENT, count, *steps)
+    lock = lock_text(LINUX, {"a": entry("a", "1")})
+    contents = text, lock, journal(text, lock, LINUX, count, *steps)
     return Input(words, 0, ends, dict(zip(NAMES, contents)), packages=dict([ONE]))
 
 
@@ -112,7 +113,7 @@ def steps_undone(count):
 
 
 def steps_shown(count):
-    return saved(count, ["log"], f"* {count} 1 line\n")
+    return saved(count, ["log"], f"* {count} constrain a {('>=0.1', '>=0.2')[count % 2]}\n")
 
 
 def commands(count):
@@ -163,7 +164,7 @@ def arrays_of_a_journal(count):
 
 def other_lock(lock):
     """A lock with the digest that the journal tells."""
-    contents = b"", lock, journal(b"", lock, ENVIRONMENT, 0)
+    contents = b"", lock, journal(b"", lock, LINUX, 0)
     return Input(["check"], 4, "reqlock: pylock.toml: files-disagree\n", dict(zip(NAMES, contents)))
 
 

@@ -2,8 +2,8 @@
 
 import json
 
-from journal_rules import digest_of
-from requirement_rules import marker_text
+from rules.journals import digest_of
+from rules.requirements import marker_text
 
 ZEROS = "0" * 64
 OTHERS = b' "0,a9\n[}\xff'
@@ -48,7 +48,7 @@ def compact(value):
 
 
 def step(lines=(), entries=(), snapshot=None):
-    """A step's value, in the form of version 1."""
+    """A step's value. Its entries are in the form of version 1, or name their targets in front, as version 2 has them."""
     return {"entries": list(entries), "lines": list(lines), "snapshot": snapshot}
 
 
@@ -58,16 +58,29 @@ def in_version(version, step):
 
 
 def header(requirements, lock, environment, cursor=0, steps=0, version=2):
-    """A header's value, in the form of a version."""
+    """The value of a header with one target, in the form of a version."""
     whole = {"cursor": cursor, "journal": version, "requirements": digest_of(requirements), "steps": steps}
     target = {"environment": environment, "lock": digest_of(lock)}
     return whole | (target if version == 1 else {"targets": [target | {"name": ""}]})
+
+
+def header_of_targets(requirements, locks, environments, cursor=0, steps=0):
+    """The value of a header with the targets of these locks and environments, by their names."""
+    names = sorted(environments)
+    targets = [{"environment": environments[name], "lock": digest_of(locks[name]), "name": name} for name in names]
+    return {"cursor": cursor, "journal": 2, "requirements": digest_of(requirements), "steps": steps, "targets": targets}
 
 
 def journal(requirements, lock, environment, cursor, *steps, version=2):
     """The bytes of a journal of a version over these files. The steps are given in the form of version 1."""
     first = header(requirements, lock, environment, cursor, len(steps), version)
     return b"".join(map(compact, [first, *(in_version(version, step) for step in steps)]))
+
+
+def journal_of_targets(requirements, locks, environments, cursor, *steps):
+    """The bytes of a journal of version 2 over these files. The steps name the targets of their entries."""
+    first = header_of_targets(requirements, locks, environments, cursor, len(steps))
+    return b"".join(map(compact, [first, *steps]))
 
 
 def altered(journal):

@@ -42,18 +42,18 @@ def record_line(name, text):
     return f"{name},sha256={digest},{len(text)}\n"
 
 
-def wheel(folder, name, version, *requires, **others):
+def wheel(folder, name, version, *requires, tag="py3-none-any", **others):
     """Writes a wheel that pip can install, with one module that tells its version. The path is given."""
     inner = f"{name.replace('-', '_')}-{version}"
     members = {
         f"{name.replace('-', '_')}.py": f"version = {version!r}\n",
         f"{inner}.dist-info/METADATA": headers(name, version, requires, **others),
-        f"{inner}.dist-info/WHEEL": "Wheel-Version: 1.0\nRoot-Is-Purelib: true\nTag: py3-none-any\n",
+        f"{inner}.dist-info/WHEEL": f"Wheel-Version: 1.0\nRoot-Is-Purelib: true\nTag: {tag}\n",
     }
     record = f"{inner}.dist-info/RECORD"
     members[record] = "".join(record_line(*member) for member in members.items()) + f"{record},,\n"
     folder.mkdir(parents=True, exist_ok=True)
-    path = folder / f"{inner}-py3-none-any.whl"
+    path = folder / f"{inner}-{tag}.whl"
     path.write_bytes(zipped(members))
     return path
 

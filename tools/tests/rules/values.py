@@ -2,7 +2,7 @@
 
 import re
 
-from requirement_rules import NAME, normal, read_set, read_version, want
+from rules.requirements import NAME, normal, read_set, read_version, want
 from versions import canonical
 
 LARGEST = 2**64 - 1

@@ -2,12 +2,10 @@
 what an answer must be. It is written from the rules alone, so that it shares no mistake with the program. All faults are one."""
 
 import re
-import sys
-from pathlib import Path
 from typing import NamedTuple
 
-sys.path.insert(0, str(Path(__file__).resolve().parent.parent))
-from versions import SPACE, Version, order_key, read_version, without_zeros  # noqa: E402
+import places  # noqa: F401  (tools/ is on the path from here on)
+from versions import SPACE, Version, order_key, read_version, without_zeros
 
 BLANK = " \t"
 NAME = "[A-Za-z0-9](?:[A-Za-z0-9._-]*[A-Za-z0-9])?"

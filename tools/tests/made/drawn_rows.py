@@ -8,19 +8,18 @@ import random
 import sys
 from pathlib import Path
 
-from edit_rules import History, Refused, begun, lines_on
-from lock_rules import Problem, best_solution, needed_nodes, read_index
-from requirement_rules import cut_lines, marker_text, read_line, read_name
-from versions import canonical
+# run as a program it finds the other modules of the tests
+sys.path.insert(0, str(Path(__file__).resolve().parent.parent))
 
-TOOLS = Path(__file__).resolve().parent.parent
-sys.path.insert(0, str(TOOLS))
+from made.environments import LINUX  # noqa: E402
+from rules.edits import History, Refused, begun, lines_on  # noqa: E402
+from rules.locks import Problem, best_solution, needed_nodes, read_index  # noqa: E402
+from rules.requirements import cut_lines, marker_text, read_line, read_name  # noqa: E402
 
-from conformance_rows import headlines, print_rows, row_of  # noqa: E402  (it stands in tools/)
+from conformance_rows import headlines, print_rows, row_of  # noqa: E402  (these stand in tools/)
+from versions import canonical  # noqa: E402
 
-TOOL = "tests/drawn_rows.py"
-ENVIRONMENT = (TOOLS.parent / "examples" / "web" / "environment.json").read_text(encoding="utf-8")
-LINUX = json.loads(ENVIRONMENT)
+TOOL = "tests/made/drawn_rows.py"
 INDEXES, PROBLEMS_EACH = 1000, 1
 HISTORIES, ROWS_EACH, COMMANDS_EACH = 22, 5, 20
 
@@ -103,7 +102,7 @@ def solved(lines, index):
 
 def lock_of(state):
     text = ""
-    for name, entry in state.entries.items():
+    for name, entry in state.entries().items():
         python = "" if entry["requires_python"] is None else "@" + entry["requires_python"]
         text += f" {name}={entry['version']}{python}" + "".join(">" + needed for needed in entry["dependencies"])
     return text
@@ -119,7 +118,7 @@ def told(state, command, reply):
     if word == "ambiguous":
         return f"{reply} ({len(lines_on(state.lines, read_name(command[1])))} lines have this name)"
     if word == "not-locked":
-        return f"{reply} ({next(name for name in command[1:] if name not in state.entries)} is not locked)"
+        return f"{reply} ({next(name for name in command[1:] if name not in state.entries())} is not locked)"
     return f"{reply} ({TOLD[word]})"
 
 
@@ -151,7 +150,7 @@ def begun_history(draw, index):
     while True:
         text = "".join(draw.requirement(NAMES[:4]) + draw.one(("\n", "  # why\n", "\r\n")) for _ in range(draw.one((0, 1, 2))))
         try:
-            return text, History(begun(cut_lines(text), LINUX, index))
+            return text, History(begun(cut_lines(text), {"": LINUX}, index))
         except Refused:
             continue
 

@@ -1,0 +1,1 @@
+"""What tests are made of: indexes, locks, journals, sessions and archives."""
