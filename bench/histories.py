@@ -4,7 +4,8 @@ a copy of a state, of a step, of an undo and of a redo, and the peak memory.
 
 histories.py HISTORY_PROGRAM FOLDER [STEPS..]
 
-There are 1,000 steps, and then 10,000, each of which changes a line and an entry. What wants more than 8 GB is ended, and said so.
+There are 1,000 steps, and then 10,000, each of which changes a line and an entry of each lock: of one target, and kept as changes of
+three. What wants more than 8 GB is ended, and said so.
 """
 import os
 import resource
@@ -18,6 +19,8 @@ STEPS = [1_000, 10_000]
 LIMIT = 8 * 10**9
 # The program makes 20 steps at a time.
 STRIDE = 20
+# How the states are kept, and how many targets they have.
+KINDS = [("changes", 1), ("whole", 1), ("changes", 3)]
 
 
 def limit_memory():
@@ -53,9 +56,9 @@ def main():
         file.write(lines_of(LINES, 0))
     files = [f"{folder}/index.json", ENVIRONMENT, f"{folder}/requirements.txt"]
     for steps in [int(word) for word in sys.argv[3:]] or STEPS:
-        for kind in "changes", "whole":
-            found = run([program, kind, str(steps // STRIDE), *files])
-            print(f"{steps:,} steps, {kind}: {told(found)}", flush=True)
+        for kind, targets in KINDS:
+            found = run([program, kind, str(steps // STRIDE), *files, str(targets)])
+            print(f"{steps:,} steps, {kind}, {targets} targets: {told(found)}", flush=True)
 
 
 if __name__ == "__main__":

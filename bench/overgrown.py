@@ -3,7 +3,7 @@
 
 overgrown.py PROGRAM [NAME..]
 
-The inputs are those of tools/tests/overgrown.py, of which NAMEs choose some. Each is given with a quarter of its largest
+The inputs are those of tools/tests/made/overgrown.py, of which NAMEs choose some. Each is given with a quarter of its largest
 count, with half of it and with the whole, and its processor seconds are printed, with the peak memory of the last call. Where they grow
 with the input alone, each is about twice the one before. A call that takes more than SECONDS is ended, and larger ones are left out.
 """
@@ -18,8 +18,8 @@ from pathlib import Path
 
 TESTS = Path(__file__).resolve().parent.parent / "tools" / "tests"
 sys.path.insert(0, str(TESTS))
-from overgrown import SIZES  # noqa: E402
-from test_program import ENVIRONMENT  # noqa: E402
+from made.environments import LINUX  # noqa: E402
+from made.overgrown import SIZES  # noqa: E402
 
 SECONDS = 120
 STACK = 256 * 1024
@@ -37,7 +37,7 @@ def call(program, given):
         for file, content in given.files.items():
             (place / "folder" / file).write_bytes(content)
         (place / "index.json").write_text(given.index_text(), encoding="utf-8")
-        environment = json.dumps(ENVIRONMENT) if given.environment is None else given.environment
+        environment = json.dumps(LINUX) if given.environment is None else given.environment
         (place / "environment.json").write_text(environment, encoding="utf-8")
         (place / "input").write_text(given.text, encoding="utf-8")
         command = [program, "--dir", "folder", "--index", "index.json", "--env", "environment.json", *given.words]

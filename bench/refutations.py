@@ -8,16 +8,13 @@ names the oldest release alone. Once that is the name of the file's last line wi
 itself: it comes last in the search, which has recorded much by then. And once it is a name with which the file has no solution
 only because of what other packages need (DEEP); such names were found by trying one after the other.
 
-The conflicts that the search recorded are counted by `learning_model.py`, and those that are left must be as many as the
-program prints. All times are of processor time. A run that takes more than so many seconds (180) is cut off; of a run of less
-than five seconds the least times of three are printed.
+All times are of processor time. A run that takes more than so many seconds (180) is cut off; of a run of less than five
+seconds the least times of three are printed.
 """
 import os
 import signal
 import subprocess
 import sys
-
-import learning_model
 
 HERE = os.path.dirname(os.path.abspath(__file__))
 ENVIRONMENT = f"{HERE}/../examples/web/environment.json"
@@ -76,12 +73,8 @@ def compare(program, files, seconds):
     if found is None:
         return f"none in {seconds} s"
     (conflicts, choices), times = found
-    steps, recorded, kept = learning_model.counts(*files)
-    if kept != conflicts:
-        sys.exit(f"refutations: {kept} conflicts were expected, and came {conflicts}")
     texts = [f"{step} {time:.4f} s" for step, time in zip(STEPS, times)]
-    sizes = f"{steps:,} steps, {recorded:,} conflicts recorded, {conflicts:,} printed with {choices:,} choices"
-    return f"{sizes}; {', '.join(texts)}"
+    return f"{conflicts:,} conflicts with {choices:,} choices; {', '.join(texts)}"
 
 
 def main():
