@@ -74,18 +74,18 @@ pub fn meet_all(
     at: usize,
     node: usize,
 ) -> Result<Bits, AllocError> {
-    let mut own = Bits::new(alloc);
+    let mut set = Bits::new(alloc);
     let Some(step) = state.steps.get(at) else {
-        return Ok(own);
+        return Ok(set);
     };
     for term in step.conflict.as_slice() {
         if term.node() == node {
-            own.join(term.set())?;
+            set.join(term.set())?;
         } else {
             meet(terms, term.node(), term.set())?;
         }
     }
-    Ok(own)
+    Ok(set)
 }
 
 /// Writes a step down, and gives its place.
