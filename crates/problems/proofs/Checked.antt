@@ -14,8 +14,8 @@ use Rattle.pep508.specs.Requirement.{RequirementParts}
 use Rattle.search.specs.Conflicts.{ChoicesClash, Completes, EachFollows, Follows, IsSameChoice, LineRefuses, NoneLeft, VersionsDiffer}
 use Rattle.snapshot.specs.Release.{Release}
 use Rattle.problems.specs.Admission.{admits, has_version}
-use Rattle.problems.specs.Checking.{completes, differ, is_same, is_within, none_left, refuses}
-use Rattle.problems.specs.NodeEquality.{is_asked, is_node}
+use Rattle.problems.specs.Tied.Checking.{completes, differ, is_same, is_within, none_left, refuses}
+use Rattle.problems.specs.Tied.NodeEquality.{is_asked, is_node}
 use Rattle.problems.specs.Problem.{ProblemParts, releases_on}
 use Rattle.problems.specs.Refutations.{ChoiceParts, same_version}
 use Rattle.problems.specs.Rules.{candidates, kept_version, nodes_of, preferring, rules_of, versions_of, wants}

@@ -14,7 +14,7 @@ use Rattle.search.specs.Solutions.{Needed, by_dependency, by_line}
 use Rattle.snapshot.specs.Release.{Release}
 use Rattle.problems.specs.Admission.{release_at}
 use Rattle.problems.specs.Problem.{ProblemParts}
-use Rattle.problems.specs.Growing.{Grows, nodes_asked, nodes_linked}
+use Rattle.problems.specs.Tied.Growing.{Grows, nodes_asked, nodes_linked}
 use Rattle.problems.specs.Solutions.{AreNeeded, version_for}
 use Rattle.problems.specs.Rules.{counts, nodes_of, rules_of, wants}
 use Rattle.problems.specs.declared.node.Node.{Node}

@@ -6,7 +6,7 @@ use Rattle.pep440.specs.Version.{VersionParts}
 use Rattle.pep508.specs.Requirement.{RequirementParts}
 use Rattle.snapshot.specs.Release.{Release}
 use Rattle.problems.specs.Admission.{release_at}
-use Rattle.problems.specs.Checking.{dependencies_at}
+use Rattle.problems.specs.Tied.Checking.{dependencies_at}
 use Rattle.problems.specs.Problem.{ProblemParts}
 use Rattle.problems.specs.Rules.{counts, wants, wants_of}
 use Rattle.problems.specs.declared.node.Node.{Node}

@@ -6,9 +6,9 @@ use Rattle.std.specs.Option.{option_cmp}
 use Rattle.std.specs.Ordering.{eq_by_cmp, is_eq, nat_cmp}
 use Rattle.std.proofs.lemmas.Map.Text.{is_eq-slice_cmp}
 use Rattle.pep440.specs.Order.{version_cmp}
-use Rattle.problems.specs.Checking.{is_same}
+use Rattle.problems.specs.Tied.Checking.{is_same}
 use Rattle.problems.specs.Choices.{choice_cmp, node_cmp}
-use Rattle.problems.specs.NodeEquality.{is_asked, is_node}
+use Rattle.problems.specs.Tied.NodeEquality.{is_asked, is_node}
 use Rattle.problems.specs.Refutations.{ChoiceParts, same_version}
 use Rattle.problems.specs.declared.node.Node.{Node}
 

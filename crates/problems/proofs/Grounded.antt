@@ -9,7 +9,7 @@ use Rattle.pep440.specs.Version.{VersionParts}
 use Rattle.pep508.specs.Requirement.{RequirementParts}
 use Rattle.problems.specs.Admission.{release_at}
 use Rattle.search.specs.Conflicts.{ChoicesClash, Completes, Follows, LineRefuses, NoneLeft, VersionsDiffer}
-use Rattle.problems.specs.Checking.{completes, dependencies_at, differ, is_within, none_left, refuses}
+use Rattle.problems.specs.Tied.Checking.{completes, dependencies_at, differ, is_within, none_left, refuses}
 use Rattle.problems.specs.Grounds.{IsGround}
 use Rattle.problems.specs.Problem.{ProblemParts}
 use Rattle.problems.specs.Refutations.{ChoiceParts, same_version}

@@ -5,8 +5,8 @@ use Rattle.std.proofs.lemmas.List.{take_more}
 use Rattle.std.proofs.lemmas.List.Concat.{flat_map-append}
 use Rattle.std.proofs.lemmas.List.Elements.{Contains-append_left, Contains-append_right, Contains-append_cases, filter-append}
 use Rattle.std.proofs.lemmas.List.{map-append}
-use Rattle.problems.specs.Growing.{Grows}
-use Rattle.problems.specs.Standing.{IsWith, Stands}
+use Rattle.problems.specs.Tied.Growing.{Grows}
+use Rattle.problems.specs.Tied.Standing.{IsWith, Stands}
 use Rattle.problems.specs.declared.node.Node.{Node}
 use Rattle.lists.proofs.Members.{Contains-cons_cases, Contains-here, Contains-nil, Contains-there}
 

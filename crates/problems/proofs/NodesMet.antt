@@ -11,7 +11,7 @@ use Rattle.snapshot.specs.Packages.{is_named}
 use Rattle.snapshot.specs.Release.{Release}
 use Rattle.snapshot.specs.declared.package.Package.{Package}
 use Rattle.problems.specs.Admission.{has_version, release_at}
-use Rattle.problems.specs.Growing.{nodes_met, requirements_met}
+use Rattle.problems.specs.Tied.Growing.{nodes_met, requirements_met}
 use Rattle.problems.specs.Problem.{ProblemParts, releases_on}
 use Rattle.problems.specs.Rules.{counts, rules_of, wants, wants_of}
 use Rattle.problems.specs.declared.node.Node.{Node}

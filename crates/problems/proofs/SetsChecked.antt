@@ -10,13 +10,13 @@ use Rattle.pep508.specs.Requirement.{RequirementParts}
 use Rattle.search.specs.SetConflicts.{CompletesSet, EachSetFollows, LineRefusesSet, NoCandidateLeft, PairClashes, Refuses, SetFollows, SetsClash}
 use Rattle.snapshot.specs.Release.{Release}
 use Rattle.problems.specs.Admission.{admits}
-use Rattle.problems.specs.Checking.{differ, refuses}
-use Rattle.problems.specs.NodeEquality.{is_node}
+use Rattle.problems.specs.Tied.Checking.{differ, refuses}
+use Rattle.problems.specs.Tied.NodeEquality.{is_node}
 use Rattle.problems.specs.Problem.{ProblemParts, releases_on}
 use Rattle.problems.specs.Refutations.{same_version}
 use Rattle.problems.specs.SetRefutations.{TermParts}
 use Rattle.problems.specs.Rules.{candidates, kept_version, nodes_of, rules_of, wants}
-use Rattle.problems.specs.SetChecking.{completes, each_needs, each_refuses_all, needs, none_left, none_left_behind, pair_clashes, refuses_all, refuses_at, terms_clash}
+use Rattle.problems.specs.Tied.SetChecking.{completes, each_needs, each_refuses_all, needs, none_left, none_left_behind, pair_clashes, refuses_all, refuses_at, terms_clash}
 use Rattle.problems.specs.declared.node.Node.{Node}
 use Rattle.problems.proofs.Checked.{IsReleased, differ-decides, kept-released, node-decides, preferring-all, preferring-released, refuses-decides}
 use Rattle.problems.proofs.Deciding.{IsThere, decides-all, decides-any, decides-both, decides-either, decides-itself, decides-not, decides-onto}

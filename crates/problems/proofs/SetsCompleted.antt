@@ -4,10 +4,10 @@ use Rattle.std.specs.Bool.{Decides}
 use Rattle.std.specs.List.{list_all, list_any}
 use Rattle.pep440.specs.Version.{VersionParts}
 use Rattle.search.specs.SetConflicts.{BindsWithin, CompletesSet, EachVersion, HasVersion}
-use Rattle.problems.specs.NodeEquality.{is_node}
+use Rattle.problems.specs.Tied.NodeEquality.{is_node}
 use Rattle.problems.specs.Refutations.{same_version}
 use Rattle.problems.specs.SetRefutations.{TermParts}
-use Rattle.problems.specs.SetChecking.{completes, each_completes, fits_at, is_at, is_bound, is_bound_beside, is_listed, is_within}
+use Rattle.problems.specs.Tied.SetChecking.{completes, each_completes, fits_at, is_at, is_bound, is_bound_beside, is_listed, is_within}
 use Rattle.problems.specs.declared.node.Node.{Node}
 use Rattle.problems.proofs.Checked.{node-decides}
 use Rattle.problems.proofs.Deciding.{IsThere, decides-all, decides-any, decides-both, decides-either, decides-itself, decides-onto}

@@ -7,10 +7,4 @@ pub mod SetRefutations
 pub mod Choices
 pub mod Grounds
 pub mod Laws
-pub mod ChoiceLaws
-pub mod Checking
-pub mod SetChecking
-pub mod Growing
-pub mod NodeEquality
-pub mod Standing
-pub mod NodeNumbers
+pub mod Tied

@@ -4,7 +4,7 @@ ghost use Rattle.std.specs.Prelude.{◌≡◌, ◌↔◌, IsTrue};
 ghost use Rattle.std.specs.Option.{option_copied};
 ghost use Rattle.std.specs.Ordering.{eq_by_cmp};
 ghost use Rattle.search.specs.Conflicts.{IsSameChoice};
-ghost use Rattle.problems.specs.Checking.{is_same};
+ghost use Rattle.problems.specs.Tied.Checking.{is_same};
 ghost use Rattle.problems.specs.Choices.{choice_cmp};
 ghost use Rattle.problems.specs.Refutations.{same_version};
 

@@ -9,7 +9,7 @@ ghost use Rattle.search.specs.Rules.{IsLawful};
 ghost use Rattle.search.specs.SetConflicts.{IsSetRefutation, SetLiesInNone};
 ghost use Rattle.search.specs.Solutions.{HasNoSolution, Needed};
 ghost use Rattle.snapshot.specs.Release.{Release};
-ghost use Rattle.problems.specs.Growing.{nodes_met, requirements_met};
+ghost use Rattle.problems.specs.Tied.Growing.{nodes_met, requirements_met};
 ghost use Rattle.problems.specs.Laws.{AdmissionForgetsKeptVersions};
 ghost use Rattle.problems.specs.Problem.{ProblemParts, releases_on};
 ghost use Rattle.problems.specs.Refutations.{ChoiceParts, same_version};

@@ -3,7 +3,7 @@
 ghost use Rattle.std.specs.Prelude.{IfOk, map};
 ghost use Rattle.std.specs.List.{filter};
 ghost use Rattle.std.specs.Option.{option_copied};
-ghost use Rattle.problems.specs.Growing.{Grows, nodes_asked, nodes_linked};
+ghost use Rattle.problems.specs.Tied.Growing.{Grows, nodes_asked, nodes_linked};
 ghost use Rattle.problems.specs.Rules.{counts, nodes_of, with_extra};
 ghost use Rattle.problems.specs.Solutions.{AreNeeded, version_for};
 

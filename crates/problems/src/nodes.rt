@@ -3,9 +3,9 @@
 ghost use Rattle.std.specs.Prelude.{◌≡◌, ◌≢◌, [], false, length, IfOk, MatchOption, OnErr, OnOk, Some};
 ghost use Rattle.std.specs.List.{Contains, slice_get};
 ghost use Rattle.std.specs.Option.{option_copied, option_map_or};
-ghost use Rattle.problems.specs.NodeEquality.{is_asked, is_node};
-ghost use Rattle.problems.specs.NodeNumbers.{number_at, number_in};
-ghost use Rattle.problems.specs.Standing.{IsLonger, IsOnce, IsWith, Stands};
+ghost use Rattle.problems.specs.Tied.NodeEquality.{is_asked, is_node};
+ghost use Rattle.problems.specs.Tied.NodeNumbers.{number_at, number_in};
+ghost use Rattle.problems.specs.Tied.Standing.{IsLonger, IsOnce, IsWith, Stands};
 ghost use Rattle.problems.specs.declared.node.Node.{Node};
 
 use crate::node::Node;
@@ -76,7 +76,7 @@ impl Drop for Nodes {
 
 impl Model for Nodes {
     ghost use Rattle.std.specs.Prelude.{List};
-    ghost use Rattle.problems.specs.NodeNumbers.{AreListed};
+    ghost use Rattle.problems.specs.Tied.NodeNumbers.{AreListed};
     ghost use Rattle.problems.specs.declared.node.Node.{Node};
 
     ghost Value = { List Node };

@@ -6,7 +6,7 @@ ghost use Rattle.std.specs.Option.{option_copied, option_to_list};
 ghost use Rattle.pep508.specs.Requirement.{requirement_of};
 ghost use Rattle.snapshot.specs.Releases.{newer_cmp};
 ghost use Rattle.problems.specs.Admission.{release_at};
-ghost use Rattle.problems.specs.Checking.{dependencies_at};
+ghost use Rattle.problems.specs.Tied.Checking.{dependencies_at};
 ghost use Rattle.problems.specs.Problem.{active_in, releases_on, requirements};
 
 use crate::releases;

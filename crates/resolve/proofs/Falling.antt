@@ -13,7 +13,7 @@ use Rattle.snapshot.specs.Release.{Release}
 use Rattle.snapshot.specs.Releases.{newer_cmp}
 use Rattle.problems.specs.Admission.{has_version}
 use Rattle.problems.specs.Refutations.{same_version}
-use Rattle.resolve.specs.Places.{version_at}
+use Rattle.resolve.specs.Tied.Places.{version_at}
 
 -- what each element of a list meets, the one at a place meets
 met-at : (P : Release → Type 0) (rs : List Release) (place : ℕ) (r : Release) → AllByRecursion P rs → slice_get rs place ≡ Some r → P r

@@ -22,7 +22,7 @@ use Rattle.problems.specs.Admission.{admits, release_at}
 use Rattle.problems.specs.Problem.{ProblemParts, releases_on}
 use Rattle.problems.specs.Refutations.{same_version}
 use Rattle.problems.specs.Rules.{kept_version, preferring, rules_of, versions_of}
-use Rattle.resolve.specs.Choosing.{IsNewest, IsRefusedBy}
+use Rattle.resolve.specs.Tied.Choosing.{IsNewest, IsRefusedBy}
 use Rattle.resolve.proofs.Falling.{same-itself}
 use Rattle.resolve.proofs.Preferring.{lookup-get}
 

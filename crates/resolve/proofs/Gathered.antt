@@ -9,12 +9,12 @@ use Rattle.pep508.specs.Requirement.{RequirementParts}
 use Rattle.search.specs.Table.{asked_nodes}
 use Rattle.search.specs.declared.parts.Requirement.{Requirement as Entry}
 use Rattle.problems.specs.Admission.{admits_release}
-use Rattle.problems.specs.Growing.{requirements_met}
+use Rattle.problems.specs.Tied.Growing.{requirements_met}
 use Rattle.problems.specs.Problem.{ProblemParts, releases_on}
 use Rattle.problems.specs.Rules.{bare, nodes_of, wants_of, with_extra}
-use Rattle.problems.specs.Standing.{AllStand, IsLonger, IsWith, Stands}
+use Rattle.problems.specs.Tied.Standing.{AllStand, IsLonger, IsWith, Stands}
 use Rattle.problems.specs.declared.node.Node.{Node}
-use Rattle.resolve.specs.Building.{AreEntries, AreWants, Gathered, IsEntry, IsGrown, IsWanted}
+use Rattle.resolve.specs.Tied.Building.{AreEntries, AreWants, Gathered, IsEntry, IsGrown, IsWanted}
 use Rattle.lists.proofs.Members.{Contains-flat_map_of, Contains-here, Contains-there}
 use Rattle.resolve.proofs.Asking.{map-more}
 use Rattle.resolve.proofs.Standing.{AllStand-longer, AllZip-more_same, AllZip-weaker, Stands-longer, length-longer, longer-same, longer-then, take-longer}

@@ -8,9 +8,9 @@ use Rattle.search.specs.Table.{TableParts, all_below, in_range, is_on, name_of, 
 use Rattle.search.specs.declared.parts.Requirement.{Requirement as Entry}
 use Rattle.problems.specs.Problem.{ProblemParts, releases_on}
 use Rattle.problems.specs.Rules.{bare, wants_of, with_extra}
-use Rattle.problems.specs.Standing.{AllStand, Stands}
+use Rattle.problems.specs.Tied.Standing.{AllStand, Stands}
 use Rattle.problems.specs.declared.node.Node.{Node}
-use Rattle.resolve.specs.Building.{Gathered, IsEntry, IsWanted}
+use Rattle.resolve.specs.Tied.Building.{Gathered, IsEntry, IsWanted}
 use Rattle.resolve.proofs.PictureOf.{IsGathered, entry-count, name-count, node-count, node-named}
 use Rattle.resolve.proofs.Picturing.{AllStand-below, place-once}
 

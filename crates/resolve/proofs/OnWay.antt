@@ -21,15 +21,15 @@ use Rattle.search.specs.Solutions.{IsBest, Needed, Pin, version_pinned}
 use Rattle.snapshot.specs.Release.{Release}
 use Rattle.lists.proofs.Members.{Contains-map_of}
 use Rattle.problems.specs.Admission.{admits, release_at}
-use Rattle.problems.specs.Checking.{dependencies_at}
-use Rattle.problems.specs.Growing.{nodes_met, requirements_met}
+use Rattle.problems.specs.Tied.Checking.{dependencies_at}
+use Rattle.problems.specs.Tied.Growing.{nodes_met, requirements_met}
 use Rattle.problems.specs.Problem.{ProblemParts}
 use Rattle.problems.specs.Rules.{counts, nodes_of, rules_of, wants, wants_of}
 use Rattle.problems.specs.Solutions.{version_for}
-use Rattle.problems.specs.Standing.{IsOnce, IsWith}
+use Rattle.problems.specs.Tied.Standing.{IsOnce, IsWith}
 use Rattle.problems.specs.declared.node.Node.{Node}
-use Rattle.resolve.specs.Choosing.{IsRefusedBy}
-use Rattle.resolve.specs.Walking.{Follow, IsOnWay, IsPlaced, IsTurn, IsWaiting, value_at}
+use Rattle.resolve.specs.Tied.Choosing.{IsRefusedBy}
+use Rattle.resolve.specs.Tied.Walking.{Follow, IsOnWay, IsPlaced, IsTurn, IsWaiting, value_at}
 use Rattle.resolve.proofs.Asking.{map-more}
 use Rattle.resolve.proofs.Preferring.{lookup-get}
 use Rattle.resolve.proofs.Solving.{drop-at}

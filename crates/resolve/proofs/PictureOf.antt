@@ -16,11 +16,11 @@ use Rattle.snapshot.specs.Releases.{newer_cmp}
 use Rattle.problems.specs.Admission.{admits, admits_release, has_version}
 use Rattle.problems.specs.Problem.{ProblemParts, releases_on}
 use Rattle.problems.specs.Rules.{bare, nodes_of, wants, wants_of}
-use Rattle.problems.specs.Standing.{AllStand, Stands}
+use Rattle.problems.specs.Tied.Standing.{AllStand, Stands}
 use Rattle.problems.specs.declared.node.Node.{Node}
-use Rattle.resolve.specs.Building.{Gathered, IsEntry, IsWanted}
-use Rattle.resolve.specs.Pictured.{AreListed, IsListed, IsPictured, name_at}
-use Rattle.resolve.specs.Places.{version_at}
+use Rattle.resolve.specs.Tied.Building.{Gathered, IsEntry, IsWanted}
+use Rattle.resolve.specs.Tied.Pictured.{AreListed, IsListed, IsPictured, name_at}
+use Rattle.resolve.specs.Tied.Places.{version_at}
 use Rattle.resolve.proofs.Falling.{release_at-place, same-itself, version_at-apart, version_at-get, version_at-one}
 use Rattle.resolve.proofs.Standing.{length-map}
 use Rattle.resolve.proofs.Picturing.{AllStand-map, AllZip-at, AllZip-length, Rising, order-places}

@@ -12,7 +12,7 @@ use Rattle.std.specs.List.{AllZip, list_all, slice_get}
 use Rattle.std.specs.List.Sorted.{IsNonDecreasingBy, IsPartitionPoint, IsSortedBy, IsStrictlySortedBy}
 use Rattle.std.specs.Str.{bytes_eq}
 use Rattle.std.specs.Ordering.{is_lt, nat_cmp, ordering_index, ordering_reverse}
-use Rattle.problems.specs.Standing.{AllStand, Stands}
+use Rattle.problems.specs.Tied.Standing.{AllStand, Stands}
 
 -- what numbers stand for is what is read at them
 pub AllStand-map : {A : Type 0} (xs : List A) (numbers : List ℕ) (ys : List A) (d : A) → AllStand xs numbers ys → ys ≡ map (λ n. get_or xs n d) numbers

@@ -24,7 +24,7 @@ use Rattle.snapshot.specs.Releases.{newer_cmp}
 use Rattle.problems.specs.Admission.{has_version}
 use Rattle.problems.specs.Problem.{ProblemParts, releases_on}
 use Rattle.problems.specs.Rules.{kept_version, preferring, versions_of}
-use Rattle.resolve.specs.Places.{AreCandidates, version_at}
+use Rattle.resolve.specs.Tied.Places.{AreCandidates, version_at}
 use Rattle.resolve.proofs.Falling.{version_at-tie}
 
 -- a look-up by bytes is the look-up of a map

@@ -16,8 +16,8 @@ use Rattle.problems.specs.Problem.{ProblemParts, releases_on}
 use Rattle.problems.specs.Rules.{rules_of}
 use Rattle.problems.specs.Solutions.{HasSolution, version_for}
 use Rattle.problems.specs.declared.node.Node.{Node}
-use Rattle.resolve.specs.Pictured.{AreKnown, IsKnown, IsPictured, chosen, name_at, picture_of}
-use Rattle.resolve.specs.Places.{version_at}
+use Rattle.resolve.specs.Tied.Pictured.{AreKnown, IsKnown, IsPictured, chosen, name_at, picture_of}
+use Rattle.resolve.specs.Tied.Places.{version_at}
 use Rattle.resolve.proofs.Falling.{version_at-get}
 use Rattle.resolve.proofs.PictureOf.{within-member}
 use Rattle.resolve.proofs.Picturing.{nat_cmp-less}

@@ -3,7 +3,7 @@ use Rattle.std.proofs.Common.{Contains, ◌≡◌, ◌<◌, ◌≤◌, ◌⊎◌
 use Rattle.std.specs.List.{AllZip, slice_get}
 use Rattle.std.proofs.lemmas.List.{take_more}
 use Rattle.std.proofs.lemmas.Slice.Zip.{all_zipped_more}
-use Rattle.problems.specs.Standing.{AllStand, IsLonger, Stands}
+use Rattle.problems.specs.Tied.Standing.{AllStand, IsLonger, Stands}
 
 bool_cases : (b : Bool) → (b ≡ true) ⊎ (b ≡ false)
 bool_cases true = inl refl

@@ -3,10 +3,10 @@ use Rattle.std.proofs.Common.{◌≡◌, ◌∙◌, ℕ, List, Option, Some, Non
 use Rattle.std.specs.List.{AllZip}
 use Rattle.search.specs.Table.{TableParts, in_range}
 use Rattle.problems.specs.Problem.{ProblemParts}
-use Rattle.problems.specs.Standing.{AllStand}
+use Rattle.problems.specs.Tied.Standing.{AllStand}
 use Rattle.problems.specs.declared.node.Node.{Node}
-use Rattle.resolve.specs.Building.{AreEntries, Gathered, IsEntry, IsGrown, IsWanted}
-use Rattle.resolve.specs.Pictured.{AreListed, IsPictured}
+use Rattle.resolve.specs.Tied.Building.{AreEntries, Gathered, IsEntry, IsGrown, IsWanted}
+use Rattle.resolve.specs.Tied.Pictured.{AreListed, IsPictured}
 use Rattle.resolve.proofs.InRange.{is-in_range}
 use Rattle.resolve.proofs.PictureOf.{IsGathered, is-pictured}
 use Rattle.resolve.proofs.Picturing.{Rising}

@@ -12,7 +12,7 @@ use Rattle.lists.proofs.Members.{Contains-cons_cases, Contains-flat_map, Contain
 use Rattle.search.specs.FirstWalk.{IsAskedFor, IsFirst, IsFirstWalk, IsRefused, IsComplete}
 use Rattle.search.specs.Rules.{IsLawful, Rules}
 use Rattle.search.specs.Solutions.{IsMet, IsNeededName, IsNext, Needed, Pin, by_dependency, by_line, version_pinned}
-use Rattle.resolve.specs.Walking.{AreFollowed, IsHeld, IsWalked}
+use Rattle.resolve.specs.Tied.Walking.{AreFollowed, IsHeld, IsWalked}
 
 -- ---- what is asked for
 

@@ -6,7 +6,7 @@ ghost use Rattle.std.specs.Option.{option_map, option_to_list};
 ghost use Rattle.problems.specs.Admission.{has_version};
 ghost use Rattle.problems.specs.Problem.{releases_on};
 ghost use Rattle.problems.specs.Rules.{kept_version};
-ghost use Rattle.resolve.specs.Places.{AreCandidates, version_at};
+ghost use Rattle.resolve.specs.Tied.Places.{AreCandidates, version_at};
 
 use lists::Seq;
 use pep440::Version;

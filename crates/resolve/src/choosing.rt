@@ -6,7 +6,7 @@ ghost use Rattle.std.specs.Option.{option_copied, option_map};
 ghost use Rattle.search.specs.FirstWalk.{IsFirst};
 ghost use Rattle.problems.specs.Admission.{admits};
 ghost use Rattle.problems.specs.Rules.{kept_version, rules_of};
-ghost use Rattle.resolve.specs.Choosing.{IsNewest, IsRefusedBy};
+ghost use Rattle.resolve.specs.Tied.Choosing.{IsNewest, IsRefusedBy};
 
 use crate::asks::Asks;
 use pep440::Version;

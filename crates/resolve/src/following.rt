@@ -3,7 +3,7 @@
 ghost use Rattle.std.specs.Prelude.{◌∷◌, [], IfOk, map};
 ghost use Rattle.std.specs.Option.{option_copied};
 ghost use Rattle.problems.specs.Rules.{nodes_of, with_extra};
-ghost use Rattle.resolve.specs.Walking.{Follow};
+ghost use Rattle.resolve.specs.Tied.Walking.{Follow};
 
 use crate::asks::Asks;
 use pep440::Version;

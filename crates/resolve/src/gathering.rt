@@ -4,12 +4,12 @@ ghost use Rattle.std.specs.Prelude.{◌≡◌, ◌<◌, ◌⊎◌, [], length, m
 ghost use Rattle.std.specs.List.{AllZip, Contains};
 ghost use Rattle.std.specs.Option.{option_copied};
 ghost use Rattle.pep508.specs.Requirement.{RequirementParts};
-ghost use Rattle.problems.specs.Growing.{requirements_met};
+ghost use Rattle.problems.specs.Tied.Growing.{requirements_met};
 ghost use Rattle.problems.specs.Rules.{wants_of, with_extra};
-ghost use Rattle.problems.specs.Standing.{AllStand, IsLonger, Stands};
+ghost use Rattle.problems.specs.Tied.Standing.{AllStand, IsLonger, Stands};
 ghost use Rattle.problems.specs.declared.node.Node.{Node};
 ghost use Rattle.snapshot.specs.Release.{Release};
-ghost use Rattle.resolve.specs.Building.{AreEntries, AreWants, IsGrown, IsWanted};
+ghost use Rattle.resolve.specs.Tied.Building.{AreEntries, AreWants, IsGrown, IsWanted};
 
 use lists::Seq;
 use pep508::{Name, Requirement};
@@ -42,7 +42,7 @@ impl<'q> Model for Gathering<'q> {
     ghost use Rattle.std.specs.Coded.{codes};
     ghost use Rattle.std.specs.Prelude.{map};
     ghost use Rattle.markers.specs.Tied.MarkerCode.{tree_code};
-    ghost use Rattle.resolve.specs.Building.{Gathered};
+    ghost use Rattle.resolve.specs.Tied.Building.{Gathered};
 
     ghost Value = { Gathered };
 

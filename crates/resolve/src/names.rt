@@ -5,7 +5,7 @@ ghost use Rattle.std.specs.Cmp.Lexicographic.{slice_cmp};
 ghost use Rattle.std.specs.List.{Contains};
 ghost use Rattle.std.specs.List.Sorted.{IsStrictlySortedBy};
 ghost use Rattle.std.specs.Ordering.{nat_cmp};
-ghost use Rattle.problems.specs.Standing.{AllStand, Stands};
+ghost use Rattle.problems.specs.Tied.Standing.{AllStand, Stands};
 
 use lists::Seq;
 use pep508::Name;

@@ -5,8 +5,8 @@ ghost use Rattle.std.specs.List.{Contains};
 ghost use Rattle.search.specs.Known.{AreKnown, IsKnown};
 ghost use Rattle.search.specs.declared.conflict.NodeChoice.{NodeChoice};
 ghost use Rattle.problems.specs.Problem.{releases_on};
-ghost use Rattle.resolve.specs.Pictured.{IsPictured, choice_at};
-ghost use Rattle.resolve.specs.Places.{version_at};
+ghost use Rattle.resolve.specs.Tied.Pictured.{IsPictured, choice_at};
+ghost use Rattle.resolve.specs.Tied.Places.{version_at};
 
 use crate::tabling::Tabled;
 use lists::Seq;

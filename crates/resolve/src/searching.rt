@@ -5,7 +5,7 @@ ghost use Rattle.search.specs.Conflicts.{IsRefutation};
 ghost use Rattle.problems.specs.Refutations.{same_version};
 ghost use Rattle.problems.specs.Rules.{rules_of};
 ghost use Rattle.problems.specs.Solutions.{HasSolution};
-ghost use Rattle.resolve.specs.Pictured.{IsPictured};
+ghost use Rattle.resolve.specs.Tied.Pictured.{IsPictured};
 ghost use Rattle.resolve.specs.Resolves.{Resolves};
 
 use crate::answer::Answer;

@@ -6,8 +6,8 @@ ghost use Rattle.std.specs.Cmp.Lexicographic.{slice_cmp};
 ghost use Rattle.std.specs.Ordering.{nat_cmp};
 ghost use Rattle.problems.specs.Problem.{releases_on};
 ghost use Rattle.problems.specs.Solutions.{version_for};
-ghost use Rattle.resolve.specs.Pictured.{AreKnown, IsKnown, chosen, name_at};
-ghost use Rattle.resolve.specs.Places.{version_at};
+ghost use Rattle.resolve.specs.Tied.Pictured.{AreKnown, IsKnown, chosen, name_at};
+ghost use Rattle.resolve.specs.Tied.Places.{version_at};
 
 use pep440::Version;
 use pep508::Name;

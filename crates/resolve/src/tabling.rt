@@ -1,7 +1,7 @@
 // The table of a problem.
 
 ghost use Rattle.std.specs.Prelude.{IfOk};
-ghost use Rattle.resolve.specs.Pictured.{AreListed, IsListed, IsPictured};
+ghost use Rattle.resolve.specs.Tied.Pictured.{AreListed, IsListed, IsPictured};
 
 use crate::candidates::candidates;
 use crate::gathering::Gathering;

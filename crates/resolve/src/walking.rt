@@ -6,7 +6,7 @@ ghost use Rattle.std.specs.Prelude.{◌≡◌, ◌+◌, [], IfOk, IfSome, length
 ghost use Rattle.search.specs.Solutions.{IsBest};
 ghost use Rattle.problems.specs.Rules.{rules_of};
 ghost use Rattle.problems.specs.Solutions.{version_for};
-ghost use Rattle.resolve.specs.Walking.{IsOnWay, IsPlaced, IsTurn, IsWaiting};
+ghost use Rattle.resolve.specs.Tied.Walking.{IsOnWay, IsPlaced, IsTurn, IsWaiting};
 
 use crate::asks::Asks;
 use crate::choosing::first_admitted;

@@ -12,11 +12,11 @@ use Rattle.search.specs.declared.conflict.NodeChoice.{NodeChoice}
 use Rattle.search.specs.declared.agenda.Ask.{Ask}
 use Rattle.search.specs.declared.parts.Frame.{Frame}
 use Rattle.search.specs.declared.trial.Held.{Held}
-use Rattle.search.specs.Asking.{asker, AsksFit, AskClashes, WantedFits, WantedClashes, Clashes}
-use Rattle.search.specs.Learned.{decision_of, decisions_of, with_frame, frames_held, names_held, with_leader, leaders_held, ask_of, asks_by, asks_held, asks_of, FitsBefore, IsLearning}
-use Rattle.search.specs.Learning.{version_of}
+use Rattle.search.specs.Tied.Asking.{asker, AsksFit, AskClashes, WantedFits, WantedClashes, Clashes}
+use Rattle.search.specs.Tied.Learned.{decision_of, decisions_of, with_frame, frames_held, names_held, with_leader, leaders_held, ask_of, asks_by, asks_held, asks_of, FitsBefore, IsLearning}
+use Rattle.search.specs.Tied.Learning.{version_of}
 use Rattle.search.specs.Rules.{Rules, IsLawful}
-use Rattle.search.specs.Search.{pins_of}
+use Rattle.search.specs.Tied.Search.{pins_of}
 use Rattle.search.specs.Solutions.{Pin, version_pinned}
 use Rattle.search.specs.Table.{TableParts, rules_of}
 

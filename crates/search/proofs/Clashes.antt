@@ -6,7 +6,7 @@ use Rattle.search.proofs.PinnedMaps.{clash-line, clash-dependency}
 use Rattle.search.specs.FirstWalk.{IsComplete}
 use Rattle.search.specs.Rules.{Rules, IsLawful}
 use Rattle.search.specs.Solutions.{Needed, by_line, by_dependency, version_pinned, Pin}
-use Rattle.search.specs.Search.{IsRefuted, AllFit, AreNeeded, AreAsked, NoneFree, clash_at, clash_in}
+use Rattle.search.specs.Tied.Search.{IsRefuted, AllFit, AreNeeded, AreAsked, NoneFree, clash_at, clash_in}
 
 or-true : (a b : Bool) → (a || b) ≡ true → (a ≡ true) ⊎ (b ≡ true)
 or-true true b h = inl refl

@@ -1,7 +1,7 @@
 -- Bounds on lists without repeats.
 use Rattle.std.proofs.Common.{ℕ, zero, suc, List, [], ◌∷◌, ◌++◌, ◌≡◌, ◌<◌, ◌≤◌, ◌⊎◌, inl, inr, Contains, length, refl, sym, ◌∙◌, ap, subst, arith}
 use Rattle.lists.proofs.Members.{Contains-here, Contains-there, Contains-cons_cases, Contains-nil, nat_cases}
-use Rattle.search.specs.Nodes.{Distinct}
+use Rattle.search.specs.Tied.Nodes.{Distinct}
 
 Distinct-not_last : {X : Type 0} (xs : List X) (y x : X) → (Contains xs x → ⊥) → (y ≡ x → ⊥) → Contains (xs ++ y ∷ []) x → ⊥
 Distinct-not_last [] y x a b k = elim (Contains-cons_cases y [] x k) [ inl e ↦ b e | inr r ↦ Contains-nil x r ]

@@ -6,8 +6,8 @@ use Rattle.indexmap.specs.IndexMap.{insert_entry}
 use Rattle.lists.proofs.Members.{Contains-here, Contains-there, Contains-cons_cases, Contains-nil}
 use Rattle.search.specs.declared.conflict.NodeChoice.{NodeChoice}
 use Rattle.search.specs.declared.trial.Held.{Held}
-use Rattle.search.specs.Gathering.{choice_at, decision}
-use Rattle.search.specs.Learned.{decision_of, decisions_of, entries_of, IsFree}
+use Rattle.search.specs.Tied.Gathering.{choice_at, decision}
+use Rattle.search.specs.Tied.Learned.{decision_of, decisions_of, entries_of, IsFree}
 
 pub eq-itself : (n : ℕ) → nat_eq n n ≡ true
 eq-itself n = grind (arith, nat_eq)

@@ -8,11 +8,11 @@ use Rattle.search.proofs.Stack.{pins_of-push}
 use Rattle.search.proofs.TakenFacts.{first-step}
 use Rattle.search.specs.declared.parts.Frame.{Frame}
 use Rattle.search.specs.declared.parts.Since.{Since}
-use Rattle.search.specs.Front.{HaveFit}
+use Rattle.search.specs.Tied.Front.{HaveFit}
 use Rattle.search.specs.Rules.{Rules}
-use Rattle.search.specs.Search.{pins_of, taken_at, clash_at, clash_in}
+use Rattle.search.specs.Tied.Search.{pins_of, taken_at, clash_at, clash_in}
 use Rattle.search.specs.Solutions.{version_pinned}
-use Rattle.search.specs.Steps.{IsTried, TakesFirst}
+use Rattle.search.specs.Tied.Steps.{IsTried, TakesFirst}
 use Rattle.search.specs.Table.{TableParts}
 
 -- before anything is known, nothing has to fit

@@ -10,9 +10,9 @@ use Rattle.search.proofs.PinnedMaps.{option_cases, is_eq-same, version_pinned-ap
 use Rattle.search.specs.declared.conflict.NodeChoice.{NodeChoice}
 use Rattle.search.specs.declared.held.Partial.{Partial}
 use Rattle.search.specs.declared.trial.Held.{Held}
-use Rattle.search.specs.Agendas.{AreRowed, IsWatched}
-use Rattle.search.specs.Gathering.{choice_at}
-use Rattle.search.specs.Learned.{decision_of, decisions_of, held_entry, entries_of, with_leader, leaders_held, ask_of, asks_by, asks_held, asks_of, first_at, IsPartial}
+use Rattle.search.specs.Tied.Agendas.{AreRowed, IsWatched}
+use Rattle.search.specs.Tied.Gathering.{choice_at}
+use Rattle.search.specs.Tied.Learned.{decision_of, decisions_of, held_entry, entries_of, with_leader, leaders_held, ask_of, asks_by, asks_held, asks_of, first_at, IsPartial}
 use Rattle.search.specs.Rules.{Rules}
 use Rattle.search.specs.Solutions.{Pin, version_pinned}
 use Rattle.search.specs.Table.{TableParts, rules_of, name_of}

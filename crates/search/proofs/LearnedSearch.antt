@@ -13,11 +13,11 @@ use Rattle.search.specs.declared.trial.Held.{Held}
 use Rattle.search.specs.declared.trial.Trial.{Trial}
 use Rattle.search.specs.Conflicts.{IsVersionEquality, LiesIn, LiesInNone, EachFollows}
 use Rattle.search.specs.FirstWalk.{IsComplete}
-use Rattle.search.specs.Gathering.{IsCompleted, decision}
+use Rattle.search.specs.Tied.Gathering.{IsCompleted, decision}
 use Rattle.search.specs.Table.{places_eq}
-use Rattle.search.specs.Learned.{decision_of, decisions_of, with_frame, frames_held, names_held, chosen_held, IsInTurn, IsTrial, ChoicesFit, LinesFit, IsHeld, IsLearning}
+use Rattle.search.specs.Tied.Learned.{decision_of, decisions_of, with_frame, frames_held, names_held, chosen_held, IsInTurn, IsTrial, ChoicesFit, LinesFit, IsHeld, IsLearning}
 use Rattle.search.specs.Rules.{Rules, IsLawful}
-use Rattle.search.specs.Search.{pin_at, pins_of, IsFrame, IsSearch}
+use Rattle.search.specs.Tied.Search.{pin_at, pins_of, IsFrame, IsSearch}
 use Rattle.search.specs.Solutions.{Needed, by_line, by_dependency, IsNext, Has, Solution, IsBest}
 
 pub places-equality : (rules : Rules ℕ ℕ ℕ ℕ) → IsVersionEquality rules places_eq

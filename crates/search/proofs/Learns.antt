@@ -13,16 +13,16 @@ use Rattle.search.specs.declared.conflict.NodeChoice.{NodeChoice}
 use Rattle.search.specs.declared.held.Partial.{Partial}
 use Rattle.search.specs.declared.trial.Held.{Held}
 use Rattle.search.specs.declared.trial.Trial.{Trial}
-use Rattle.search.specs.Asking.{Clashes}
+use Rattle.search.specs.Tied.Asking.{Clashes}
 use Rattle.search.specs.Conflicts.{IsSameChoice, Completes, NeedsNode, Follows, EachFollows, IsRefutation}
-use Rattle.search.specs.Gathering.{Gathers, IsCompleted, IsWithin, decision}
+use Rattle.search.specs.Tied.Gathering.{Gathers, IsCompleted, IsWithin, decision}
 use Rattle.search.specs.Known.{IsKnown, AreKnown}
-use Rattle.search.specs.Learned.{decision_of, decisions_of, names_held, leaders_held, IsInTurn, IsNeededBy, IsFree, IsTrial, FitsBefore, IsHeld, IsLearning, IsPartial, LastIsNew}
-use Rattle.search.specs.Learning.{IsLearned, version_of}
+use Rattle.search.specs.Tied.Learned.{decision_of, decisions_of, names_held, leaders_held, IsInTurn, IsNeededBy, IsFree, IsTrial, FitsBefore, IsHeld, IsLearning, IsPartial, LastIsNew}
+use Rattle.search.specs.Tied.Learning.{IsLearned, version_of}
 use Rattle.search.specs.Rules.{Rules}
 use Rattle.search.specs.Solutions.{Needed, IsNext, version_pinned}
 use Rattle.search.specs.Table.{TableParts, rules_of, name_of, candidates_of, in_range, places_eq}
-use Rattle.search.specs.Trials.{RefusesOneMore}
+use Rattle.search.specs.Tied.Trials.{RefusesOneMore}
 
 -- ---- a candidate is refused
 

@@ -11,7 +11,7 @@ use Rattle.lists.proofs.Members.{get_or-any}
 use Rattle.search.proofs.Nodes.{take-more}
 use Rattle.search.specs.Rules.{Rules, IsOrder}
 use Rattle.search.specs.Solutions.{IsNext, version_pinned, Pin}
-use Rattle.search.specs.Search.{NoneFree, IsLeastFree, AreNeeded}
+use Rattle.search.specs.Tied.Search.{NoneFree, IsLeastFree, AreNeeded}
 
 pub nat-order : IsOrder nat_cmp
 nat-order = record { total = nat_cmp_total; exact = λ a b e. exact_unsigned a b e }

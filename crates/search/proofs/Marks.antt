@@ -4,7 +4,7 @@ use Rattle.std.proofs.Math.ListN.{replicate}
 use Rattle.std.proofs.lemmas.List.Elements.{Contains-append_left, Contains-append_right, Contains-append_cases, Contains-push, Contains-push_cases}
 use Rattle.search.proofs.Counts.{Distinct-push, distinct-below}
 use Rattle.lists.proofs.Members.{Contains-cons_cases, Contains-nil, nat_cases}
-use Rattle.search.specs.Nodes.{IsMarked, Grows}
+use Rattle.search.specs.Tied.Nodes.{IsMarked, Grows}
 
 pub no-marks : (room node : ℕ) → get_or (replicate room false) node false ≡ false
 no-marks zero node = refl

@@ -11,10 +11,10 @@ use Rattle.search.specs.declared.agenda.Ask.{Ask}
 use Rattle.search.specs.declared.next.Need.{Need}
 use Rattle.search.specs.declared.trial.Held.{Held}
 use Rattle.search.specs.declared.trial.Trial.{Trial}
-use Rattle.search.specs.Asking.{NoneTied, IsTied, IsLeastNeed, IsFoundNeed}
-use Rattle.search.specs.Gathering.{decision}
-use Rattle.search.specs.Learned.{decisions_of, names_held, chosen_held, ask_of, asks_of, IsFree, IsNeededBy, IsInTurn, IsTrial, IsLearning}
-use Rattle.search.specs.Learning.{version_of}
+use Rattle.search.specs.Tied.Asking.{NoneTied, IsTied, IsLeastNeed, IsFoundNeed}
+use Rattle.search.specs.Tied.Gathering.{decision}
+use Rattle.search.specs.Tied.Learned.{decisions_of, names_held, chosen_held, ask_of, asks_of, IsFree, IsNeededBy, IsInTurn, IsTrial, IsLearning}
+use Rattle.search.specs.Tied.Learning.{version_of}
 use Rattle.search.specs.Rules.{Rules, IsLawful}
 use Rattle.search.specs.Solutions.{Needed, by_line, by_dependency, IsNext, version_pinned}
 use Rattle.search.specs.Table.{TableParts, rules_of}

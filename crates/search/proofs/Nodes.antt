@@ -3,10 +3,10 @@ use Rattle.std.proofs.Common.{ℕ, zero, suc, List, [], ◌∷◌, ◌++◌, ◌
 use Rattle.std.proofs.lemmas.List.Elements.{Contains-append_left, Contains-append_right, Contains-append_cases}
 use Rattle.lists.proofs.Members.{Contains-here, Contains-there, Contains-cons_cases, Contains-nil, Contains-take_suc, Contains-take_zero, take-whole, get_or-any}
 use Rattle.search.proofs.Marks.{Grows-none}
-use Rattle.search.specs.Nodes.{Nodes, Grows, IsGrown, nodes_asked, nodes_linked, IsClosing}
+use Rattle.search.specs.Tied.Nodes.{Nodes, Grows, IsGrown, nodes_asked, nodes_linked, IsClosing}
 use Rattle.search.specs.Rules.{Rules}
 use Rattle.search.specs.Solutions.{Needed, by_line, by_dependency}
-use Rattle.search.specs.Search.{AreNeeded}
+use Rattle.search.specs.Tied.Search.{AreNeeded}
 
 Grows-then : (old mid new : List ℕ) (first second : List ℕ) → Grows old mid first → Grows mid new second → Grows old new (first ++ second)
 Grows-then old mid new first second g h = record {

@@ -7,7 +7,7 @@ use Rattle.lists.proofs.Members.{Contains-here, Contains-there}
 use Rattle.search.specs.FirstWalk.{IsComplete}
 use Rattle.search.specs.Rules.{Rules, IsOrder, IsLawful}
 use Rattle.search.specs.Solutions.{Pin, Needed, by_line, by_dependency, IsNeededName, IsMet, Solution, version_pinned, IsNext, Has}
-use Rattle.search.specs.Search.{IsRefuted}
+use Rattle.search.specs.Tied.Search.{IsRefuted}
 
 -- ---- maps made of choices
 

@@ -22,7 +22,7 @@ use Rattle.search.proofs.TakenFacts.{split-nat}
 use Rattle.search.specs.declared.agenda.Agenda.{Agenda}
 use Rattle.search.specs.declared.agenda.Ask.{Ask}
 use Rattle.search.specs.declared.conflict.NodeChoice.{NodeChoice}
-use Rattle.search.specs.Agendas.{AreRowed, IsListed, asks_on, row_at}
+use Rattle.search.specs.Tied.Agendas.{AreRowed, IsListed, asks_on, row_at}
 use Rattle.search.specs.Rules.{Rules}
 use Rattle.search.specs.Table.{TableParts, rules_of, in_range, requirement_at}
 

@@ -3,7 +3,7 @@ use Rattle.std.proofs.Common.{ℕ, zero, suc, List, [], ◌∷◌, ◌++◌, ◌
 use Rattle.std.proofs.lemmas.List.Elements.{Contains-push_cases, Contains-push, Contains-append_left}
 use Rattle.lists.proofs.Members.{Contains-here, Contains-there, Contains-cons_cases, Contains-nil, Contains-take_suc, Contains-take_zero, take-whole}
 use Rattle.search.specs.declared.conflict.NodeChoice.{NodeChoice}
-use Rattle.search.specs.Gathering.{Gathers, IsWithin}
+use Rattle.search.specs.Tied.Gathering.{Gathers, IsWithin}
 
 -- ---- what is not among the first ones, nor the next, is not among one more
 

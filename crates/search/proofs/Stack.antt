@@ -6,7 +6,7 @@ use Rattle.search.specs.declared.parts.Frame.{Frame}
 use Rattle.search.specs.FirstWalk.{IsComplete}
 use Rattle.search.specs.Rules.{Rules, IsLawful}
 use Rattle.search.specs.Solutions.{Pin, IsNeededName, Solution, version_pinned, IsNext, IsWalk, Has, ComesFirst, IsBetter, IsBest}
-use Rattle.search.specs.Search.{pin_at, pins_of, Refutes, IsFrame, IsSearch, IsRefuted}
+use Rattle.search.specs.Tied.Search.{pin_at, pins_of, Refutes, IsFrame, IsSearch, IsRefuted}
 
 -- ---- the choices of a search
 

@@ -4,9 +4,9 @@ use Rattle.lists.proofs.Members.{Contains-take_zero}
 use Rattle.search.proofs.Stack.{Refutes-more, IsRefuted-exhausted, IsSearch-push, IsSearch-pop, pins_of-push}
 use Rattle.search.proofs.WhatIsLeft.{table-lawful}
 use Rattle.search.specs.declared.parts.Frame.{Frame}
-use Rattle.search.specs.Search.{pins_of, IsFrame, IsSearch, IsRefuted, Refutes}
+use Rattle.search.specs.Tied.Search.{pins_of, IsFrame, IsSearch, IsRefuted, Refutes}
 use Rattle.search.specs.Solutions.{Pin, IsNext, HasNoSolution}
-use Rattle.search.specs.Steps.{IsAt, IsTried, IsForward}
+use Rattle.search.specs.Tied.Steps.{IsAt, IsTried, IsForward}
 use Rattle.search.specs.Table.{TableParts, rules_of, candidates_of, in_range}
 
 frame-at : (p : TableParts) (taken : List (Pin ℕ ℕ)) (n k : ℕ) (f : Frame) → IsAt p n k f → IsNext (rules_of p) taken n → Refutes (rules_of p) taken n k → IsFrame (rules_of p) taken f

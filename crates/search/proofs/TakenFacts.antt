@@ -11,9 +11,9 @@ use Rattle.search.proofs.Stack.{pins_of-push}
 use Rattle.search.proofs.PinnedMaps.{pin-member, is_eq-same, option_cases, version_pinned-append_some, version_pinned-append_none, version_pinned-last}
 use Rattle.search.specs.declared.parts.Choice.{Choice}
 use Rattle.search.specs.declared.parts.Frame.{Frame}
-use Rattle.search.specs.Search.{pin_at, pins_of, taken_at}
+use Rattle.search.specs.Tied.Search.{pin_at, pins_of, taken_at}
 use Rattle.search.specs.Solutions.{Pin, version_pinned}
-use Rattle.search.specs.Steps.{TakesFirst}
+use Rattle.search.specs.Tied.Steps.{TakesFirst}
 use Rattle.search.specs.Table.{pin_of, place_in, IsAscending}
 
 pub none-taken : (room n : ℕ) → taken_at (replicate room None) n ≡ None

@@ -5,10 +5,10 @@ use Rattle.lists.proofs.Members.{Contains-here, Contains-there, Contains-nil, Co
 use Rattle.search.proofs.Nodes.{asked-to, linked-needed, take-front, closing-start, closing-step, closing-end}
 use Rattle.search.proofs.PinnedMaps.{Needed-more}
 use Rattle.search.specs.declared.parts.Since.{Since}
-use Rattle.search.specs.Front.{IsAsking, IsFollowed}
-use Rattle.search.specs.Nodes.{Extends, Grows, nodes_asked, nodes_linked, wants_linked}
+use Rattle.search.specs.Tied.Front.{IsAsking, IsFollowed}
+use Rattle.search.specs.Tied.Nodes.{Extends, Grows, nodes_asked, nodes_linked, wants_linked}
 use Rattle.search.specs.Rules.{Rules}
-use Rattle.search.specs.Search.{IsAsked, AreNeeded, AreAsked}
+use Rattle.search.specs.Tied.Search.{IsAsked, AreNeeded, AreAsked}
 use Rattle.search.specs.Solutions.{Needed, by_line}
 
 grows-kept : (old new wanted : List ℕ) → Grows old new wanted → (node : ℕ) → Contains old node → Contains new node

@@ -9,10 +9,10 @@ use Rattle.search.specs.declared.agenda.Agenda.{Agenda}
 use Rattle.search.specs.declared.agenda.Ask.{Ask}
 use Rattle.search.specs.declared.conflict.NodeChoice.{NodeChoice}
 use Rattle.search.specs.declared.next.Need.{Need}
-use Rattle.search.specs.Agendas.{AreRowed, IsChosen, IsWatched, row_at}
-use Rattle.search.specs.Asking.{IsFoundNeed, IsLeastNeed, IsTied, NoneTied}
-use Rattle.search.specs.Gathering.{decision}
-use Rattle.search.specs.Learned.{first_at}
+use Rattle.search.specs.Tied.Agendas.{AreRowed, IsChosen, IsWatched, row_at}
+use Rattle.search.specs.Tied.Asking.{IsFoundNeed, IsLeastNeed, IsTied, NoneTied}
+use Rattle.search.specs.Tied.Gathering.{decision}
+use Rattle.search.specs.Tied.Learned.{first_at}
 use Rattle.search.specs.Table.{TableParts, rules_of, in_range, name_of}
 use Rattle.search.proofs.Rows.{row-from, row-to}
 

@@ -8,11 +8,11 @@ use Rattle.search.proofs.Ranges.{nodes-own}
 use Rattle.search.proofs.Stack.{IsSearch-pop}
 use Rattle.search.proofs.PinnedMaps.{version_pinned-append_some, version_pinned-last}
 use Rattle.search.specs.declared.parts.Frame.{Frame}
-use Rattle.search.specs.Nodes.{Distinct}
+use Rattle.search.specs.Tied.Nodes.{Distinct}
 use Rattle.search.specs.Rules.{Rules, IsLawful}
-use Rattle.search.specs.Search.{pin_at, pins_of, IsSearch, IsFrame}
+use Rattle.search.specs.Tied.Search.{pin_at, pins_of, IsSearch, IsFrame}
 use Rattle.search.specs.Solutions.{Pin, version_pinned}
-use Rattle.search.specs.Steps.{IsForward}
+use Rattle.search.specs.Tied.Steps.{IsForward}
 use Rattle.search.specs.Table.{TableParts, rules_of, requirement_at, candidates_of, in_range}
 
 -- ---- how deep a search goes

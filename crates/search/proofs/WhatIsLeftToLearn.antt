@@ -13,10 +13,10 @@ use Rattle.search.specs.declared.learning.Progress.{Progress}
 use Rattle.search.specs.declared.learning.Progress.TheVariants.{Trying, Solved, Refuted}
 use Rattle.search.specs.declared.trial.Held.{Held}
 use Rattle.search.specs.declared.trial.Trial.{Trial}
-use Rattle.search.specs.Gathering.{decision}
-use Rattle.search.specs.Learned.{decision_of, decisions_of, IsTrial, IsLearning}
-use Rattle.search.specs.Learning.{IsBack, IsRetried, IsEntered, StandsAt, GoesOnward}
-use Rattle.search.specs.Nodes.{Distinct}
+use Rattle.search.specs.Tied.Gathering.{decision}
+use Rattle.search.specs.Tied.Learned.{decision_of, decisions_of, IsTrial, IsLearning}
+use Rattle.search.specs.Tied.Learning.{IsBack, IsRetried, IsEntered, StandsAt, GoesOnward}
+use Rattle.search.specs.Tied.Nodes.{Distinct}
 use Rattle.search.specs.Table.{TableParts, rules_of, candidates_of, name_of, in_range}
 
 -- ---- the nodes of what is held are distinct

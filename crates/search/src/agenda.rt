@@ -2,10 +2,10 @@
 
 ghost use Rattle.std.specs.Prelude.{◌≡◌, ◌<◌, ◌++◌, ◌∷◌, [], IfOk, IsTrue, IsFalse, MatchOption, length, map, take, true, ◌-◌, ℕ, List};
 ghost use Rattle.std.specs.List.{Contains};
-ghost use Rattle.search.specs.Agendas as spec;
-ghost use Rattle.search.specs.Agendas.{AreRowed, IsListed, IsWatched, row_at};
-ghost use Rattle.search.specs.Gathering.{choice_at, decision};
-ghost use Rattle.search.specs.Learned.{IsFree, ask_of, first_at};
+ghost use Rattle.search.specs.Tied.Agendas as spec;
+ghost use Rattle.search.specs.Tied.Agendas.{AreRowed, IsListed, IsWatched, row_at};
+ghost use Rattle.search.specs.Tied.Gathering.{choice_at, decision};
+ghost use Rattle.search.specs.Tied.Learned.{IsFree, ask_of, first_at};
 ghost use Rattle.search.specs.Ranges.{EachBelow};
 ghost use Rattle.search.specs.Table.{rules_of, asked_nodes, requirement_at, in_range};
 

@@ -2,9 +2,9 @@
 
 ghost use Rattle.std.specs.Prelude.{◌<◌, ◌∷◌, [], MatchOption, length, map};
 ghost use Rattle.std.specs.List.{Contains};
-ghost use Rattle.search.specs.Asking.{AreKnownAsks, IsTied};
-ghost use Rattle.search.specs.Gathering.{choice_at};
-ghost use Rattle.search.specs.Learned.{IsFree, first_at};
+ghost use Rattle.search.specs.Tied.Asking.{AreKnownAsks, IsTied};
+ghost use Rattle.search.specs.Tied.Gathering.{choice_at};
+ghost use Rattle.search.specs.Tied.Learned.{IsFree, first_at};
 ghost use Rattle.search.specs.Table.{rules_of};
 
 use crate::agenda::{Ask, first_on, is_chosen};

@@ -3,8 +3,8 @@
 ghost use Rattle.std.specs.Prelude.{◌≡◌, ◌≢◌, ◌<◌, MatchOption, length, nat_lt, if◌then◌else◌, true, false};
 ghost use Rattle.std.specs.List.{list_any};
 ghost use Rattle.search.specs.Ranges.{EachBelow};
-ghost use Rattle.search.specs.Front.{HaveFit};
-ghost use Rattle.search.specs.Search.{taken_at, clash_in, NoneFree, IsLeastFree};
+ghost use Rattle.search.specs.Tied.Front.{HaveFit};
+ghost use Rattle.search.specs.Tied.Search.{taken_at, clash_in, NoneFree, IsLeastFree};
 ghost use Rattle.search.specs.Table.{rules_of};
 
 use crate::needed::place_of;

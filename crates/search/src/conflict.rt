@@ -2,7 +2,7 @@
 
 ghost use Rattle.std.specs.Prelude.{◌≡◌, ◌∷◌, [], IsTrue, IsFalse, IfOk};
 ghost use Rattle.std.specs.List.{Contains};
-ghost use Rattle.search.specs.Gathering.{Gathers};
+ghost use Rattle.search.specs.Tied.Gathering.{Gathers};
 
 use std::alloc::AllocError;
 

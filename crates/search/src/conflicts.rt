@@ -2,7 +2,7 @@
 
 ghost use Rattle.std.specs.Prelude.{◌≡◌, ◌<◌, ◌++◌, ◌∷◌, [], IfOk, IsTrue, MatchOption, length, map};
 ghost use Rattle.std.specs.List.{slice_index_or};
-ghost use Rattle.search.specs.Gathering.{IsWithin, choice_at};
+ghost use Rattle.search.specs.Tied.Gathering.{IsWithin, choice_at};
 
 use crate::conflict::Decision;
 use crate::held::is_completed;

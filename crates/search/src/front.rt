@@ -2,10 +2,10 @@
 
 ghost use Rattle.std.specs.Prelude.{◌≡◌, ◌<◌, ℕ, IfOk, MatchOption, length, false};
 ghost use Rattle.std.specs.Ordering.{nat_cmp};
-ghost use Rattle.search.specs.Front.{IsFront};
-ghost use Rattle.search.specs.Search.{taken_at, pins_of, NoneFree, IsLeastFree};
+ghost use Rattle.search.specs.Tied.Front.{IsFront};
+ghost use Rattle.search.specs.Tied.Search.{taken_at, pins_of, NoneFree, IsLeastFree};
 ghost use Rattle.search.specs.Solutions.{version_pinned};
-ghost use Rattle.search.specs.Steps.{AreKnownFrames, TakesFirst};
+ghost use Rattle.search.specs.Tied.Steps.{AreKnownFrames, TakesFirst};
 ghost use Rattle.search.specs.Table.{rules_of};
 
 use crate::clash::{do_any_clash, least_free};

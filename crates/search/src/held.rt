@@ -3,8 +3,8 @@
 ghost use Rattle.std.specs.Prelude.{◌≡◌, ◌<◌, ◌++◌, ◌∷◌, [], None, Some, false, true, IsTrue, IfOk, MatchOption, length, map, slice_set};
 ghost use Rattle.std.specs.List.{Contains};
 ghost use Rattle.std.specs.Ordering.{nat_cmp};
-ghost use Rattle.search.specs.Gathering.{IsWithin, choice_at, decision};
-ghost use Rattle.search.specs.Learned.{IsFree, IsPartial, LastIsNew, decisions_of, leaders_held};
+ghost use Rattle.search.specs.Tied.Gathering.{IsWithin, choice_at, decision};
+ghost use Rattle.search.specs.Tied.Learned.{IsFree, IsPartial, LastIsNew, decisions_of, leaders_held};
 ghost use Rattle.search.specs.Solutions.{version_pinned};
 ghost use Rattle.search.specs.Table.{rules_of, name_of, in_range};
 

@@ -5,11 +5,11 @@ ghost use Rattle.std.specs.List.{Contains, slice_index_or};
 ghost use Rattle.search.specs.declared.conflict.NodeChoice.{NodeChoice};
 ghost use Rattle.search.specs.Conflicts.{IsRefutation};
 ghost use Rattle.search.specs.Found.{MatchFound};
-ghost use Rattle.search.specs.Gathering.{decision};
+ghost use Rattle.search.specs.Tied.Gathering.{decision};
 ghost use Rattle.search.specs.Known.{AreKnown};
-ghost use Rattle.search.specs.Learned.{FitsBefore, IsPartial, IsTrial, chosen_held, decisions_of};
-ghost use Rattle.search.specs.Learning as spec;
-ghost use Rattle.search.specs.Learning.{GoesOnward, IsBack, TriesFirst, IsLearned, IsRefusedFor, StandsAt};
+ghost use Rattle.search.specs.Tied.Learned.{FitsBefore, IsPartial, IsTrial, chosen_held, decisions_of};
+ghost use Rattle.search.specs.Tied.Learning as spec;
+ghost use Rattle.search.specs.Tied.Learning.{GoesOnward, IsBack, TriesFirst, IsLearned, IsRefusedFor, StandsAt};
 ghost use Rattle.search.specs.Solutions.{HasNoSolution, IsBest};
 ghost use Rattle.search.specs.Table.{TableParts, rules_of, candidates_of, name_of, in_range, place_in, IsAscending, places_eq};
 

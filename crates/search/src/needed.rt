@@ -1,10 +1,10 @@
 // The nodes that are needed under what is taken, and the requirements that count there.
 
 ghost use Rattle.std.specs.Prelude.{◌≡◌, ◌<◌, ◌≤◌, ◌+◌, IfOk, None, length};
-ghost use Rattle.search.specs.Front.{IsFollowed};
-ghost use Rattle.search.specs.Nodes.{Extends, IsGrown, nodes_asked, nodes_linked, wants_linked};
+ghost use Rattle.search.specs.Tied.Front.{IsFollowed};
+ghost use Rattle.search.specs.Tied.Nodes.{Extends, IsGrown, nodes_asked, nodes_linked, wants_linked};
 ghost use Rattle.search.specs.Ranges.{EachBelow};
-ghost use Rattle.search.specs.Search.{AreNeeded, AreAsked, taken_at};
+ghost use Rattle.search.specs.Tied.Search.{AreNeeded, AreAsked, taken_at};
 ghost use Rattle.search.specs.Table.{rules_of, asked_nodes, requirement_at, name_of};
 
 use crate::node_set::NodeSet;

@@ -5,10 +5,10 @@ ghost use Rattle.std.specs.List.{Contains};
 ghost use Rattle.search.specs.declared.conflict.NodeChoice.{NodeChoice};
 ghost use Rattle.search.specs.declared.agenda.Ask.{Ask as AskValue};
 ghost use Rattle.std.specs.BTreeSet.{keys};
-ghost use Rattle.search.specs.Agendas.{AreRowed, IsWatched};
-ghost use Rattle.search.specs.Asking.{AreKnownAsks, IsFoundNeed, IsTied, NoneTied};
-ghost use Rattle.search.specs.Gathering.{choice_at, decision};
-ghost use Rattle.search.specs.Learned.{IsLearning, IsPartial, IsTrial, decisions_of, chosen_held, first_at};
+ghost use Rattle.search.specs.Tied.Agendas.{AreRowed, IsWatched};
+ghost use Rattle.search.specs.Tied.Asking.{AreKnownAsks, IsFoundNeed, IsTied, NoneTied};
+ghost use Rattle.search.specs.Tied.Gathering.{choice_at, decision};
+ghost use Rattle.search.specs.Tied.Learned.{IsLearning, IsPartial, IsTrial, decisions_of, chosen_held, first_at};
 ghost use Rattle.search.specs.Solutions.{Needed};
 ghost use Rattle.search.specs.Table.{rules_of, asked_nodes, requirement_at, in_range};
 

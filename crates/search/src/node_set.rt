@@ -2,7 +2,7 @@
 
 ghost use Rattle.std.specs.Prelude.{◌≡◌, ◌<◌, ◌≤◌, ◌∷◌, [], IfOk, length};
 ghost use Rattle.std.specs.List.{slice_index_or};
-ghost use Rattle.search.specs.Nodes.{Nodes, IsMarked, IsGrown};
+ghost use Rattle.search.specs.Tied.Nodes.{Nodes, IsMarked, IsGrown};
 ghost use Rattle.search.specs.Ranges.{EachBelow};
 
 use std::alloc::{AllocError, Global};
@@ -16,7 +16,7 @@ pub struct NodeSet {
 
 impl Model for NodeSet {
     ghost use Rattle.std.specs.Prelude.{length};
-    ghost use Rattle.search.specs.Nodes.{Nodes, IsMarked};
+    ghost use Rattle.search.specs.Tied.Nodes.{Nodes, IsMarked};
 
     ghost Value = { Nodes };
 

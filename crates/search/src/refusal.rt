@@ -3,9 +3,9 @@
 ghost use Rattle.std.specs.Prelude.{◌≡◌, ◌≢◌, ◌<◌, Some, IfOk, MatchOption, length, ℕ, List, [], true, ◌⊎◌};
 ghost use Rattle.std.specs.List.{Contains};
 ghost use Rattle.search.specs.declared.conflict.NodeChoice.{NodeChoice};
-ghost use Rattle.search.specs.Asking as spec;
-ghost use Rattle.search.specs.Asking.{AsksFit, AskClashes, AreKnownAsks, WantedFits, WantedClashes, Clashes};
-ghost use Rattle.search.specs.Learned.{FitsBefore, IsLearning, IsPartial, first_at};
+ghost use Rattle.search.specs.Tied.Asking as spec;
+ghost use Rattle.search.specs.Tied.Asking.{AsksFit, AskClashes, AreKnownAsks, WantedFits, WantedClashes, Clashes};
+ghost use Rattle.search.specs.Tied.Learned.{FitsBefore, IsLearning, IsPartial, first_at};
 ghost use Rattle.search.specs.Ranges.{EachBelow};
 ghost use Rattle.search.specs.Table.{rules_of, name_of, in_range};
 

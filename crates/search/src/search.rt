@@ -2,11 +2,11 @@
 
 ghost use Rattle.std.specs.Prelude.{◌≡◌, ◌<◌, ◌+◌, ◌-◌, [], IfOk, IsTrue, IsFalse, MatchOption, length, true, false};
 ghost use Rattle.std.specs.List.{slice_index_or};
-ghost use Rattle.search.specs.Front.{IsFrontOf};
-ghost use Rattle.search.specs.Search.{pins_of, IsSearch, IsRefuted};
+ghost use Rattle.search.specs.Tied.Front.{IsFrontOf};
+ghost use Rattle.search.specs.Tied.Search.{pins_of, IsSearch, IsRefuted};
 ghost use Rattle.search.specs.Solutions.{HasNoSolution, IsBest, IsNext};
 ghost use Rattle.search.specs.declared.parts.Step.TheVariants.{Entered};
-ghost use Rattle.search.specs.Steps.{IsTried, IsForward, IsStep};
+ghost use Rattle.search.specs.Tied.Steps.{IsTried, IsForward, IsStep};
 ghost use Rattle.search.specs.Table.{rules_of, in_range, place_in, IsAscending};
 
 use crate::front::Front;

@@ -2,9 +2,9 @@
 
 ghost use Rattle.std.specs.Prelude.{◌≡◌, ◌<◌, ℕ, IfOk, length};
 ghost use Rattle.std.specs.Ordering.{nat_cmp};
-ghost use Rattle.search.specs.Search.{taken_at, pins_of};
+ghost use Rattle.search.specs.Tied.Search.{taken_at, pins_of};
 ghost use Rattle.search.specs.Solutions.{version_pinned};
-ghost use Rattle.search.specs.Steps.{AreKnownFrames, TakesFirst};
+ghost use Rattle.search.specs.Tied.Steps.{AreKnownFrames, TakesFirst};
 ghost use Rattle.search.specs.Table.{place_in, IsAscending};
 
 use crate::parts::{Choice, Frame};

@@ -1,8 +1,8 @@
 // The candidates of a node, tried in turn.
 
 ghost use Rattle.std.specs.Prelude.{◌≡◌, ◌<◌, [], IfOk, option_to_list};
-ghost use Rattle.search.specs.Gathering.{Gathers, decision};
-ghost use Rattle.search.specs.Trials.{RefusesOneMore};
+ghost use Rattle.search.specs.Tied.Gathering.{Gathers, decision};
+ghost use Rattle.search.specs.Tied.Trials.{RefusesOneMore};
 
 use crate::conflict::{Decision, insert, insert_all};
 use std::alloc::AllocError;

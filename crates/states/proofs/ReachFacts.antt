@@ -23,7 +23,7 @@ use Rattle.states.specs.Changes.{entry_on}
 use Rattle.states.specs.State.{Reached, by_entry, by_line}
 use Rattle.states.specs.Tied.Deciding.{AreReached, IsGrown, names_met, needs_of}
 use Rattle.states.proofs.EntryFacts.{entry-from, entry-there}
-use Rattle.problems.specs.Standing.{IsOnce}
+use Rattle.problems.specs.Tied.Standing.{IsOnce}
 use Rattle.lists.proofs.Members.{Contains-cons_cases, Contains-flat_map_of, Contains-map, Contains-map_of, Contains-nil, get_or-any}
 
 -- ---- names that are put behind others

@@ -4,7 +4,7 @@ ghost use Rattle.std.specs.Prelude.{◌≡◌, ◌↔◌, ◌&&◌, IsTrue};
 ghost use Rattle.std.specs.List.{list_any};
 ghost use Rattle.std.specs.Option.{option_copied};
 ghost use Rattle.search.specs.Conflicts.{ChoicesClash};
-ghost use Rattle.problems.specs.Checking as spec;
+ghost use Rattle.problems.specs.Tied.Checking as spec;
 ghost use Rattle.problems.specs.Rules.{counts, rules_of, wants};
 
 use crate::checking::refusing::refuses;

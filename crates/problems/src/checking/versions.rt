@@ -3,7 +3,7 @@
 ghost use Rattle.std.specs.Prelude.{◌≡◌, ◌↔◌, IsTrue};
 ghost use Rattle.std.specs.List.{list_any};
 ghost use Rattle.search.specs.Conflicts.{VersionsDiffer};
-ghost use Rattle.problems.specs.Checking as spec;
+ghost use Rattle.problems.specs.Tied.Checking as spec;
 ghost use Rattle.problems.specs.Problem.{ProblemParts};
 ghost use Rattle.problems.specs.Refutations.{same_version};
 ghost use Rattle.problems.specs.Rules.{rules_of};

@@ -3,7 +3,7 @@
 ghost use Rattle.std.specs.Prelude.{refl};
 ghost use Rattle.std.specs.Cmp.{eq_by_cmp_equiv, partial_equiv_from_equiv, partial_order_from_total};
 ghost use Rattle.std.specs.Ordering.{as_partial_cmp, eq_by_cmp};
-ghost use Rattle.problems.specs.ChoiceLaws.{choice_total};
+ghost use Rattle.problems.specs.Tied.ChoiceLaws.{choice_total};
 ghost use Rattle.problems.specs.Choices.{choice_cmp};
 
 use crate::choice::Choice;

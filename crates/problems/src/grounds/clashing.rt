@@ -4,7 +4,7 @@ ghost use Rattle.std.specs.Prelude.{◌≡◌, ◌&&◌, List, MatchOption, find
 ghost use Rattle.std.specs.List.{list_any};
 ghost use Rattle.std.specs.Option.{option_copied};
 ghost use Rattle.search.specs.Conflicts.{ChoicesClash, VersionsDiffer};
-ghost use Rattle.problems.specs.Checking as spec;
+ghost use Rattle.problems.specs.Tied.Checking as spec;
 ghost use Rattle.problems.specs.Grounds.{IsGround};
 ghost use Rattle.problems.specs.Problem.{ProblemParts};
 ghost use Rattle.problems.specs.Refutations.{ChoiceParts, same_version};

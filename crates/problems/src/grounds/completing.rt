@@ -3,7 +3,7 @@
 ghost use Rattle.std.specs.Prelude.{◌≡◌, List, MatchOption, Some, false, true};
 ghost use Rattle.std.specs.List.{list_all, slice_get};
 ghost use Rattle.std.specs.Option.{option_copied};
-ghost use Rattle.problems.specs.Checking as spec;
+ghost use Rattle.problems.specs.Tied.Checking as spec;
 ghost use Rattle.problems.specs.Refutations.{ChoiceParts};
 
 use crate::checking::exhausted::is_within;

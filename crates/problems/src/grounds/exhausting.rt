@@ -5,7 +5,7 @@ ghost use Rattle.std.specs.List.{Contains, list_any, slice_get};
 ghost use Rattle.std.specs.Option.{option_copied};
 ghost use Rattle.search.specs.Conflicts.{NoneLeft};
 ghost use Rattle.pep508.specs.Requirement.{RequirementParts};
-ghost use Rattle.problems.specs.Checking as spec;
+ghost use Rattle.problems.specs.Tied.Checking as spec;
 ghost use Rattle.problems.specs.Grounds.{IsGround};
 ghost use Rattle.problems.specs.Refutations.{same_version};
 ghost use Rattle.problems.specs.Rules.{counts, nodes_of, rules_of, wants, with_extra};

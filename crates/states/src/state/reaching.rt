@@ -4,7 +4,7 @@ ghost use Rattle.std.specs.Prelude.{◌≡◌, ◌↔◌, ◌++◌, ◌∷◌, �
 ghost use Rattle.std.specs.List.{AllByRecursion, Contains, slice_index_or};
 ghost use Rattle.pep508.specs.Requirement.{requirement_of};
 ghost use Rattle.problems.specs.Problem.{active_in, requirements};
-ghost use Rattle.problems.specs.Standing.{IsOnce};
+ghost use Rattle.problems.specs.Tied.Standing.{IsOnce};
 ghost use Rattle.pylock.specs.Locks.{are_entries};
 ghost use Rattle.states.specs.Changes.{entry_on};
 ghost use Rattle.states.specs.State.{Reached};

@@ -1,6 +1,6 @@
 use Rattle.std.proofs.Common.{filter, take}
 use Rattle.std.specs.Option.{option_copied}
-use Rattle.problems.specs.Growing.{Grows, nodes_asked}
+use Rattle.problems.specs.Tied.Growing.{Grows, nodes_asked}
 use Rattle.problems.specs.Rules.{counts}
 use Rattle.problems.proofs.needed.add_dependencies.Given as goal
 

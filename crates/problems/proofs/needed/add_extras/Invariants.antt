@@ -1,5 +1,5 @@
 use Rattle.std.proofs.Common.{map, take}
-use Rattle.problems.specs.Growing.{Grows}
+use Rattle.problems.specs.Tied.Growing.{Grows}
 use Rattle.problems.specs.Rules.{with_extra}
 use Rattle.problems.proofs.needed.add_extras.Given as goal
 

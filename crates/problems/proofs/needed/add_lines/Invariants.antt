@@ -1,5 +1,5 @@
 use Rattle.std.proofs.Common.{take}
-use Rattle.problems.specs.Growing.{Grows, nodes_asked}
+use Rattle.problems.specs.Tied.Growing.{Grows, nodes_asked}
 use Rattle.problems.proofs.needed.add_lines.Given as goal
 
 abbrev pub invariant-loop-wanted : goal.invariant-loop-wanted

@@ -1,6 +1,6 @@
 use Rattle.std.proofs.Common.{List, ap, sym, subst}
 use Rattle.problems.specs.Problem.{ProblemParts}
-use Rattle.problems.specs.Growing.{Grows}
+use Rattle.problems.specs.Tied.Growing.{Grows}
 use Rattle.problems.specs.declared.node.Node.{Node}
 use Rattle.problems.proofs.Closing.{linked-released, linked-unchosen, linked-unreleased}
 use Rattle.problems.proofs.Growing.{Grows-none}

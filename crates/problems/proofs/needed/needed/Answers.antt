@@ -1,6 +1,6 @@
 use Rattle.std.proofs.Common.{◌<◌, ◌≤◌, length, length-append, arith, ap, ◌∙◌}
 use Rattle.problems.specs.Problem.{ProblemParts}
-use Rattle.problems.specs.Growing.{Grows, nodes_linked, nodes_met}
+use Rattle.problems.specs.Tied.Growing.{Grows, nodes_linked, nodes_met}
 use Rattle.problems.specs.Solutions.{version_for}
 use Rattle.problems.proofs.Closing.{closing-end, closing-start, closing-step}
 use Rattle.problems.proofs.NodesMet.{needed-met}

@@ -1,7 +1,7 @@
 use Rattle.std.proofs.Common.{◌-◌, ◌≤◌, length}
 use Rattle.problems.proofs.Closing.{IsClosing}
 use Rattle.problems.proofs.needed.needed.Given as goal
-use Rattle.problems.specs.Growing.{nodes_met}
+use Rattle.problems.specs.Tied.Growing.{nodes_met}
 use Rattle.problems.specs.Solutions.{version_for}
 
 abbrev pub invariant-loop-at : goal.invariant-loop-at

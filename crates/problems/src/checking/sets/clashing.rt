@@ -4,10 +4,10 @@ ghost use Rattle.std.specs.Prelude.{◌≡◌, ◌↔◌, ◌&&◌, IsTrue};
 ghost use Rattle.std.specs.List.{list_all, list_any};
 ghost use Rattle.std.specs.Option.{option_copied};
 ghost use Rattle.search.specs.SetConflicts.{SetsClash};
-ghost use Rattle.problems.specs.Checking as choices;
+ghost use Rattle.problems.specs.Tied.Checking as choices;
 ghost use Rattle.problems.specs.Refutations.{same_version};
 ghost use Rattle.problems.specs.Rules.{counts, rules_of, wants};
-ghost use Rattle.problems.specs.SetChecking as spec;
+ghost use Rattle.problems.specs.Tied.SetChecking as spec;
 
 use crate::admission::admits;
 use crate::checking::sets::refusing::refuses_all;

@@ -4,9 +4,9 @@ ghost use Rattle.std.specs.Prelude.{◌≡◌, ◌↔◌, ◌&&◌, ◌||◌, Is
 ghost use Rattle.std.specs.List.{list_all, list_any};
 ghost use Rattle.std.specs.Option.{option_copied};
 ghost use Rattle.search.specs.SetConflicts.{EachVersion};
-ghost use Rattle.problems.specs.NodeEquality.{is_node};
+ghost use Rattle.problems.specs.Tied.NodeEquality.{is_node};
 ghost use Rattle.problems.specs.Refutations.{same_version};
-ghost use Rattle.problems.specs.SetChecking as spec;
+ghost use Rattle.problems.specs.Tied.SetChecking as spec;
 
 use crate::checking::sets::listing::{are_listed, found_from};
 use crate::nodes::is_asked;

@@ -4,10 +4,10 @@ ghost use Rattle.std.specs.Prelude.{◌≡◌, ◌⊎◌, ◌&&◌, IsTrue};
 ghost use Rattle.std.specs.List.{list_all, list_any};
 ghost use Rattle.std.specs.Option.{option_copied};
 ghost use Rattle.search.specs.SetConflicts.{NoCandidateLeft, SetsClash};
-ghost use Rattle.problems.specs.NodeEquality.{is_node};
+ghost use Rattle.problems.specs.Tied.NodeEquality.{is_node};
 ghost use Rattle.problems.specs.Refutations.{same_version};
 ghost use Rattle.problems.specs.Rules.{bare, counts, nodes_of, rules_of, wants, with_extra};
-ghost use Rattle.problems.specs.SetChecking as spec;
+ghost use Rattle.problems.specs.Tied.SetChecking as spec;
 
 use crate::checking::sets::completing::each_release_completes;
 use crate::nodes::is_asked;

@@ -3,7 +3,7 @@
 
 ghost use Rattle.std.specs.Prelude.{◌≡◌, IfSome, drop, is_some, true};
 ghost use Rattle.std.specs.List.{list_all};
-ghost use Rattle.problems.specs.SetChecking as spec;
+ghost use Rattle.problems.specs.Tied.SetChecking as spec;
 
 use pep440::Version;
 

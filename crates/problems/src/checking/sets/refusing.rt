@@ -5,7 +5,7 @@ ghost use Rattle.std.specs.List.{list_all, list_any};
 ghost use Rattle.search.specs.SetConflicts.{LineRefusesSet};
 ghost use Rattle.problems.specs.Admission as admission;
 ghost use Rattle.problems.specs.Rules.{rules_of};
-ghost use Rattle.problems.specs.SetChecking as spec;
+ghost use Rattle.problems.specs.Tied.SetChecking as spec;
 
 use crate::admission::admits;
 use crate::question::Question;

@@ -3,7 +3,7 @@ use Rattle.std.specs.List.{list_all}
 use Rattle.search.specs.FirstWalk.{IsFirst}
 use Rattle.problems.specs.Admission.{admits}
 use Rattle.problems.specs.Rules.{rules_of}
-use Rattle.resolve.specs.Choosing.{IsRefusedBy}
+use Rattle.resolve.specs.Tied.Choosing.{IsRefusedBy}
 use Rattle.resolve.proofs.FirstAdmitted.{first-behind, first-kept, some-more}
 use Rattle.resolve.proofs.choosing.first_admitted.Goals as goal
 

@@ -1,5 +1,5 @@
 use Rattle.std.proofs.Common.{sym, subst}
-use Rattle.resolve.specs.Choosing.{IsNewest}
+use Rattle.resolve.specs.Tied.Choosing.{IsNewest}
 use Rattle.resolve.proofs.FirstAdmitted.{newest-found}
 use Rattle.resolve.proofs.choosing.newest_admitted.Goals as goal
 

@@ -1,6 +1,6 @@
 use Rattle.std.proofs.Common.{map, take}
 use Rattle.problems.specs.Rules.{with_extra}
-use Rattle.resolve.specs.Walking.{Follow}
+use Rattle.resolve.specs.Tied.Walking.{Follow}
 use Rattle.resolve.proofs.following.follow_extras.Given as goal
 
 abbrev pub invariant-loop-extra : goal.invariant-loop-extra

@@ -1,7 +1,7 @@
 use Rattle.std.proofs.Common.{ℕ, List, map, take, subst, arith}
 use Rattle.std.proofs.lemmas.Grind.{common_steps}
 use Rattle.problems.specs.Rules.{with_extra}
-use Rattle.problems.specs.Standing.{IsWith, Stands}
+use Rattle.problems.specs.Tied.Standing.{IsWith, Stands}
 use Rattle.resolve.proofs.Gathered.{only-all, only-more}
 use Rattle.resolve.proofs.Standing.{AllStand-longer, AllZip-more, longer-then}
 use Rattle.resolve.proofs.gathering.extras_of.Goals as goal

@@ -1,6 +1,6 @@
 use Rattle.std.proofs.Common.{◌⊎◌, Contains, map, take}
 use Rattle.problems.specs.Rules.{with_extra}
-use Rattle.problems.specs.Standing.{AllStand, IsLonger}
+use Rattle.problems.specs.Tied.Standing.{AllStand, IsLonger}
 use Rattle.problems.specs.declared.node.Node.{Node}
 use Rattle.resolve.proofs.gathering.extras_of.Given as goal
 

@@ -1,4 +1,4 @@
-use Rattle.problems.specs.Standing.{Stands}
+use Rattle.problems.specs.Tied.Standing.{Stands}
 use Rattle.problems.specs.declared.node.Node.{Node}
 use Rattle.resolve.proofs.Standing.{AllZip-more}
 use Rattle.resolve.proofs.names.numbers_of.Goals as goal

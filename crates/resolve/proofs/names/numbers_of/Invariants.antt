@@ -1,5 +1,5 @@
 use Rattle.std.proofs.Common.{map, take}
-use Rattle.problems.specs.Standing.{AllStand}
+use Rattle.problems.specs.Tied.Standing.{AllStand}
 use Rattle.resolve.proofs.names.numbers_of.Given as goal
 
 abbrev pub invariant-loop-node : goal.invariant-loop-node

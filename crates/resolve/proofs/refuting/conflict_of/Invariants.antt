@@ -1,5 +1,5 @@
 use Rattle.std.proofs.Common.{◌≡◌, map, take}
-use Rattle.resolve.specs.Pictured.{choice_at}
+use Rattle.resolve.specs.Tied.Pictured.{choice_at}
 use Rattle.resolve.proofs.refuting.conflict_of.Given as goal
 
 abbrev pub invariant-loop-decision : goal.invariant-loop-decision

@@ -4,7 +4,7 @@ use Rattle.search.specs.Table.{IsAscending, place_in, rules_of as rules_of_table
 use Rattle.search.specs.declared.parts.Choice.{Choice}
 use Rattle.problems.specs.Rules.{rules_of}
 use Rattle.problems.specs.Solutions.{version_for}
-use Rattle.resolve.specs.Pictured.{AreKnown, chosen, picture_of}
+use Rattle.resolve.specs.Tied.Pictured.{AreKnown, chosen, picture_of}
 use Rattle.resolve.proofs.PictureOf.{bytes-order}
 use Rattle.resolve.proofs.Solving.{best-known, best-same}
 use Rattle.resolve.proofs.searching.best_in.Goals as goal

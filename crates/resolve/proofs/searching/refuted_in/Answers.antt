@@ -6,7 +6,7 @@ use Rattle.search.specs.Table.{place_in, rules_of as rules_of_table, places_eq}
 use Rattle.search.specs.declared.conflict.NodeChoice.{NodeChoice}
 use Rattle.problems.specs.Refutations.{ChoiceParts, same_version}
 use Rattle.problems.specs.Rules.{rules_of}
-use Rattle.resolve.specs.Pictured.{choice_at, picture_of}
+use Rattle.resolve.specs.Tied.Pictured.{choice_at, picture_of}
 use Rattle.resolve.proofs.PictureOf.{bytes-order}
 use Rattle.resolve.proofs.Solving.{best-solves}
 use Rattle.resolve.proofs.searching.refuted_in.Goals as goal

@@ -1,7 +1,7 @@
 use Rattle.std.proofs.Common.{◌≡◌, ◌<◌, ◌-◌, ℕ, suc, List, get_or, drop, length, subst, arith}
 use Rattle.search.specs.declared.parts.Choice.{Choice}
 use Rattle.problems.specs.Solutions.{version_for}
-use Rattle.resolve.specs.Pictured.{chosen}
+use Rattle.resolve.specs.Tied.Pictured.{chosen}
 use Rattle.resolve.proofs.Solving.{get_or-any, put-more}
 use Rattle.resolve.proofs.solution.versions_of.Goals as goal
 

@@ -1,6 +1,6 @@
 use Rattle.std.proofs.Common.{◌≡◌, ◌≤◌, List, ℕ, drop, length}
 use Rattle.problems.specs.Solutions.{version_for}
-use Rattle.resolve.specs.Pictured.{chosen}
+use Rattle.resolve.specs.Tied.Pictured.{chosen}
 use Rattle.resolve.proofs.solution.versions_of.Given as goal
 
 abbrev pub decreases-loop-left : goal.decreases-loop-left

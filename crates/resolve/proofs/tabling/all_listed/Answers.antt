@@ -1,5 +1,5 @@
 use Rattle.resolve.proofs.Standing.{AllZip-more_same}
-use Rattle.resolve.specs.Pictured.{IsListed}
+use Rattle.resolve.specs.Tied.Pictured.{IsListed}
 use Rattle.resolve.proofs.tabling.all_listed.Goals as goal
 
 pub loop-name-preserved : goal.loop-name-preserved

@@ -1,5 +1,5 @@
 use Rattle.std.proofs.Common.{take}
-use Rattle.resolve.specs.Pictured.{AreListed}
+use Rattle.resolve.specs.Tied.Pictured.{AreListed}
 use Rattle.resolve.proofs.tabling.all_listed.Given as goal
 
 abbrev pub invariant-loop-name : goal.invariant-loop-name

@@ -1,7 +1,7 @@
 use Rattle.std.proofs.Common.{◌∙◌, Contains, List, ℕ, map, sym, subst}
-use Rattle.problems.specs.Standing.{AllStand}
+use Rattle.problems.specs.Tied.Standing.{AllStand}
 use Rattle.problems.specs.declared.node.Node.{Node}
-use Rattle.resolve.specs.Pictured.{AreListed, IsPictured}
+use Rattle.resolve.specs.Tied.Pictured.{AreListed, IsPictured}
 use Rattle.resolve.proofs.TableOf.{gathered-as, made-pictured, never-none}
 use Rattle.resolve.proofs.tabling.table_of.Goals as goal
 

@@ -1,5 +1,5 @@
 use Rattle.std.proofs.Common.{◌≡◌, ◌≤◌, ◌+◌, ◌∙◌, [], ap, length, arith}
-use Rattle.problems.specs.Growing.{nodes_met}
+use Rattle.problems.specs.Tied.Growing.{nodes_met}
 use Rattle.problems.specs.Problem.{ProblemParts}
 use Rattle.problems.specs.Rules.{rules_of}
 use Rattle.resolve.proofs.OnWay.{empty-list, taken-few, way-end, way-start}

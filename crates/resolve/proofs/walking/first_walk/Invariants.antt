@@ -1,6 +1,6 @@
 use Rattle.std.proofs.Common.{◌-◌, [], length}
-use Rattle.problems.specs.Growing.{nodes_met}
-use Rattle.resolve.specs.Walking.{IsOnWay}
+use Rattle.problems.specs.Tied.Growing.{nodes_met}
+use Rattle.resolve.specs.Tied.Walking.{IsOnWay}
 use Rattle.resolve.proofs.walking.first_walk.Given as goal
 
 abbrev pub invariant-turns : goal.invariant-turns

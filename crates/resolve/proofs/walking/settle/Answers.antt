@@ -1,5 +1,5 @@
 use Rattle.std.proofs.Common.{◌<◌, ◌+◌, drop, length, arith}
-use Rattle.resolve.specs.Walking.{IsOnWay, IsPlaced}
+use Rattle.resolve.specs.Tied.Walking.{IsOnWay, IsPlaced}
 use Rattle.resolve.proofs.OnWay.{settle-more, settle-smaller}
 use Rattle.resolve.proofs.walking.settle.Goals as goal
 

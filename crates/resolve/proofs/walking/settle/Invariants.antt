@@ -1,6 +1,6 @@
 use Rattle.std.proofs.Common.{◌-◌, ◌+◌, ◌*◌, drop, length}
-use Rattle.problems.specs.Growing.{nodes_met, requirements_met}
-use Rattle.resolve.specs.Walking.{IsOnWay}
+use Rattle.problems.specs.Tied.Growing.{nodes_met, requirements_met}
+use Rattle.resolve.specs.Tied.Walking.{IsOnWay}
 use Rattle.resolve.proofs.walking.settle.Given as goal
 
 abbrev pub invariant-loop-at : goal.invariant-loop-at

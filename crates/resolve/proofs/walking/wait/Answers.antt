@@ -3,7 +3,7 @@ use Rattle.std.specs.BTreeMap.{Updates}
 use Rattle.std.specs.Cmp.Lexicographic.{slice_cmp}
 use Rattle.std.specs.Ordering.{nat_cmp}
 use Rattle.pep508.specs.Requirement.{RequirementParts}
-use Rattle.resolve.specs.Walking.{value_at}
+use Rattle.resolve.specs.Tied.Walking.{value_at}
 use Rattle.resolve.proofs.OnWay.{waiting-put}
 use Rattle.resolve.proofs.walking.wait.Goals as goal
 use Rattle.resolve.proofs.walking.wait.Goals.{in-Some, in-None}

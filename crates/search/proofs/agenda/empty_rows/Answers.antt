@@ -2,7 +2,7 @@ use Rattle.std.proofs.Common.{ℕ, List, [], ◌∷◌, ◌∙◌, ◌+◌, ◌�
 use Rattle.std.specs.Global.{Vec}
 use Rattle.search.proofs.Rows.{row-empty_push}
 use Rattle.search.specs.declared.agenda.Ask.{Ask}
-use Rattle.search.specs.Agendas.{row_at}
+use Rattle.search.specs.Tied.Agendas.{row_at}
 use Rattle.search.proofs.agenda.empty_rows.Goals as goal
 
 pub loop-preserved : goal.loop-preserved

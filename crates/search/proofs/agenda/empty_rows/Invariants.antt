@@ -1,5 +1,5 @@
 use Rattle.std.proofs.Common.{ℕ, [], length, ◌≡◌}
-use Rattle.search.specs.Agendas.{row_at}
+use Rattle.search.specs.Tied.Agendas.{row_at}
 use Rattle.search.proofs.agenda.empty_rows.Given as goal
 
 abbrev pub invariant-loop : goal.invariant-loop

@@ -1,6 +1,6 @@
 use Rattle.std.proofs.Common.{take, map, ℕ}
 use Rattle.std.specs.List.{Contains}
-use Rattle.search.specs.Gathering.{choice_at, decision}
+use Rattle.search.specs.Tied.Gathering.{choice_at, decision}
 use Rattle.search.proofs.agenda.first_free.Given as goal
 
 abbrev pub invariant-loop-node : goal.invariant-loop-node

@@ -2,8 +2,8 @@ use Rattle.std.proofs.Common.{ℕ, List, Option, Some, None, MatchOption, Contai
 use Rattle.lists.proofs.Members.{Contains-here, Contains-there, Contains-cons_cases}
 use Rattle.search.specs.declared.conflict.NodeChoice.{NodeChoice}
 use Rattle.search.specs.declared.parts.Requirement.{Requirement}
-use Rattle.search.specs.Gathering.{choice_at, decision}
-use Rattle.search.specs.Learned.{IsFree}
+use Rattle.search.specs.Tied.Gathering.{choice_at, decision}
+use Rattle.search.specs.Tied.Learned.{IsFree}
 use Rattle.search.specs.Table.{asked_nodes}
 use Rattle.search.proofs.agenda.first_free_of.Goals as goal
 

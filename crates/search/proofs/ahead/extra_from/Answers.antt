@@ -1,7 +1,7 @@
 use Rattle.std.proofs.Common.{List, ℕ, [], ◌∙◌, Contains, refl, sym, ap, subst}
 use Rattle.lists.proofs.Members.{Contains-here, Contains-there}
 use Rattle.search.specs.declared.parts.Requirement.{Requirement}
-use Rattle.search.specs.Learned.{first_at}
+use Rattle.search.specs.Tied.Learned.{first_at}
 use Rattle.search.specs.Table.{asked_nodes}
 use Rattle.search.proofs.ahead.extra_from.Goals as goal
 

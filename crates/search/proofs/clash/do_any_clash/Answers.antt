@@ -1,7 +1,7 @@
 use Rattle.std.proofs.Common.{sym, ◌∙◌}
 use Rattle.search.proofs.Clashes.{any-more, any-found, any-none}
 use Rattle.search.proofs.Ranges.{at-member}
-use Rattle.search.specs.Search.{clash_in, taken_at}
+use Rattle.search.specs.Tied.Search.{clash_in, taken_at}
 use Rattle.search.specs.Table.{rules_of}
 use Rattle.search.proofs.clash.do_any_clash.Goals as goal
 

@@ -1,6 +1,6 @@
 use Rattle.std.proofs.Common.{◌≡◌, false, take}
 use Rattle.std.specs.List.{list_any}
-use Rattle.search.specs.Search.{clash_in, taken_at}
+use Rattle.search.specs.Tied.Search.{clash_in, taken_at}
 use Rattle.search.specs.Table.{rules_of}
 use Rattle.search.proofs.clash.do_any_clash.Given as goal
 

@@ -3,7 +3,7 @@ use Rattle.search.proofs.Least.{IsFound, found-passed, found-lesser}
 use Rattle.lists.proofs.Members.{take-whole}
 use Rattle.search.proofs.Ranges.{at-member}
 use Rattle.search.specs.Rules.{Rules}
-use Rattle.search.specs.Search.{taken_at}
+use Rattle.search.specs.Tied.Search.{taken_at}
 use Rattle.search.specs.Table.{rules_of}
 use Rattle.search.proofs.clash.least_free.Goals as goal
 use Rattle.search.proofs.clash.least_free.Goals.{then-is_none, else-is_none}

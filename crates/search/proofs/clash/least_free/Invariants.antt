@@ -1,6 +1,6 @@
 use Rattle.std.proofs.Common.{take}
 use Rattle.search.proofs.Least.{IsFound}
-use Rattle.search.specs.Search.{taken_at}
+use Rattle.search.specs.Tied.Search.{taken_at}
 use Rattle.search.specs.Table.{rules_of}
 use Rattle.search.proofs.clash.least_free.Given as goal
 

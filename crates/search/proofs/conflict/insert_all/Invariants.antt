@@ -1,5 +1,5 @@
 use Rattle.std.proofs.Common.{take, ◌∷◌, []}
-use Rattle.search.specs.Gathering.{Gathers}
+use Rattle.search.specs.Tied.Gathering.{Gathers}
 use Rattle.search.proofs.conflict.insert_all.Given as goal
 
 abbrev pub invariant-loop-decision : goal.invariant-loop-decision

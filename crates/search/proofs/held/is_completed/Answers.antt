@@ -1,6 +1,6 @@
 use Rattle.std.proofs.Common.{map}
 use Rattle.search.proofs.Sets.{within-more, within-whole}
-use Rattle.search.specs.Gathering.{choice_at}
+use Rattle.search.specs.Tied.Gathering.{choice_at}
 use Rattle.search.proofs.held.is_completed.Goals as goal
 
 pub loop-decision-preserved : goal.loop-decision-preserved

@@ -1,5 +1,5 @@
 use Rattle.std.proofs.Common.{take, map}
-use Rattle.search.specs.Gathering.{IsWithin, choice_at}
+use Rattle.search.specs.Tied.Gathering.{IsWithin, choice_at}
 use Rattle.search.proofs.held.is_completed.Given as goal
 
 abbrev pub invariant-loop-decision : goal.invariant-loop-decision

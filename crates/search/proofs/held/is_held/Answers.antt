@@ -2,7 +2,7 @@ use Rattle.std.proofs.Common.{ℕ, ◌≡◌, ◌∙◌, Contains, map, sym, ap,
 use Rattle.std.proofs.lemmas.Bool.{eqb-true}
 use Rattle.std.specs.Option.{option_copied}
 use Rattle.search.proofs.Entries.{lookup-found}
-use Rattle.search.specs.Gathering.{choice_at, decision}
+use Rattle.search.specs.Tied.Gathering.{choice_at, decision}
 use Rattle.search.proofs.held.is_held.Goals as goal
 
 pub returns-in-Some : goal.returns-in-Some

@@ -1,9 +1,9 @@
 use Rattle.std.proofs.Common.{ℕ, zero, suc, List, [], ◌∷◌, ◌≡◌, ◌∙◌, Option, map, refl, sym, ap}
 use Rattle.search.proofs.Asked.{first-version}
 use Rattle.search.specs.declared.conflict.NodeChoice.{NodeChoice}
-use Rattle.search.specs.Learned.{first_at}
-use Rattle.search.specs.Learning.{version_of}
-use Rattle.search.specs.Search.{taken_at}
+use Rattle.search.specs.Tied.Learned.{first_at}
+use Rattle.search.specs.Tied.Learning.{version_of}
+use Rattle.search.specs.Tied.Search.{taken_at}
 use Rattle.search.specs.Table.{rules_of}
 use Rattle.search.proofs.learning.choices_of.Goals as goal
 

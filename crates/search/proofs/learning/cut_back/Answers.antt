@@ -7,11 +7,11 @@ use Rattle.search.specs.declared.conflict.NodeChoice.{NodeChoice}
 use Rattle.search.specs.declared.held.Partial.{Partial}
 use Rattle.search.specs.declared.trial.Held.{Held}
 use Rattle.search.specs.declared.trial.Trial.{Trial}
-use Rattle.search.specs.Gathering.{decision}
-use Rattle.search.specs.Learned.{decision_of, decisions_of, IsHeld, IsLearning, IsPartial}
-use Rattle.search.specs.Learning.{IsLearned}
+use Rattle.search.specs.Tied.Gathering.{decision}
+use Rattle.search.specs.Tied.Learned.{decision_of, decisions_of, IsHeld, IsLearning, IsPartial}
+use Rattle.search.specs.Tied.Learning.{IsLearned}
 use Rattle.search.specs.Table.{TableParts, rules_of, candidates_of, name_of}
-use Rattle.search.specs.Trials.{RefusesOneMore}
+use Rattle.search.specs.Tied.Trials.{RefusesOneMore}
 use Rattle.search.proofs.learning.cut_back.Goals as goal
 
 abbrev Popped : List Held → List Held → Option Held → Type 0

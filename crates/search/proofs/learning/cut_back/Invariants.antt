@@ -1,8 +1,8 @@
 use Rattle.std.proofs.Common.{ℕ, List, [], ◌++◌, ◌≡◌, Contains, vec_len, slice_index_or}
 use Rattle.search.specs.declared.conflict.NodeChoice.{NodeChoice}
 use Rattle.search.specs.declared.trial.Held.{Held}
-use Rattle.search.specs.Learned.{decisions_of}
-use Rattle.search.specs.Learning.{IsLearned}
+use Rattle.search.specs.Tied.Learned.{decisions_of}
+use Rattle.search.specs.Tied.Learning.{IsLearned}
 use Rattle.search.proofs.learning.cut_back.Given as goal
 
 abbrev pub invariant-loop-held : goal.invariant-loop-held

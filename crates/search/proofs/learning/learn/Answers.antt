@@ -3,7 +3,7 @@ use Rattle.std.proofs.lemmas.Grind.{common_steps}
 use Rattle.std.proofs.lemmas.Option.{MatchOption-at_none}
 use Rattle.search.proofs.Learns.{exhausted-learned, exhausted-within, last-recorded, recorded-refutation}
 use Rattle.search.specs.declared.conflict.NodeChoice.{NodeChoice}
-use Rattle.search.specs.Learning.{IsLearned}
+use Rattle.search.specs.Tied.Learning.{IsLearned}
 use Rattle.search.specs.Table.{rules_of}
 use Rattle.search.proofs.learning.learn.Goals as goal
 

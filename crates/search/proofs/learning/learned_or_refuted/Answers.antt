@@ -9,8 +9,8 @@ use Rattle.search.specs.declared.learning.Progress.{Progress}
 use Rattle.search.specs.declared.learning.Progress.TheVariants.{Trying, Solved, Refuted}
 use Rattle.search.specs.Conflicts.{IsRefutation}
 use Rattle.search.specs.Known.{AreKnown}
-use Rattle.search.specs.Learned.{chosen_held}
-use Rattle.search.specs.Learning.{StandsAt}
+use Rattle.search.specs.Tied.Learned.{chosen_held}
+use Rattle.search.specs.Tied.Learning.{StandsAt}
 use Rattle.search.specs.Solutions.{IsBest}
 use Rattle.search.specs.Table.{TableParts, rules_of, place_in, places_eq}
 use Rattle.search.proofs.learning.learned_or_refuted.Goals as goal

@@ -1,5 +1,5 @@
 use Rattle.search.proofs.WhatIsLeftToLearn.{progress_work}
-use Rattle.search.specs.Learning.{StandsAt}
+use Rattle.search.specs.Tied.Learning.{StandsAt}
 use Rattle.search.proofs.learning.learned_or_refuted.Given as goal
 
 abbrev pub invariant-search : goal.invariant-search

@@ -2,7 +2,7 @@ use Rattle.std.proofs.Common.{List, [], sym, ap, subst}
 use Rattle.search.proofs.LearnedSearch.{learned-best}
 use Rattle.search.proofs.WhatIsLeft.{table-lawful}
 use Rattle.search.specs.declared.trial.Held.{Held}
-use Rattle.search.specs.Learned.{IsLearning, IsTrial, chosen_held}
+use Rattle.search.specs.Tied.Learned.{IsLearning, IsTrial, chosen_held}
 use Rattle.search.specs.Solutions.{IsBest}
 use Rattle.search.specs.Table.{rules_of}
 use Rattle.search.proofs.learning.onward.Goals as goal

@@ -1,5 +1,5 @@
 use Rattle.std.proofs.Common.{take, map, ◌≡◌}
-use Rattle.search.specs.Learning.{version_of}
+use Rattle.search.specs.Tied.Learning.{version_of}
 use Rattle.search.proofs.learning.places_of.Given as goal
 
 abbrev pub invariant-loop-first : goal.invariant-loop-first

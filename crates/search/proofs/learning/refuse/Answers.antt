@@ -6,12 +6,12 @@ use Rattle.search.proofs.Learns.{trial-refused, trial-known, candidate-known, wi
 use Rattle.search.specs.declared.conflict.NodeChoice.{NodeChoice}
 use Rattle.search.specs.declared.trial.Held.{Held}
 use Rattle.search.specs.declared.trial.Trial.{Trial}
-use Rattle.search.specs.Gathering.{IsWithin, choice_at, decision}
+use Rattle.search.specs.Tied.Gathering.{IsWithin, choice_at, decision}
 use Rattle.search.specs.Known.{IsKnown}
-use Rattle.search.specs.Learned.{IsTrial}
-use Rattle.search.specs.Learning.{IsLearned, IsRefusedFor}
+use Rattle.search.specs.Tied.Learned.{IsTrial}
+use Rattle.search.specs.Tied.Learning.{IsLearned, IsRefusedFor}
 use Rattle.search.specs.Table.{TableParts, rules_of}
-use Rattle.search.specs.Trials.{RefusesOneMore}
+use Rattle.search.specs.Tied.Trials.{RefusesOneMore}
 use Rattle.search.proofs.learning.refuse.Goals as goal
 
 pub clash-requires-clause-node : goal.clash-requires-clause-node

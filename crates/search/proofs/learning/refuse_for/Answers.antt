@@ -1,7 +1,7 @@
 use Rattle.std.proofs.Common.{ℕ, List, subst}
 use Rattle.search.specs.declared.conflict.NodeChoice.{NodeChoice}
-use Rattle.search.specs.Gathering.{decision}
-use Rattle.search.specs.Trials.{RefusesOneMore}
+use Rattle.search.specs.Tied.Gathering.{decision}
+use Rattle.search.specs.Tied.Trials.{RefusesOneMore}
 use Rattle.search.proofs.learning.refuse_for.Goals as goal
 
 pub returns : goal.returns

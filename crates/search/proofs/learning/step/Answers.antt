@@ -2,8 +2,8 @@ use Rattle.std.proofs.Common.{ℕ, List, ◌≡◌, ◌∙◌, ◌<◌, length, 
 use Rattle.lists.proofs.Members.{get_or-any}
 use Rattle.search.proofs.Learns.{trial-known, leads-first, learned-push}
 use Rattle.search.specs.declared.trial.Trial.{Trial}
-use Rattle.search.specs.Gathering.{decision}
-use Rattle.search.specs.Learned.{FitsBefore}
+use Rattle.search.specs.Tied.Gathering.{decision}
+use Rattle.search.specs.Tied.Learned.{FitsBefore}
 use Rattle.search.specs.Table.{TableParts, rules_of, candidates_of, name_of}
 use Rattle.search.proofs.learning.step.Goals as goal
 

@@ -1,5 +1,5 @@
 use Rattle.std.proofs.Common.{take}
-use Rattle.search.specs.Nodes.{IsGrown, nodes_asked}
+use Rattle.search.specs.Tied.Nodes.{IsGrown, nodes_asked}
 use Rattle.search.specs.Table.{rules_of}
 use Rattle.search.proofs.needed.add_asked.Given as goal
 

@@ -2,7 +2,7 @@ use Rattle.std.proofs.Common.{List, ℕ, Contains, ◌<◌, ◌∷◌, [], lengt
 use Rattle.lists.proofs.Members.{Contains-here, Contains-there}
 use Rattle.search.proofs.Nodes.{grown-then}
 use Rattle.search.specs.declared.parts.Requirement.{Requirement}
-use Rattle.search.specs.Nodes.{IsGrown}
+use Rattle.search.specs.Tied.Nodes.{IsGrown}
 use Rattle.search.specs.Ranges.{EachBelow}
 use Rattle.search.specs.Table.{asked_nodes}
 use Rattle.search.proofs.needed.add_nodes.Goals as goal

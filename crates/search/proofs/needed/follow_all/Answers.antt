@@ -1,6 +1,6 @@
 use Rattle.std.proofs.Common.{[], ◌<◌, length, arith, sym, ◌∙◌, append-nil}
 use Rattle.search.proofs.Walks.{extends-then, followed-needed, followed-asked}
-use Rattle.search.specs.Search.{taken_at}
+use Rattle.search.specs.Tied.Search.{taken_at}
 use Rattle.search.specs.Table.{rules_of}
 use Rattle.search.proofs.needed.follow_all.Goals as goal
 

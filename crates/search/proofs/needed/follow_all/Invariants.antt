@@ -1,7 +1,7 @@
 use Rattle.std.proofs.Common.{◌≡◌, ◌≤◌, ◌-◌, length}
-use Rattle.search.specs.Front.{IsFollowed}
-use Rattle.search.specs.Nodes.{Extends}
-use Rattle.search.specs.Search.{taken_at}
+use Rattle.search.specs.Tied.Front.{IsFollowed}
+use Rattle.search.specs.Tied.Nodes.{Extends}
+use Rattle.search.specs.Tied.Search.{taken_at}
 use Rattle.search.specs.Table.{rules_of}
 use Rattle.search.proofs.needed.follow_all.Given as goal
 

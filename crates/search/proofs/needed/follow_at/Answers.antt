@@ -1,7 +1,7 @@
 use Rattle.std.proofs.Common.{[], ◌<◌, length, arith, ap, sym, ◌∙◌, subst, length-append, append-nil}
 use Rattle.search.proofs.Walks.{followed-step, followed-skip}
-use Rattle.search.specs.Nodes.{IsGrown, nodes_linked, wants_linked}
-use Rattle.search.specs.Search.{taken_at}
+use Rattle.search.specs.Tied.Nodes.{IsGrown, nodes_linked, wants_linked}
+use Rattle.search.specs.Tied.Search.{taken_at}
 use Rattle.search.specs.Table.{rules_of, name_of}
 use Rattle.search.proofs.needed.follow_at.Goals as goal
 

@@ -7,9 +7,9 @@ use Rattle.search.specs.declared.conflict.NodeChoice.{NodeChoice}
 use Rattle.search.specs.declared.agenda.Ask.{Ask}
 use Rattle.search.specs.declared.held.Partial.{Partial}
 use Rattle.search.specs.declared.next.Need.{Need}
-use Rattle.search.specs.Asking.{IsFoundNeed, IsTied, NoneTied}
-use Rattle.search.specs.Gathering.{choice_at}
-use Rattle.search.specs.Learned.{IsPartial, asks_of, decisions_of, first_at}
+use Rattle.search.specs.Tied.Asking.{IsFoundNeed, IsTied, NoneTied}
+use Rattle.search.specs.Tied.Gathering.{choice_at}
+use Rattle.search.specs.Tied.Learned.{IsPartial, asks_of, decisions_of, first_at}
 use Rattle.search.specs.Table.{TableParts, rules_of}
 use Rattle.search.proofs.next.next.Goals as goal
 

@@ -3,8 +3,8 @@ use Rattle.std.specs.BTreeSet.{keys}
 use Rattle.search.proofs.Rows.{row-from, rowed-same}
 use Rattle.search.proofs.Watching.{least-found, watched-taken}
 use Rattle.search.specs.declared.agenda.Agenda.{Agenda}
-use Rattle.search.specs.Agendas.{row_at}
-use Rattle.search.specs.Gathering.{choice_at}
+use Rattle.search.specs.Tied.Agendas.{row_at}
+use Rattle.search.specs.Tied.Gathering.{choice_at}
 use Rattle.search.specs.Table.{TableParts}
 use Rattle.search.proofs.next.next_free.Goals as goal
 

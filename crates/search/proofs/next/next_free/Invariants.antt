@@ -1,7 +1,7 @@
 use Rattle.std.proofs.Common.{map, length, ◌≡◌}
 use Rattle.std.specs.BTreeSet.{keys}
-use Rattle.search.specs.Agendas.{AreRowed, IsWatched}
-use Rattle.search.specs.Gathering.{choice_at}
+use Rattle.search.specs.Tied.Agendas.{AreRowed, IsWatched}
+use Rattle.search.specs.Tied.Gathering.{choice_at}
 use Rattle.search.proofs.next.next_free.Given as goal
 
 abbrev pub invariant-loop-name : goal.invariant-loop-name

@@ -6,10 +6,10 @@ use Rattle.search.specs.declared.agenda.Agenda.{Agenda}
 use Rattle.search.specs.declared.agenda.Ask.{Ask}
 use Rattle.search.specs.declared.conflict.NodeChoice.{NodeChoice}
 use Rattle.search.specs.declared.next.Need.{Need}
-use Rattle.search.specs.Agendas.{AreRowed, row_at}
-use Rattle.search.specs.Asking.{AreKnownAsks, IsTied, NoneTied}
-use Rattle.search.specs.Gathering.{choice_at}
-use Rattle.search.specs.Learned.{first_at}
+use Rattle.search.specs.Tied.Agendas.{AreRowed, row_at}
+use Rattle.search.specs.Tied.Asking.{AreKnownAsks, IsTied, NoneTied}
+use Rattle.search.specs.Tied.Gathering.{choice_at}
+use Rattle.search.specs.Tied.Learned.{first_at}
 use Rattle.search.specs.Table.{TableParts, rules_of}
 use Rattle.search.proofs.next.next_tied.Goals as goal
 

@@ -1,6 +1,6 @@
 use Rattle.std.proofs.Common.{map, vec_len, ◌≡◌}
-use Rattle.search.specs.Agendas.{AreRowed, IsWatched}
-use Rattle.search.specs.Gathering.{choice_at}
+use Rattle.search.specs.Tied.Agendas.{AreRowed, IsWatched}
+use Rattle.search.specs.Tied.Gathering.{choice_at}
 use Rattle.search.proofs.next.next_tied.Given as goal
 
 abbrev pub invariant-loop-name : goal.invariant-loop-name

@@ -1,8 +1,8 @@
 use Rattle.std.proofs.Common.{map}
 use Rattle.search.proofs.Ranges.{at-member}
 use Rattle.search.proofs.Needs.{tied-more, tied-end}
-use Rattle.search.specs.Gathering.{choice_at}
-use Rattle.search.specs.Learned.{first_at}
+use Rattle.search.specs.Tied.Gathering.{choice_at}
+use Rattle.search.specs.Tied.Learned.{first_at}
 use Rattle.search.specs.Table.{rules_of}
 use Rattle.search.proofs.next.tied_need.Goals as goal
 

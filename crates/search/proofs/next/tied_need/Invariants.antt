@@ -1,7 +1,7 @@
 use Rattle.std.proofs.Common.{take, map}
-use Rattle.search.specs.Asking.{NoneTied}
-use Rattle.search.specs.Gathering.{choice_at}
-use Rattle.search.specs.Learned.{first_at}
+use Rattle.search.specs.Tied.Asking.{NoneTied}
+use Rattle.search.specs.Tied.Gathering.{choice_at}
+use Rattle.search.specs.Tied.Learned.{first_at}
 use Rattle.search.specs.Table.{rules_of}
 use Rattle.search.proofs.next.tied_need.Given as goal
 

@@ -1,5 +1,5 @@
 use Rattle.std.proofs.Common.{take}
-use Rattle.search.specs.Asking.{AsksFit}
+use Rattle.search.specs.Tied.Asking.{AsksFit}
 use Rattle.search.specs.Table.{rules_of}
 use Rattle.search.proofs.refusal.asked_clash.Given as goal
 

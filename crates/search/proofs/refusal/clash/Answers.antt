@@ -3,12 +3,12 @@ use Rattle.search.proofs.Asked.{AreFirst, clash-tied, clash-asked, clash-wanted,
 use Rattle.search.proofs.Rows.{row-from, row-to}
 use Rattle.search.proofs.WhatIsLeft.{table-lawful}
 use Rattle.search.specs.declared.held.Partial.{Partial}
-use Rattle.search.specs.Agendas.{row_at}
+use Rattle.search.specs.Tied.Agendas.{row_at}
 use Rattle.search.specs.declared.conflict.NodeChoice.{NodeChoice}
 use Rattle.search.specs.declared.agenda.Ask.{Ask}
 use Rattle.search.specs.declared.trial.Held.{Held}
-use Rattle.search.specs.Asking.{AreKnownAsks, AsksFit, AskClashes, WantedFits, WantedClashes, Clashes}
-use Rattle.search.specs.Learned.{FitsBefore, IsPartial, asks_of, first_at}
+use Rattle.search.specs.Tied.Asking.{AreKnownAsks, AsksFit, AskClashes, WantedFits, WantedClashes, Clashes}
+use Rattle.search.specs.Tied.Learned.{FitsBefore, IsPartial, asks_of, first_at}
 use Rattle.search.specs.Table.{TableParts, rules_of}
 use Rattle.search.proofs.refusal.clash.Goals as goal
 

@@ -1,7 +1,7 @@
 use Rattle.search.proofs.Asked.{each-more, each-end}
 use Rattle.search.proofs.Ranges.{at-member}
-use Rattle.search.specs.Asking.{WantedFits}
-use Rattle.search.specs.Learned.{first_at}
+use Rattle.search.specs.Tied.Asking.{WantedFits}
+use Rattle.search.specs.Tied.Learned.{first_at}
 use Rattle.search.specs.Table.{rules_of}
 use Rattle.search.proofs.refusal.wanted_clash.Goals as goal
 

@@ -1,7 +1,7 @@
 use Rattle.std.proofs.Common.{take, ℕ}
 use Rattle.std.specs.List.{Contains}
-use Rattle.search.specs.Asking.{WantedFits}
-use Rattle.search.specs.Learned.{first_at}
+use Rattle.search.specs.Tied.Asking.{WantedFits}
+use Rattle.search.specs.Tied.Learned.{first_at}
 use Rattle.search.specs.Table.{rules_of}
 use Rattle.search.proofs.refusal.wanted_clash.Given as goal
 

@@ -7,8 +7,8 @@ use Rattle.search.proofs.WhatIsLeft.{table-lawful}
 use Rattle.search.specs.declared.front.Front.{Front}
 use Rattle.search.specs.declared.parts.Frame.{Frame}
 use Rattle.search.specs.declared.parts.Step.TheVariants.{Complete, Entered, Refuted}
-use Rattle.search.specs.Front.{IsFrontOf}
-use Rattle.search.specs.Search.{pins_of, AreNeeded, AreAsked, NoneFree, IsLeastFree, clash_in, taken_at}
+use Rattle.search.specs.Tied.Front.{IsFrontOf}
+use Rattle.search.specs.Tied.Search.{pins_of, AreNeeded, AreAsked, NoneFree, IsLeastFree, clash_in, taken_at}
 use Rattle.search.specs.Solutions.{version_pinned}
 use Rattle.search.specs.Table.{TableParts, rules_of}
 use Rattle.search.proofs.search.advance.Goals as goal

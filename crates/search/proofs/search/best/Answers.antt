@@ -7,8 +7,8 @@ use Rattle.search.specs.declared.parts.Frame.{Frame}
 use Rattle.search.specs.declared.parts.Step.TheVariants.{Complete, Entered, Refuted}
 use Rattle.search.specs.Table.{rules_of, place_in}
 use Rattle.search.specs.Solutions.{IsBest, version_pinned}
-use Rattle.search.specs.Search.{pins_of, IsSearch, IsRefuted}
-use Rattle.search.specs.Steps.{IsStep, AreKnownFrames}
+use Rattle.search.specs.Tied.Search.{pins_of, IsSearch, IsRefuted}
+use Rattle.search.specs.Tied.Steps.{IsStep, AreKnownFrames}
 use Rattle.search.proofs.search.best.Goals as goal
 
 pub choices_of-requires : goal.choices_of-requires

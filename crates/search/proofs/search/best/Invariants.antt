@@ -1,8 +1,8 @@
 use Rattle.std.proofs.Common.{[]}
 use Rattle.search.proofs.WhatIsLeft.{work_of}
-use Rattle.search.specs.Front.{IsFrontOf}
+use Rattle.search.specs.Tied.Front.{IsFrontOf}
 use Rattle.search.specs.Table.{rules_of}
-use Rattle.search.specs.Search.{IsSearch}
+use Rattle.search.specs.Tied.Search.{IsSearch}
 use Rattle.search.proofs.search.best.Given as goal
 
 abbrev pub invariant-search : goal.invariant-search

@@ -5,9 +5,9 @@ use Rattle.search.proofs.Steps.{tried-first, tried-none}
 use Rattle.search.proofs.WhatIsLeft.{candidates-named}
 use Rattle.search.specs.declared.parts.Frame.{Frame}
 use Rattle.search.specs.declared.parts.Step.TheVariants.{Entered, Refuted}
-use Rattle.search.specs.Search.{pins_of}
+use Rattle.search.specs.Tied.Search.{pins_of}
 use Rattle.search.specs.Solutions.{version_pinned}
-use Rattle.search.specs.Steps.{IsTried}
+use Rattle.search.specs.Tied.Steps.{IsTried}
 use Rattle.search.specs.Table.{TableParts}
 use Rattle.search.proofs.search.enter.Goals as goal
 

@@ -2,8 +2,8 @@ use Rattle.std.proofs.Common.{◌++◌, ◌∷◌, ◌+◌, [], sym, ◌∙◌, 
 use Rattle.std.proofs.lemmas.Grind.{common_steps}
 use Rattle.search.proofs.Steps.{retreat-found, retreat-none}
 use Rattle.search.specs.Table.{rules_of}
-use Rattle.search.specs.Search.{pins_of, IsSearch, IsRefuted}
-use Rattle.search.specs.Steps.{IsTried}
+use Rattle.search.specs.Tied.Search.{pins_of, IsSearch, IsRefuted}
+use Rattle.search.specs.Tied.Steps.{IsTried}
 use Rattle.search.proofs.search.retreat.Goals as goal
 
 pub returns-then-branch-clause-search : goal.returns-then-branch-clause-search

@@ -1,7 +1,7 @@
 use Rattle.std.proofs.Common.{[], ◌++◌, ◌≡◌, List, vec_len}
 use Rattle.search.specs.declared.parts.Frame.{Frame}
 use Rattle.search.specs.Table.{rules_of}
-use Rattle.search.specs.Search.{pins_of, IsSearch, IsRefuted}
+use Rattle.search.specs.Tied.Search.{pins_of, IsSearch, IsRefuted}
 use Rattle.search.proofs.search.retreat.Given as goal
 
 abbrev pub invariant-loop-last : goal.invariant-loop-last

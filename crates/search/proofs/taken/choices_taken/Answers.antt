@@ -1,7 +1,7 @@
 use Rattle.std.proofs.Common.{◌≡◌, ◌∙◌, ◌+◌, sym, subst, ap, List, ℕ}
 use Rattle.search.proofs.TakenFacts.{IsListed, listed-none, listed-push, listed-end}
 use Rattle.search.specs.declared.parts.Choice.{Choice}
-use Rattle.search.specs.Search.{taken_at}
+use Rattle.search.specs.Tied.Search.{taken_at}
 use Rattle.search.specs.Table.{place_in}
 use Rattle.search.proofs.taken.choices_taken.Goals as goal
 use Rattle.search.proofs.taken.choices_taken.Goals.{in-Some+in_ok-push, in_default}

@@ -1,5 +1,5 @@
 use Rattle.search.proofs.TakenFacts.{IsListed}
-use Rattle.search.specs.Search.{taken_at}
+use Rattle.search.specs.Tied.Search.{taken_at}
 use Rattle.search.proofs.taken.choices_taken.Given as goal
 
 abbrev pub invariant-loop-name : goal.invariant-loop-name

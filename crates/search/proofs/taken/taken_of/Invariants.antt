@@ -1,6 +1,6 @@
 use Rattle.std.proofs.Common.{ℕ, ◌≡◌, take, length}
 use Rattle.std.specs.Ordering.{nat_cmp}
-use Rattle.search.specs.Search.{pins_of, taken_at}
+use Rattle.search.specs.Tied.Search.{pins_of, taken_at}
 use Rattle.search.specs.Solutions.{version_pinned}
 use Rattle.search.proofs.taken.taken_of.Given as goal
 

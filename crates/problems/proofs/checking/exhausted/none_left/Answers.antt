@@ -2,7 +2,7 @@ use Rattle.std.proofs.Common.{List, ap, refl, ◌∙◌}
 use Rattle.std.specs.List.{list_any}
 use Rattle.std.proofs.lemmas.Bool.Decides.{Decides-at}
 use Rattle.pep508.specs.Requirement.{RequirementParts}
-use Rattle.problems.specs.Checking.{none_left}
+use Rattle.problems.specs.Tied.Checking.{none_left}
 use Rattle.problems.specs.Problem.{ProblemParts}
 use Rattle.problems.specs.Rules.{nodes_of}
 use Rattle.problems.proofs.Checked.{by_choice-decides, by_line-decides, none-by_choice, none-by_line, none-without_choice}

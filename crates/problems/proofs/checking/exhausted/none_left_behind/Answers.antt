@@ -1,7 +1,7 @@
 use Rattle.std.proofs.Common.{◌≡◌, ◌∙◌, Bool, subst}
 use Rattle.std.specs.List.{list_any}
 use Rattle.pep508.specs.Requirement.{RequirementParts}
-use Rattle.problems.specs.Checking.{none_left}
+use Rattle.problems.specs.Tied.Checking.{none_left}
 use Rattle.problems.specs.Refutations.{ChoiceParts}
 use Rattle.problems.specs.Rules.{nodes_of, wants}
 use Rattle.problems.proofs.Counting.{any-wanted}

@@ -1,5 +1,5 @@
 use Rattle.std.proofs.Common.{◌≡◌, ◌∙◌, sym, false}
-use Rattle.problems.specs.Checking.{none_left}
+use Rattle.problems.specs.Tied.Checking.{none_left}
 use Rattle.problems.specs.Rules.{bare, with_extra}
 use Rattle.problems.proofs.Deciding.{any-mapped}
 use Rattle.problems.proofs.checking.exhausted.none_left_for.Goals as goal

@@ -2,7 +2,7 @@ use Rattle.std.proofs.Common.{List, ap, ◌∙◌}
 use Rattle.std.specs.List.{list_any}
 use Rattle.std.proofs.lemmas.Bool.Decides.{Decides-at}
 use Rattle.pep508.specs.Requirement.{RequirementParts}
-use Rattle.problems.specs.Checking.{refuses}
+use Rattle.problems.specs.Tied.Checking.{refuses}
 use Rattle.problems.specs.Problem.{ProblemParts}
 use Rattle.problems.proofs.Checked.{line-decides}
 use Rattle.problems.proofs.checking.refusing.line_refuses.Goals as goal

@@ -2,7 +2,7 @@ use Rattle.std.proofs.Common.{◌≡◌, ◌∙◌, Bool, find, subst}
 use Rattle.std.specs.List.{list_any}
 use Rattle.std.specs.Option.{option_copied}
 use Rattle.pep508.specs.Requirement.{RequirementParts}
-use Rattle.problems.specs.Checking.{refuses}
+use Rattle.problems.specs.Tied.Checking.{refuses}
 use Rattle.problems.specs.Refutations.{ChoiceParts}
 use Rattle.problems.specs.Rules.{wants}
 use Rattle.problems.proofs.Grounded.{find-wanted}

@@ -1,6 +1,6 @@
 use Rattle.std.proofs.Common.{◌≡◌, drop}
 use Rattle.std.specs.Option.{option_copied}
-use Rattle.problems.specs.Checking.{completes}
+use Rattle.problems.specs.Tied.Checking.{completes}
 use Rattle.problems.proofs.grounds.completing.first_completed.Given as goal
 
 abbrev pub invariant-loop-place : goal.invariant-loop-place

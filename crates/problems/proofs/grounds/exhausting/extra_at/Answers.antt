@@ -1,6 +1,6 @@
 use Rattle.std.proofs.Common.{◌≡◌, ◌∙◌, sym, false}
 use Rattle.std.specs.Option.{option_copied}
-use Rattle.problems.specs.Checking.{none_left}
+use Rattle.problems.specs.Tied.Checking.{none_left}
 use Rattle.problems.specs.Rules.{bare}
 use Rattle.problems.proofs.Grounded.{extra-found}
 use Rattle.problems.proofs.grounds.exhausting.extra_at.Goals as goal

@@ -1,6 +1,6 @@
 use Rattle.std.proofs.Common.{◌≡◌, drop}
 use Rattle.std.specs.List.{list_any}
-use Rattle.problems.specs.Checking.{none_left}
+use Rattle.problems.specs.Tied.Checking.{none_left}
 use Rattle.problems.specs.Rules.{nodes_of}
 use Rattle.problems.proofs.grounds.exhausting.place_needing.Given as goal
 

@@ -1,6 +1,6 @@
 use Rattle.std.proofs.Common.{◌≡◌, drop}
 use Rattle.std.specs.List.{list_any}
-use Rattle.problems.specs.Checking.{refuses}
+use Rattle.problems.specs.Tied.Checking.{refuses}
 use Rattle.problems.proofs.grounds.refusing.place_refusing.Given as goal
 
 abbrev pub invariant-loop-place : goal.invariant-loop-place

@@ -1,6 +1,6 @@
 use Rattle.std.proofs.Common.{◌∙◌, ◌≡◌, Some, ap, option_copied, sym, subst}
 use Rattle.std.specs.Option.{option_and_then}
-use Rattle.problems.specs.NodeNumbers.{AreListed, number_at, number_in}
+use Rattle.problems.specs.Tied.NodeNumbers.{AreListed, number_at, number_in}
 use Rattle.problems.specs.declared.node.Node.{Node}
 use Rattle.problems.specs.declared.nodes.Numbers.{Numbers}
 use Rattle.problems.proofs.NumbersFound.{elsewhere-apart}

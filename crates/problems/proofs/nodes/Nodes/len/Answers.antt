@@ -1,5 +1,5 @@
 use Rattle.std.proofs.Common.{subst}
-use Rattle.problems.specs.Standing.{IsOnce}
+use Rattle.problems.specs.Tied.Standing.{IsOnce}
 use Rattle.problems.proofs.NumbersFound.{listed-once}
 use Rattle.problems.proofs.nodes.Nodes.len.Goals as goal
 

@@ -1,6 +1,6 @@
 use Rattle.std.proofs.Common.{◌∙◌, ◌≡◌, ◌++◌, ◌∷◌, [], Contains, Some, length, ap, option_copied, sym, subst, arith}
-use Rattle.problems.specs.NodeNumbers.{AreListed, number_at}
-use Rattle.problems.specs.Standing.{Stands}
+use Rattle.problems.specs.Tied.NodeNumbers.{AreListed, number_at}
+use Rattle.problems.specs.Tied.Standing.{Stands}
 use Rattle.problems.specs.declared.node.Node.{Node}
 use Rattle.problems.proofs.NumbersFound.{listed-kept, listed-pushed, stands-last}
 use Rattle.problems.proofs.nodes.Nodes.number_of.Goals as goal

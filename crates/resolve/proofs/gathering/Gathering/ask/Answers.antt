@@ -1,8 +1,8 @@
 use Rattle.std.proofs.Common.{◌≡◌, ℕ, List, None, length, sym, subst, map, arith}
 use Rattle.search.specs.declared.parts.Requirement.{Requirement as Entry}
 use Rattle.problems.specs.Rules.{bare}
-use Rattle.problems.specs.Standing.{IsWith, Stands}
-use Rattle.resolve.specs.Building.{AreEntries, Gathered, IsGrown}
+use Rattle.problems.specs.Tied.Standing.{IsWith, Stands}
+use Rattle.resolve.specs.Tied.Building.{AreEntries, Gathered, IsGrown}
 use Rattle.resolve.proofs.Gathered.{entries-more, entry-of, only-asked}
 use Rattle.resolve.proofs.Standing.{map-pushed, Stands-last_map, longer-push_as, longer-then}
 use Rattle.resolve.proofs.gathering.Gathering.ask.Goals as goal

@@ -2,7 +2,7 @@ use Rattle.std.proofs.Common.{◌∙◌, List, Contains, ap, sym, subst, take, a
 use Rattle.std.proofs.lemmas.Grind.{common_steps}
 use Rattle.pep508.specs.Requirement.{RequirementParts}
 use Rattle.problems.specs.Problem.{ProblemParts}
-use Rattle.problems.specs.Standing.{Stands}
+use Rattle.problems.specs.Tied.Standing.{Stands}
 use Rattle.resolve.proofs.Gathered.{line-met}
 use Rattle.resolve.proofs.Standing.{AllStand-longer, AllZip-more_same}
 use Rattle.resolve.proofs.gathering.Gathering.ask_lines.Goals as goal

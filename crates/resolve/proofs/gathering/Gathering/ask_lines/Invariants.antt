@@ -1,6 +1,6 @@
 use Rattle.std.proofs.Common.{take}
-use Rattle.problems.specs.Standing.{AllStand}
-use Rattle.resolve.specs.Building.{AreEntries}
+use Rattle.problems.specs.Tied.Standing.{AllStand}
+use Rattle.resolve.specs.Tied.Building.{AreEntries}
 use Rattle.resolve.proofs.gathering.Gathering.ask_lines.Given as goal
 
 abbrev pub invariant-loop-wanted : goal.invariant-loop-wanted

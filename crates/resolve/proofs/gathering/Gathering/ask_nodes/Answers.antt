@@ -1,9 +1,9 @@
 use Rattle.std.proofs.Common.{◌≡◌, ap, ◌<◌, ◌≤◌, ◌+◌, List, Contains, length, subst, sym, take, vec_len, arith}
 use Rattle.std.specs.List.{AllZip}
-use Rattle.problems.specs.Growing.{nodes_met}
-use Rattle.problems.specs.Standing.{Stands}
+use Rattle.problems.specs.Tied.Growing.{nodes_met}
+use Rattle.problems.specs.Tied.Standing.{Stands}
 use Rattle.problems.specs.declared.node.Node.{Node}
-use Rattle.resolve.specs.Building.{Gathered, IsWanted}
+use Rattle.resolve.specs.Tied.Building.{Gathered, IsWanted}
 use Rattle.resolve.proofs.Gathered.{grown-then, wants-more}
 use Rattle.resolve.proofs.Standing.{length-longer}
 use Rattle.resolve.proofs.gathering.Gathering.ask_nodes.Goals as goal

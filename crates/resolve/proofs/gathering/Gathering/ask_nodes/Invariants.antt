@@ -1,7 +1,7 @@
 use Rattle.std.proofs.Common.{◌≤◌, ◌-◌, length, take, vec_len}
 use Rattle.std.specs.List.{AllZip}
-use Rattle.problems.specs.Growing.{nodes_met}
-use Rattle.resolve.specs.Building.{AreEntries, IsGrown, IsWanted}
+use Rattle.problems.specs.Tied.Growing.{nodes_met}
+use Rattle.resolve.specs.Tied.Building.{AreEntries, IsGrown, IsWanted}
 use Rattle.resolve.proofs.gathering.Gathering.ask_nodes.Given as goal
 
 -- the nodes that may still be followed

@@ -3,7 +3,7 @@ use Rattle.std.proofs.lemmas.Grind.{common_steps}
 use Rattle.pep508.specs.Requirement.{RequirementParts}
 use Rattle.problems.specs.Problem.{ProblemParts}
 use Rattle.problems.specs.Rules.{counts}
-use Rattle.problems.specs.Standing.{Stands}
+use Rattle.problems.specs.Tied.Standing.{Stands}
 use Rattle.resolve.proofs.Gathered.{grown-then}
 use Rattle.resolve.proofs.Standing.{AllStand-longer, AllZip-more_kept, AllZip-more_skipped}
 use Rattle.resolve.proofs.gathering.Gathering.ask_release.Goals as goal

@@ -1,7 +1,7 @@
 use Rattle.std.proofs.Common.{filter, take, option_copied}
 use Rattle.problems.specs.Rules.{counts}
-use Rattle.problems.specs.Standing.{AllStand}
-use Rattle.resolve.specs.Building.{AreEntries, IsGrown}
+use Rattle.problems.specs.Tied.Standing.{AllStand}
+use Rattle.resolve.specs.Tied.Building.{AreEntries, IsGrown}
 use Rattle.resolve.proofs.gathering.Gathering.ask_release.Given as goal
 
 abbrev pub invariant-loop-wanted : goal.invariant-loop-wanted

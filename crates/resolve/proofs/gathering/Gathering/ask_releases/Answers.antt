@@ -1,6 +1,6 @@
 use Rattle.std.proofs.Common.{map, subst, sym, take}
 use Rattle.problems.specs.Rules.{wants_of}
-use Rattle.problems.specs.Standing.{AllStand}
+use Rattle.problems.specs.Tied.Standing.{AllStand}
 use Rattle.resolve.proofs.Gathered.{AreWants-longer, grown-then}
 use Rattle.resolve.proofs.Standing.{AllZip-more}
 use Rattle.resolve.proofs.gathering.Gathering.ask_releases.Goals as goal

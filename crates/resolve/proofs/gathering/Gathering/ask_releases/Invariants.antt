@@ -1,6 +1,6 @@
 use Rattle.std.proofs.Common.{map, take}
 use Rattle.problems.specs.Rules.{wants_of}
-use Rattle.resolve.specs.Building.{AreEntries, AreWants, IsGrown}
+use Rattle.resolve.specs.Tied.Building.{AreEntries, AreWants, IsGrown}
 use Rattle.resolve.proofs.gathering.Gathering.ask_releases.Given as goal
 
 abbrev pub invariant-loop-release : goal.invariant-loop-release

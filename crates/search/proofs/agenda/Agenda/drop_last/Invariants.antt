@@ -1,5 +1,5 @@
 use Rattle.std.proofs.Common.{length, take, ◌-◌, ◌≡◌}
-use Rattle.search.specs.Agendas.{AreRowed}
+use Rattle.search.specs.Tied.Agendas.{AreRowed}
 use Rattle.search.proofs.agenda.Agenda.drop_last.Given as goal
 
 abbrev pub invariant-loop : goal.invariant-loop

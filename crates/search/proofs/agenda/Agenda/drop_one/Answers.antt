@@ -2,7 +2,7 @@ use Rattle.std.proofs.Common.{ℕ, List, ◌≡◌, ◌<◌, ◌++◌, ◌∷◌
 use Rattle.std.proofs.lemmas.List.Elements.{Contains-push}
 use Rattle.search.proofs.Rows.{ask-room, rowed-pop}
 use Rattle.search.specs.declared.agenda.Ask.{Ask}
-use Rattle.search.specs.Agendas.{row_at}
+use Rattle.search.specs.Tied.Agendas.{row_at}
 use Rattle.search.specs.Table.{rules_of}
 use Rattle.search.proofs.agenda.Agenda.drop_one.Goals as goal
 

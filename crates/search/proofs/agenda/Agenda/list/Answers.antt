@@ -1,6 +1,6 @@
 use Rattle.std.proofs.Common.{ℕ, subst}
 use Rattle.search.proofs.Rows.{rowed-push}
-use Rattle.search.specs.Agendas.{IsListed}
+use Rattle.search.specs.Tied.Agendas.{IsListed}
 use Rattle.search.proofs.agenda.Agenda.list.Goals as goal
 
 pub returns-clause-rowed : goal.returns-clause-rowed

@@ -6,9 +6,9 @@ use Rattle.std.specs.Ordering.{nat_cmp}
 use Rattle.search.proofs.Rows.{inserted, is-none, is-some, none-of}
 use Rattle.search.proofs.Watching.{watched-push}
 use Rattle.search.specs.declared.conflict.NodeChoice.{NodeChoice}
-use Rattle.search.specs.Agendas.{IsChosen}
-use Rattle.search.specs.Gathering.{choice_at}
-use Rattle.search.specs.Learned.{IsFree, first_at}
+use Rattle.search.specs.Tied.Agendas.{IsChosen}
+use Rattle.search.specs.Tied.Gathering.{choice_at}
+use Rattle.search.specs.Tied.Learned.{IsFree, first_at}
 use Rattle.search.specs.Table.{TableParts, rules_of, asked_nodes, requirement_at}
 use Rattle.search.proofs.agenda.Agenda.put.Goals as goal
 

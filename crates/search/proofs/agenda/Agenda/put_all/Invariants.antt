@@ -1,7 +1,7 @@
 use Rattle.std.proofs.Common.{take, map, ◌++◌, ◌≡◌}
-use Rattle.search.specs.Agendas.{AreRowed, IsWatched}
-use Rattle.search.specs.Gathering.{choice_at}
-use Rattle.search.specs.Learned.{ask_of}
+use Rattle.search.specs.Tied.Agendas.{AreRowed, IsWatched}
+use Rattle.search.specs.Tied.Gathering.{choice_at}
+use Rattle.search.specs.Tied.Learned.{ask_of}
 use Rattle.search.proofs.agenda.Agenda.put_all.Given as goal
 
 abbrev pub invariant-loop-requirement : goal.invariant-loop-requirement

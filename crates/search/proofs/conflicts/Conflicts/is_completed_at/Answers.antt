@@ -1,6 +1,6 @@
 use Rattle.std.proofs.Common.{List, ◌<◌, length, map, subst, arith, ℕ}
 use Rattle.search.specs.declared.conflict.NodeChoice.{NodeChoice}
-use Rattle.search.specs.Gathering.{IsWithin, choice_at}
+use Rattle.search.specs.Tied.Gathering.{IsWithin, choice_at}
 use Rattle.search.proofs.conflicts.Conflicts.is_completed_at.Goals as goal
 
 pub returns-then-place-len : goal.returns-then-place-len

@@ -2,10 +2,10 @@ use Rattle.std.proofs.Common.{List, ℕ, Option, ◌≡◌, ◌<◌, sym, ◌∙
 use Rattle.std.specs.List.{list_any}
 use Rattle.search.proofs.Fronts.{fit-kept}
 use Rattle.search.proofs.Walks.{followed-more, extends-front}
-use Rattle.search.specs.Front.{IsFront}
+use Rattle.search.specs.Tied.Front.{IsFront}
 use Rattle.search.specs.Ranges.{EachBelow}
-use Rattle.search.specs.Search.{taken_at, clash_in, AreNeeded, AreAsked}
-use Rattle.search.specs.Steps.{TakesFirst}
+use Rattle.search.specs.Tied.Search.{taken_at, clash_in, AreNeeded, AreAsked}
+use Rattle.search.specs.Tied.Steps.{TakesFirst}
 use Rattle.search.specs.Table.{rules_of}
 use Rattle.search.proofs.front.Front.enter.Goals as goal
 

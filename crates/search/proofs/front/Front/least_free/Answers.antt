@@ -1,7 +1,7 @@
 use Rattle.std.proofs.Common.{List, ℕ, Option, MatchOption, subst, subst₂}
-use Rattle.search.specs.Front.{IsFront}
+use Rattle.search.specs.Tied.Front.{IsFront}
 use Rattle.search.specs.Ranges.{EachBelow}
-use Rattle.search.specs.Search.{taken_at, NoneFree, IsLeastFree}
+use Rattle.search.specs.Tied.Search.{taken_at, NoneFree, IsLeastFree}
 use Rattle.search.specs.Table.{rules_of}
 use Rattle.search.proofs.front.Front.least_free.Goals as goal
 

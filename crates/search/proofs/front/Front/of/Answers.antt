@@ -2,9 +2,9 @@ use Rattle.std.proofs.Common.{List, ℕ, Option, ◌≡◌, length, refl, sym, �
 use Rattle.std.specs.List.{list_any}
 use Rattle.search.proofs.Fronts.{fit-none}
 use Rattle.search.proofs.Walks.{followed-start}
-use Rattle.search.specs.Nodes.{IsGrown, Grows, nodes_asked}
+use Rattle.search.specs.Tied.Nodes.{IsGrown, Grows, nodes_asked}
 use Rattle.search.specs.Ranges.{EachBelow}
-use Rattle.search.specs.Search.{taken_at, clash_in, AreNeeded, AreAsked}
+use Rattle.search.specs.Tied.Search.{taken_at, clash_in, AreNeeded, AreAsked}
 use Rattle.search.specs.Table.{rules_of}
 use Rattle.search.proofs.front.Front.of.Goals as goal
 

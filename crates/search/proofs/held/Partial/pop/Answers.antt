@@ -10,9 +10,9 @@ use Rattle.search.specs.declared.agenda.Agenda.{Agenda}
 use Rattle.search.specs.declared.agenda.Ask.{Ask}
 use Rattle.search.specs.declared.held.Partial.{Partial}
 use Rattle.search.specs.declared.trial.Held.{Held}
-use Rattle.search.specs.Agendas.{IsWatched}
-use Rattle.search.specs.Gathering.{choice_at}
-use Rattle.search.specs.Learned.{IsPartial, asks_by, asks_of, decision_of, entries_of, held_entry}
+use Rattle.search.specs.Tied.Agendas.{IsWatched}
+use Rattle.search.specs.Tied.Gathering.{choice_at}
+use Rattle.search.specs.Tied.Learned.{IsPartial, asks_by, asks_of, decision_of, entries_of, held_entry}
 use Rattle.search.specs.Table.{TableParts, rules_of, name_of, wants_at}
 use Rattle.search.proofs.held.Partial.pop.Goals as goal
 use Rattle.search.proofs.held.Partial.pop.Goals.{then-held+in_ok-insert, else-held+in_ok-push}

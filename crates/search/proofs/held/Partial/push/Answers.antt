@@ -9,9 +9,9 @@ use Rattle.search.specs.declared.agenda.Agenda.{Agenda}
 use Rattle.search.specs.declared.conflict.NodeChoice.{NodeChoice}
 use Rattle.search.specs.declared.held.Partial.{Partial}
 use Rattle.search.specs.declared.trial.Held.{Held}
-use Rattle.search.specs.Agendas.{IsWatched}
-use Rattle.search.specs.Gathering.{choice_at}
-use Rattle.search.specs.Learned.{IsFree, IsPartial, ask_of, asks_by, decision_of, held_entry}
+use Rattle.search.specs.Tied.Agendas.{IsWatched}
+use Rattle.search.specs.Tied.Gathering.{choice_at}
+use Rattle.search.specs.Tied.Learned.{IsFree, IsPartial, ask_of, asks_by, decision_of, held_entry}
 use Rattle.search.specs.Table.{TableParts, rules_of, name_of}
 use Rattle.search.proofs.held.Partial.push.Goals as goal
 

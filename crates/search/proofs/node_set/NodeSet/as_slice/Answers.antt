@@ -1,6 +1,6 @@
 use Rattle.std.proofs.Common.{List, ℕ, length, subst, sym}
 use Rattle.search.proofs.Marks.{marked-below}
-use Rattle.search.specs.Nodes.{Nodes}
+use Rattle.search.specs.Tied.Nodes.{Nodes}
 use Rattle.search.specs.Ranges.{EachBelow}
 use Rattle.search.proofs.node_set.NodeSet.as_slice.Goals as goal
 

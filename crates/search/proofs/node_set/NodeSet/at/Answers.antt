@@ -1,6 +1,6 @@
 use Rattle.std.proofs.Common.{◌<◌, length, subst, sym}
 use Rattle.search.proofs.Marks.{marked-below}
-use Rattle.search.specs.Nodes.{Nodes}
+use Rattle.search.specs.Tied.Nodes.{Nodes}
 use Rattle.search.proofs.node_set.NodeSet.at.Goals as goal
 
 pub returns-clause-within : goal.returns-clause-within

@@ -1,7 +1,7 @@
 use Rattle.std.proofs.Common.{[], ◌∷◌, ◌<◌, true, length, refl, sym, ◌∙◌, subst, slice_set}
 use Rattle.lists.proofs.Members.{get_or-any}
 use Rattle.search.proofs.Marks.{Grows-there, Grows-push, marked-push, set-length}
-use Rattle.search.specs.Nodes.{Nodes, IsMarked, IsGrown, Grows}
+use Rattle.search.specs.Tied.Nodes.{Nodes, IsMarked, IsGrown, Grows}
 use Rattle.search.proofs.node_set.NodeSet.insert.Goals as goal
 
 pub returns-then-index : goal.returns-then-index

@@ -1,5 +1,5 @@
 use Rattle.std.proofs.Common.{take}
-use Rattle.search.specs.Nodes.{IsGrown}
+use Rattle.search.specs.Tied.Nodes.{IsGrown}
 use Rattle.search.proofs.node_set.NodeSet.insert_all.Given as goal
 
 abbrev pub invariant-loop-node : goal.invariant-loop-node

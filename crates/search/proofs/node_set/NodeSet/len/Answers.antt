@@ -1,6 +1,6 @@
 use Rattle.std.proofs.Common.{◌≤◌, length, subst}
 use Rattle.search.proofs.Marks.{members-within}
-use Rattle.search.specs.Nodes.{Nodes}
+use Rattle.search.specs.Tied.Nodes.{Nodes}
 use Rattle.search.proofs.node_set.NodeSet.len.Goals as goal
 
 pub returns-clause-within : goal.returns-clause-within

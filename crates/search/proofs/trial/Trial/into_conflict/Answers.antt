@@ -1,7 +1,7 @@
 use Rattle.std.proofs.Common.{List, Option, ℕ, Some, option_to_list, [], sym, ap, subst}
 use Rattle.search.proofs.Sets.{gathers-nothing}
 use Rattle.search.specs.declared.conflict.NodeChoice.{NodeChoice}
-use Rattle.search.specs.Gathering.{Gathers}
+use Rattle.search.specs.Tied.Gathering.{Gathers}
 use Rattle.search.proofs.trial.Trial.into_conflict.Goals as goal
 use Rattle.search.proofs.trial.Trial.into_conflict.Goals.{in-Some+in_ok-insert, in_default}
 

@@ -3,7 +3,7 @@ use Rattle.std.specs.List.{list_any}
 use Rattle.pep508.specs.Requirement.{RequirementParts}
 use Rattle.problems.specs.SetRefutations.{TermParts}
 use Rattle.problems.specs.Rules.{wants}
-use Rattle.problems.specs.SetChecking.{refuses_all}
+use Rattle.problems.specs.Tied.SetChecking.{refuses_all}
 use Rattle.problems.proofs.Counting.{any-wanted}
 use Rattle.problems.proofs.checking.sets.clashing.refuses_all_at.Goals as goal
 

@@ -1,7 +1,7 @@
 use Rattle.std.proofs.Common.{◌≡◌, ◌∙◌, ◌&&◌, Bool, sym, subst}
 use Rattle.std.specs.List.{list_all}
 use Rattle.std.specs.Option.{option_copied}
-use Rattle.problems.specs.SetChecking.{is_bound_beside, is_within}
+use Rattle.problems.specs.Tied.SetChecking.{is_bound_beside, is_within}
 use Rattle.problems.specs.declared.node.Node.{Node}
 use Rattle.problems.proofs.SetsCompleted.{within-parted}
 use Rattle.problems.proofs.checking.sets.completing.is_completed.Goals as goal

@@ -1,6 +1,6 @@
 use Rattle.std.proofs.Common.{◌≡◌, ◌∙◌, sym, false, Bool}
 use Rattle.std.specs.Option.{option_copied}
-use Rattle.problems.specs.NodeEquality.{is_node}
+use Rattle.problems.specs.Tied.NodeEquality.{is_node}
 use Rattle.problems.specs.Rules.{bare, with_extra}
 use Rattle.problems.specs.declared.node.Node.{Node}
 use Rattle.problems.proofs.Deciding.{any-mapped}

@@ -3,7 +3,7 @@ use Rattle.std.specs.List.{list_any}
 use Rattle.pep508.specs.Requirement.{RequirementParts}
 use Rattle.problems.specs.Problem.{ProblemParts}
 use Rattle.problems.specs.Rules.{nodes_of}
-use Rattle.problems.specs.SetChecking.{none_left}
+use Rattle.problems.specs.Tied.SetChecking.{none_left}
 use Rattle.problems.proofs.SetsChecked.{none-by_line, none-by_term, none-whole}
 use Rattle.problems.proofs.checking.sets.exhausting.no_candidate_left.Goals as goal
 

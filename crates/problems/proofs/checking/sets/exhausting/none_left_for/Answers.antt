@@ -1,6 +1,6 @@
 use Rattle.std.proofs.Common.{◌≡◌, ◌∙◌, sym, false}
 use Rattle.problems.specs.Rules.{bare, with_extra}
-use Rattle.problems.specs.SetChecking.{none_left}
+use Rattle.problems.specs.Tied.SetChecking.{none_left}
 use Rattle.problems.proofs.Deciding.{any-mapped}
 use Rattle.problems.proofs.checking.sets.exhausting.none_left_for.Goals as goal
 

@@ -1,7 +1,7 @@
 use Rattle.std.proofs.Common.{◌≡◌, ◌∙◌, ◌&&◌, sym, subst, false, ℕ, Bool, List}
 use Rattle.std.specs.List.{list_any}
 use Rattle.problems.specs.Rules.{bare, with_extra}
-use Rattle.problems.specs.SetChecking.{each_needs, none_left}
+use Rattle.problems.specs.Tied.SetChecking.{each_needs, none_left}
 use Rattle.problems.specs.declared.node.Node.{Node}
 use Rattle.problems.proofs.Deciding.{any-mapped}
 use Rattle.problems.proofs.checking.sets.exhausting.none_left_for_term.Goals as goal

@@ -2,7 +2,7 @@ use Rattle.std.proofs.Common.{◌≡◌, ◌∙◌, ◌&&◌, Bool, subst}
 use Rattle.std.specs.List.{list_any}
 use Rattle.pep508.specs.Requirement.{RequirementParts}
 use Rattle.problems.specs.Rules.{nodes_of, wants}
-use Rattle.problems.specs.SetChecking.{each_needs, none_left}
+use Rattle.problems.specs.Tied.SetChecking.{each_needs, none_left}
 use Rattle.problems.specs.SetRefutations.{TermParts}
 use Rattle.problems.specs.declared.node.Node.{Node}
 use Rattle.problems.proofs.Counting.{any-wanted}

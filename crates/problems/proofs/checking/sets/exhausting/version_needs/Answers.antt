@@ -4,7 +4,7 @@ use Rattle.std.specs.Option.{option_copied}
 use Rattle.pep508.specs.Requirement.{RequirementParts}
 use Rattle.problems.specs.SetRefutations.{TermParts}
 use Rattle.problems.specs.Rules.{wants}
-use Rattle.problems.specs.SetChecking.{needs}
+use Rattle.problems.specs.Tied.SetChecking.{needs}
 use Rattle.problems.proofs.Counting.{any-wanted}
 use Rattle.problems.proofs.checking.sets.exhausting.version_needs.Goals as goal
 

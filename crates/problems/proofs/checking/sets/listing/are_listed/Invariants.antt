@@ -1,6 +1,6 @@
 use Rattle.std.proofs.Common.{◌≡◌, drop}
 use Rattle.std.specs.List.{list_all}
-use Rattle.problems.specs.SetChecking.{is_listed}
+use Rattle.problems.specs.Tied.SetChecking.{is_listed}
 use Rattle.problems.proofs.checking.sets.listing.are_listed.Given as goal
 
 abbrev pub invariant-loop-place : goal.invariant-loop-place

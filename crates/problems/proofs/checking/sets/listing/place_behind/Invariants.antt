@@ -1,5 +1,5 @@
 use Rattle.std.proofs.Common.{◌≡◌, drop}
-use Rattle.problems.specs.SetChecking.{is_listed}
+use Rattle.problems.specs.Tied.SetChecking.{is_listed}
 use Rattle.problems.proofs.checking.sets.listing.place_behind.Given as goal
 
 abbrev pub invariant-loop-place : goal.invariant-loop-place

@@ -3,7 +3,7 @@ use Rattle.std.specs.List.{list_any}
 use Rattle.std.proofs.lemmas.Bool.Decides.{Decides-at}
 use Rattle.pep508.specs.Requirement.{RequirementParts}
 use Rattle.problems.specs.Problem.{ProblemParts}
-use Rattle.problems.specs.SetChecking.{refuses_all}
+use Rattle.problems.specs.Tied.SetChecking.{refuses_all}
 use Rattle.problems.proofs.SetsChecked.{line-decides}
 use Rattle.problems.proofs.checking.sets.refusing.line_refuses_set.Goals as goal
 

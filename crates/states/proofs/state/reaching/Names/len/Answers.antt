@@ -1,5 +1,5 @@
 use Rattle.std.proofs.Common.{subst}
-use Rattle.problems.specs.Standing.{IsOnce}
+use Rattle.problems.specs.Tied.Standing.{IsOnce}
 use Rattle.states.proofs.ReachFacts.{once-few}
 use Rattle.states.proofs.state.reaching.Names.len.Goals as goal
 

@@ -6,10 +6,10 @@ use Rattle.pep508.specs.Requirement.{RequirementParts}
 use Rattle.search.specs.Table.{asked_nodes}
 use Rattle.search.specs.declared.parts.Requirement.{Requirement as Entry}
 use Rattle.problems.specs.Admission.{admits_release}
-use Rattle.problems.specs.Growing.{nodes_met}
+use Rattle.problems.specs.Tied.Growing.{nodes_met}
 use Rattle.problems.specs.Problem.{ProblemParts, releases_on}
 use Rattle.problems.specs.Rules.{nodes_of, wants_of}
-use Rattle.problems.specs.Standing.{AllStand, IsLonger}
+use Rattle.problems.specs.Tied.Standing.{AllStand, IsLonger}
 use Rattle.problems.specs.declared.node.Node.{Node}
 
 -- the nodes, the requirements that lines and dependencies ask for, and the table's entry of each requirement

@@ -3,7 +3,7 @@
 use Rattle.std.specs.Prelude.{ℕ, List, [], ◌∷◌, ◌≡◌, ◌+◌}
 use Rattle.search.specs.declared.conflict.NodeChoice.{NodeChoice}
 use Rattle.search.specs.declared.trial.Trial.{Trial}
-use Rattle.search.specs.Gathering.{Gathers}
+use Rattle.search.specs.Tied.Gathering.{Gathers}
 
 -- one candidate more is refused, for a conflict that it completes
 pub record RefusesOneMore (old new : Trial) (conflict : List (NodeChoice ℕ ℕ)) (candidate : NodeChoice ℕ ℕ) : Type 0 where

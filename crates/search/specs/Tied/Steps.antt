@@ -7,7 +7,7 @@ use Rattle.search.specs.declared.parts.Step.{Step}
 use Rattle.search.specs.declared.parts.Step.TheVariants.{Complete, Entered, Refuted}
 use Rattle.search.specs.Solutions.{version_pinned}
 use Rattle.search.specs.FirstWalk.{IsComplete}
-use Rattle.search.specs.Search.{pins_of, IsSearch, IsRefuted}
+use Rattle.search.specs.Tied.Search.{pins_of, IsSearch, IsRefuted}
 use Rattle.search.specs.Table.{TableParts, rules_of, candidates_of}
 
 -- a frame on this name, with the candidate of this turn

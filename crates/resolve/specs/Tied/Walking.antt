@@ -12,7 +12,7 @@ use Rattle.pep508.specs.Requirement.{RequirementParts}
 use Rattle.search.specs.FirstWalk.{IsAskedFor, IsFirstWalk}
 use Rattle.search.specs.Rules.{Rules}
 use Rattle.search.specs.Solutions.{IsNeededName, Needed, Pin, version_pinned}
-use Rattle.problems.specs.Growing.{requirements_met}
+use Rattle.problems.specs.Tied.Growing.{requirements_met}
 use Rattle.problems.specs.Problem.{ProblemParts}
 use Rattle.problems.specs.Rules.{rules_of, wants}
 use Rattle.problems.specs.declared.node.Node.{Node}

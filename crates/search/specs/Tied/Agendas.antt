@@ -7,7 +7,7 @@ use Rattle.std.specs.BTreeSet.{keys}
 use Rattle.search.specs.declared.agenda.Agenda.{Agenda}
 use Rattle.search.specs.declared.agenda.Ask.{Ask}
 use Rattle.search.specs.declared.conflict.NodeChoice.{NodeChoice}
-use Rattle.search.specs.Gathering.{decision}
+use Rattle.search.specs.Tied.Gathering.{decision}
 use Rattle.search.specs.Rules.{Rules}
 use Rattle.search.specs.Table.{TableParts, rules_of}
 

@@ -7,7 +7,7 @@ use Rattle.std.specs.Str.{bytes_eq}
 use Rattle.pep440.specs.Version.{VersionParts}
 use Rattle.pep508.specs.Requirement.{RequirementParts}
 use Rattle.problems.specs.Admission.{admits, release_at}
-use Rattle.problems.specs.NodeEquality.{is_node}
+use Rattle.problems.specs.Tied.NodeEquality.{is_node}
 use Rattle.problems.specs.Problem.{ProblemParts, releases_on}
 use Rattle.problems.specs.Refutations.{ChoiceParts, same_version}
 use Rattle.problems.specs.declared.node.Node.{Node}

@@ -10,10 +10,10 @@ use Rattle.search.specs.declared.trial.Held.{Held}
 use Rattle.search.specs.declared.trial.Trial.{Trial}
 use Rattle.search.specs.Conflicts.{EachFollows, IsRefutation}
 use Rattle.search.specs.Known.{AreKnown}
-use Rattle.search.specs.Learned.{IsLearning, IsPartial, IsTrial, chosen_held}
+use Rattle.search.specs.Tied.Learned.{IsLearning, IsPartial, IsTrial, chosen_held}
 use Rattle.search.specs.Solutions.{IsBest}
 use Rattle.search.specs.Table.{TableParts, rules_of, candidates_of, name_of, places_eq}
-use Rattle.search.specs.Trials.{RefusesOneMore}
+use Rattle.search.specs.Tied.Trials.{RefusesOneMore}
 
 -- each recorded conflict follows from those before it and is known to the table, and what is held is in keeping with them
 pub record IsLearned (t : TableParts) (p : Partial) (conflicts : List (List (NodeChoice ℕ ℕ))) : Type 0 where

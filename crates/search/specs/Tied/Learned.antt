@@ -9,10 +9,10 @@ use Rattle.search.specs.declared.held.Partial.{Partial}
 use Rattle.search.specs.declared.parts.Frame.{Frame}
 use Rattle.search.specs.declared.trial.Held.{Held}
 use Rattle.search.specs.declared.trial.Trial.{Trial}
-use Rattle.search.specs.Agendas.{AreRowed, IsWatched}
-use Rattle.search.specs.Gathering.{IsCompleted, choice_at, decision}
+use Rattle.search.specs.Tied.Agendas.{AreRowed, IsWatched}
+use Rattle.search.specs.Tied.Gathering.{IsCompleted, choice_at, decision}
 use Rattle.search.specs.Rules.{Rules}
-use Rattle.search.specs.Search.{pins_of}
+use Rattle.search.specs.Tied.Search.{pins_of}
 use Rattle.search.specs.Solutions.{Pin, Needed, IsNext, version_pinned}
 use Rattle.search.specs.Table.{TableParts, rules_of, name_of}
 

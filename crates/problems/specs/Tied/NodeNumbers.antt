@@ -5,7 +5,7 @@ use Rattle.std.specs.BTreeMap.{BTreeMap, get}
 use Rattle.std.specs.Cmp.Lexicographic.{slice_cmp}
 use Rattle.std.specs.Option.{option_and_then}
 use Rattle.std.specs.Ordering.{nat_cmp}
-use Rattle.problems.specs.Standing.{Stands}
+use Rattle.problems.specs.Tied.Standing.{Stands}
 use Rattle.problems.specs.declared.node.Node.{Node}
 use Rattle.problems.specs.declared.nodes.Numbers.{Numbers}
 

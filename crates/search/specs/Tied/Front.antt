@@ -6,9 +6,9 @@ use Rattle.std.specs.Ordering.{nat_cmp}
 use Rattle.search.specs.declared.front.Front.{Front}
 use Rattle.search.specs.declared.parts.Frame.{Frame}
 use Rattle.search.specs.declared.parts.Since.{Since}
-use Rattle.search.specs.Nodes.{IsClosing, nodes_linked, wants_linked}
+use Rattle.search.specs.Tied.Nodes.{IsClosing, nodes_linked, wants_linked}
 use Rattle.search.specs.Rules.{Rules}
-use Rattle.search.specs.Search.{taken_at, pins_of, clash_in, IsAsked, AreNeeded, AreAsked}
+use Rattle.search.specs.Tied.Search.{taken_at, pins_of, clash_in, IsAsked, AreNeeded, AreAsked}
 use Rattle.search.specs.Solutions.{version_pinned}
 use Rattle.search.specs.Table.{TableParts, rules_of}
 

@@ -18,7 +18,7 @@ use Rattle.problems.specs.Problem.{ProblemParts, releases_on}
 use Rattle.problems.specs.Refutations.{ChoiceParts, same_version}
 use Rattle.problems.specs.Rules.{bare, rules_of}
 use Rattle.problems.specs.declared.node.Node.{Node}
-use Rattle.resolve.specs.Places.{AreCandidates, version_at}
+use Rattle.resolve.specs.Tied.Places.{AreCandidates, version_at}
 
 abbrev pub name_at : List (List ℕ) → ℕ → List ℕ
 name_at names n = slice_index_or names n []

@@ -7,9 +7,9 @@ use Rattle.search.specs.declared.agenda.Ask.{Ask}
 use Rattle.search.specs.declared.next.Need.{Need}
 use Rattle.search.specs.declared.trial.Held.{Held}
 use Rattle.search.specs.Conflicts.{Follows}
-use Rattle.search.specs.Gathering.{decision}
+use Rattle.search.specs.Tied.Gathering.{decision}
 use Rattle.search.specs.Table.{places_eq}
-use Rattle.search.specs.Learned.{IsFree, decisions_of}
+use Rattle.search.specs.Tied.Learned.{IsFree, decisions_of}
 use Rattle.search.specs.Rules.{Rules}
 
 -- the choice that asks; for a line the candidate itself

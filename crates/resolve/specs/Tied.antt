@@ -1,0 +1,6 @@
+-- What serves proofs alone.
+pub mod Building
+pub mod Choosing
+pub mod Pictured
+pub mod Places
+pub mod Walking
