@@ -3,16 +3,15 @@
 ghost use Rattle.std.specs.Prelude.{◌≡◌};
 ghost use Rattle.lists.specs.Answers.{Answers};
 ghost use Rattle.reqlock.specs.Inputs.{environment_in, index_in, requirements_in};
-ghost use Rattle.reqlock.specs.InputWords.{word_of};
 ghost use Rattle.reqlock.specs.declared.input_files.InputFault.TheVariants.{OutOfMemory};
 
 use edits::TargetName;
-use pep440::Fault as SpecifierFault;
 use pep508::{Cause, Environment, Fault as LineFault, ReqFile};
 use snapshot::{Fault as IndexFault, Snapshot};
 use std::alloc::{AllocError, Global};
 use std::rt::Files;
 use std::{fmt, fs, io};
+use texts::cause_word;
 
 /// A file that the program reads. The first three stand in its folder, and are written too.
 #[derive(Debug, Drop)]
@@ -113,29 +112,6 @@ fn write_cause<W: fmt::Write>(f: &mut fmt::Formatter<W>, cause: Cause) -> fmt::R
         _ => "",
     };
     write_detail(f, cause_word(cause), detail)
-}
-
-/// The word of a cause: its name in lower case with a hyphen before each inner capital. That of a
-/// specifier is the word of its own fault.
-pub fn cause_word(cause: Cause) -> &'static str
-    ensures { result.now ≡ word_of cause }
-{
-    match cause {
-        Cause::BadName => "bad-name",
-        Cause::BadMarker => "bad-marker",
-        Cause::MarkerTooDeep => "marker-too-deep",
-        Cause::UrlRequirement => "url-requirement",
-        Cause::OptionLine => "option-line",
-        Cause::Continuation => "continuation",
-        Cause::OddCharacter => "odd-character",
-        Cause::NotUtf8 => "not-utf8",
-        Cause::BadEnvironment(_) => "bad-environment",
-        Cause::Specifier(SpecifierFault::BadVersion) => "bad-version",
-        Cause::Specifier(SpecifierFault::NumberTooLarge) => "number-too-large",
-        Cause::Specifier(SpecifierFault::BadClause(_)) => "bad-clause",
-        Cause::Specifier(SpecifierFault::ArbitraryEquality) => "arbitrary-equality",
-        Cause::Specifier(SpecifierFault::OutOfMemory) | Cause::OutOfMemory => "out-of-memory",
-    }
 }
 
 fn write_index_fault<W: fmt::Write>(f: &mut fmt::Formatter<W>, fault: &IndexFault) -> fmt::Result {

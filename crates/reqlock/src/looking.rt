@@ -6,16 +6,10 @@ ghost use Rattle.problems.specs.Refutations.{same_version};
 ghost use Rattle.problems.specs.Rules.{rules_of};
 ghost use Rattle.problems.specs.Solutions.{HasSolution};
 
-use crate::explaining::{Told, add_explanation};
 use crate::folder_lock::{LockFile, lock_to_read};
-use crate::history_text::history_text;
 use crate::input_files::{InputFile, read_bytes, read_index};
-use crate::lock_text::lock_text;
-use crate::refutation_text::add_refutation;
 use crate::saved_files::SavedFiles;
-use crate::skipped_text::skipped_text;
 use crate::stop::{Stop, in_file, print, show};
-use crate::target_files::add_target_line;
 use commands::ReplyText;
 use edits::{Edit, Learning, Problem, Refutation, State, Target, check, problem_after};
 use journal::{Reply, Session};
@@ -23,6 +17,9 @@ use snapshot::Snapshot;
 use std::alloc::{AllocError, Global};
 use std::io::Write;
 use std::rt::Files;
+use texts::{
+    Told, add_explanation, add_refutation, add_target_line, history_text, lock_text, skipped_text,
+};
 
 /// Prints the lock of each target as a table.
 pub fn print_lock<R: Files + AllocGlobal, O: Write>(

@@ -2,20 +2,13 @@
 #![tactic(auto)]
 
 mod editing;
-mod explaining;
 mod folder_lock;
 mod given_words;
-mod history_text;
 mod input_files;
-mod lock_text;
 mod looking;
-mod plain_text;
 mod program;
-mod refutation_text;
 mod replacing;
-mod requirement_text;
 mod saved_files;
-mod skipped_text;
 mod stop;
 mod stopped_save;
 mod target_files;

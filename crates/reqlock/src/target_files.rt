@@ -79,11 +79,3 @@ pub fn targets_of(alloc: Global, read: Vec<TargetBytes>) -> Result<Targets, Stop
     }
     Ok(Targets::new(alloc, Seq::from_vec(targets))?)
 }
-
-/// The line that tells whose table or refutation comes; none for the empty name.
-pub fn add_target_line(text: &mut String, name: &TargetName) -> Result<(), AllocError> {
-    if name.is_empty() {
-        return Ok(());
-    }
-    write!(text, "target {name}\n")
-}

@@ -1,6 +1,6 @@
 // Locks as tables for people: what is locked, and what asks for it.
 
-use crate::target_files::add_target_line;
+use crate::target_line::add_target_line;
 use edits::{Entry, Environment, Line, State, Target};
 use std::alloc::{AllocError, Global};
 

@@ -1,4 +1,4 @@
--- How a refused input is written. All of it is reqlock's own rule.
+-- The words of what is refused. All of it is reqlock's own rule.
 use Rattle.std.specs.Prelude.{ℕ, List, codes}
 use Rattle.markers.specs.declared.fault.Cause.{Cause}
 use Rattle.markers.specs.declared.fault.Cause.TheVariants as causes

@@ -1,6 +1,6 @@
 // What was left out of an index, for people.
 
-use crate::input_files::cause_word;
+use crate::cause_word::cause_word;
 use pep508::{Cause, Name};
 use snapshot::{SkipCause, Skipped};
 use std::alloc::{AllocError, Global};
