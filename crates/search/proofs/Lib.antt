@@ -29,3 +29,4 @@ pub mod Learns
 pub mod WhatIsLeftToLearn
 pub mod PicturedConflicts
 pub mod PicturedSets
+pub mod SetsOfChoices

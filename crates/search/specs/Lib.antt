@@ -3,6 +3,7 @@ pub mod Solutions
 pub mod Found
 pub mod Conflicts
 pub mod SetConflicts
+pub mod SetsOfChoices
 pub mod Table
 pub mod FirstWalk
 pub mod Ranges

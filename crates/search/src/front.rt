@@ -9,7 +9,7 @@ ghost use Rattle.search.specs.Tied.Steps.{AreKnownFrames, TakesFirst};
 ghost use Rattle.search.specs.Table.{rules_of};
 
 use crate::clash::{do_any_clash, least_free};
-use crate::needed::{ask, follow_all};
+use crate::needed::{ask, follow_all, place_of};
 use crate::node_set::NodeSet;
 use crate::parts::{Frame, Since};
 use crate::table::Table;
@@ -68,6 +68,13 @@ impl Front {
         ensures { result ≡ self.now.clashes }
     {
         self.clashes
+    }
+
+    /// The place that is taken for a name.
+    pub fn taken_on(&self, name: usize) -> Option<usize>
+        ensures { result ≡ taken_at self.now.taken.items name }
+    {
+        place_of(self.taken.as_slice(), name)
     }
 
     /// The least name of the needed nodes that is not taken.

@@ -8,6 +8,7 @@ ghost use Rattle.search.specs.Known.{AreKnown, AreApart, AreKnownSets, conflicts
 ghost use Rattle.search.specs.Picture.{Picture, IsPicture, pictured};
 ghost use Rattle.search.specs.Rules.{Rules, IsOrder, IsLawful};
 ghost use Rattle.search.specs.SetConflicts.{SetLiesInNone, SetFollows, EachSetFollows, IsSetRefutation};
+ghost use Rattle.search.specs.SetsOfChoices.{as_sets};
 ghost use Rattle.search.specs.Solutions.{Pin, Solution, IsBest, IsBetter, HasNoSolution, version_pinned};
 ghost use Rattle.search.specs.Table.{TableParts, in_range, place_in, rules_of, places_eq};
 ghost use Rattle.search.specs.declared.conflict.NodeChoice.{NodeChoice};
@@ -109,4 +110,11 @@ pub fn a_picture_keeps_set_refutations<N, X, V, R>()
         → AreApart t picture same → (conflicts : List (List (Term ℕ ℕ)))
         → AreKnownSets t conflicts → IsSetRefutation (rules_of t) places_eq conflicts
         → IsSetRefutation rules same (sets_pictured t picture conflicts) }
+{}
+
+/// A refutation is a set refutation, where each choice stands for the set of its version alone.
+pub fn a_refutation_is_a_set_refutation<N, X, V, R>()
+    ensures { (rules : Rules N X V R) (same : V → V → Bool)
+        → (conflicts : List (List (NodeChoice X V))) → IsRefutation rules same conflicts
+        → IsSetRefutation rules same (as_sets conflicts) }
 {}

@@ -31,8 +31,10 @@ mod term;
 mod trial;
 
 pub use crate::conflict::{Decision, NodeChoice};
+pub use crate::front::Front;
 pub use crate::learning::{Found, learned_best, learned_or_refuted};
-pub use crate::parts::{Choice, Requirement};
+pub use crate::parts::{Choice, Frame, Requirement};
 pub use crate::search::best;
 pub use crate::table::Table;
+pub use crate::taken::choices_of;
 pub use crate::term::Term;
