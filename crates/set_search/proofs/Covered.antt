@@ -1,10 +1,10 @@
 -- Places at a node that complete earlier conflicts.
-use Rattle.std.proofs.Common.{ℕ, List, [], arith, nat_eq, ◌≡◌, ◌⊎◌, inl, inr, Contains, subst, true, refl, sym}
+use Rattle.std.proofs.Common.{ℕ, List, [], arith, nat_eq, ◌≡◌, inl, inr, Contains, subst, true, sym}
 use Rattle.lists.proofs.Members.{Contains-nil}
 use Rattle.lists.specs.Bits.{IsJoined}
 use Rattle.search.specs.declared.term.Term.{Term}
 use Rattle.search.specs.Table.{places_eq}
-use Rattle.set_search.specs.Covers.{IsCompletedBy, Covers}
+use Rattle.set_search.specs.Tied.Covers.{IsCompletedBy, Covers}
 
 place-same : (v : ℕ) → places_eq v v ≡ true
 place-same v = grind (arith, nat_eq)

@@ -1,12 +1,12 @@
 -- A walk that takes at each name the first candidate that is not excluded has the best solution where it meets all that is asked for.
-use Rattle.std.proofs.Common.{List, [], ◌∷◌, ◌++◌, ◌≡◌, ◌⊎◌, inl, inr, true, false, Contains, sym, ◌∙◌, ap, subst, Some, None, Option, append_assoc, append-nil}
+use Rattle.std.proofs.Common.{List, [], ◌∷◌, ◌++◌, ◌≡◌, ◌⊎◌, inl, inr, Contains, sym, ◌∙◌, ap, subst, Some, None, Option, append_assoc, append-nil}
 use Rattle.std.proofs.lemmas.List.Elements.{Contains-append_cases, Contains-append_right}
 use Rattle.lists.proofs.Members.{Contains-cons_cases, Contains-here}
-use Rattle.search.proofs.PinnedMaps.{version_pinned-cons_cases, version_pinned-last, Has-front, Has-push, Needed-more, next-in_solution, complete-same, some-inj}
+use Rattle.search.proofs.PinnedMaps.{version_pinned-cons_cases, version_pinned-last, Has-front, Has-push, Needed-more, next-in_solution, complete-same}
 use Rattle.search.specs.FirstWalk.{IsFirst, IsComplete}
 use Rattle.set_search.specs.GuidedWalk.{IsExcluded, IsGuidedWalk}
 use Rattle.search.specs.Rules.{Rules, IsLawful}
-use Rattle.search.specs.Solutions.{Pin, IsMet, IsNeededName, Solution, version_pinned, IsNext, IsWalk, Has, IsBetter, IsBest}
+use Rattle.search.specs.Solutions.{Pin, IsNeededName, Solution, version_pinned, IsNext, IsWalk, Has, IsBetter, IsBest}
 
 behind-one : {N V : Type 0} (xs : List (Pin N V)) (p : Pin N V) (ys : List (Pin N V)) → (xs ++ p ∷ []) ++ ys ≡ xs ++ p ∷ ys
 behind-one xs p ys = append_assoc xs (p ∷ []) ys

@@ -1,5 +1,5 @@
 -- Loops over a list that test each item.
-use Rattle.std.proofs.Common.{ℕ, zero, suc, List, [], ◌∷◌, ◌≡◌, ◌<◌, ◌≤◌, ◌+◌, ◌++◌, inl, inr, Contains, length, get_or, take, sym, subst, arith, add-one}
+use Rattle.std.proofs.Common.{ℕ, zero, suc, List, [], ◌∷◌, ◌≡◌, ◌<◌, ◌≤◌, ◌+◌, inl, inr, Contains, length, get_or, take, sym, subst, arith, add-one}
 use Rattle.lists.proofs.Members.{Contains-here, Contains-there, Contains-take_suc, take-whole}
 
 pub at-member : {X : Type 0} (xs : List X) (k : ℕ) (d : X) → k < length xs → Contains xs (get_or xs k d)

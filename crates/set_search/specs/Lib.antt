@@ -1,2 +1,3 @@
-pub mod Covers
+pub mod Found
 pub mod GuidedWalk
+pub mod Tied

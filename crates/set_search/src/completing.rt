@@ -5,7 +5,7 @@ ghost use Rattle.std.specs.List.{Contains};
 ghost use Rattle.lists.specs.Bits.{IsJoined};
 ghost use Rattle.search.specs.SetConflicts.{BindsWithin, EachVersion};
 ghost use Rattle.search.specs.Table.{places_eq};
-ghost use Rattle.set_search.specs.Covers.{IsBoundOrAt, Covers, IsCompletedBy};
+ghost use Rattle.set_search.specs.Tied.Covers.{IsBoundOrAt, Covers, IsCompletedBy};
 
 use crate::term::TableTerm;
 use lists::{Bits, Seq};

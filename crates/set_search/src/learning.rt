@@ -41,15 +41,12 @@ struct Cover {
     olds: Vec<usize>,
 }
 
-/// What a conflict in the making covers at a node, if there is one.
-fn covered_by(alloc: Global, making: Option<Making>, node: usize) -> Result<Cover, AllocError> {
+/// What a conflict in the making covers at a node.
+fn covered_by(alloc: Global, making: Making, node: usize) -> Result<Cover, AllocError> {
     let mut cover = Cover {
         terms: Vec::new(alloc),
         covered: Bits::new(alloc),
         olds: Vec::new(alloc),
-    };
-    let Some(making) = making else {
-        return Ok(cover);
     };
     for term in making.terms.as_slice() {
         if term.node() == node {
@@ -109,7 +106,7 @@ fn exhausted(
     alloc: Global,
     table: &Table,
     state: &mut State,
-    making: Option<Making>,
+    making: Making,
     node: usize,
     before: usize,
     cause: Cause,
@@ -185,24 +182,12 @@ pub fn resolve(
     let node = event.node;
     let cause = event.cause;
     if event.is_need {
-        let found = exhausted(alloc, table, state, Some(making), node, place, cause)?;
+        let found = exhausted(alloc, table, state, making, node, place, cause)?;
         return Ok(found);
     }
     let cut = event.cut.clone()?;
     let found = resolved(alloc, table, state, making, node, cut, cause)?;
     Ok(found)
-}
-
-/// Why a node is needed.
-fn need_cause(state: &State, node: usize) -> Cause {
-    let from = match state.need_from.get(node) {
-        Some(from) => *from,
-        None => 0,
-    };
-    match state.trail.get(from.wrapping_sub(1)) {
-        Some(event) => event.cause,
-        None => Cause::Choice,
-    }
 }
 
 /// The conflict of what failed.
@@ -221,10 +206,15 @@ pub fn first_conflict(
             Ok(Some(Making { terms, at }))
         }
         Failure::Node(node) => {
-            let before = state.trail.len();
-            let cause = need_cause(state, node);
-            let found = exhausted(alloc, table, state, None, node, before, cause)?;
-            Ok(found)
+            let mut terms: Vec<TableTerm> = Vec::new(alloc);
+            terms.push(TableTerm {
+                node,
+                places: Bits::new(alloc),
+            })?;
+            let conflict = copied(alloc, terms.as_slice())?;
+            let olds = Seq::new(alloc);
+            let at = record(state, conflict, Reason::EachVersion { term: 0, olds })?;
+            Ok(Some(Making { terms, at }))
         }
     }
 }

@@ -7,15 +7,20 @@
 
 mod clashing;
 mod completing;
+mod cutting;
 mod following;
+mod knowing;
 pub mod laws;
 mod learning;
+mod left;
 mod needing;
 mod reasons;
 mod refusing;
 mod refuting;
+mod replaying;
 mod searching;
 mod settling;
+mod solving;
 mod starting;
 mod state;
 mod term;
@@ -25,4 +30,5 @@ mod tests;
 pub use crate::following::{Reason, follows};
 pub use crate::refuting::{Step, refutation_of};
 pub use crate::searching::refuted_by_sets;
+pub use crate::solving::{Found, solved};
 pub use crate::term::TableTerm;

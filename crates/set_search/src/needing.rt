@@ -69,7 +69,7 @@ pub fn does_want(table: &Table, by: usize, place: usize, node: usize) -> bool
 }
 
 /// Whether each of these releases wants a node.
-fn does_each_want(table: &Table, by: usize, places: &[usize], node: usize) -> bool
+pub fn does_each_want(table: &Table, by: usize, places: &[usize], node: usize) -> bool
     ensures { IsTrue result → (v : ℕ) → Contains places.now v
         → (wanted : ℕ) × Contains ((rules_of table.now).wants by v) wanted
         × Contains ((rules_of table.now).nodes wanted) node }

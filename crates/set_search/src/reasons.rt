@@ -3,8 +3,8 @@
 use crate::clashing::does_pair_clash;
 use crate::following::Reason;
 use crate::refuting::Step;
-use crate::starting::{name_at, own_clashes, refused_by};
-use crate::state::{Cause, State};
+use crate::starting::{name_at, name_on, own_clashes, refused_by};
+use crate::state::{Cause, State, set_of};
 use crate::term::TableTerm;
 use lists::{Bits, Seq};
 use search::Table;
@@ -102,6 +102,31 @@ pub fn record(
     Ok(at)
 }
 
+/// The places of a set at another node that a release at a node doesn't refuse.
+fn not_refused(
+    alloc: Global,
+    table: &Table,
+    state: &State,
+    node: usize,
+    place: usize,
+    other: usize,
+    set: &Bits,
+) -> Result<Bits, AllocError> {
+    let mut rest = set.clone()?;
+    let name = name_at(table, other);
+    if name_at(table, node) == name {
+        rest.keep(&set_of(alloc, &[place])?);
+    }
+    for requirement in table.wants(node, place) {
+        if name_on(table, *requirement) == name {
+            if let Some(admitted) = state.admitted.get(*requirement) {
+                rest.keep(admitted);
+            }
+        }
+    }
+    Ok(rest)
+}
+
 /// Whether a release clashes with each of these.
 fn clashes_with_all(table: &Table, node: usize, place: usize, other: usize, set: &[usize]) -> bool {
     if node >= table.node_count() || other >= table.node_count() {
@@ -115,17 +140,40 @@ fn clashes_with_all(table: &Table, node: usize, place: usize, other: usize, set:
     true
 }
 
+/// Whether a release clashes with each place of a set. The first that it doesn't refuse is looked at alone first, since it mostly
+/// decides.
+fn clashes_with_set(
+    alloc: Global,
+    table: &Table,
+    state: &State,
+    node: usize,
+    place: usize,
+    other: usize,
+    set: &Bits,
+) -> Result<bool, AllocError> {
+    let rest = not_refused(alloc, table, state, node, place, other, set)?;
+    let Some(first) = rest.first_from(0) else {
+        return Ok(true);
+    };
+    if !clashes_with_all(table, node, place, other, &[first]) {
+        return Ok(false);
+    }
+    let places = rest.places(alloc)?;
+    Ok(clashes_with_all(table, node, place, other, places.as_slice()))
+}
+
 /// The candidates of a node that clash with each of these releases of another.
 fn clashing_with(
     alloc: Global,
     table: &Table,
+    state: &State,
     node: usize,
     other: usize,
-    set: &[usize],
+    set: &Bits,
 ) -> Result<Bits, AllocError> {
     let mut clashing = Bits::new(alloc);
     for place in table.candidates(name_at(table, node)) {
-        if clashes_with_all(table, node, *place, other, set) {
+        if clashes_with_set(alloc, table, state, node, *place, other, set)? {
             clashing.insert(*place)?;
         }
     }
@@ -141,10 +189,8 @@ fn clash_reason(
     bits: &Bits,
     by: usize,
 ) -> Result<usize, AllocError> {
-    let cut = bits.places(alloc)?;
-    let one = clashing_with(alloc, table, by, node, cut.as_slice())?;
-    let listed = one.places(alloc)?;
-    let other = clashing_with(alloc, table, node, by, listed.as_slice())?;
+    let one = clashing_with(alloc, table, state, by, node, bits)?;
+    let other = clashing_with(alloc, table, state, node, by, &one)?;
     let mut conflict: Vec<TableTerm> = Vec::new(alloc);
     conflict.push(TableTerm {
         node: by,

@@ -39,7 +39,7 @@ fn add(
 }
 
 /// The conflicts of these steps, if each follows from those before it.
-fn list_of(
+pub fn list_of(
     alloc: Global,
     table: &Table,
     steps: Seq<Step>,

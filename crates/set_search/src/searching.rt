@@ -8,12 +8,13 @@ ghost use Rattle.search.specs.Table.{places_eq, rules_of};
 use crate::learning::{first_conflict, resolve};
 use crate::reasons::Making;
 use crate::refuting::{Step, refutation_of};
+use crate::replaying::Move;
 use crate::settling::{apply_all, look};
 use crate::starting::{name_at, node_count_of, node_of, started};
-use crate::state::{Cause, Level, State, flag, put_flag};
+use crate::state::{Cause, Event, Level, State, Walked, flag, put_flag};
 use crate::term::TableTerm;
 use lists::{Bits, Seq};
-use search::{Choice, Table};
+use search::Table;
 use std::alloc::{AllocError, Global};
 
 /// How many rounds a search may take.
@@ -22,8 +23,8 @@ const BUDGET: usize = 20_000_000;
 /// What a search hands out. Nothing is claimed of it.
 #[derive(Drop)]
 pub enum Outcome {
-    /// What it walked, in the order of the walk.
-    Walked(Seq<Choice>),
+    /// What it wrote down, and what it found out and walked with that.
+    Walked { steps: Seq<Step>, moves: Vec<Move> },
     /// What it wrote down until there was nothing left to try.
     Refuted(Seq<Step>),
     GaveUp,
@@ -157,6 +158,11 @@ fn mark_node(state: &mut State, node: usize) -> Result<(), AllocError> {
     if !flag(state.asked.as_slice(), node) {
         put_flag(&mut state.asked, node, true);
         state.asked_list.push(node)?;
+        if let Some(name) = state.names.get(node).copied() {
+            if chosen_at(state, name).is_none() {
+                state.free.insert(name)?;
+            }
+        }
     }
     Ok(())
 }
@@ -198,12 +204,19 @@ fn mark_from(table: &Table, state: &mut State, from: usize) -> Result<(), AllocE
 }
 
 /// Walks a name.
-fn step_on(table: &Table, state: &mut State, name: usize, place: usize) -> Result<(), AllocError> {
+fn step_on(
+    table: &Table,
+    state: &mut State,
+    walked: Walked,
+    place: usize,
+) -> Result<(), AllocError> {
     let before = state.asked_list.len();
+    let name = walked.name;
     if let Some(chosen) = state.chosen.get_mut(name) {
         *chosen = Some(place);
     }
-    state.walk.push(name)?;
+    state.free.remove(name);
+    state.walk.push(walked)?;
     for at in 0..node_count_of(state, name) {
         if let Some(node) = node_of(state, name, at) {
             if flag(state.asked.as_slice(), node) {
@@ -214,28 +227,11 @@ fn step_on(table: &Table, state: &mut State, name: usize, place: usize) -> Resul
     mark_from(table, state, before)
 }
 
-/// A node of a name that the walk asks for.
-fn asked_node(state: &State, name: usize) -> Option<usize> {
-    for at in 0..node_count_of(state, name) {
-        if let Some(node) = node_of(state, name, at) {
-            if flag(state.asked.as_slice(), node) {
-                return Some(node);
-            }
-        }
-    }
-    None
-}
-
 /// The least name that the walk asks for and has not walked, with a node of it.
-fn next(table: &Table, state: &State) -> Option<(usize, usize)> {
-    for name in 0..table.name_count() {
-        if chosen_at(state, name).is_none() {
-            if let Some(node) = asked_node(state, name) {
-                return Some((name, node));
-            }
-        }
-    }
-    None
+fn next(state: &State) -> Option<(usize, usize)> {
+    let name = state.free.first_from(0)?;
+    let node = state.asked_node(name)?;
+    Some((name, node))
 }
 
 /// The first candidate that is left of a node.
@@ -273,14 +269,19 @@ fn choose(state: &mut State, node: usize, place: usize) -> Result<(), AllocError
 
 /// Walks the next name with the first candidate that is left.
 fn walk(table: &Table, state: &mut State) -> Result<Turn, AllocError> {
-    let Some((name, node)) = next(table, state) else {
+    let Some((name, node)) = next(state) else {
         return Ok(Turn::Solved);
     };
     let Some(place) = first_left(table, state, name, node) else {
         return Ok(Turn::GaveUp);
     };
+    let walked = Walked {
+        name,
+        node,
+        trail: state.trail.len(),
+    };
     choose(state, node, place)?;
-    step_on(table, state, name, place)?;
+    step_on(table, state, walked, place)?;
     Ok(Turn::Onward)
 }
 
@@ -303,15 +304,34 @@ fn take_turn(alloc: Global, table: &Table, state: &mut State) -> Result<Turn, Al
     }
 }
 
-/// What was walked, in its order.
-fn walked(alloc: Global, state: &State) -> Result<Seq<Choice>, AllocError> {
-    let mut choices: Vec<Choice> = Vec::new(alloc);
-    for name in state.walk.as_slice() {
-        if let Some(place) = chosen_at(state, *name) {
-            choices.push(Choice { name: *name, place })?;
-        }
+/// What was found out, and between that what was walked, in its order.
+fn moves_of(alloc: Global, trail: Vec<Event>, walk: &[Walked]) -> Result<Vec<Move>, AllocError> {
+    let mut moves: Vec<Move> = Vec::new(alloc);
+    let mut at = 0;
+    let mut passed = 0;
+    for event in trail {
+        at = push_walked(&mut moves, walk, at, passed)?;
+        moves.push(Move::Found(event))?;
+        passed = passed.wrapping_add(1);
     }
-    Ok(Seq::from_vec(choices))
+    push_walked(&mut moves, walk, at, passed)?;
+    Ok(moves)
+}
+
+/// Puts what was walked at a length of the trail behind the moves, from a place on.
+fn push_walked(
+    moves: &mut Vec<Move>,
+    walk: &[Walked],
+    from: usize,
+    trail: usize,
+) -> Result<usize, AllocError> {
+    for at in from..walk.len() {
+        if walk[at].trail > trail {
+            return Ok(at);
+        }
+        moves.push(Move::Walked(walk[at].node))?;
+    }
+    Ok(walk.len())
 }
 
 /// Searches for the best solution of a table. Nothing is claimed of what it hands out; `refutation_of` tests what it wrote
@@ -330,8 +350,17 @@ pub fn search_sets(alloc: Global, table: &Table) -> Result<Outcome, AllocError> 
                 return Ok(Outcome::Refuted(Seq::from_vec(steps)));
             }
             Turn::Solved => {
-                let choices = walked(alloc, &state)?;
-                return Ok(Outcome::Walked(choices));
+                let State {
+                    steps,
+                    trail,
+                    walk,
+                    ..
+                } = state;
+                let moves = moves_of(alloc, trail, walk.as_slice())?;
+                return Ok(Outcome::Walked {
+                    steps: Seq::from_vec(steps),
+                    moves,
+                });
             }
         }
     }
@@ -352,7 +381,7 @@ pub fn refuted_by_sets(
             let list = refutation_of(alloc, table, steps)?;
             Ok(list)
         }
-        Outcome::Walked(_) => Ok(None),
+        Outcome::Walked { .. } => Ok(None),
         Outcome::GaveUp => Ok(None),
     }
 }

@@ -101,6 +101,7 @@ pub fn own_clashes(alloc: Global, table: &Table, node: usize) -> Result<Bits, Al
 /// The state with nothing done.
 pub fn blank(alloc: Global, table: &Table) -> Result<State, AllocError> {
     let mut state = State {
+        names: Vec::new(alloc),
         nodes_of: nodes_by_name(alloc, table)?,
         askers: askers_by_name(alloc, table)?,
         admitted: Vec::new(alloc),
@@ -120,7 +121,7 @@ pub fn blank(alloc: Global, table: &Table) -> Result<State, AllocError> {
         asked_list: Vec::new(alloc),
         chosen: Vec::new(alloc),
         walk: Vec::new(alloc),
-        first_free: 0,
+        free: Bits::new(alloc),
     };
     for requirement in 0..table.requirement_count() {
         state
@@ -144,6 +145,7 @@ fn add_node(
 ) -> Result<(), AllocError> {
     let full = set_of(alloc, table.candidates(name_at(table, node)))?;
     let left = full.clone()?;
+    state.names.push(name_at(table, node))?;
     state.full.push(full)?;
     state.left.push(left)?;
     state.needed.push(false)?;

@@ -1,5 +1,9 @@
 // What a search knows. None of it is trusted: whatever it holds, what it records is tested.
 
+ghost use Rattle.std.specs.Prelude.{◌≡◌, IfOk, false};
+ghost use Rattle.std.specs.List.{slice_index_or};
+ghost use Rattle.lists.specs.Bits.{LiesWithin};
+
 use crate::refuting::Step;
 use lists::Bits;
 use search::Table;
@@ -46,6 +50,14 @@ pub struct Past {
     pub left: Bits,
 }
 
+/// A name that was walked, by a node of it, and how long the trail was before.
+#[derive(Debug, Clone, Copy)]
+pub struct Walked {
+    pub name: usize,
+    pub node: usize,
+    pub trail: usize,
+}
+
 /// What to go back to: how long the lists were before a choice.
 #[derive(Debug, Clone, Copy)]
 pub struct Level {
@@ -57,6 +69,7 @@ pub struct Level {
 /// Of each node what is left and whether it is needed, how that came about, and the names walked so far.
 #[derive(Drop)]
 pub struct State {
+    pub names: Vec<usize>,
     pub nodes_of: Vec<Vec<usize>>,
     pub askers: Vec<Vec<usize>>,
     pub admitted: Vec<Bits>,
@@ -75,12 +88,16 @@ pub struct State {
     pub asked: Vec<bool>,
     pub asked_list: Vec<usize>,
     pub chosen: Vec<Option<usize>>,
-    pub walk: Vec<usize>,
-    pub first_free: usize,
+    pub walk: Vec<Walked>,
+    /// The names that the walk asks for and has not walked.
+    pub free: Bits,
 }
 
 /// The set of these places.
-pub fn set_of(alloc: Global, places: &[usize]) -> Result<Bits, AllocError> {
+pub fn set_of(alloc: Global, places: &[usize]) -> Result<Bits, AllocError>
+    ensures all { IfOk result (λ set. LiesWithin places.now set) }
+    ensures only { IfOk result (λ set. LiesWithin set places.now) }
+{
     let mut set = Bits::new(alloc);
     for place in places {
         set.insert(*place)?;
@@ -89,7 +106,9 @@ pub fn set_of(alloc: Global, places: &[usize]) -> Result<Bits, AllocError> {
 }
 
 /// Whether a flag is set; false where there is none.
-pub fn flag(flags: &[bool], at: usize) -> bool {
+pub fn flag(flags: &[bool], at: usize) -> bool
+    ensures { result ≡ slice_index_or flags.now at false }
+{
     match flags.get(at) {
         Some(flag) => *flag,
         None => false,
@@ -202,19 +221,48 @@ impl State {
         Ok(())
     }
 
-    fn undo_walk(&mut self, level: Level) {
-        for _ in level.walk..self.walk.len() {
-            if let Some(name) = self.walk.pop() {
-                if let Some(chosen) = self.chosen.get_mut(name) {
-                    *chosen = None;
-                }
+    /// A node of a name that the walk asks for.
+    pub fn asked_node(&self, name: usize) -> Option<usize> {
+        let nodes = self.nodes_of.get(name)?;
+        for node in nodes {
+            if flag(self.asked.as_slice(), *node) {
+                return Some(*node);
             }
+        }
+        None
+    }
+
+    /// Asks for a node no longer.
+    fn unmark(&mut self, node: usize) {
+        put_flag(&mut self.asked, node, false);
+        if let Some(name) = self.names.get(node).copied() {
+            if self.asked_node(name).is_none() {
+                self.free.remove(name);
+            }
+        }
+    }
+
+    /// Takes the last name that was walked back.
+    fn unwalk(&mut self) -> Result<(), AllocError> {
+        if let Some(walked) = self.walk.pop() {
+            if let Some(chosen) = self.chosen.get_mut(walked.name) {
+                *chosen = None;
+            }
+            self.free.insert(walked.name)?;
+        }
+        Ok(())
+    }
+
+    fn undo_walk(&mut self, level: Level) -> Result<(), AllocError> {
+        for _ in level.walk..self.walk.len() {
+            self.unwalk()?;
         }
         for _ in level.asked..self.asked_list.len() {
             if let Some(node) = self.asked_list.pop() {
-                put_flag(&mut self.asked, node, false);
+                self.unmark(node);
             }
         }
+        Ok(())
     }
 
     /// Goes back to before the last choice.
@@ -225,7 +273,7 @@ impl State {
         for _ in level.trail..self.trail.len() {
             self.undo()?;
         }
-        self.undo_walk(level);
+        self.undo_walk(level)?;
         for _ in 0..self.queue.len() {
             if let Some(node) = self.queue.pop() {
                 put_flag(&mut self.queued, node, false);

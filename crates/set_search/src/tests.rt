@@ -1,7 +1,6 @@
 // The search over a small table.
 
-use crate::refuting::refutation_of;
-use crate::searching::{Outcome, search_sets};
+use crate::solving::{Found, solved};
 use lists::Seq;
 use search::{Requirement, Table};
 use std::alloc::{AllocError, Global};
@@ -72,8 +71,8 @@ fn finds_the_best(rt: HostRuntime) {
         assert!(rt; false);
         return;
     };
-    let Ok(Outcome::Walked(choices)) = search_sets(alloc, &table) else {
-        assert!(rt; false, "walked");
+    let Ok(Found::Best(choices)) = solved(alloc, &table) else {
+        assert!(rt; false, "best");
         return;
     };
     let mut places: Vec<usize> = Vec::new(alloc);
@@ -93,14 +92,9 @@ fn refutes(rt: HostRuntime) {
         assert!(rt; false);
         return;
     };
-    let Ok(Outcome::Refuted(steps)) = search_sets(alloc, &table) else {
+    let Ok(Found::Refuted(conflicts)) = solved(alloc, &table) else {
         assert!(rt; false, "refuted");
         return;
     };
-    assert!(rt; steps.len() < 40, "few steps");
-    let accepted = match refutation_of(alloc, &table, steps) {
-        Ok(Some(_)) => true,
-        _ => false,
-    };
-    assert!(rt; accepted, "accepted");
+    assert!(rt; conflicts.len() < 40, "few conflicts");
 }

@@ -1,5 +1,5 @@
 use Rattle.std.proofs.Common.{subst}
-use Rattle.set_search.specs.Covers.{IsCompletedBy}
+use Rattle.set_search.specs.Tied.Covers.{IsCompletedBy}
 use Rattle.set_search.proofs.Covered.{completed-covers, covers-joined}
 use Rattle.set_search.proofs.Listed.{item-member}
 use Rattle.set_search.proofs.completing.cover.Goals as goal

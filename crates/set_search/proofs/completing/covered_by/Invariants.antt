@@ -1,4 +1,4 @@
-use Rattle.set_search.specs.Covers.{Covers}
+use Rattle.set_search.specs.Tied.Covers.{Covers}
 use Rattle.set_search.proofs.completing.covered_by.Given as goal
 
 abbrev pub invariant-loop-at : goal.invariant-loop-at

@@ -1,4 +1,4 @@
-use Rattle.set_search.specs.Covers.{IsBoundOrAt}
+use Rattle.set_search.specs.Tied.Covers.{IsBoundOrAt}
 use Rattle.set_search.proofs.Listed.{item-more, each-end}
 use Rattle.set_search.proofs.completing.does_complete.Goals as goal
 

@@ -1,7 +1,7 @@
 use Rattle.std.proofs.Common.{take, ℕ}
 use Rattle.std.specs.List.{Contains}
 use Rattle.search.specs.declared.term.Term.{Term}
-use Rattle.set_search.specs.Covers.{IsBoundOrAt}
+use Rattle.set_search.specs.Tied.Covers.{IsBoundOrAt}
 use Rattle.set_search.proofs.completing.does_complete.Given as goal
 
 abbrev pub invariant-loop-term : goal.invariant-loop-term

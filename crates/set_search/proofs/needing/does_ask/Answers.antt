@@ -1,5 +1,5 @@
-use Rattle.std.proofs.Common.{Contains, subst, ap, sym, ◌∙◌}
-use Rattle.lists.proofs.Members.{Contains-here, Contains-there}
+use Rattle.std.proofs.Common.{Contains, subst, ap, ◌∙◌}
+use Rattle.lists.proofs.Members.{Contains-there}
 use Rattle.set_search.proofs.needing.does_ask.Goals as goal
 
 pub returns : goal.returns
