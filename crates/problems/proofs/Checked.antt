@@ -190,25 +190,11 @@ by_choice-decides given earlier conflict = decides-any (λ one. list_any (λ wan
     (λ one. IsThere (IsExhaustedFor given earlier conflict) (wants given one.node one.version)) conflict
     (λ one. decides-any (λ wanted. list_any (none_left given earlier conflict) (nodes_of wanted)) (IsExhaustedFor given earlier conflict) (wants given one.node one.version) (for-decides given earlier conflict))
 
-pub none-by_line : (given : ProblemParts) (earlier : List (List ChoiceParts)) (conflict : List ChoiceParts) → IsExhaustedLine given earlier conflict → NoneLeft (rules_of given) same_version earlier conflict
-none-by_line given earlier conflict k = record { node = k.is.item; needs = inl (k.item, k.there, k.is.there); each = k.is.is }
-
-pub none-by_choice : (given : ProblemParts) (earlier : List (List ChoiceParts)) (conflict : List ChoiceParts) → IsExhaustedChoice given earlier conflict → NoneLeft (rules_of given) same_version earlier conflict
-none-by_choice given earlier conflict k = record { node = k.is.is.item; needs = inr (k.item, k.is.item, k.there, k.is.there, k.is.is.there); each = k.is.is.is }
-
 pub none-cases : (given : ProblemParts) (earlier : List (List ChoiceParts)) (conflict : List ChoiceParts) → NoneLeft (rules_of given) same_version earlier conflict
     → IsExhaustedLine given earlier conflict ⊎ IsExhaustedChoice given earlier conflict
 none-cases given earlier conflict f = elim f.needs [
   | inl a ↦ inl (record { item = a.0; there = a.1; is = record { item = f.node; there = a.2; is = f.each } })
   | inr b ↦ inr (record { item = b.0; there = b.2; is = record { item = b.1; there = b.3; is = record { item = f.node; there = b.4; is = f.each } } })
-]
-
--- where no choice needs such a node, a line does
-pub none-without_choice : (given : ProblemParts) (earlier : List (List ChoiceParts)) (conflict : List ChoiceParts) (b : Bool) → Decides b (IsExhaustedChoice given earlier conflict) → b ≡ false
-    → NoneLeft (rules_of given) same_version earlier conflict → IsExhaustedLine given earlier conflict
-none-without_choice given earlier conflict b d e f = elim (none-cases given earlier conflict f) [
-  | inl line ↦ line
-  | inr choice ↦ (let t = d.1 choice in absurd cc)
 ]
 
 -- ---- each follows

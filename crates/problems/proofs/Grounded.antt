@@ -1,5 +1,5 @@
 -- What is found in a list passes its test, and where nothing is found nothing passes.
-use Rattle.std.proofs.Common.{◌≡◌, ◌∙◌, inl, inr, ◌<◌, ◌+◌, ◌&&◌, ◌||◌, ℕ, zero, suc, Bool, true, false, List, [], ◌∷◌, Option, Some, None, MatchOption, Contains, drop, find, filter, get_or, length, map, refl, sym, ap, subst}
+use Rattle.std.proofs.Common.{◌≡◌, ◌∙◌, ◌↔◌, inl, inr, IsTrue, is_some, ◌<◌, ◌+◌, ◌&&◌, ◌||◌, ℕ, zero, suc, Bool, true, false, List, [], ◌∷◌, Option, Some, None, MatchOption, Contains, drop, find, filter, get_or, length, map, refl, sym, ap, subst}
 use Rattle.std.specs.Bool.{Decides}
 use Rattle.std.specs.List.{list_all, list_any, slice_get}
 use Rattle.std.proofs.lemmas.Bool.{cases_Bool}
@@ -9,17 +9,18 @@ use Rattle.pep440.specs.Version.{VersionParts}
 use Rattle.pep508.specs.Requirement.{RequirementParts}
 use Rattle.problems.specs.Admission.{release_at}
 use Rattle.search.specs.Conflicts.{ChoicesClash, Completes, Follows, LineRefuses, NoneLeft, VersionsDiffer}
-use Rattle.problems.specs.Tied.Checking.{completes, dependencies_at, differ, is_within, none_left, refuses}
+use Rattle.problems.specs.Tied.Checking.{IsLeftOut, completes, dependencies_at, differ, is_within, none_left, refuses}
 use Rattle.problems.specs.Grounds.{IsGround}
 use Rattle.problems.specs.Problem.{ProblemParts}
 use Rattle.problems.specs.Refutations.{ChoiceParts, same_version}
 use Rattle.problems.specs.Rules.{bare, counts, nodes_of, rules_of, wants, with_extra}
 use Rattle.problems.specs.declared.ground.Ground.{Ground}
+use Rattle.problems.specs.declared.ground.Ground.TheVariants.{ChoicesClash as Clash, LineRefuses as Refused, NoneLeft as Exhausted, VersionsDiffer as Differ}
 use Rattle.problems.specs.declared.node.Node.{Node}
 use Rattle.problems.proofs.Checked.{by_choice-decides, by_line-decides, clash-decides, completes-decides, differ-decides, exhausted-decides, line-decides, none-cases, refuses-decides, versions-decide}
 use Rattle.problems.proofs.Counting.{counted}
 use Rattle.problems.proofs.Deciding.{any-mapped}
-use Rattle.lists.proofs.Members.{Contains-here, Contains-map_of, Contains-there}
+use Rattle.lists.proofs.Members.{Contains-filter_of, Contains-here, Contains-map_of, Contains-there}
 
 -- ---- a loop over places
 
@@ -136,24 +137,22 @@ differ-ground given conflict one other found found_other =
 
 -- ---- none is left
 
-pub choice-ground : (given : ProblemParts) (earlier : List (List ChoiceParts)) (conflict : List ChoiceParts) (one : ChoiceParts) (wanted : RequirementParts) (node : Node)
-    → find (λ one. list_any (λ wanted. list_any (none_left given earlier conflict) (nodes_of wanted)) (wants given one.node one.version)) conflict ≡ Some one
-    → find (λ wanted. list_any (none_left given earlier conflict) (nodes_of wanted)) (wants given one.node one.version) ≡ Some wanted
-    → Contains (nodes_of wanted) node → none_left given earlier conflict node ≡ true
-    → (case : NoneLeft (rules_of given) same_version earlier conflict) × (case.node ≡ node)
+pub choice-ground : (given : ProblemParts) (earlier : List (List ChoiceParts)) (conflict : List ChoiceParts) (one : ChoiceParts) (wanted : RequirementParts) (extra : Option (List ℕ))
+    → Contains conflict one → Contains (wants given one.node one.version) wanted → IsLeftOut given earlier conflict wanted extra
+    → (case : NoneLeft (rules_of given) same_version earlier conflict) × (case.node ≡ record { name = wanted.name; extra = extra })
     × Contains conflict one × Contains (wants given one.node one.version) wanted × Contains (nodes_of wanted) case.node
-choice-ground given earlier conflict one wanted node found found_wanted needed none =
-    let there = (found-is _ conflict one found).0 in
-    let counts = (found-is _ (wants given one.node one.version) wanted found_wanted).0 in
-    (record { node = node; needs = inr (one, wanted, there, counts, needed); each = (exhausted-decides given earlier conflict node).0 none }, refl, there, counts, needed)
+choice-ground given earlier conflict one wanted extra there counts left =
+    let node : Node = record { name = wanted.name; extra = extra } in
+    (record { node = node; needs = inr (one, wanted, there, counts, left.0); each = (exhausted-decides given earlier conflict node).0 left.1 }, refl, there, counts, left.0)
 
-pub needy-ground : (given : ProblemParts) (earlier : List (List ChoiceParts)) (conflict : List ChoiceParts) (line : RequirementParts) (place : ℕ) (node : Node)
-    → slice_get given.active place ≡ Some line → Contains (nodes_of line) node → none_left given earlier conflict node ≡ true
-    → (case : NoneLeft (rules_of given) same_version earlier conflict) × (case.node ≡ node)
+pub needy-ground : (given : ProblemParts) (earlier : List (List ChoiceParts)) (conflict : List ChoiceParts) (line : RequirementParts) (place : ℕ) (extra : Option (List ℕ))
+    → slice_get given.active place ≡ Some line → IsLeftOut given earlier conflict line extra
+    → (case : NoneLeft (rules_of given) same_version earlier conflict) × (case.node ≡ record { name = line.name; extra = extra })
     × (line : RequirementParts) × (slice_get given.active place ≡ Some line) × Contains (nodes_of line) case.node
-needy-ground given earlier conflict line place node at needed none =
+needy-ground given earlier conflict line place extra at left =
+    let node : Node = record { name = line.name; extra = extra } in
     let there = slice_get-there given.active place line at in
-    (record { node = node; needs = inl (line, there, needed); each = (exhausted-decides given earlier conflict node).0 none }, refl, line, at, needed)
+    (record { node = node; needs = inl (line, there, left.0); each = (exhausted-decides given earlier conflict node).0 left.1 }, refl, line, at, left.0)
 
 pub unexhausted : (given : ProblemParts) (earlier : List (List ChoiceParts)) (conflict : List ChoiceParts)
     → list_any (λ one. list_any (λ wanted. list_any (none_left given earlier conflict) (nodes_of wanted)) (wants given one.node one.version)) conflict ≡ false
@@ -164,16 +163,25 @@ unexhausted given earlier conflict by_choice by_line none = elim (none-cases giv
   | inr choice ↦ never _ (by_choice-decides given earlier conflict) by_choice choice
 ]
 
--- the extra that was found for a requirement, or the name alone
-pub extra-found : (test : Node → Bool) (wanted : RequirementParts) (found : Option (List ℕ)) → list_any test (nodes_of wanted) ≡ true → test (bare wanted.name) ≡ false
-    → found ≡ find (λ extra. test (with_extra wanted.name extra)) wanted.extras
-    → Contains (nodes_of wanted) (record { name = wanted.name; extra = found }) × (test (record { name = wanted.name; extra = found }) ≡ true)
-extra-found test wanted None some bare_left e =
-    let rest : list_any test (map (with_extra wanted.name) wanted.extras) ≡ false = sym (any-mapped test (with_extra wanted.name) wanted.extras) ∙ found-none _ wanted.extras (sym e) in
-    absurd (let k = rw (bare_left, rest) at some in cc)
-extra-found test wanted (Some extra) some bare_left e =
-    let k = found-is _ wanted.extras extra (sym e) in
+-- of the nodes that a requirement needs, the name alone comes first
+pub none-left_out : (test : Node → Bool) (wanted : RequirementParts) → test (bare wanted.name) ≡ false → find (λ extra. test (with_extra wanted.name extra)) wanted.extras ≡ None
+    → list_any test (nodes_of wanted) ≡ false
+none-left_out test wanted bare_left e =
+    let rest : list_any test (map (with_extra wanted.name) wanted.extras) ≡ false = sym (any-mapped test (with_extra wanted.name) wanted.extras) ∙ found-none _ wanted.extras e in
+    rw (bare_left, rest) refl
+
+pub extra-found : (test : Node → Bool) (wanted : RequirementParts) (extra : List ℕ) → find (λ extra. test (with_extra wanted.name extra)) wanted.extras ≡ Some extra
+    → Contains (nodes_of wanted) (with_extra wanted.name extra) × (test (with_extra wanted.name extra) ≡ true)
+extra-found test wanted extra e =
+    let k = found-is _ wanted.extras extra e in
     (Contains-there (bare wanted.name) (map (with_extra wanted.name) wanted.extras) (with_extra wanted.name extra) (Contains-map_of (with_extra wanted.name) wanted.extras extra k.0), k.1)
+
+-- a dependency that counts is wanted
+pub wanted-counts : (given : ProblemParts) (node : Node) (version : VersionParts) (wanted : RequirementParts) → Contains (dependencies_at given node.name version) wanted
+    → counts given.environment node.extra wanted ≡ true → Contains (wants given node version) wanted
+wanted-counts given node version wanted there counts_there =
+    subst (λ ws. Contains ws wanted) (counted given node (release_at given node.name version))
+    (Contains-filter_of (counts given.environment node.extra) (dependencies_at given node.name version) wanted there counts_there)
 
 pub exhausted-last : (given : ProblemParts) (earlier : List (List ChoiceParts)) (conflict : List ChoiceParts) (found : Option Ground)
     → list_any (λ one. list_any (λ wanted. list_any (none_left given earlier conflict) (nodes_of wanted)) (wants given one.node one.version)) conflict ≡ false
@@ -181,6 +189,20 @@ pub exhausted-last : (given : ProblemParts) (earlier : List (List ChoiceParts)) 
     → MatchOption found (NoneLeft (rules_of given) same_version earlier conflict → ⊥) (IsGround given earlier conflict)
 exhausted-last given earlier conflict None by_choice by_line = unexhausted given earlier conflict by_choice by_line
 exhausted-last given earlier conflict (Some found) by_choice ground_is = ground_is
+
+ground-follows : (given : ProblemParts) (earlier : List (List ChoiceParts)) (conflict : List ChoiceParts) (ground : Ground) → IsGround given earlier conflict ground
+    → Follows (rules_of given) same_version earlier conflict
+ground-follows given earlier conflict (Refused place choice) k = inl k.0
+ground-follows given earlier conflict (Clash one wanted other) k = inr (inl k.0)
+ground-follows given earlier conflict (Differ one other) k = inr (inr (inl k.0))
+ground-follows given earlier conflict (Exhausted need name extra) k = inr (inr (inr k.0))
+
+-- a conflict has a ground exactly where it follows
+pub ground-decides : (given : ProblemParts) (earlier : List (List ChoiceParts)) (conflict : List ChoiceParts) (found : Option Ground)
+    → MatchOption found (Follows (rules_of given) same_version earlier conflict → ⊥) (IsGround given earlier conflict)
+    → IsTrue (is_some found) ↔ Follows (rules_of given) same_version earlier conflict
+ground-decides given earlier conflict None none = ((λ h. absurd cc), (λ f. absurd (none f)))
+ground-decides given earlier conflict (Some ground) ground_is = ((λ h. ground-follows given earlier conflict ground ground_is), (λ f. refl))
 
 pub ground-last : (given : ProblemParts) (earlier : List (List ChoiceParts)) (conflict : List ChoiceParts) (found : Option Ground)
     → (LineRefuses (rules_of given) conflict → ⊥) → (ChoicesClash (rules_of given) conflict → ⊥) → (VersionsDiffer (rules_of given) same_version conflict → ⊥)

@@ -1,5 +1,5 @@
 -- Earlier conflicts of sets that a conflict contains with one version more, and how they are looked for.
-use Rattle.std.proofs.Common.{◌≡◌, ◌∙◌, ◌⊎◌, inl, inr, ◌&&◌, ◌||◌, not, Bool, true, false, List, [], ◌∷◌, Contains, refl, subst}
+use Rattle.std.proofs.Common.{◌≡◌, ◌∙◌, ◌⊎◌, inl, inr, ◌&&◌, ◌||◌, not, Bool, true, false, List, [], ◌∷◌, Contains, refl}
 use Rattle.std.specs.Bool.{Decides}
 use Rattle.std.specs.List.{list_all, list_any}
 use Rattle.pep440.specs.Version.{VersionParts}
@@ -10,9 +10,8 @@ use Rattle.problems.specs.SetRefutations.{TermParts}
 use Rattle.problems.specs.Tied.SetChecking.{completes, each_completes, fits_at, is_at, is_bound, is_bound_beside, is_listed, is_within}
 use Rattle.problems.specs.declared.node.Node.{Node}
 use Rattle.problems.proofs.Checked.{node-decides}
-use Rattle.problems.proofs.Deciding.{IsThere, decides-all, decides-any, decides-both, decides-either, decides-itself, decides-onto}
+use Rattle.problems.proofs.Deciding.{decides-all, decides-any, decides-both, decides-either, decides-itself, decides-onto}
 use Rattle.problems.proofs.Equals.{same-onward}
-use Rattle.lists.proofs.Members.{Contains-here}
 
 pub listed-decides : (versions : List VersionParts) (v : VersionParts) → Decides (is_listed versions v) (HasVersion same_version versions v)
 listed-decides versions v = decides-onto (is_listed versions v)

@@ -1,7 +1,7 @@
 -- Walks over a list that test what is left of it.
-use Rattle.std.proofs.Common.{IfSome, Option, Some, None, is_some, ◌≡◌, ◌∙◌, ◌<◌, ◌≤◌, ◌+◌, ◌&&◌, ◌||◌, ℕ, zero, suc, Bool, true, false, List, [], ◌∷◌, drop, get_or, length, ap, refl, sym}
+use Rattle.std.proofs.Common.{IfSome, Option, Some, None, is_some, ◌≡◌, ◌∙◌, ◌<◌, ◌+◌, ◌&&◌, ◌||◌, ℕ, zero, suc, Bool, true, false, List, [], ◌∷◌, drop, get_or, length, ap, refl, sym}
 use Rattle.std.specs.List.{list_all, list_any}
-use Rattle.std.proofs.lemmas.List.{at_drop_all, at_drop_more}
+use Rattle.std.proofs.lemmas.List.{at_drop_more}
 
 pub all-past : {X : Type 0} (p : X → Bool) (xs : List X) (k : ℕ) (x : X) → k < length xs → x ≡ get_or xs k x → p x ≡ true
     → list_all p xs ≡ list_all p (drop k xs) → list_all p xs ≡ list_all p (drop (k + 1) xs)

@@ -6,18 +6,11 @@ ghost use Rattle.search.specs.Solutions.{HasNoSolution};
 ghost use Rattle.problems.specs.Refutations.{ChoiceParts, same_version};
 ghost use Rattle.problems.specs.Rules.{rules_of};
 
-pub(crate) mod clashes;
-pub(crate) mod exhausted;
-pub(crate) mod refusing;
 mod sets;
-pub(crate) mod versions;
 
-use crate::checking::clashes::choices_clash;
-use crate::checking::exhausted::none_left;
-use crate::checking::refusing::line_refuses;
 pub use crate::checking::sets::check_sets;
-use crate::checking::versions::versions_differ;
 use crate::choice::Choice;
+use crate::grounds::ground_in;
 use crate::laws;
 use crate::problem::Problem;
 use crate::question::Question;
@@ -29,16 +22,7 @@ fn follows(question: &Question<'_>, earlier: &[Seq<Choice>], conflict: &[Choice]
     ensures { IsTrue result
         ↔ Follows (rules_of question.now) same_version earlier.now conflict.now }
 {
-    if line_refuses(question, conflict) {
-        return true;
-    }
-    if choices_clash(question, conflict) {
-        return true;
-    }
-    if versions_differ(conflict) {
-        return true;
-    }
-    none_left(question, earlier, conflict)
+    ground_in(question, earlier, conflict).is_some()
 }
 
 /// Whether each conflict follows from those before it.

@@ -6,11 +6,11 @@ ghost use Rattle.problems.specs.Refutations.{same_version};
 ghost use Rattle.problems.specs.Rules.{rules_of};
 
 use crate::checking::check;
-use crate::checking::clashes::choices_clash;
-use crate::checking::exhausted::is_within;
-use crate::checking::refusing::line_refuses;
-use crate::checking::versions::versions_differ;
 use crate::choice::Choice;
+use crate::grounds::clashing::clashing;
+use crate::grounds::completing::is_within;
+use crate::grounds::differing::differing;
+use crate::grounds::refusing::refused;
 use crate::nodes::copy_of;
 use crate::problem::Problem;
 use crate::question::Question;
@@ -237,9 +237,9 @@ impl<'p, 'c> Cited<'p, 'c> {
         alloc: Global,
         question: &Question<'_>,
     ) -> Result<Option<Vec<usize>>, AllocError> {
-        if line_refuses(question, self.conflict)
-            || choices_clash(question, self.conflict)
-            || versions_differ(self.conflict)
+        if refused(question, self.conflict).is_some()
+            || clashing(question, self.conflict).is_some()
+            || differing(self.conflict).is_some()
         {
             return Ok(None);
         }

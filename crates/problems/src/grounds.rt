@@ -8,15 +8,17 @@ ghost use Rattle.problems.specs.Grounds.{IsGround};
 ghost use Rattle.problems.specs.Refutations.{ChoiceParts, same_version};
 ghost use Rattle.problems.specs.Rules.{rules_of};
 
-mod clashing;
-mod completing;
+pub(crate) mod clashing;
+pub(crate) mod completing;
+pub(crate) mod differing;
 mod exhausting;
-mod refusing;
+pub(crate) mod refusing;
 
 use crate::choice::Choice;
 use crate::ground::Ground;
-use crate::grounds::clashing::{clashing, differing};
+use crate::grounds::clashing::clashing;
 use crate::grounds::completing::first_completed;
+use crate::grounds::differing::differing;
 use crate::grounds::exhausting::exhausted;
 use crate::grounds::refusing::refused;
 use crate::problem::Problem;
@@ -25,7 +27,8 @@ use lists::Seq;
 use pep440::Version;
 use pep508::Name;
 
-fn ground_in<'a>(
+/// A ground by which a conflict follows from earlier ones, or nothing where it doesn't follow.
+pub(crate) fn ground_in<'a>(
     question: &'a Question<'_>,
     earlier: &[Seq<Choice>],
     conflict: &'a [Choice],

@@ -1,7 +1,7 @@
 -- The cases of `Follows` as tests.
 -- Tied to `IsRefutation` by the contract of `check`; need not be read.
-use Rattle.std.specs.Prelude.{◌&&◌, ◌||◌, not, ℕ, Bool, List, []}
-use Rattle.std.specs.List.{list_all, list_any}
+use Rattle.std.specs.Prelude.{◌≡◌, ◌&&◌, ◌||◌, not, ℕ, Bool, true, List, [], Option}
+use Rattle.std.specs.List.{Contains, list_all, list_any}
 use Rattle.std.specs.Option.{option_map_or}
 use Rattle.std.specs.Str.{bytes_eq}
 use Rattle.pep440.specs.Version.{VersionParts}
@@ -10,6 +10,7 @@ use Rattle.problems.specs.Admission.{admits, release_at}
 use Rattle.problems.specs.Tied.NodeEquality.{is_node}
 use Rattle.problems.specs.Problem.{ProblemParts, releases_on}
 use Rattle.problems.specs.Refutations.{ChoiceParts, same_version}
+use Rattle.problems.specs.Rules.{nodes_of}
 use Rattle.problems.specs.declared.node.Node.{Node}
 
 -- whether two choices are one
@@ -35,6 +36,11 @@ completes earlier conflict choice = list_any (λ old. list_all (is_within confli
 -- whether it does with each release of the node's name
 abbrev pub none_left : ProblemParts → List (List ChoiceParts) → List ChoiceParts → Node → Bool
 none_left given earlier conflict node = list_all (λ release. completes earlier conflict (record { node = node; version = release.version })) (releases_on given node.name)
+
+-- a requirement needs its name with the extra or with none, and no release is left there
+abbrev pub IsLeftOut : ProblemParts → List (List ChoiceParts) → List ChoiceParts → RequirementParts → Option (List ℕ) → Type 0
+IsLeftOut given earlier conflict wanted extra =
+    Contains (nodes_of wanted) (record { name = wanted.name; extra = extra }) × (none_left given earlier conflict (record { name = wanted.name; extra = extra }) ≡ true)
 
 -- the dependencies of the release with that version
 abbrev pub dependencies_at : ProblemParts → List ℕ → VersionParts → List RequirementParts

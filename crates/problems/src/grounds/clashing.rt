@@ -1,23 +1,55 @@
-// The dependency that doesn't admit a choice, and two versions for one name.
+// The dependency of a choice that doesn't admit another one.
 
 ghost use Rattle.std.specs.Prelude.{◌≡◌, ◌&&◌, List, MatchOption, find};
 ghost use Rattle.std.specs.List.{list_any};
 ghost use Rattle.std.specs.Option.{option_copied};
-ghost use Rattle.search.specs.Conflicts.{ChoicesClash, VersionsDiffer};
+ghost use Rattle.search.specs.Conflicts.{ChoicesClash};
 ghost use Rattle.problems.specs.Tied.Checking as spec;
 ghost use Rattle.problems.specs.Grounds.{IsGround};
-ghost use Rattle.problems.specs.Problem.{ProblemParts};
-ghost use Rattle.problems.specs.Refutations.{ChoiceParts, same_version};
+ghost use Rattle.problems.specs.Refutations.{ChoiceParts};
 ghost use Rattle.problems.specs.Rules.{counts, rules_of, wants};
 
-use crate::checking::clashes::{clashes, refuses_one};
-use crate::checking::refusing::refuses;
-use crate::checking::versions::{differ, one_differs};
 use crate::choice::Choice;
 use crate::ground::Ground;
+use crate::grounds::refusing::refuses;
 use crate::question::Question;
 use crate::releases::counts;
 use pep508::{Name, Requirement};
+
+/// Whether a requirement refuses one of the choices.
+fn refuses_one(question: &Question<'_>, wanted: &Requirement, conflict: &[Choice]) -> bool
+    ensures { result ≡ list_any (spec.refuses question.now wanted.now) conflict.now }
+{
+    conflict
+        .iter()
+        .any(|choice| refuses(question, wanted, choice))
+}
+
+/// Whether a dependency that counts with an extra or none refuses one of the choices.
+fn some_refuses_one(
+    question: &Question<'_>,
+    extra: Option<&Name>,
+    dependencies: &[Requirement],
+    conflict: &[Choice],
+) -> bool
+    ensures { result ≡ list_any
+        (λ wanted. counts question.now.environment (option_copied extra.entry) wanted
+        && list_any (spec.refuses question.now wanted) conflict.now) dependencies.now }
+{
+    dependencies.iter().any(|wanted| {
+        counts(&question.environment, extra, wanted) && refuses_one(question, wanted, conflict)
+    })
+}
+
+/// Whether something that a choice wants refuses one of the choices.
+fn clashes(question: &Question<'_>, one: &Choice, conflict: &[Choice]) -> bool
+    ensures { result ≡ list_any
+        (λ wanted. list_any (spec.refuses question.now wanted) conflict.now)
+        (wants question.now one.now.node one.now.version) }
+{
+    let dependencies = question.dependencies(&one.name, &one.version);
+    some_refuses_one(question, one.extra.as_ref(), dependencies, conflict)
+}
 
 /// The first dependency that counts with an extra or none and refuses one of the choices.
 fn dependency_refusing<'a>(
@@ -81,31 +113,4 @@ pub(crate) fn clashing<'a>(question: &'a Question<'_>, conflict: &'a [Choice]) -
     let wanted = wanted_refusing(question, one, conflict)?;
     let other = choice_refused_by(question, wanted, conflict)?;
     Some(Ground::ChoicesClash(one, wanted, other))
-}
-
-/// The first of the choices that has another version than one of them on its name.
-fn choice_differing<'a>(conflict: &'a [Choice]) -> Option<&'a Choice>
-    ensures { option_copied result ≡ find
-        (λ one. list_any (spec.differ one) conflict.now) conflict.now }
-{
-    conflict.iter().find(|one| one_differs(one, conflict))
-}
-
-/// The first of the choices that has another version than this one on its name.
-fn other_version<'a>(one: &Choice, conflict: &'a [Choice]) -> Option<&'a Choice>
-    ensures { option_copied result ≡ find (spec.differ one.now) conflict.now }
-{
-    conflict.iter().find(|other| differ(one, other))
-}
-
-/// Two versions for one name.
-pub(crate) fn differing<'a>(conflict: &'a [Choice]) -> Option<Ground<'a>>
-    ensures { MatchOption result
-        ((given : ProblemParts) → VersionsDiffer (rules_of given) same_version conflict.now → ⊥)
-        (λ found. (given : ProblemParts) (earlier : List (List ChoiceParts))
-        → IsGround given earlier conflict.now found) }
-{
-    let one = choice_differing(conflict)?;
-    let other = other_version(one, conflict)?;
-    Some(Ground::VersionsDiffer(one, other))
 }

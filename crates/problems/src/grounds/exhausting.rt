@@ -1,44 +1,22 @@
 // The node for which no release is left, and what needs it.
 
-ghost use Rattle.std.specs.Prelude.{◌≡◌, ◌&&◌, MatchOption, Some, find, false, true};
-ghost use Rattle.std.specs.List.{Contains, list_any, slice_get};
+ghost use Rattle.std.specs.Prelude.{◌≡◌, ◌&&◌, MatchOption, find, false, true};
+ghost use Rattle.std.specs.List.{Contains, list_any};
 ghost use Rattle.std.specs.Option.{option_copied};
 ghost use Rattle.search.specs.Conflicts.{NoneLeft};
-ghost use Rattle.pep508.specs.Requirement.{RequirementParts};
 ghost use Rattle.problems.specs.Tied.Checking as spec;
+ghost use Rattle.problems.specs.Tied.Checking.{IsLeftOut};
 ghost use Rattle.problems.specs.Grounds.{IsGround};
 ghost use Rattle.problems.specs.Refutations.{same_version};
 ghost use Rattle.problems.specs.Rules.{counts, nodes_of, rules_of, wants, with_extra};
 
-use crate::checking::exhausted::{none_left_at, none_left_behind, none_left_for};
 use crate::choice::Choice;
 use crate::ground::{Ground, Need};
+use crate::grounds::completing::none_left_at;
 use crate::question::Question;
 use crate::releases::counts;
 use lists::Seq;
 use pep508::{Name, Requirement};
-
-/// The place of the first of the lines that needs a node for which no release is left.
-fn place_needing(
-    question: &Question<'_>,
-    earlier: &[Seq<Choice>],
-    conflict: &[Choice],
-    lines: &[Requirement],
-) -> Option<usize>
-    ensures { MatchOption result
-        (list_any (λ line. list_any (spec.none_left question.now earlier.now conflict.now)
-        (nodes_of line)) lines.now ≡ false)
-        (λ place. (line : RequirementParts) × (slice_get lines.now place ≡ Some line)
-        × (list_any (spec.none_left question.now earlier.now conflict.now)
-        (nodes_of line) ≡ true)) }
-{
-    for place in 0..lines.len() {
-        if none_left_for(question, earlier, conflict, &lines[place]) {
-            return Some(place);
-        }
-    }
-    None
-}
 
 /// The first of the extras with which no release is left for the name.
 fn extra_without<'a>(
@@ -55,84 +33,79 @@ fn extra_without<'a>(
     extras.iter().find(|extra| none_left_at(question, earlier, conflict, name, Some(*extra)))
 }
 
-/// The extra or none at a node that a requirement needs and for which no release is left.
+/// The extra or none at the first node that a requirement needs and for which no release is left.
 fn extra_at<'a>(
     question: &Question<'_>,
     earlier: &[Seq<Choice>],
     conflict: &[Choice],
     wanted: &'a Requirement,
-) -> Option<&'a Name>
-    requires { list_any (spec.none_left question.now earlier.now conflict.now)
-        (nodes_of wanted.now) ≡ true }
-    ensures needed { Contains (nodes_of wanted.now)
-        (record { name = wanted.now.name; extra = option_copied result }) }
-    ensures none { spec.none_left question.now earlier.now conflict.now
-        (record { name = wanted.now.name; extra = option_copied result }) ≡ true }
+) -> Option<Option<&'a Name>>
+    ensures { MatchOption result
+        (list_any (spec.none_left question.now earlier.now conflict.now)
+        (nodes_of wanted.now) ≡ false)
+        (λ extra. IsLeftOut question.now earlier.now conflict.now wanted.now
+        (option_copied extra)) }
 {
     let name = wanted.name();
     if none_left_at(question, earlier, conflict, name, None) {
-        return None;
+        return Some(None);
     }
-    extra_without(question, earlier, conflict, name, wanted.extras())
+    let extra = extra_without(question, earlier, conflict, name, wanted.extras())?;
+    Some(Some(extra))
 }
 
-/// The first of the choices that wants something which needs a node for which no release is left.
-fn choice_needing<'a>(
-    question: &Question<'_>,
-    earlier: &[Seq<Choice>],
-    conflict: &'a [Choice],
-) -> Option<&'a Choice>
-    ensures { option_copied result ≡ find
-        (λ one. list_any
-        (λ wanted. list_any (spec.none_left question.now earlier.now conflict.now)
-        (nodes_of wanted)) (wants question.now one.node one.version)) conflict.now }
-{
-    conflict
-        .iter()
-        .find(|one| none_left_behind(question, earlier, conflict, one))
-}
-
-/// The first dependency that counts with an extra or none and needs such a node.
+/// The first dependency that counts with an extra or none and needs such a node, and the extra there.
 fn dependency_needing<'a>(
     question: &Question<'_>,
     earlier: &[Seq<Choice>],
     conflict: &[Choice],
     extra: Option<&Name>,
     dependencies: &'a [Requirement],
-) -> Option<&'a Requirement>
-    ensures { option_copied result ≡ find
-        (λ wanted. counts question.now.environment (option_copied extra.entry) wanted
+) -> Option<(&'a Requirement, Option<&'a Name>)>
+    ensures { MatchOption result
+        (list_any (λ wanted. counts question.now.environment (option_copied extra.entry) wanted
         && list_any (spec.none_left question.now earlier.now conflict.now) (nodes_of wanted))
-        dependencies.now }
+        dependencies.now ≡ false)
+        (λ found. Contains dependencies.now found.0.now
+        × (counts question.now.environment (option_copied extra.entry) found.0.now ≡ true)
+        × IsLeftOut question.now earlier.now conflict.now found.0.now (option_copied found.1)) }
 {
-    dependencies.iter().find(|wanted| {
-        counts(&question.environment, extra, wanted)
-            && none_left_for(question, earlier, conflict, wanted)
-    })
+    for place in 0..dependencies.len() {
+        let wanted = &dependencies[place];
+        if counts(&question.environment, extra, wanted) {
+            if let Some(node) = extra_at(question, earlier, conflict, wanted) {
+                return Some((wanted, node));
+            }
+        }
+    }
+    None
 }
 
-/// The first thing that a choice wants and that needs such a node.
-fn wanted_needing<'a>(
+/// The ground that a choice needs a node for which no release is left.
+fn exhausted_behind<'a>(
     question: &'a Question<'_>,
     earlier: &[Seq<Choice>],
     conflict: &[Choice],
-    one: &Choice,
-) -> Option<&'a Requirement>
-    ensures { option_copied result ≡ find
-        (λ wanted. list_any (spec.none_left question.now earlier.now conflict.now)
-        (nodes_of wanted)) (wants question.now one.now.node one.now.version) }
+    one: &'a Choice,
+) -> Option<Ground<'a>>
+    ensures { MatchOption result
+        (list_any (λ wanted. list_any (spec.none_left question.now earlier.now conflict.now)
+        (nodes_of wanted)) (wants question.now one.now.node one.now.version) ≡ false)
+        (λ found. Contains conflict.now one.now
+        → IsGround question.now earlier.now conflict.now found) }
 {
     let dependencies = question.dependencies(&one.name, &one.version);
-    dependency_needing(
+    let (wanted, extra) = dependency_needing(
         question,
         earlier,
         conflict,
         one.extra.as_ref(),
         dependencies,
-    )
+    )?;
+    Some(Ground::NoneLeft(Need::Dependency(one, wanted), wanted.name(), extra))
 }
 
-/// The ground that a choice needs a node for which no release is left.
+/// The same of the first of the choices that needs such a node.
 fn exhausted_by_choice<'a>(
     question: &'a Question<'_>,
     earlier: &[Seq<Choice>],
@@ -145,10 +118,12 @@ fn exhausted_by_choice<'a>(
         (nodes_of wanted)) (wants question.now one.node one.version)) conflict.now ≡ false)
         (IsGround question.now earlier.now conflict.now) }
 {
-    let one = choice_needing(question, earlier, conflict)?;
-    let wanted = wanted_needing(question, earlier, conflict, one)?;
-    let extra = extra_at(question, earlier, conflict, wanted);
-    Some(Ground::NoneLeft(Need::Dependency(one, wanted), wanted.name(), extra))
+    for place in 0..conflict.len() {
+        if let Some(ground) = exhausted_behind(question, earlier, conflict, &conflict[place]) {
+            return Some(ground);
+        }
+    }
+    None
 }
 
 /// The ground that one of the lines needs a node for which no release is left.
@@ -163,10 +138,13 @@ fn exhausted_by_line<'a>(
         (IsGround question.now earlier.now conflict.now) }
 {
     let lines = question.active.as_slice();
-    let place = place_needing(question, earlier, conflict, lines)?;
-    let line = lines.get(place)?;
-    let extra = extra_at(question, earlier, conflict, line);
-    Some(Ground::NoneLeft(Need::Line(place), line.name(), extra))
+    for place in 0..lines.len() {
+        let line = &lines[place];
+        if let Some(extra) = extra_at(question, earlier, conflict, line) {
+            return Some(Ground::NoneLeft(Need::Line(place), line.name(), extra));
+        }
+    }
+    None
 }
 
 /// The ground that a line or a choice of the conflict needs a node, and that with each release at this

@@ -1,4 +1,4 @@
-// The line that doesn't admit a choice.
+// Requirements that don't admit the version of a choice, and the line that doesn't.
 
 ghost use Rattle.std.specs.Prelude.{◌≡◌, List, MatchOption, Some, find, false, true};
 ghost use Rattle.std.specs.List.{list_any, slice_get};
@@ -10,11 +10,25 @@ ghost use Rattle.problems.specs.Grounds.{IsGround};
 ghost use Rattle.problems.specs.Refutations.{ChoiceParts};
 ghost use Rattle.problems.specs.Rules.{rules_of};
 
-use crate::checking::refusing::{refuses, some_line_refuses};
+use crate::admission::admits;
 use crate::choice::Choice;
 use crate::ground::Ground;
 use crate::question::Question;
 use pep508::Requirement;
+
+/// Whether a requirement is on the name of a choice and doesn't admit its version.
+pub(crate) fn refuses(question: &Question<'_>, wanted: &Requirement, choice: &Choice) -> bool
+    ensures { result ≡ spec.refuses question.now wanted.now choice.now }
+{
+    wanted.name().normal() == choice.name.normal() && !admits(question, wanted, &choice.version)
+}
+
+/// Whether one of the lines refuses a choice.
+fn some_line_refuses(question: &Question<'_>, lines: &[Requirement], choice: &Choice) -> bool
+    ensures { result ≡ list_any (λ line. spec.refuses question.now line choice.now) lines.now }
+{
+    lines.iter().any(|line| refuses(question, line, choice))
+}
 
 /// The place of the first of the lines that refuses a choice.
 fn place_refusing(question: &Question<'_>, lines: &[Requirement], choice: &Choice) -> Option<usize>

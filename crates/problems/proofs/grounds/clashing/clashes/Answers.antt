@@ -5,7 +5,7 @@ use Rattle.problems.specs.Tied.Checking.{refuses}
 use Rattle.problems.specs.Refutations.{ChoiceParts}
 use Rattle.problems.specs.Rules.{wants}
 use Rattle.problems.proofs.Counting.{any-wanted}
-use Rattle.problems.proofs.checking.clashes.clashes.Goals as goal
+use Rattle.problems.proofs.grounds.clashing.clashes.Goals as goal
 
 pub returns : goal.returns
 returns c =

@@ -1,6 +1,6 @@
 use Rattle.std.proofs.Common.{sym}
 use Rattle.problems.proofs.Grounded.{differ-ground, found-fails, found-none, undiffering}
-use Rattle.problems.proofs.grounds.clashing.differing.Goals as goal
+use Rattle.problems.proofs.grounds.differing.differing.Goals as goal
 
 pub returns-in_err-one : goal.returns-in_err-one
 returns-in_err-one c = rw c.from_residual.ensures (λ given. undiffering given c.args.conflict.now (sym c.in_err-one.ensures))
