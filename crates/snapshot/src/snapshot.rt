@@ -1,6 +1,8 @@
 // The index.
 
-ghost use Rattle.std.specs.Prelude.{◌≡◌, ◌⊎◌, Err, IfErr, IfOk, Ok};
+ghost use Rattle.std.specs.Prelude.{◌≡◌, ◌⊎◌, Err, IfErr, IfOk, Ok, length, option_map};
+ghost use Rattle.std.specs.List.{slice_get};
+ghost use Rattle.std.specs.Option.{option_copied};
 ghost use Rattle.std.specs.List.Sorted.{IsStrictlySortedBy};
 ghost use Rattle.lists.specs.Answers.{Answers};
 ghost use Rattle.serde_json.specs.View.{view};
@@ -127,6 +129,24 @@ impl Snapshot {
         match self.places.get(name.normal()) {
             Some(place) => self.packages.as_slice()[*place].releases.as_slice(),
             None => &[],
+        }
+    }
+
+    /// How many packages the index has.
+    pub fn package_count(&self) -> usize
+        ensures { result ≡ length self.now.packages }
+    {
+        self.packages.len()
+    }
+
+    /// The name of the package at a place of the index, from 0.
+    pub fn name_at(&self, place: usize) -> Option<&Name>
+        ensures { option_copied result
+            ≡ option_map (λ p. p.name) (slice_get self.now.packages place) }
+    {
+        match self.packages.as_slice().get(place) {
+            Some(package) => Some(&package.name),
+            None => None,
         }
     }
 
