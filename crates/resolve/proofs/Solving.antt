@@ -7,10 +7,12 @@ use Rattle.std.specs.Cmp.Lexicographic.{slice_cmp}
 use Rattle.std.specs.Ordering.{is_eq, nat_cmp}
 use Rattle.pep440.specs.Version.{VersionParts as Version}
 use Rattle.pep508.specs.Requirement.{RequirementParts}
+use Rattle.search.specs.Known.{IsKnownTerm}
 use Rattle.search.specs.Picture.{pictured}
 use Rattle.search.specs.Solutions.{IsBest, version_pinned}
-use Rattle.search.specs.Table.{IsAscending, TableParts, place_in, rules_of as rules_of_table}
+use Rattle.search.specs.Table.{IsAscending, TableParts, name_of, place_in, rules_of as rules_of_table}
 use Rattle.search.specs.declared.parts.Choice.{Choice}
+use Rattle.search.specs.declared.term.Term.{Term}
 use Rattle.snapshot.specs.Release.{Release}
 use Rattle.problems.specs.Problem.{ProblemParts, releases_on}
 use Rattle.problems.specs.Rules.{rules_of}
@@ -26,6 +28,19 @@ use Rattle.resolve.proofs.Preferring.{lookup-get}
 -- a name that was read at its place
 pub name-read : (names : List (List ℕ)) (n : ℕ) (name : List ℕ) → n < length names → name ≡ get_or names n name → name_at names n ≡ name
 name-read names n name within read = get_or_from_slice_get names n name [] (slice_get_read names (length names) n name refl within read)
+
+-- the name of a node of the table that was read at its place
+pub name-on : (given : ProblemParts) (names listed : List (List ℕ)) (nodes : List Node) (t : TableParts) (node number : ℕ) (name : List ℕ) → IsPictured given names nodes t → number ≡ name_of t node → number < length t.candidates → listed ≡ names → name ≡ get_or listed number name
+    → name_at names (name_of t node) ≡ name
+name-on given names listed nodes t node number name is same within lent read =
+    ap (name_at names) (sym same)
+    ∙ name-read names number name (subst (λ n. number < n) is.counted within) (subst (λ (l : List (List ℕ)). name ≡ get_or l number name) lent read)
+
+-- the places of a term that the table knows are those of releases
+pub term-within : (given : ProblemParts) (names : List (List ℕ)) (nodes : List Node) (t : TableParts) (term : Term ℕ ℕ) (name : List ℕ) → IsPictured given names nodes t → IsKnownTerm t term → name_at names (name_of t term.node) ≡ name
+    → (place : ℕ) → Contains term.versions place → place < length (releases_on given name)
+term-within given names nodes t term name is known named place there =
+    subst (λ n. place < length (releases_on given n)) named (is.within (name_of t term.node) place (known.1 place there))
 
 -- the version of a release that was read at its place
 pub version-read : (given : ProblemParts) (name : List ℕ) (place : ℕ) (rs : List Release) (release : Release) → place < length (releases_on given name) → rs ≡ releases_on given name → release ≡ get_or rs place release

@@ -24,10 +24,15 @@ mod names;
 mod refuting;
 mod resolver;
 mod searching;
+mod set_refuting;
+mod set_searching;
 mod solution;
 mod tabling;
 mod walking;
 
 pub use crate::answer::Answer;
 pub use crate::resolver::{Learning, Plain, Resolver};
-pub use problems::{Choice, Ground, Need, Node, Problem, Refutation, check, completed, ground_of};
+pub use problems::{
+    Choice, Ground, Need, Node, Problem, Refutation, SetRefutation, SetTerm, check, check_sets,
+    completed, ground_of,
+};

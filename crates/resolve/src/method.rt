@@ -6,6 +6,7 @@ ghost use Rattle.search.specs.Table.{IsAscending, place_in, rules_of};
 
 use lists::Seq;
 use search::{Choice, Table};
+use set_search::{Found, solved};
 use std::alloc::{AllocError, Global};
 
 /// A way to search a table. Each finds the same.
@@ -13,6 +14,22 @@ use std::alloc::{AllocError, Global};
 pub(crate) enum Method {
     Plain,
     Learning,
+}
+
+/// What the search over sets of versions finds; where it gives up, what the search finds that learns
+/// from conflicts of single versions.
+fn learned(alloc: Global, table: &Table) -> Result<Option<Seq<Choice>>, AllocError>
+    ensures best { IfOk result
+        (λ answer. MatchOption answer (HasNoSolution (rules_of table.now))
+        (λ choices. IsBest (rules_of table.now) (place_in choices))) }
+    ensures ascending { IfOk result
+        (λ answer. MatchOption answer Unit (λ choices. IsAscending choices)) }
+{
+    match solved(alloc, table)? {
+        Found::Best(choices) => Ok(Some(choices)),
+        Found::Refuted(_) => Ok(None),
+        Found::GaveUp => search::learned_best(alloc, table),
+    }
 }
 
 impl Method {
@@ -31,7 +48,7 @@ impl Method {
     {
         match self {
             Method::Plain => search::best(alloc, table),
-            Method::Learning => search::learned_best(alloc, table),
+            Method::Learning => learned(alloc, table),
         }
     }
 }

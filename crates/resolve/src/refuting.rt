@@ -18,7 +18,11 @@ use search::Decision;
 use std::alloc::{AllocError, Global};
 
 /// The version of the release of a name at a place.
-fn version_at(question: &Question<'_>, name: &Name, place: usize) -> Result<Version, AllocError>
+pub(crate) fn version_at(
+    question: &Question<'_>,
+    name: &Name,
+    place: usize,
+) -> Result<Version, AllocError>
     requires { place < length (releases_on question.now name.now) }
     ensures { IfOk result
         (λ version. version ≡ version_at (releases_on question.now name.now) place) }

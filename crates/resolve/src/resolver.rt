@@ -2,6 +2,7 @@
 
 ghost use Rattle.std.specs.Prelude.{IfOk, MatchOption};
 ghost use Rattle.search.specs.Conflicts.{IsRefutation};
+ghost use Rattle.search.specs.SetConflicts.{IsSetRefutation};
 ghost use Rattle.problems.specs.Refutations.{same_version};
 ghost use Rattle.problems.specs.Rules.{rules_of};
 ghost use Rattle.problems.specs.Solutions.{HasSolution};
@@ -10,9 +11,10 @@ ghost use Rattle.resolve.specs.Resolves.{Resolves};
 use crate::answer::Answer;
 use crate::method::Method;
 use crate::searching::{best, refuted};
+use crate::set_searching::refuted_by_sets;
 use crate::walking::first_walk;
 use problems::parts::{Question, cut};
-use problems::{Problem, Refutation};
+use problems::{Problem, Refutation, SetRefutation};
 use std::alloc::{AllocError, Global};
 
 /// What finds the best solution of each problem, or tells that it has none.
@@ -32,7 +34,7 @@ impl Resolver for Plain {
     }
 }
 
-/// What the first walk finds, or where it gives up, a search that learns from its conflicts.
+/// What the first walk finds, or where it gives up, the searches that learn from their conflicts.
 fn walked_or_learned(alloc: Global, question: &Question<'_>) -> Result<Answer, AllocError>
     ensures { IfOk result (Resolves question.now) }
 {
@@ -42,8 +44,8 @@ fn walked_or_learned(alloc: Global, question: &Question<'_>) -> Result<Answer, A
     }
 }
 
-/// A walk that takes the first candidate of each name, and where that gives up, a search that learns
-/// from its conflicts.
+/// A walk that takes the first candidate of each name; where that gives up, a search that learns
+/// conflicts of sets of versions; and where that gives up too, one that learns conflicts of single versions.
 #[derive(Debug, Drop)]
 pub struct Learning;
 
@@ -69,5 +71,19 @@ impl Learning {
             None => Ok(None),
             Some(refutation) => Ok(Some(cut(alloc, problem, refutation)?)),
         }
+    }
+
+    /// A refutation of the problem by conflicts of sets of versions, which `check_sets` accepts. Nothing
+    /// where the problem has a solution.
+    pub fn refute_sets(
+        &self,
+        alloc: Global,
+        problem: &Problem<'_>,
+    ) -> Result<Option<SetRefutation>, AllocError>
+        ensures { IfOk result
+            (λ found. MatchOption found (HasSolution problem.now)
+            (IsSetRefutation (rules_of problem.now) same_version)) }
+    {
+        refuted_by_sets(alloc, problem.question())
     }
 }

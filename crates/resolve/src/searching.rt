@@ -57,7 +57,7 @@ pub(crate) fn best(
 }
 
 /// A refutation, or nothing where there is a solution, worked out on a table.
-fn refuted_in(
+pub(crate) fn refuted_in(
     alloc: Global,
     question: &Question<'_>,
     tabled: &Tabled,
