@@ -7,6 +7,7 @@ pub mod CarriedFacts
 pub mod ChangeFacts
 pub mod CutFacts
 pub mod DecideFacts
+pub mod DifferenceFacts
 pub mod EndsFacts
 pub mod EntriesByName
 pub mod EntryFacts
@@ -21,6 +22,7 @@ pub mod LockFacts
 pub mod LockedFacts
 pub mod MovedFacts
 pub mod NamesInOrder
+pub mod NearestFacts
 pub mod OneLock
 pub mod OneOutcome
 pub mod OwnChanges

@@ -6,5 +6,6 @@ pub mod Dependencies
 pub mod Entries
 pub mod State
 pub mod Changes
+pub mod Differences
 pub mod Laws
 pub mod Tied

@@ -7,6 +7,7 @@ pub mod Exchanging
 pub mod Joining
 pub mod Locking
 pub mod Moving
+pub mod Nearest
 pub mod Only
 pub mod Splicing
 pub mod Whole

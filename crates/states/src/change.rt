@@ -10,12 +10,14 @@ mod between_entries;
 mod between_lines;
 mod between_targets;
 mod by_target;
+pub(crate) mod difference;
 mod ends;
 mod exchanging;
 mod file;
 mod inverse;
 mod minimal;
 mod moving;
+mod nearest;
 mod parts;
 mod splicing;
 

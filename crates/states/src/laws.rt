@@ -1,7 +1,7 @@
 //! Laws of locks and of changes, each the contract of a function that does nothing.
 
 ghost use Rattle.states.specs.Changes.{AChangeCanBeTakenBack, BackAndBackIsTheChange};
-ghost use Rattle.states.specs.Laws.{AChangeLeadsToOneState, AChangeLeadsWhereItCarries, TheLockOfAProblemIsOne};
+ghost use Rattle.states.specs.Laws.{AChangeLeadsToOneState, AChangeLeadsWhereItCarries, ADifferenceCanBeTakenBack, ADifferenceJoinsTwoChanges, TheLockOfAProblemIsOne};
 
 use pep440::Version;
 use pep508::{Name, Requirement};
@@ -34,4 +34,15 @@ pub fn a_change_leads_to_one_state()
 /// Where a minimal change leads is a function of the state and the change.
 pub fn a_change_leads_where_it_carries()
     ensures { AChangeLeadsWhereItCarries }
+{}
+
+/// The inverse of the difference of two states is that of the states exchanged.
+pub fn a_difference_can_be_taken_back()
+    ensures { ADifferenceCanBeTakenBack }
+{}
+
+/// Where one change leads from a state and another one on from there, the difference of both ends leads
+/// where the two lead.
+pub fn a_difference_joins_two_changes()
+    ensures { ADifferenceJoinsTwoChanges }
 {}

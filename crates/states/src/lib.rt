@@ -27,6 +27,7 @@ mod target_name;
 mod targets;
 
 pub use crate::change::between::change_between;
+pub use crate::change::difference::difference;
 pub use crate::change::{Change, DigestChange, EntryChange, Splice};
 pub use crate::locking::{Unlocked, locked};
 pub use crate::refusal::{Refusal, SavedFile};

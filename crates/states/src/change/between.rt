@@ -12,7 +12,7 @@ use crate::state::State;
 use std::alloc::{AllocError, Global};
 
 /// The change from one digest to the other; `None` where they are the same.
-fn digests_between(old: [u8; 32], new: [u8; 32]) -> Option<DigestChange>
+pub(crate) fn digests_between(old: [u8; 32], new: [u8; 32]) -> Option<DigestChange>
     ensures leads { ChangesDigest result old new }
     ensures minimal { IfSome result (λ d. d.old ≢ d.new) }
 {
