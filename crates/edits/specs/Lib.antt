@@ -4,3 +4,4 @@ pub mod Naming
 pub mod Refused
 pub mod Edits
 pub mod Keeping
+pub mod Questions

@@ -24,7 +24,7 @@ fn has_line_feed(bytes: &[u8]) -> bool
 }
 
 /// The line that the text is, where it asks for something.
-fn asked_by(alloc: Global, text: &Text) -> Result<Option<Line>, AllocError>
+pub(crate) fn asked_by(alloc: Global, text: &Text) -> Result<Option<Line>, AllocError>
     ensures asked { IfOk result (λ found. MatchOption found (asked_by text.now ≡ None)
         (λ line. (line ≡ text.now) × (asked_by text.now ≡ wanted_of line))) }
     ensures one_line { IfOk result (λ found. MatchOption found Unit
@@ -82,7 +82,7 @@ fn lines_with(alloc: Global, lines: &[Line], line: Line) -> Result<Seq<Line>, Al
 }
 
 /// The file with one more line as its last, each of its lines with an ending.
-fn with_line(alloc: Global, file: &ReqFile, line: Line) -> Result<ReqFile, AllocError>
+pub(crate) fn with_line(alloc: Global, file: &ReqFile, line: Line) -> Result<ReqFile, AllocError>
     requires { list_any (λ b. b == 10) line ≡ false }
     ensures { IfOk result (λ after. after ≡ with_line file.now line) }
 {

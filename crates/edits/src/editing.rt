@@ -66,7 +66,7 @@ pub fn init<R: Resolver>(
 }
 
 /// The lines after the edit.
-fn lines_after(alloc: Global, lines: &ReqFile, edit: &Edit) -> Result<ReqFile, Refusal>
+pub(crate) fn lines_after(alloc: Global, lines: &ReqFile, edit: &Edit) -> Result<ReqFile, Refusal>
     ensures { Answers OutOfMemory
         (or_refused (refused_by_lines lines.now edit.now) (lines_after lines.now edit.now)) result }
 {
@@ -93,7 +93,7 @@ fn problem_for<'a>(
 }
 
 /// The problems of the targets, under their names.
-fn problems_for<'a>(
+pub(crate) fn problems_for<'a>(
     alloc: Global,
     lines: &ReqFile,
     targets: Seq<Unlocked>,

@@ -11,6 +11,7 @@
 #![tactic(auto)]
 
 mod adding;
+mod asking;
 mod constraining;
 mod editing;
 mod keeping;
@@ -20,16 +21,17 @@ mod removing;
 mod request;
 mod upgrading;
 
+pub use crate::asking::{problems_of_init, problems_with};
 pub use crate::editing::{edit, init, problem_after};
 pub use crate::request::{Edit, Edited};
 pub use pep508::{Cause, Environment, Fault, Line, Name, ReqFile, Requirement};
 pub use pylock::{Entry, FileEntry, Lock};
 pub use resolve::{
-    Choice, Ground, Learning, Need, Plain, Problem, Refutation, Resolver, check, completed,
-    ground_of,
+    Choice, Ground, Learning, Need, Plain, Problem, Refutation, Resolver, SetRefutation, SetTerm,
+    check, check_sets, completed, ground_of,
 };
 pub use snapshot::{Release, Snapshot};
 pub use states::{
     Change, DigestChange, EntryChange, Refusal, SavedFile, Splice, State, Target, TargetName,
-    Targets, first_unfit,
+    Targets, difference, first_unfit,
 };
