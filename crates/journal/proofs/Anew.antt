@@ -3,16 +3,11 @@
 use Rattle.std.proofs.Common.{◌≡◌, ℕ, suc, zero, ◌+◌, ◌-◌, ◌<◌, List, [], ◌∷◌, ◌++◌, length, take, Some, sym, ap, subst, ◌∙◌, arith}
 use Rattle.std.specs.Prelude.{slice_get}
 use Rattle.std.specs.List.{AllZip}
-use Rattle.states.specs.Changes.{ChangeParts, ChangesTarget, IsSameTarget}
-use Rattle.journal.specs.Values.{State, Target}
+use Rattle.states.specs.Changes.{ChangeParts, IsSameTarget}
+use Rattle.journal.specs.Values.{State}
 use Rattle.journal.specs.Past.{Past, moved, present, pushed}
 use Rattle.journal.specs.Changes.{IsStepOf}
-
-same_targets : (change : ChangeParts) (olds news : List Target) → AllZip (ChangesTarget change) olds news → AllZip IsSameTarget olds news
-same_targets change [] [] h = tt
-same_targets change [] (n ∷ news) h = absurd h
-same_targets change (o ∷ olds) [] h = absurd h
-same_targets change (o ∷ olds) (n ∷ news) h = (h.0.same, same_targets change olds news h.1)
+use Rattle.journal.proofs.PlacesFacts.{same-changed}
 
 -- a step keeps the targets
 pub step_targets : (past : Past) (k : ℕ) (change : ChangeParts) (old new : State) → IsStepOf past k change → slice_get past.states (k - 1) ≡ Some old → slice_get past.states k ≡ Some new
@@ -21,7 +16,7 @@ step_targets past k change old new step before behind =
     let first : step.old ≡ old = let same : Some step.old ≡ Some old = sym step.old_is ∙ before in cc in
     let second : step.new ≡ new = let same : Some step.new ≡ Some new = sym step.new_is ∙ behind in cc in
     subst (λ (s : State). AllZip IsSameTarget s.targets new.targets) first
-    (subst (λ (s : State). AllZip IsSameTarget step.old.targets s.targets) second (same_targets change step.old.targets step.new.targets step.leads.leads.targets))
+    (subst (λ (s : State). AllZip IsSameTarget step.old.targets s.targets) second (same-changed change step.old.targets step.new.targets step.leads.leads.targets))
 
 last-again : (states : List State) (k : ℕ) (state : State) → slice_get states k ≡ Some state → length states ≡ k + 1 → take k states ++ state ∷ [] ≡ states
 last-again [] k state at count = absurd cc

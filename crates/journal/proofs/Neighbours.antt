@@ -21,12 +21,12 @@ within-get [] k x at = absurd cc
 within-get (y ∷ xs) zero x at = omega arith
 within-get (y ∷ xs) (suc k) x at = let more = within-get xs k x at in omega arith
 
-all-get : {X : Type 0} (P : X → Type 0) (xs : List X) (k : ℕ) (x : X) → slice_get xs k ≡ Some x → AllByRecursion P xs → P x
+pub all-get : {X : Type 0} (P : X → Type 0) (xs : List X) (k : ℕ) (x : X) → slice_get xs k ≡ Some x → AllByRecursion P xs → P x
 all-get P [] k x at all = absurd cc
 all-get P (y ∷ xs) zero x at all = let same : y ≡ x = cc in subst P same all.0
 all-get P (y ∷ xs) (suc k) x at all = all-get P xs k x at all.1
 
-one-get : {X : Type 0} (xs : List X) (k : ℕ) (x y : X) → slice_get xs k ≡ Some x → slice_get xs k ≡ Some y → x ≡ y
+pub one-get : {X : Type 0} (xs : List X) (k : ℕ) (x y : X) → slice_get xs k ≡ Some x → slice_get xs k ≡ Some y → x ≡ y
 one-get xs k x y at too = cc
 
 -- ---- the states

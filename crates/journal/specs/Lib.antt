@@ -4,6 +4,7 @@ pub mod Past
 pub mod Changes
 pub mod Commands
 pub mod Steps
+pub mod Places
 pub mod Histories
 pub mod Laws
 pub mod Neighbours

@@ -20,6 +20,7 @@ mod format;
 mod history;
 pub mod laws;
 mod opening;
+mod places;
 mod running;
 mod saving;
 mod session;

@@ -8,6 +8,7 @@ ghost use Rattle.journal.specs.Opening.{Opens, Tells};
 ghost use Rattle.journal.specs.Saving.{IsSaved, OpensAs};
 ghost use Rattle.journal.specs.Commands.{asked_of};
 ghost use Rattle.journal.specs.Histories.{ChangesAfter, RunWithChanges};
+ghost use Rattle.journal.specs.Places.{IsBetween};
 ghost use Rattle.journal.specs.Steps.{Step, Run, IsStart};
 ghost use Rattle.journal.specs.Values.{Refusal as RefusalValue};
 ghost use Rattle.journal.specs.declared.commands.Reply.TheVariants as replies;
@@ -16,7 +17,7 @@ use crate::change_history::ChangeHistory;
 use crate::commands::{Command, Reply};
 use crate::history::History;
 use crate::saving::{self, Saved};
-use crate::{opening, running};
+use crate::{opening, places, running};
 use edits::{Change, Refusal, ReqFile, Resolver, Snapshot, State, TargetName, Targets};
 use lists::Seq;
 use std::alloc::{AllocError, Global};
@@ -132,6 +133,30 @@ impl Session {
         ensures step { IsStepOf self.now.past step result.now }
     {
         self.history.change(step)
+    }
+
+    /// The state at a place of the history, from 0 to `steps`. The states between it and the present one
+    /// are gone through.
+    pub fn state_at(&self, alloc: Global, place: usize) -> Result<State, AllocError>
+        requires within { place < length self.now.past.states }
+        ensures at { IfOk result (λ state. slice_get self.now.past.states place ≡ Some state) }
+    {
+        places::state_at(alloc, &self.history, place)
+    }
+
+    /// What the steps between two places do together, from the first place to the second: what comes and
+    /// goes on the way isn't told. The way back is the inverse of the way there.
+    pub fn change_between(
+        &self,
+        alloc: Global,
+        from: usize,
+        to: usize,
+    ) -> Result<Change, AllocError>
+        requires from { from < length self.now.past.states }
+        requires to { to < length self.now.past.states }
+        ensures between { IfOk result (IsBetween self.now.past from to) }
+    {
+        places::change_between(alloc, &self.history, from, to)
     }
 
     /// Applies one command. Each lock of an edited state is the best solution, whatever the
