@@ -1,5 +1,5 @@
 -- Lemmas on what clap reads.
-use Rattle.std.proofs.Common.{◌≡◌, ◌∙◌, ℕ, Bool, Bor, true, true≢false, List, [], Option, None, Some, refl, sym, ap, subst, inl, inr, codes}
+use Rattle.std.proofs.Common.{◌≡◌, ℕ, Bor, true, true≢false, List, [], Option, None, Some, refl, sym, ap, subst, inl, inr, codes}
 use Rattle.std.specs.Prelude.{IsSomeAnd, is_some, option_map, unwrap_or, Box, Result}
 use Rattle.clap.specs.Words.{App, FailsBy, HasMatchesOf, Row, Text, all_of, HasKind, IsAmong, fault_of, first_of, found_of, is_simple, is_simple_and_free, kind_of, matches_of, rows_of, subcommand_name_of, subcommand_of, subcommand_rows, subcommand_rows_of}
 use Rattle.clap.specs.declared.error.Error.{Error}
@@ -7,13 +7,14 @@ use Rattle.clap.specs.declared.parser.matches.ArgMatches.{ArgMatches}
 use Rattle.clap.specs.declared.parser.matches.ArgMatches.TheViews.{out-ArgMatches, out-SubCommand}
 use Rattle.clap.specs.declared.parser.matches.SubCommand.{SubCommand}
 use Rattle.std.specs.Box.{box_value}
-use Rattle.commands.specs.declared.request.RequestFault.{RequestFault}
-use Rattle.commands.specs.declared.request.RequestFault.TheVariants.{Usage, Needed, OutOfMemory}
+use Rattle.commands.specs.declared.usage.RequestFault.{RequestFault}
+use Rattle.commands.specs.declared.usage.RequestFault.TheVariants.{Usage, Needed, OutOfMemory}
 use Rattle.commands.specs.CommandWords.{reqlock_app}
-use Rattle.commands.specs.declared.request.Subcommand.{Subcommand}
 use Rattle.edits.specs.declared.request.Edit.{Edit}
-use Rattle.edits.specs.declared.request.Edit.TheVariants.{Add, Constrain, Relock, Remove}
-use Rattle.commands.specs.Requests.{all_chosen, all_given, chosen, given, has_twice, FaultOf, IsAsked, IsFault, IsLacking, edit_of, questioned, upgrade_with}
+use Rattle.edits.specs.declared.request.Edit.TheVariants.{Add, Constrain, Remove}
+use Rattle.commands.specs.Questions.{edit_of, upgrade_with}
+use Rattle.commands.specs.Requests.{IsFault, IsFaultBy, IsLackingIn}
+use Rattle.commands.specs.UsageFaults.{FaultOf}
 
 -- the command is one of which clap's contracts say all
 pub app_is_simple : is_simple reqlock_app ≡ true
@@ -30,19 +31,6 @@ fault_is words error (Usage shown) (inl memory) told = absurd (told.1 memory)
 fault_is words error (Usage shown) (inr among) told = let P : Error → Type 0 = λ e. IsAmong (kind_of e) (fault_of reqlock_app words) in inl (subst P (sym told.0) among)
 fault_is words error (Needed option) has told = absurd told
 fault_is words error OutOfMemory has told = inl tt
-
--- what was chosen of the matches, and whether an option stands in both places
-pub given_is : (words : List Text) (m : ArgMatches) (behind : List Row) (id : Text) (text : Option Text) → rows_of (found_of m) ≡ matches_of reqlock_app words
-    → text ≡ chosen (rows_of (found_of m)) behind id → text ≡ given words behind id
-given_is words m behind id text rows read = read ∙ ap (λ before. chosen before behind id) rows
-
-pub all_given_are : (words : List Text) (m : ArgMatches) (behind : List Row) (id : Text) (values : List Text) → rows_of (found_of m) ≡ matches_of reqlock_app words
-    → values ≡ all_chosen (rows_of (found_of m)) behind id → values ≡ all_given words behind id
-all_given_are words m behind id values rows read = read ∙ ap (λ before. all_chosen before behind id) rows
-
-pub twice_is : (words : List Text) (m : ArgMatches) (behind : List Row) (twice : Bool) → rows_of (found_of m) ≡ matches_of reqlock_app words → has_twice (rows_of (found_of m)) behind ≡ twice
-    → has_twice (matches_of reqlock_app words) behind ≡ twice
-twice_is words m behind twice rows is = sym (ap (λ before. has_twice before behind) rows) ∙ is
 
 module _ {Z : Type 0} where
   name_of_box : (found : Option (Box SubCommand Z)) → option_map (λ b. (out-SubCommand (box_value b)).name.now) found ≡ option_map (λ pair. pair.0) (subcommand_rows found)
@@ -90,21 +78,10 @@ pub upgrade_is : (name : Text) (rows : List Row) (names : Option (List Text)) (e
     → Some edit ≡ edit_of name rows
 upgrade_is name rows names edit named given is = rw (named, is, given) refl
 
--- the edit of a question, by its text
-pub question_is : (rows : List Row) (text : Option Text) (addition : Option Edit) → addition ≡ option_map Add text → text ≡ first_of (codes "text") rows → unwrap_or addition Relock ≡ questioned rows
-question_is rows text addition is given = ap (λ a. unwrap_or a Relock) (is ∙ ap (option_map Add) given)
-
--- what is asked of the values that the words give the options
-pub asked_over : (index index' : Option Text) (environments environments' : List Text) (name : Text) (rows : List Row) (subcommand : Subcommand) → index ≡ index' → environments ≡ environments'
-    → IsAsked index environments name rows subcommand → IsAsked index' environments' name rows subcommand
-asked_over index index' environments environments' name rows subcommand first second asked =
-    let P : Option Text → Type 0 = λ i. IsAsked i environments' name rows subcommand in
-    let Q : List Text → Type 0 = λ e. IsAsked index e name rows subcommand in
-    subst P first (subst Q second asked)
-
-pub lacking_over : (index index' : Option Text) (environments environments' : List Text) (name : Text) (rows : List Row) (fault : RequestFault) → index ≡ index' → environments ≡ environments'
-    → IsLacking index environments name rows fault → IsLacking index' environments' name rows fault
-lacking_over index index' environments environments' name rows fault first second lacking =
-    let P : Option Text → Type 0 = λ i. IsLacking i environments' name rows fault in
-    let Q : List Text → Type 0 = λ e. IsLacking index e name rows fault in
-    subst P first (subst Q second lacking)
+-- a fault of what clap found is one of the words
+pub fault_in : (words : List Text) (before : List Row) (name : Text) (behind : List Row) (fault : RequestFault) → fault_of reqlock_app words ≡ [] → before ≡ matches_of reqlock_app words
+    → subcommand_of reqlock_app words ≡ Some (name, behind) → IsFaultBy before name behind fault → IsFault words fault
+fault_in words before name behind fault read rows pair by =
+    let P : List Row → Type 0 = λ b. IsFaultBy b name behind fault in
+    let Q : Option (Text × List Row) → Type 0 = λ found. IsLackingIn (matches_of reqlock_app words) found fault in
+    inr (read, subst Q (sym pair) (subst P rows by))

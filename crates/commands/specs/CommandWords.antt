@@ -1,5 +1,5 @@
 -- The words of the program's command line. All of it is reqlock's own rule.
-use Rattle.std.specs.Prelude.{true, List, [], ◌∷◌, ◌++◌, Some, codes}
+use Rattle.std.specs.Prelude.{ℕ, true, List, [], ◌∷◌, ◌++◌, Some, codes}
 use Rattle.clap.specs.Lexer.{usize_max}
 use Rattle.clap.specs.Simple.{Shape, new_shape}
 use Rattle.clap.specs.Words.{App, Rule, Text, new_rule, with_rule, with_subcommand}
@@ -13,9 +13,17 @@ option_rule name = record (new_rule name) { long = Some name; value_names = 1 }
 abbrev pub repeated_rule : Text → Rule
 repeated_rule name = record (option_rule name) { action = Some Append }
 
+-- an option with this many values, as --constrain NAME [SPEC]
+abbrev pub ranged_rule : Text → ℕ → ℕ → ℕ → Rule
+ranged_rule name names least most = record (option_rule name) { value_names = names; range = Some (record { start_inclusive = least; end_inclusive = most }) }
+
 -- an option without a value, as --explain
 abbrev pub flag_rule : Text → Rule
 flag_rule name = record (new_rule name) { long = Some name; action = Some SetTrue }
+
+-- -v, --verbose
+abbrev pub verbose_rule : Rule
+verbose_rule = record (flag_rule (codes "verbose")) { short = Some 118 }
 
 -- a text that a subcommand may take, as [SPEC]
 abbrev pub text_rule : Text → Rule
@@ -29,6 +37,13 @@ needed_rule name = record (text_rule name) { required = true }
 abbrev pub texts_rule : Text → Rule
 texts_rule name = record (text_rule name) { range = Some (record { start_inclusive = 0; end_inclusive = usize_max }) }
 
+-- the options of what is saved, and those of what is printed
+abbrev pub saving_rules : List Rule
+saving_rules = flag_rule (codes "dry-run") ∷ verbose_rule ∷ []
+
+abbrev pub json_rules : List Rule
+json_rules = flag_rule (codes "json") ∷ []
+
 -- the options, before a subcommand or behind it: [--dir DIR] [--index FILE] [--env FILE]...
 abbrev pub option_rules : List Rule
 option_rules = option_rule (codes "dir") ∷ option_rule (codes "index") ∷ repeated_rule (codes "env") ∷ []
@@ -40,11 +55,11 @@ with_options app = with_rule (with_rule (with_rule app (option_rule (codes "dir"
 abbrev pub shape_with : Text → List Rule → Shape
 shape_with name rules = record (new_shape name) { rules = option_rules ++ rules }
 
--- reqlock [--dir DIR] [--index FILE] [--env FILE]... SUBCOMMAND
+-- reqlock [--dir DIR] [--index FILE] [--env FILE]... [--dry-run] [--verbose] [--json] SUBCOMMAND
 abbrev pub options_app : App
 options_app = record {
   top = record (new_shape (codes "reqlock")) {
-    rules = option_rules;
+    rules = option_rules ++ saving_rules ++ json_rules;
     has_version = true;
     subcommand_required = true;
   };
@@ -54,26 +69,41 @@ options_app = record {
 -- the subcommands that begin a history and edit the requirements file
 abbrev pub edit_shapes : List Shape
 edit_shapes =
-    shape_with (codes "init") []
-    ∷ shape_with (codes "add") (needed_rule (codes "text") ∷ [])
-    ∷ shape_with (codes "remove") (needed_rule (codes "name") ∷ [])
-    ∷ shape_with (codes "constrain") (needed_rule (codes "name") ∷ text_rule (codes "specifiers") ∷ [])
-    ∷ shape_with (codes "upgrade") (texts_rule (codes "names") ∷ [])
-    ∷ shape_with (codes "relock") []
+    shape_with (codes "init") (verbose_rule ∷ [])
+    ∷ shape_with (codes "add") (needed_rule (codes "text") ∷ saving_rules)
+    ∷ shape_with (codes "remove") (needed_rule (codes "name") ∷ saving_rules)
+    ∷ shape_with (codes "constrain") (needed_rule (codes "name") ∷ text_rule (codes "specifiers") ∷ saving_rules)
+    ∷ shape_with (codes "upgrade") (texts_rule (codes "names") ∷ saving_rules)
+    ∷ shape_with (codes "relock") saving_rules
     ∷ []
 
--- the others
-abbrev pub other_shapes : List Shape
-other_shapes =
-    shape_with (codes "undo") []
-    ∷ shape_with (codes "redo") []
+-- those that go through the history, and those that do the commands of standard input
+abbrev pub step_shapes : List Shape
+step_shapes =
+    shape_with (codes "undo") saving_rules
+    ∷ shape_with (codes "redo") saving_rules
     ∷ shape_with (codes "batch") []
     ∷ shape_with (codes "try") []
-    ∷ shape_with (codes "show") []
-    ∷ shape_with (codes "log") (flag_rule (codes "long") ∷ [])
-    ∷ shape_with (codes "check") []
+    ∷ []
+
+-- those that print what is there
+abbrev pub view_shapes : List Shape
+view_shapes =
+    shape_with (codes "show") (text_rule (codes "name") ∷ flag_rule (codes "tree") ∷ json_rules)
+    ∷ shape_with (codes "log") (flag_rule (codes "long") ∷ json_rules)
+    ∷ shape_with (codes "diff") (text_rule (codes "from") ∷ text_rule (codes "to") ∷ json_rules)
+    ∷ shape_with (codes "check") (flag_rule (codes "current") ∷ json_rules)
+    ∷ shape_with (codes "outdated") json_rules
     ∷ shape_with (codes "skipped") []
-    ∷ shape_with (codes "why") (flag_rule (codes "explain") ∷ text_rule (codes "text") ∷ [])
+    ∷ []
+
+-- why [--explain] [TEXT], or why with one of --init [TEXT], --constrain NAME [SPEC], --upgrade [NAME]..., --remove NAME and --not NAME
+abbrev pub why_shapes : List Shape
+why_shapes =
+    shape_with (codes "why") (
+    flag_rule (codes "explain") ∷ text_rule (codes "text") ∷ flag_rule (codes "init") ∷ ranged_rule (codes "constrain") 2 1 2
+    ∷ ranged_rule (codes "upgrade") 1 0 usize_max ∷ option_rule (codes "remove") ∷ option_rule (codes "not") ∷ []
+    )
     ∷ []
 
 -- an app with these subcommands behind its own
@@ -82,4 +112,4 @@ with_subcommands app [] = app
 with_subcommands app (shape ∷ shapes) = with_subcommands (with_subcommand app shape) shapes
 
 unfoldable pub reqlock_app : App
-reqlock_app = with_subcommands (with_subcommands options_app edit_shapes) other_shapes
+reqlock_app = with_subcommands (with_subcommands (with_subcommands (with_subcommands options_app edit_shapes) step_shapes) view_shapes) why_shapes

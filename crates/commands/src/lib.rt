@@ -9,7 +9,7 @@
 //! ```rust
 //! let words = ["reqlock", "--dir", "web", "undo"];
 //! let asked = request(alloc, &words)?;
-//! Ok(asked.dir == "web" && matches!(asked.subcommand, Subcommand::Undo))
+//! Ok(asked.dir == "web" && matches!(asked.subcommand, Subcommand::Undo(_)))
 //! ```
 #![tactic(auto)]
 
@@ -17,13 +17,18 @@ pub mod batch;
 mod batch_line;
 mod command_words;
 mod counted;
+mod edit_words;
+mod invocation;
 mod options;
 mod pending_line;
+mod question;
 mod reply_text;
 pub mod request;
 mod sink;
 mod source;
+mod subcommand;
 mod subcommand_help;
+mod usage;
 mod words;
 
 pub use crate::batch_line::{Item, LONGEST_LINE, read_item};

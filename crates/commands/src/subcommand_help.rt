@@ -115,9 +115,9 @@ pub(crate) const TRY: Help<'static> = Help {
 /// Of `show`.
 pub(crate) const SHOW: Help<'static> = Help {
     about: "Print the lock as a table, with what asks for each entry",
-    example: "Example: reqlock show",
+    example: "Example: reqlock show --tree",
     needs_dir: true,
-    needs_index: false,
+    needs_index: true,
     needs_environment: false,
 };
 
@@ -130,12 +130,30 @@ pub(crate) const LOG: Help<'static> = Help {
     needs_environment: false,
 };
 
+/// Of `diff`.
+pub(crate) const DIFF: Help<'static> = Help {
+    about: "Print what changed between two places of the history",
+    example: "Example: reqlock diff 3 5",
+    needs_dir: true,
+    needs_index: false,
+    needs_environment: false,
+};
+
+/// Of `outdated`.
+pub(crate) const OUTDATED: Help<'static> = Help {
+    about: "Print which locked releases have newer ones, and who holds them back",
+    example: "Example: reqlock outdated --index index.json",
+    needs_dir: true,
+    needs_index: true,
+    needs_environment: false,
+};
+
 /// Of `check`.
 pub(crate) const CHECK: Help<'static> = Help {
     about: "Tell whether the three files belong together; change nothing",
-    example: "Example: reqlock check --dir services/web",
+    example: "Example: reqlock check --current --index index.json",
     needs_dir: true,
-    needs_index: false,
+    needs_index: true,
     needs_environment: false,
 };
 
@@ -154,5 +172,5 @@ pub(crate) const WHY: Help<'static> = Help {
     example: "Example: reqlock why --explain 'flask<2' --index index.json",
     needs_dir: true,
     needs_index: true,
-    needs_environment: false,
+    needs_environment: true,
 };

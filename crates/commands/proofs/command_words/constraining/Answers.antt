@@ -1,15 +1,22 @@
-use Rattle.std.proofs.Common.{◌≡◌, ◌∙◌, ap, ap₂, rules, codes}
+use Rattle.std.proofs.Common.{◌≡◌, ◌∙◌, List, [], ◌∷◌, ap, codes, false, map, subst, sym}
 use Rattle.std.proofs.lemmas.Result.{IfOk-weaker}
-use Rattle.clap.specs.Words.{App, app_of, rule_of, with_rule, with_subcommand}
-use Rattle.commands.specs.CommandWords.{needed_rule, text_rule}
-use Rattle.commands.proofs.NoGlobals.{no_globals}
+use Rattle.std.specs.List.{AllByRecursion}
+use Rattle.clap.specs.Words.{Rule, app_of, rule_of, with_subcommand}
+use Rattle.clap.specs.declared.builder.arg.Arg.{Arg}
+use Rattle.commands.specs.CommandWords.{needed_rule, saving_rules, shape_with, text_rule}
 use Rattle.commands.proofs.command_words.constraining.Goals as goal
+
+pub taking-requires : goal.taking-requires
+taking-requires c =
+    let local : Arg → Type 0 = λ a. a.global ≡ false in
+    let name = ap (λ (a : Arg). a.global) c.help-name.ensures ∙ c.needed.ensures.local in
+    let specifiers = ap (λ (a : Arg). a.global) c.help-specifiers.ensures ∙ c.text.ensures.local in
+    record { local = subst (AllByRecursion local) (sym c.in_ok-args.ensures.items) (name, (specifiers, (c.dry_run.ensures.local, (c.verbose.ensures.local, tt)))) }
 
 pub returns : goal.returns
 returns c =
-    let name_is : rule_of c.help-name.result ≡ needed_rule (codes "name") = search rules in
-    let specifiers_is : rule_of c.help-specifiers.result ≡ text_rule (codes "specifiers") = search rules in
-    let first = c.in_ok-arg.ensures.shape (search rules) ∙ ap₂ with_rule c.in_ok-new_subcommand.ensures.app name_is in
-    let constrain = c.in_ok-constrain.ensures.shape (search rules) ∙ ap₂ with_rule first specifiers_is in
-    let local = no_globals _ _ _ _ (ap (λ (a : App). a.top.is_plain) constrain) in
-    record { app = IfOk-weaker c.subcommand.result _ _ (λ whole adds. adds.shape local ∙ ap (with_subcommand (app_of c.args.command)) (ap (λ (a : App). a.top) constrain)) c.subcommand.ensures }
+    let name = ap rule_of c.help-name.ensures ∙ c.needed.ensures.rule in
+    let specifiers = ap rule_of c.help-specifiers.ensures ∙ c.text.ensures.rule in
+    let rules : map rule_of c.in_ok-args.args.items ≡ needed_rule (codes "name") ∷ text_rule (codes "specifiers") ∷ saving_rules =
+    ap (map rule_of) c.in_ok-args.ensures.items ∙ (λ i. name i ∷ specifiers i ∷ c.dry_run.ensures.rule i ∷ c.verbose.ensures.rule i ∷ []) in
+    record { app = IfOk-weaker c.taking.result _ _ (λ made is. is ∙ ap (λ (rules : List Rule). with_subcommand (app_of c.args.command) (shape_with (codes "constrain") rules)) rules) c.taking.ensures.app }
