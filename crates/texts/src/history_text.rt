@@ -1,5 +1,6 @@
 // The history for people: a line for each step.
 
+use crate::diff_text::add_entry_change;
 use crate::plain_text::add_plain;
 use crate::requirement_text::add_specifiers;
 use edits::{Cause, Change, EntryChange, Line, Splice, TargetName};
@@ -34,7 +35,7 @@ fn add_entries(text: &mut String, changes: &[EntryChange]) -> Result<(), AllocEr
     for change in changes {
         text.push_str("      ")?;
         add_target(text, &change.target)?;
-        add_entry(text, change)?;
+        add_entry_change(text, change)?;
         text.push_str("\n")?;
     }
     Ok(())
@@ -47,25 +48,6 @@ fn add_target(text: &mut String, target: &TargetName) -> Result<(), AllocError> 
         return Ok(());
     }
     write!(text, "{name}: ")
-}
-
-fn add_entry(text: &mut String, change: &EntryChange) -> Result<(), AllocError> {
-    let name = change.name.normal();
-    match (&change.old, &change.new) {
-        (None, Some(new)) => {
-            let new = new.version();
-            write!(text, "+ {name} {new}")
-        }
-        (Some(old), None) => {
-            let old = old.version();
-            write!(text, "- {name} {old}")
-        }
-        (Some(old), Some(new)) => {
-            let (old, new) = (old.version(), new.version());
-            write!(text, "{name} {old} -> {new}")
-        }
-        (None, None) => Ok(()),
-    }
 }
 
 fn add_number(text: &mut String, step: usize, cursor: usize) -> Result<(), AllocError> {
@@ -82,6 +64,13 @@ fn add_cut(text: &mut String, line: &str) -> Result<(), AllocError> {
         text.push(letter)?;
     }
     text.push_str("...")
+}
+
+/// What was asked of a step, as `log` tells it, not cut.
+pub(crate) fn step_text(alloc: Global, change: &Change) -> Result<String, AllocError> {
+    let mut text = String::new(alloc);
+    add_step(alloc, &mut text, change)?;
+    Ok(text)
 }
 
 // What was asked: an edit of one line, or a new lock, of which the number of changed entries is told.

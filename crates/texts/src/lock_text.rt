@@ -1,5 +1,6 @@
 // Locks as tables for people: what is locked, and what asks for it.
 
+use crate::table::add_table;
 use crate::target_line::add_target_line;
 use edits::{Entry, Environment, Line, State, Target};
 use std::alloc::{AllocError, Global};
@@ -15,14 +16,6 @@ struct Row {
     needed_by: String,
 }
 
-// How wide the first three columns are.
-#[derive(Clone, Copy)]
-struct Widths {
-    name: usize,
-    version: usize,
-    lines: usize,
-}
-
 /// A table for each target of the state, in the order of the names, with an empty line between two.
 /// Above the table of a named target stands its name.
 pub fn lock_text(alloc: Global, state: &State) -> Result<String, AllocError> {
@@ -32,14 +25,14 @@ pub fn lock_text(alloc: Global, state: &State) -> Result<String, AllocError> {
             text.push_str("\n")?;
         }
         add_target_line(&mut text, &target.name)?;
-        add_table(alloc, &mut text, state.lines().lines(), target)?;
+        add_lock(alloc, &mut text, state.lines().lines(), target)?;
     }
     Ok(text)
 }
 
 // A line for each entry of the lock, below a head line: the name, the version, the numbers of the
 // lines that ask for it, and the names of the entries that need it.
-fn add_table(
+fn add_lock(
     alloc: Global,
     text: &mut String,
     lines: &[Line],
@@ -58,7 +51,9 @@ fn add_table(
     for entry in entries {
         add_needs(&mut rows, entries, entry)?;
     }
-    add_rows(alloc, text, rows.as_slice())
+    let cells = cells_of(alloc, rows)?;
+    let heads = ["name", "version", "line", "needed by"];
+    add_table(alloc, text, heads.as_slice(), cells.as_slice())
 }
 
 fn new_row(alloc: Global, entry: &Entry) -> Result<Row, AllocError> {
@@ -71,8 +66,8 @@ fn new_row(alloc: Global, entry: &Entry) -> Result<Row, AllocError> {
     })
 }
 
-// Whether the line asks for something in the environment.
-fn is_asking(environment: &Environment, line: &Line) -> bool {
+/// Whether the line asks for something in the environment.
+pub(crate) fn is_asking(environment: &Environment, line: &Line) -> bool {
     match line.requirement() {
         Some(requirement) => requirement.is_active(environment),
         None => false,
@@ -123,8 +118,8 @@ fn add_need(
     }
 }
 
-// Where the entry of a name is: the entries are in the order of their names.
-fn place_of(entries: &[Entry], name: &str) -> Option<usize> {
+/// Where the entry of a name is: the entries are in the order of their names.
+pub(crate) fn place_of(entries: &[Entry], name: &str) -> Option<usize> {
     entries
         .binary_search_by(|entry| entry.name().normal().cmp(name))
         .ok()
@@ -137,50 +132,26 @@ fn add_item(list: &mut String, item: &str) -> Result<(), AllocError> {
     list.push_str(item)
 }
 
-// The head line, and a line for each row.
-fn add_rows(alloc: Global, text: &mut String, rows: &[Row]) -> Result<(), AllocError> {
-    let widths = widths_of(rows);
-    add_row(
-        alloc,
-        text,
-        widths,
-        ["name", "version", "line", "needed by"],
-    )?;
+// The cells of each row.
+fn cells_of(alloc: Global, rows: Vec<Row>) -> Result<Vec<Vec<String>>, AllocError> {
+    let mut cells = Vec::with_capacity(alloc, rows.len())?;
     for row in rows {
-        let (name, version) = (row.name.as_str(), row.version.as_str());
-        let cells = [name, version, row.lines.as_str(), row.needed_by.as_str()];
-        add_row(alloc, text, widths, cells)?;
+        cells.push(row_cells(alloc, row)?)?;
     }
-    Ok(())
+    Ok(cells)
 }
 
-// Each column is as wide as its head at least.
-fn widths_of(rows: &[Row]) -> Widths {
-    let mut widths = Widths {
-        name: "name".len(),
-        version: "version".len(),
-        lines: "line".len(),
-    };
-    for row in rows {
-        widths = Widths {
-            name: widths.name.max(row.name.len()),
-            version: widths.version.max(row.version.len()),
-            lines: widths.lines.max(row.lines.len()),
-        };
-    }
-    widths
-}
-
-// Puts a row behind a text, with two spaces between its columns and none at its end.
-fn add_row(
-    alloc: Global,
-    text: &mut String,
-    widths: Widths,
-    cells: [&str; 4],
-) -> Result<(), AllocError> {
-    let [name, version, lines, needed_by] = cells;
-    let (first, second, third) = (widths.name, widths.version, widths.lines);
-    let row = format!(in alloc; "{name:first$}  {version:second$}  {lines:third$}  {needed_by}")?;
-    text.push_str(row.as_str().trim_end())?;
-    text.push_str("\n")
+fn row_cells(alloc: Global, row: Row) -> Result<Vec<String>, AllocError> {
+    let Row {
+        name,
+        version,
+        lines,
+        needed_by,
+    } = row;
+    let mut cells = Vec::with_capacity(alloc, 4)?;
+    cells.push(name)?;
+    cells.push(version)?;
+    cells.push(lines)?;
+    cells.push(needed_by)?;
+    Ok(cells)
 }

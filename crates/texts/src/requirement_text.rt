@@ -35,7 +35,7 @@ fn add_extras(text: &mut String, extras: &[Name]) -> Result<(), AllocError> {
     text.push_str("]")
 }
 
-fn add_clause(text: &mut String, clause: &Clause) -> Result<(), AllocError> {
+pub fn add_clause(text: &mut String, clause: &Clause) -> Result<(), AllocError> {
     let (sign, end) = match clause.operator {
         Operator::Compatible => ("~=", ""),
         Operator::Equal => ("==", ""),

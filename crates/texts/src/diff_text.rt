@@ -1,0 +1,102 @@
+// What a change did, for people.
+
+use crate::plain_text::add_plain;
+use crate::target_line::add_target_line;
+use edits::{Change, DigestChange, EntryChange, Splice};
+use lists::Text;
+use std::alloc::{AllocError, Global};
+
+/// The lines of the requirements file that a change takes out, with `-` and their numbers before it, and those
+/// that it puts in, with `+` and their numbers behind it. Then a line for each entry, those of a named target
+/// below its name, and the digests of the index, where it is another.
+pub fn diff_text(alloc: Global, change: &Change) -> Result<String, AllocError> {
+    let mut text = String::new(alloc);
+    add_splices(&mut text, change.splices())?;
+    add_entries(&mut text, change.entries())?;
+    if let Some(digests) = change.digests() {
+        add_digests(alloc, &mut text, digests)?;
+    }
+    Ok(text)
+}
+
+fn add_splices(text: &mut String, splices: &[Splice]) -> Result<(), AllocError> {
+    let mut taken = 0u64;
+    let mut put = 0u64;
+    for splice in splices {
+        let old = splice.place.saturating_add(1);
+        let new = old.saturating_add(put).saturating_sub(taken);
+        add_lines(text, "-", old, splice.old.as_slice())?;
+        add_lines(text, "+", new, splice.new.as_slice())?;
+        taken = taken.saturating_add(splice.old.len() as u64);
+        put = put.saturating_add(splice.new.len() as u64);
+    }
+    Ok(())
+}
+
+// Lines of which the first has this number.
+fn add_lines(text: &mut String, sign: &str, first: u64, lines: &[Text]) -> Result<(), AllocError> {
+    let mut number = first;
+    for line in lines {
+        write!(text, "{sign} {number}: ")?;
+        add_content(text, line.as_str())?;
+        number = number.saturating_add(1);
+    }
+    Ok(())
+}
+
+// A line without its ending. Where it has none, that is told, since an edit may give it one.
+fn add_content(text: &mut String, line: &str) -> Result<(), AllocError> {
+    let Some(content) = line.strip_suffix('\n') else {
+        add_plain(text, line)?;
+        return text.push_str("\n\\ no line ending\n");
+    };
+    add_plain(text, content.strip_suffix('\r').unwrap_or(content))?;
+    text.push_str("\n")
+}
+
+fn add_entries(text: &mut String, changes: &[EntryChange]) -> Result<(), AllocError> {
+    let mut last = None;
+    for change in changes {
+        if !has_same_target(last, change) {
+            add_target_line(text, &change.target)?;
+        }
+        add_entry_change(text, change)?;
+        text.push_str("\n")?;
+        last = Some(change);
+    }
+    Ok(())
+}
+
+// Whether the last change is one of the same target.
+fn has_same_target(last: Option<&EntryChange>, change: &EntryChange) -> bool {
+    match last {
+        Some(last) => last.target.as_str() == change.target.as_str(),
+        None => false,
+    }
+}
+
+/// What became of an entry. One that has other files, or other needs, keeps its version.
+pub(crate) fn add_entry_change(text: &mut String, change: &EntryChange) -> Result<(), AllocError> {
+    let name = change.name.normal();
+    match (&change.old, &change.new) {
+        (None, Some(new)) => {
+            let new = new.version();
+            write!(text, "+ {name} {new}")
+        }
+        (Some(old), None) => {
+            let old = old.version();
+            write!(text, "- {name} {old}")
+        }
+        (Some(old), Some(new)) => {
+            let (old, new) = (old.version(), new.version());
+            write!(text, "{name} {old} -> {new}")
+        }
+        (None, None) => Ok(()),
+    }
+}
+
+fn add_digests(alloc: Global, text: &mut String, digests: DigestChange) -> Result<(), AllocError> {
+    let old = hex::encode(alloc, digests.old)?;
+    let new = hex::encode(alloc, digests.new)?;
+    write!(text, "- index: {old}\n+ index: {new}\n")
+}

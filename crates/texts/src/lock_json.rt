@@ -1,0 +1,83 @@
+// Locks as JSON objects.
+
+use crate::ask_text::asks_value;
+use crate::asking::{Ask, asks_of, problem_over};
+use crate::entry_json::entry_value;
+use crate::json_text::{pin_value, target_object, targets_text};
+use crate::lock_text::place_of;
+use edits::{Entry, Name, Snapshot, State, Target};
+use serde_json::{Map, Value, put};
+use std::alloc::{AllocError, Global};
+
+/// The entries of each target, each with who asks for it and with what it needs; those of one name alone where it is
+/// given. What other entries ask for is told where an index is at hand that has their releases.
+pub fn lock_json(
+    alloc: Global,
+    state: &State,
+    snapshot: Option<&Snapshot>,
+    name: Option<&Name>,
+) -> Result<String, AllocError> {
+    let mut targets = Vec::with_capacity(alloc, state.targets().len())?;
+    for target in state.targets() {
+        let entries = entries_value(alloc, state, target, snapshot, name)?;
+        targets.push(target_object(alloc, target, "entries", entries)?)?;
+    }
+    targets_text(alloc, targets)
+}
+
+fn entries_value(
+    alloc: Global,
+    state: &State,
+    target: &Target,
+    snapshot: Option<&Snapshot>,
+    name: Option<&Name>,
+) -> Result<Value, AllocError> {
+    let problem = problem_over(alloc, state, target, snapshot)?;
+    let asks = asks_of(alloc, state.lines().lines(), target, problem.as_ref())?;
+    let entries = target.lock.entries();
+    let mut values = Vec::new(alloc);
+    for (entry, asked) in entries.iter().zip(asks.as_slice()) {
+        if is_meant(name, entry) {
+            values.push(told_value(alloc, entries, entry, asked.as_slice())?)?;
+        }
+    }
+    Ok(Value::Array(values))
+}
+
+fn is_meant(name: Option<&Name>, entry: &Entry) -> bool {
+    match name {
+        Some(name) => name.normal() == entry.name().normal(),
+        None => true,
+    }
+}
+
+// An entry with who asks for it and what it needs.
+fn told_value(
+    alloc: Global,
+    entries: &[Entry],
+    entry: &Entry,
+    asks: &[Ask<'_>],
+) -> Result<Value, AllocError> {
+    let mut members = Map::new(alloc);
+    put(&mut members, alloc, "asked_by", asks_value(alloc, asks)?)?;
+    put(&mut members, alloc, "entry", entry_value(alloc, entry)?)?;
+    put(
+        &mut members,
+        alloc,
+        "needs",
+        needs_value(alloc, entries, entry)?,
+    )?;
+    Ok(Value::Object(members))
+}
+
+fn needs_value(alloc: Global, entries: &[Entry], entry: &Entry) -> Result<Value, AllocError> {
+    let mut needs = Vec::with_capacity(alloc, entry.dependencies().len())?;
+    for needed in entry.dependencies() {
+        if let Some(place) = place_of(entries, needed.normal()) {
+            if let Some(found) = entries.get(place) {
+                needs.push(pin_value(alloc, found)?)?;
+            }
+        }
+    }
+    Ok(Value::Array(needs))
+}

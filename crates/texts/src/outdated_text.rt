@@ -1,0 +1,176 @@
+// The entries that have newer releases, for people and for scripts.
+
+use crate::ask_text::{add_ask, asks_value};
+use crate::asking::{Ask, is_in_index, problem_of};
+use crate::json_text::{pin_value, target_members, targets_text, text_value, version_value};
+use crate::outdated::{Outdated, outdated_of};
+use crate::table::add_table;
+use crate::target_line::add_target_line;
+use edits::{Entry, Problem, Snapshot, State, Target};
+use pep440::Version;
+use serde_json::{Map, Value, put};
+use std::alloc::{AllocError, Global};
+
+/// A table for each target of the state with entries that have newer releases in the index: what is locked, the
+/// newest version that all admit who ask for it, the newest version, and who doesn't admit that. Below it stand the
+/// entries whose releases the index doesn't have. A target without either has no table.
+pub fn outdated_text(
+    alloc: Global,
+    state: &State,
+    snapshot: &Snapshot,
+) -> Result<String, AllocError> {
+    let mut text = String::new(alloc);
+    for target in state.targets() {
+        let part = target_text(alloc, state, target, snapshot)?;
+        if part.is_empty() {
+            continue;
+        }
+        if !text.is_empty() {
+            text.push_str("\n")?;
+        }
+        add_target_line(&mut text, &target.name)?;
+        text.push_str(part.as_str())?;
+    }
+    Ok(text)
+}
+
+// The table of a target, and the line below it.
+fn target_text(
+    alloc: Global,
+    state: &State,
+    target: &Target,
+    snapshot: &Snapshot,
+) -> Result<String, AllocError> {
+    let problem = problem_of(alloc, state, target, snapshot)?;
+    let found = outdated_of(alloc, state.lines().lines(), target, &problem)?;
+    let mut text = String::new(alloc);
+    if !found.is_empty() {
+        let rows = rows_of(alloc, found.as_slice())?;
+        let heads = ["name", "locked", "admitted", "newest", "held by"];
+        add_table(alloc, &mut text, heads.as_slice(), rows.as_slice())?;
+    }
+    add_absent(&mut text, &problem, target.lock.entries())?;
+    Ok(text)
+}
+
+fn rows_of(alloc: Global, found: &[Outdated<'_>]) -> Result<Vec<Vec<String>>, AllocError> {
+    let mut rows = Vec::with_capacity(alloc, found.len())?;
+    for outdated in found {
+        rows.push(row_of(alloc, outdated)?)?;
+    }
+    Ok(rows)
+}
+
+fn row_of(alloc: Global, outdated: &Outdated<'_>) -> Result<Vec<String>, AllocError> {
+    let locked = outdated.entry.version();
+    let newest = outdated.newest;
+    let mut row = Vec::with_capacity(alloc, 5)?;
+    row.push(String::from_str(alloc, outdated.entry.name().normal())?)?;
+    row.push(format!(in alloc; "{locked}")?)?;
+    row.push(admitted_text(alloc, outdated.admitted)?)?;
+    row.push(format!(in alloc; "{newest}")?)?;
+    row.push(holders_text(alloc, outdated.holders.as_slice())?)?;
+    Ok(row)
+}
+
+fn admitted_text(alloc: Global, admitted: Option<&Version>) -> Result<String, AllocError> {
+    match admitted {
+        Some(version) => format!(in alloc; "{version}"),
+        None => String::from_str(alloc, "-"),
+    }
+}
+
+fn holders_text(alloc: Global, holders: &[Ask<'_>]) -> Result<String, AllocError> {
+    let mut text = String::new(alloc);
+    for holder in holders {
+        if !text.is_empty() {
+            text.push_str(", ")?;
+        }
+        add_ask(&mut text, *holder)?;
+    }
+    Ok(text)
+}
+
+// The entries whose releases the index doesn't have, in a line.
+fn add_absent(
+    text: &mut String,
+    problem: &Problem<'_>,
+    entries: &[Entry],
+) -> Result<(), AllocError> {
+    let mut mark = "not in the index: ";
+    for entry in entries {
+        if !is_in_index(problem, entry) {
+            let name = entry.name().normal();
+            let version = entry.version();
+            write!(text, "{mark}{name} {version}")?;
+            mark = ", ";
+        }
+    }
+    if mark == ", " {
+        text.push_str("\n")?;
+    }
+    Ok(())
+}
+
+/// The same as a JSON object.
+pub fn outdated_json(
+    alloc: Global,
+    state: &State,
+    snapshot: &Snapshot,
+) -> Result<String, AllocError> {
+    let mut targets = Vec::with_capacity(alloc, state.targets().len())?;
+    for target in state.targets() {
+        targets.push(target_value(alloc, state, target, snapshot)?)?;
+    }
+    targets_text(alloc, targets)
+}
+
+fn target_value(
+    alloc: Global,
+    state: &State,
+    target: &Target,
+    snapshot: &Snapshot,
+) -> Result<Value, AllocError> {
+    let problem = problem_of(alloc, state, target, snapshot)?;
+    let found = outdated_of(alloc, state.lines().lines(), target, &problem)?;
+    let mut outdated = Vec::with_capacity(alloc, found.len())?;
+    for one in found.as_slice() {
+        outdated.push(outdated_value(alloc, one)?)?;
+    }
+    let mut members = target_members(alloc, target, "outdated", Value::Array(outdated))?;
+    let absent = absent_value(alloc, &problem, target.lock.entries())?;
+    put(&mut members, alloc, "not_in_index", absent)?;
+    Ok(Value::Object(members))
+}
+
+fn outdated_value(alloc: Global, outdated: &Outdated<'_>) -> Result<Value, AllocError> {
+    let mut members = Map::new(alloc);
+    let name = text_value(alloc, outdated.entry.name().normal())?;
+    put(&mut members, alloc, "name", name)?;
+    let locked = version_value(alloc, outdated.entry.version())?;
+    put(&mut members, alloc, "locked", locked)?;
+    let admitted = match outdated.admitted {
+        Some(version) => version_value(alloc, version)?,
+        None => Value::Null,
+    };
+    put(&mut members, alloc, "admitted", admitted)?;
+    let newest = version_value(alloc, outdated.newest)?;
+    put(&mut members, alloc, "newest", newest)?;
+    let holders = asks_value(alloc, outdated.holders.as_slice())?;
+    put(&mut members, alloc, "held_by", holders)?;
+    Ok(Value::Object(members))
+}
+
+fn absent_value(
+    alloc: Global,
+    problem: &Problem<'_>,
+    entries: &[Entry],
+) -> Result<Value, AllocError> {
+    let mut absent = Vec::new(alloc);
+    for entry in entries {
+        if !is_in_index(problem, entry) {
+            absent.push(pin_value(alloc, entry)?)?;
+        }
+    }
+    Ok(Value::Array(absent))
+}
