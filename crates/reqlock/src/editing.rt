@@ -1,5 +1,6 @@
 // The subcommands that begin a history or make steps in it.
 
+use crate::details::Details;
 use crate::input_files::{InputFile, read_bytes, read_index, read_requirements};
 use crate::saved_files::SavedFiles;
 use crate::stop::{Stop, in_file, print};
@@ -10,6 +11,7 @@ use commands::{Counted, ReplyText};
 use edits::Edit;
 use journal::{Command, Reply, Session};
 use snapshot::Snapshot;
+use std::alloc::Global;
 use std::io::{Read, Write};
 use std::rt::Files;
 
@@ -20,6 +22,7 @@ pub fn init<R: Files + AllocGlobal, O: Write>(
     dir: &str,
     index: &str,
     targets: Vec<TargetFile>,
+    details: &mut Details,
     output: &mut O,
 ) -> Result<(), Stop> {
     end_left(rt, dir)?;
@@ -27,7 +30,7 @@ pub fn init<R: Files + AllocGlobal, O: Write>(
         files,
         session,
         snapshot: _,
-    } = begin(rt, dir, index, targets)?;
+    } = begin(rt, dir, index, targets, details)?;
     let mut text = ReplyText::new(rt.alloc())?;
     text.set(&Reply::Done(session.cursor()));
     remove_left(rt, dir, &session)?;
@@ -41,6 +44,7 @@ pub fn edit_once<R: Files + AllocGlobal, O: Write>(
     dir: &str,
     edit: Edit,
     index: &str,
+    details: &mut Details,
     output: &mut O,
 ) -> Result<(), Stop> {
     let Opened {
@@ -48,14 +52,8 @@ pub fn edit_once<R: Files + AllocGlobal, O: Write>(
         session,
         snapshot,
     } = open(rt, dir, index)?;
-    apply(
-        rt,
-        dir,
-        &files,
-        session,
-        &Command::Edit(edit, &snapshot),
-        output,
-    )
+    let command = Command::Edit(edit, &snapshot);
+    apply(rt, dir, &files, session, &command, details, output)
 }
 
 /// Does one command that needs no index.
@@ -63,30 +61,48 @@ pub fn step_once<R: Files + AllocGlobal, O: Write>(
     rt: &R,
     dir: &str,
     command: &Command<'_>,
+    details: &mut Details,
     output: &mut O,
 ) -> Result<(), Stop> {
     let (files, session) = SavedFiles::read_to_save(rt, dir)?.open_to_save(rt, dir)?;
-    apply(rt, dir, &files, session, command, output)
+    apply(rt, dir, &files, session, command, details, output)
 }
 
-// Does one command, saves where it was accepted, and prints the reply.
+// Does one command, saves where it was accepted, and prints the reply. What changed is worked out before anything is
+// saved, since memory may be wanting for it.
 fn apply<R: Files + AllocGlobal, O: Write>(
     rt: &R,
     dir: &str,
     files: &SavedFiles,
     mut session: Session,
     command: &Command<'_>,
+    details: &mut Details,
     output: &mut O,
 ) -> Result<(), Stop> {
-    let mut text = ReplyText::new(rt.alloc())?;
-    let reply = session.apply(rt.alloc(), command, &RESOLVER);
-    text.set(&reply);
-    match reply {
-        Reply::Refused(refusal) => return Err(Stop::from(refusal)),
-        Reply::Done(_) => files.replace(rt, dir, &session)?,
-        Reply::Same => {}
+    let from = session.cursor();
+    let text = applied(rt.alloc(), &mut session, command, details)?;
+    details.add_change(rt.alloc(), &session, from)?;
+    if text.has_accepted() {
+        files.replace(rt, dir, &session)?;
     }
     Ok(print(output, text.as_bytes())?)
+}
+
+/// Does one command on a history, and gives the text of its reply. Where it is refused, what is known is noted.
+pub fn applied(
+    alloc: Global,
+    session: &mut Session,
+    command: &Command<'_>,
+    details: &mut Details,
+) -> Result<ReplyText, Stop> {
+    let mut text = ReplyText::new(alloc)?;
+    let reply = session.apply(alloc, command, &RESOLVER);
+    text.set(&reply);
+    if let Reply::Refused(refusal) = reply {
+        details.add_refusal(alloc, session.state(), command, &refusal)?;
+        return Err(Stop::from(refusal));
+    }
+    Ok(text)
 }
 
 /// Does the commands of the input over an index, prints the replies, and saves at the end where one
@@ -125,7 +141,7 @@ pub fn try_commands<R: Files + AllocGlobal, I: Read + Drop, O: Write>(
         files: _,
         mut session,
         snapshot,
-    } = begin(rt, dir, index, targets)?;
+    } = begin(rt, dir, index, targets, &mut Details::none(rt.alloc()))?;
     let mut source = Counted::new(input);
     let mut sink = Counted::new(&mut *output);
     batch(rt.alloc(), &mut source, &mut sink, &mut session, &snapshot)?;
@@ -161,6 +177,7 @@ fn begin<R: Files + AllocGlobal>(
     dir: &str,
     index: &str,
     targets: Vec<TargetFile>,
+    details: &mut Details,
 ) -> Result<Opened, Stop> {
     let alloc = rt.alloc();
     let files = SavedFiles::requirements_alone(rt, dir)?;
@@ -170,7 +187,14 @@ fn begin<R: Files + AllocGlobal>(
     let lines = in_file(InputFile::Requirements, lines)?;
     let snapshot = in_file(InputFile::Index, read_index(alloc, index.as_slice()))?;
     let targets = targets_of(alloc, environments)?;
-    let session = Session::init(alloc, lines, targets, &snapshot, &RESOLVER)?;
+    let lacking = details.lacking(alloc, lines.lines(), &targets, &snapshot)?;
+    let session = match Session::init(alloc, lines, targets, &snapshot, &RESOLVER) {
+        Ok(session) => session,
+        Err(refusal) => {
+            details.add_first_refusal(&refusal, lacking.as_str())?;
+            return Err(Stop::from(refusal));
+        }
+    };
     Ok(Opened {
         files,
         session,

@@ -11,7 +11,7 @@ use snapshot::{Fault as IndexFault, Snapshot};
 use std::alloc::{AllocError, Global};
 use std::rt::Files;
 use std::{fmt, fs, io};
-use texts::cause_word;
+use texts::cause_word::cause_word;
 
 /// A file that the program reads. The first three stand in its folder, and are written too.
 #[derive(Debug, Drop)]

@@ -1,14 +1,21 @@
 //! `reqlock`: a locker for Python requirements files, with undo and redo.
 #![tactic(auto)]
 
+mod asking;
+mod asking_release;
+mod comparing;
+mod details;
 mod editing;
 mod folder_lock;
+mod freshness;
 mod given_words;
 mod input_files;
 mod looking;
 mod program;
+mod rehearsing;
 mod replacing;
 mod saved_files;
+mod showing;
 mod stop;
 mod stopped_save;
 mod target_files;

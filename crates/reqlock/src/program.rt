@@ -1,12 +1,19 @@
 // The program: what each subcommand does.
 
+use crate::asking::{print_why, print_why_init};
+use crate::asking_release::print_why_not;
+use crate::comparing::print_diff;
+use crate::details::{CallFiles, Details};
 use crate::editing::{edit_once, init, run_batch, step_once, try_commands};
 use crate::folder_lock::{LockFile, lock_to_save};
+use crate::freshness::{print_check, print_outdated};
 use crate::input_files::{InputFault, InputFile};
-use crate::looking::{print_check, print_history, print_lock, print_skipped, print_why};
+use crate::looking::{print_history, print_skipped};
+use crate::rehearsing::{rehearse_edit, rehearse_step};
+use crate::showing::print_shown;
 use crate::stop::{Status, Stop, report};
-use crate::target_files::target_files;
-use commands::request::{Invocation, Subcommand, request};
+use crate::target_files::{TargetFile, target_files};
+use commands::request::{Invocation, Question, Saving, Subcommand, request};
 use journal::Command;
 use std::io::{Read, Write};
 use std::rt::Files;
@@ -23,39 +30,137 @@ pub fn program<R: Files + AllocGlobal, I: Read + Drop, O: Write, E: Write>(
 where
     R::File: LockFile,
 {
-    match obey(rt, words, input, output) {
+    let mut details = Details::none(rt.alloc());
+    let status = match obey(rt, words, input, output, &mut details) {
         Ok(()) => Status::Done,
         Err(stop) => report(&stop, output, errors),
+    };
+    // behind a fault what was noted may be half of it, or of a save that failed
+    if status != Status::Fault {
+        details.tell(errors);
     }
+    status
 }
 
+// What is known of a file that is refused is noted behind all else.
 fn obey<R: Files + AllocGlobal, I: Read + Drop, O: Write>(
     rt: &R,
     words: &[String],
     input: I,
     output: &mut O,
+    details: &mut Details,
 ) -> Result<(), Stop>
 where
     R::File: LockFile,
 {
-    let Invocation { dir, subcommand } = request(rt.alloc(), words)?;
+    let Invocation {
+        dir,
+        is_verbose,
+        subcommand,
+    } = request(rt.alloc(), words)?;
+    let index = index_of(&subcommand);
     let targets = target_files(rt.alloc(), &subcommand)?;
+    let mut files = CallFiles {
+        dir,
+        index,
+        targets: Vec::new(rt.alloc()),
+    };
+    if is_verbose {
+        files.targets = targets.clone()?;
+        details.ask(rt.alloc(), &files)?;
+    }
+    match obey_in(rt, dir, subcommand, targets, input, output, details) {
+        Ok(()) => Ok(()),
+        Err(stop) => {
+            details.add_stop(rt, &files, &stop)?;
+            Err(stop)
+        }
+    }
+}
+
+fn obey_in<R: Files + AllocGlobal, I: Read + Drop, O: Write>(
+    rt: &R,
+    dir: &str,
+    subcommand: Subcommand<'_>,
+    targets: Vec<TargetFile>,
+    input: I,
+    output: &mut O,
+    details: &mut Details,
+) -> Result<(), Stop>
+where
+    R::File: LockFile,
+{
     refuse_no_folder(dir, &subcommand)?;
     let _lock = locked(rt, dir, &subcommand)?;
     match subcommand {
-        Subcommand::Init(inputs) => init(rt, dir, inputs.index, targets, output),
-        Subcommand::Edit(edit, index) => edit_once(rt, dir, edit, index, output),
-        Subcommand::Undo => step_once(rt, dir, &Command::Undo, output),
-        Subcommand::Redo => step_once(rt, dir, &Command::Redo, output),
+        Subcommand::Init(inputs) => init(rt, dir, inputs.index, targets, details, output),
+        Subcommand::Edit(edit, index, Saving::Save) => {
+            edit_once(rt, dir, edit, index, details, output)
+        }
+        Subcommand::Edit(edit, index, Saving::DryRun) => {
+            rehearse_edit(rt, dir, edit, index, details, output)
+        }
+        Subcommand::Undo(saving) => step(rt, dir, &Command::Undo, saving, details, output),
+        Subcommand::Redo(saving) => step(rt, dir, &Command::Redo, saving, details, output),
         Subcommand::Batch(index) => run_batch(rt, dir, index, input, output),
         Subcommand::Try(inputs) => { try_commands(rt, dir, inputs.index, targets, input, output) }
-        Subcommand::Show => print_lock(rt, dir, output),
-        Subcommand::Log(long) => print_history(rt, dir, long, output),
-        Subcommand::Check => print_check(rt, dir, output),
+        Subcommand::Show(shown, format) => print_shown(rt, dir, shown, format, output),
+        Subcommand::Log(long, format) => print_history(rt, dir, long, format, output),
+        Subcommand::Diff(range, format) => print_diff(rt, dir, range, format, output),
+        Subcommand::Check(index, format) => print_check(rt, dir, index, format, output),
+        Subcommand::Outdated(index, format) => print_outdated(rt, dir, index, format, output),
         Subcommand::Skipped(index) => print_skipped(rt, index, output),
-        Subcommand::Why(edit, index, explains) => {
-            print_why(rt, dir, &edit, index, explains, output)
-        },
+        Subcommand::Why(question, explains) => {
+            answer_why(rt, dir, question, explains, targets, output)
+        }
+    }
+}
+
+// What `why` is asked. A question about a release is always answered in sentences.
+fn answer_why<R: Files + AllocGlobal, O: Write>(
+    rt: &R,
+    dir: &str,
+    question: Question<'_>,
+    explains: bool,
+    targets: Vec<TargetFile>,
+    output: &mut O,
+) -> Result<(), Stop>
+where
+    R::File: LockFile,
+{
+    match question {
+        Question::Edit(edit, index) => print_why(rt, dir, &edit, index, explains, output),
+        Question::Init(inputs, line) => {
+            print_why_init(rt, dir, line, inputs.index, targets, explains, output)
+        }
+        Question::Release(text, index) => print_why_not(rt, dir, text, index, output),
+    }
+}
+
+// An undo or a redo, saved or not.
+fn step<R: Files + AllocGlobal, O: Write>(
+    rt: &R,
+    dir: &str,
+    command: &Command<'_>,
+    saving: Saving,
+    details: &mut Details,
+    output: &mut O,
+) -> Result<(), Stop>
+where
+    R::File: LockFile,
+{
+    match saving {
+        Saving::Save => step_once(rt, dir, command, details, output),
+        Saving::DryRun => rehearse_step(rt, dir, command, details, output),
+    }
+}
+
+// The index that a subcommand is given.
+fn index_of<'a>(subcommand: &Subcommand<'a>) -> Option<&'a str> {
+    match subcommand {
+        Subcommand::Init(inputs) => Some(inputs.index),
+        Subcommand::Edit(_, index, _) => Some(index),
+        _ => None,
     }
 }
 
@@ -80,15 +185,20 @@ where
 {
     match subcommand {
         Subcommand::Init(_)
-        | Subcommand::Edit(_, _)
-        | Subcommand::Undo
-        | Subcommand::Redo
+        | Subcommand::Edit(_, _, Saving::Save)
+        | Subcommand::Undo(Saving::Save)
+        | Subcommand::Redo(Saving::Save)
         | Subcommand::Batch(_) => lock_to_save(rt, dir),
-        Subcommand::Try(_)
-        | Subcommand::Show
-        | Subcommand::Log(_)
-        | Subcommand::Check
+        Subcommand::Edit(_, _, Saving::DryRun)
+        | Subcommand::Undo(Saving::DryRun)
+        | Subcommand::Redo(Saving::DryRun)
+        | Subcommand::Try(_)
+        | Subcommand::Show(_, _)
+        | Subcommand::Log(_, _)
+        | Subcommand::Diff(_, _)
+        | Subcommand::Check(_, _)
+        | Subcommand::Outdated(_, _)
         | Subcommand::Skipped(_)
-        | Subcommand::Why(_, _, _) => Ok(None),
+        | Subcommand::Why(_, _) => Ok(None),
     }
 }

@@ -173,7 +173,8 @@ pub fn places_in<R: Files + AllocGlobal>(
     places_at(rt, file, path.as_str())
 }
 
-fn path_of(alloc: Global, dir: &str, file: &InputFile) -> Result<String, Stop> {
+/// The path of a file of the folder.
+pub fn path_of(alloc: Global, dir: &str, file: &InputFile) -> Result<String, Stop> {
     match file {
         InputFile::Lock(name) => {
             let name = name.file_name(alloc)?;

@@ -39,7 +39,11 @@ pub enum Stop {
     Refuted(String),
     /// There is no solution, as these sentences tell.
     Explained(String),
+    /// The lock isn't that of the index at hand, as this text tells.
+    Stale(String),
     Input(InputFile, InputFault),
+    /// The history hasn't this place.
+    NoPlace(usize),
     /// This file can't be written.
     Unwritten(InputFile),
     Fault(BatchFault),
@@ -166,9 +170,14 @@ pub fn report<O: Write, E: Write>(stop: &Stop, output: &mut O, errors: &mut E) -
         Stop::Refused(refusal) => report_refusal(refusal, output, errors),
         Stop::Refuted(text) => report_refutation(text.as_str(), output, errors),
         Stop::Explained(text) => report_explanation(text.as_str(), output, errors),
+        Stop::Stale(text) => report_stale(text.as_str(), output, errors),
         Stop::Input(file, fault) => {
             let _ = writeln!(errors, "reqlock: {file}: {fault}");
             Status::InputRefused
+        }
+        Stop::NoPlace(place) => {
+            let _ = writeln!(errors, "reqlock: the history has no place {place}");
+            Status::Usage
         }
         Stop::Unwritten(file) => {
             let _ = writeln!(errors, "reqlock: {file}: write failed");
@@ -222,6 +231,13 @@ fn report_refusal<O: Write, E: Write>(refusal: &Refusal, output: &mut O, errors:
 fn report_refutation<O: Write, E: Write>(text: &str, output: &mut O, errors: &mut E) -> Status {
     match print(output, text.as_bytes()) {
         Ok(()) => Status::NoSolution,
+        Err(fault) => report_fault(fault, errors),
+    }
+}
+
+fn report_stale<O: Write, E: Write>(text: &str, output: &mut O, errors: &mut E) -> Status {
+    match print(output, text.as_bytes()) {
+        Ok(()) => Status::Refused,
         Err(fault) => report_fault(fault, errors),
     }
 }

@@ -2,7 +2,7 @@
 
 use crate::input_files::{InputFile, read_bytes, read_environment};
 use crate::stop::{Stop, in_file};
-use commands::request::Subcommand;
+use commands::request::{Question, Subcommand};
 use edits::{TargetName, Targets};
 use lists::{Seq, Text};
 use std::alloc::{AllocError, Global};
@@ -16,6 +16,36 @@ pub struct TargetFile {
     path: Text,
 }
 
+impl TargetFile {
+    /// The name of the target.
+    pub fn name(&self) -> &TargetName {
+        &self.name
+    }
+
+    /// Where the file stands.
+    pub fn path(&self) -> &str {
+        self.path.as_str()
+    }
+
+    /// The value of `--env` that names both.
+    pub fn value(&self, alloc: Global) -> Result<String, AllocError> {
+        let (name, path) = (&self.name, self.path.as_str());
+        if name.is_empty() && !path.contains('=') {
+            return String::from_str(alloc, path);
+        }
+        format!(in alloc; "{name}={path}")
+    }
+}
+
+impl Clone for TargetFile {
+    fn clone(&self) -> Result<TargetFile, AllocError> {
+        Ok(TargetFile {
+            name: self.name.clone()?,
+            path: self.path.clone()?,
+        })
+    }
+}
+
 /// What the file of a target holds.
 #[derive(Drop)]
 pub struct TargetBytes {
@@ -27,7 +57,10 @@ pub struct TargetBytes {
 /// new ones. A bad name is told before one that stands twice, and no file has been read.
 pub fn target_files(alloc: Global, subcommand: &Subcommand<'_>) -> Result<Vec<TargetFile>, Stop> {
     let mut files = Vec::new(alloc);
-    if let Subcommand::Init(inputs) | Subcommand::Try(inputs) = subcommand {
+    if let Subcommand::Init(inputs)
+    | Subcommand::Try(inputs)
+    | Subcommand::Why(Question::Init(inputs, _), _) = subcommand
+    {
         for value in inputs.environments.as_slice() {
             files.push(target_file(alloc, value.as_str())?)?;
         }

@@ -1,0 +1,131 @@
+// Whether the lock is that of the index at hand, and which of its entries have newer releases there.
+
+ghost use Rattle.std.specs.Prelude.{Err, IfOk, MatchOption, Ok};
+ghost use Rattle.edits.specs.Edits.{EditResult};
+ghost use Rattle.edits.specs.declared.request.Edit.TheVariants.{Relock};
+ghost use Rattle.states.specs.Changes.{After};
+ghost use Rattle.states.specs.StateParts.{StateParts};
+ghost use Rattle.states.specs.declared.refusal.Refusal.TheVariants.{NothingChanges};
+
+use crate::folder_lock::LockFile;
+use crate::looking::saved_session;
+use crate::showing::session_over;
+use crate::stop::{Stop, print, show};
+use commands::ReplyText;
+use commands::request::Format;
+use edits::{Change, Edit, Learning, Refusal, State, edit};
+use journal::{Reply, Session};
+use snapshot::Snapshot;
+use std::alloc::{AllocError, Global};
+use std::io::Write;
+use std::rt::Files;
+use texts::check_json::{check_json, current_json};
+use texts::diff_text::diff_text;
+use texts::outdated_text::{outdated_json, outdated_text};
+
+/// Prints the entries of each target that have newer releases in the index, and who holds them back.
+pub fn print_outdated<R: Files + AllocGlobal, O: Write>(
+    rt: &R,
+    dir: &str,
+    index: &str,
+    format: Format,
+    output: &mut O,
+) -> Result<(), Stop>
+where
+    R::File: LockFile,
+{
+    let (session, snapshot) = session_over(rt, dir, index)?;
+    let text = match format {
+        Format::Lines => outdated_text(rt.alloc(), session.state(), &snapshot)?,
+        Format::Json => outdated_json(rt.alloc(), session.state(), &snapshot)?,
+    };
+    show(output, text.as_bytes())?;
+    Ok(())
+}
+
+/// Prints the place of the present state, as the reply of a command that led to it would. Where an index is given,
+/// prints whether a new lock over it would change something, and what.
+pub fn print_check<R: Files + AllocGlobal, O: Write>(
+    rt: &R,
+    dir: &str,
+    index: Option<&str>,
+    format: Format,
+    output: &mut O,
+) -> Result<(), Stop>
+where
+    R::File: LockFile,
+{
+    match index {
+        None => {
+            let session = saved_session(rt, dir)?;
+            print_place(rt.alloc(), session.cursor(), format, output)
+        }
+        Some(index) => {
+            let (session, snapshot) = session_over(rt, dir, index)?;
+            print_current(rt.alloc(), &session, &snapshot, format, output)
+        }
+    }
+}
+
+fn print_place<O: Write>(
+    alloc: Global,
+    place: usize,
+    format: Format,
+    output: &mut O,
+) -> Result<(), Stop> {
+    match format {
+        Format::Lines => {
+            let mut text = ReplyText::new(alloc)?;
+            text.set(&Reply::Done(place));
+            Ok(print(output, text.as_bytes())?)
+        }
+        Format::Json => Ok(print(output, check_json(alloc, place)?.as_bytes())?),
+    }
+}
+
+// A lock that isn't current is told by the stop, which has its own status.
+fn print_current<O: Write>(
+    alloc: Global,
+    session: &Session,
+    snapshot: &Snapshot,
+    format: Format,
+    output: &mut O,
+) -> Result<(), Stop> {
+    let change = relock_change(alloc, session.state(), snapshot)?;
+    let text = current_text(alloc, session.cursor(), change.as_ref(), format)?;
+    match change {
+        Some(_) => Err(Stop::Stale(text)),
+        None => Ok(print(output, text.as_bytes())?),
+    }
+}
+
+fn current_text(
+    alloc: Global,
+    place: usize,
+    change: Option<&Change>,
+    format: Format,
+) -> Result<String, AllocError> {
+    match (format, change) {
+        (Format::Json, _) => current_json(alloc, place, change),
+        (Format::Lines, None) => String::from_str(alloc, "current\n"),
+        (Format::Lines, Some(change)) => {
+            let mut text = String::from_str(alloc, "stale\n")?;
+            text.push_str(diff_text(alloc, change)?.as_str())?;
+            Ok(text)
+        }
+    }
+}
+
+// What a new lock over the index would change; nothing where it would change nothing.
+fn relock_change(alloc: Global, state: &State, snapshot: &Snapshot) -> Result<Option<Change>, Stop>
+    ensures { IfOk result (λ change. MatchOption change
+        (EditResult state.now Relock snapshot.now (Err NothingChanges))
+        (λ change. (next : StateParts) × EditResult state.now Relock snapshot.now (Ok next)
+        × After state.now change next)) }
+{
+    match edit(alloc, state, &Edit::Relock, snapshot, &Learning) {
+        Ok(edited) => Ok(Some(edited.change)),
+        Err(Refusal::NothingChanges) => Ok(None),
+        Err(refusal) => Err(Stop::from(refusal)),
+    }
+}

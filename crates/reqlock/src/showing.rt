@@ -1,0 +1,105 @@
+// What `show` prints.
+
+use crate::folder_lock::LockFile;
+use crate::input_files::{InputFile, read_bytes, read_index};
+use crate::looking::{saved_files, saved_session};
+use crate::stop::{Stop, in_file, show};
+use commands::request::{Format, Shown};
+use edits::{Name, Refusal, State};
+use journal::Session;
+use lists::Text;
+use pep508::Cause;
+use snapshot::Snapshot;
+use std::alloc::{AllocError, Global};
+use std::io::Write;
+use std::rt::Files;
+use texts::entry_text::entry_text;
+use texts::lock_json::lock_json;
+use texts::lock_text::lock_text;
+use texts::tree_text::{tree_json, tree_text};
+
+/// Prints the lock of each target, or a part of it.
+pub fn print_shown<R: Files + AllocGlobal, O: Write>(
+    rt: &R,
+    dir: &str,
+    shown: Shown<'_>,
+    format: Format,
+    output: &mut O,
+) -> Result<(), Stop>
+where
+    R::File: LockFile,
+{
+    let text = match shown {
+        Shown::Table => table_text(rt.alloc(), &saved_session(rt, dir)?, format)?,
+        Shown::Tree => told_tree(rt.alloc(), &saved_session(rt, dir)?, format)?,
+        Shown::Entry(name, None) => {
+            let session = saved_session(rt, dir)?;
+            told_entry(rt.alloc(), session.state(), None, name, format)?
+        }
+        Shown::Entry(name, Some(index)) => {
+            let (session, snapshot) = session_over(rt, dir, index)?;
+            told_entry(rt.alloc(), session.state(), Some(&snapshot), name, format)?
+        }
+    };
+    show(output, text.as_bytes())?;
+    Ok(())
+}
+
+/// The history that the files of the folder stand for, and an index. Both are read before a fault in one is told.
+pub fn session_over<R: Files + AllocGlobal>(
+    rt: &R,
+    dir: &str,
+    index: &str,
+) -> Result<(Session, Snapshot), Stop>
+where
+    R::File: LockFile,
+{
+    let files = saved_files(rt, dir)?;
+    let bytes = in_file(InputFile::Index, read_bytes(rt, index))?;
+    let session = files.open(rt.alloc())?;
+    let snapshot = in_file(InputFile::Index, read_index(rt.alloc(), bytes.as_slice()))?;
+    Ok((session, snapshot))
+}
+
+fn table_text(alloc: Global, session: &Session, format: Format) -> Result<String, AllocError> {
+    match format {
+        Format::Lines => lock_text(alloc, session.state()),
+        Format::Json => lock_json(alloc, session.state(), None, None),
+    }
+}
+
+fn told_tree(alloc: Global, session: &Session, format: Format) -> Result<String, AllocError> {
+    match format {
+        Format::Lines => tree_text(alloc, session.state()),
+        Format::Json => tree_json(alloc, session.state()),
+    }
+}
+
+// The entry of a name, which is locked for some target.
+fn told_entry(
+    alloc: Global,
+    state: &State,
+    snapshot: Option<&Snapshot>,
+    name: &str,
+    format: Format,
+) -> Result<String, Stop> {
+    let name = locked_name(alloc, state, name)?;
+    match format {
+        Format::Lines => Ok(entry_text(alloc, state, snapshot, &name)?),
+        Format::Json => Ok(lock_json(alloc, state, snapshot, Some(&name))?),
+    }
+}
+
+fn locked_name(alloc: Global, state: &State, text: &str) -> Result<Name, Stop> {
+    let name = match Name::read(alloc, text) {
+        Ok(name) => name,
+        Err(Cause::OutOfMemory) => return Err(Stop::from(AllocError)),
+        Err(_) => return Err(Stop::Refused(Refusal::BadText)),
+    };
+    for target in state.targets() {
+        if target.locked(&name).is_some() {
+            return Ok(name);
+        }
+    }
+    Err(Stop::Refused(Refusal::NotLocked(Text::copy_of(alloc, name.normal())?)))
+}
