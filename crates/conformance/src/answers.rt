@@ -3,6 +3,7 @@
 use crate::background::Background;
 use crate::batch_rows::{self, Case};
 use crate::notation::{expanded, owned, shown};
+use crate::state_texts::files_text;
 use crate::{
     command_rows, conflicts, environment_rows, examples, index_rows, line_rows, lock_rows,
     marker_rows, problem_rows, requirement_rows, saved_rows, session_rows, specifier_rows,
@@ -133,15 +134,12 @@ fn of_locks(
         "releases" => index_rows::releases(alloc, background, first),
         "versions" => index_rows::versions(alloc, background, first),
         "solve" => problem_rows::solve(alloc, background, first),
-        "learn" => problem_rows::learn(alloc, background, first),
         "refute" => problem_rows::refute(alloc, background, first),
         "check" => problem_rows::accepted(alloc, background, first, behind(texts)),
         "lock" => lock_rows::lock(alloc, background, first),
         "altered lock" => lock_rows::altered(alloc, background, first, second),
         "choices" => conflicts::choices(alloc, texts),
         "table" => table_rows::searched(alloc, texts),
-        "far table" => table_rows::learned(alloc, texts),
-        "recorded" => table_rows::recorded(alloc, texts),
         "example" => examples::example(alloc, first),
         _ => of_histories(alloc, background, kind, texts),
     }
@@ -180,13 +178,13 @@ fn of_history(
     second: &str,
     third: &str,
 ) -> Option<String> {
-    let histories = background.histories.as_ref()?;
+    let session = background.session.as_ref()?;
     match kind {
-        "lines" => session_rows::lines(alloc, histories),
-        "files" => session_rows::files(alloc, background, histories),
-        "change" => session_rows::change(alloc, histories),
-        "saved" => saved_rows::saved(alloc, &histories.session),
-        "altered" => saved_rows::altered(alloc, &histories.session, first, second, third),
+        "lines" => session_rows::lines(alloc, session),
+        "files" => files_text(alloc, session.state()),
+        "change" => session_rows::change(alloc, session),
+        "saved" => saved_rows::saved(alloc, session),
+        "altered" => saved_rows::altered(alloc, session, first, second, third),
         _ => None,
     }
 }

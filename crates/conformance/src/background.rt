@@ -2,26 +2,11 @@
 
 use crate::targets::{copies, unnamed};
 use edits::{TargetName, Targets};
-use journal::{Session, WholeHistory};
+use journal::Session;
 use markers::Environment;
 use pep440::Version;
 use snapshot::Snapshot;
 use std::alloc::Global;
-
-/// One history that is kept in both ways: as changes, and as whole states.
-pub struct Histories {
-    pub session: Session,
-    pub whole: WholeHistory,
-}
-
-impl Drop for Histories {
-    fn drop(self) {
-        let Histories {
-            session: _,
-            whole: _,
-        } = self;
-    }
-}
 
 /// What earlier rows have set.
 pub struct Background {
@@ -35,7 +20,8 @@ pub struct Background {
     pub targets: Vec<(TargetName, Environment)>,
     /// The index that lines are locked over.
     pub index: Option<Snapshot>,
-    pub histories: Option<Histories>,
+    /// The history that has begun.
+    pub session: Option<Session>,
     /// The text of a lock.
     pub lock: String,
 }
@@ -48,7 +34,7 @@ impl Drop for Background {
             environment: _,
             targets: _,
             index: _,
-            histories: _,
+            session: _,
             lock: _,
         } = self;
     }
@@ -63,27 +49,17 @@ impl Background {
             environment: None,
             targets: Vec::new(alloc),
             index: None,
-            histories: None,
+            session: None,
             lock: String::new(alloc),
         }
-    }
-
-    /// The environment, which an earlier row has set.
-    pub fn environment(&self) -> Option<&Environment> {
-        self.environment.as_ref()
     }
 
     /// The targets that lines are locked for.
     pub fn targets(&self, alloc: Global) -> Option<Targets> {
         if self.targets.is_empty() {
-            let environment = self.environment()?.clone().ok()?;
+            let environment = self.environment.as_ref()?.clone().ok()?;
             return unnamed(alloc, environment).ok();
         }
         copies(alloc, self.targets.as_slice()).ok()
-    }
-
-    /// The index, which an earlier row has set.
-    pub fn index(&self) -> Option<&Snapshot> {
-        self.index.as_ref()
     }
 }

@@ -74,7 +74,7 @@ fn read_once(
         stops: 0,
     });
     let mut sink = Counted::new(Vec::new(alloc));
-    let index = background.index()?;
+    let index = background.index.as_ref()?;
     let done = batch(alloc, &mut source, &mut sink, &mut session, index);
     let text = told(alloc, &done, sink.into_inner(), &session)?;
     Some((text, is_stopped(source.into_inner().stops)?))
@@ -96,7 +96,7 @@ fn write_once(
         fails: case.fails,
         stops: 0,
     });
-    let index = background.index()?;
+    let index = background.index.as_ref()?;
     let done = batch(alloc, &mut source, &mut sink, &mut session, index);
     let Narrow {
         taken,

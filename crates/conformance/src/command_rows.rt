@@ -3,7 +3,10 @@
 use crate::environment_rows::bytes_of;
 use crate::notation::owned;
 use crate::telling::Telling;
-use commands::request::{Inputs, Invocation, NeededOption, RequestFault, Subcommand, request};
+use commands::request::{
+    DiffRange, Format, Inputs, Invocation, NeededOption, Question, RequestFault, Saving, Shown,
+    Subcommand, request,
+};
 use commands::{Item, read_item};
 use edits::Edit;
 use std::alloc::Global;
@@ -47,37 +50,128 @@ fn push_inputs(text: &mut Telling, name: &str, inputs: &Inputs<'_>) {
     }
 }
 
+/// Pushes how a result is printed.
+fn push_format(text: &mut Telling, format: Format) {
+    if format == Format::Json {
+        text.push_str(" as json");
+    }
+}
+
+/// Pushes whether a step is saved.
+fn push_saving(text: &mut Telling, saving: Saving) {
+    if saving == Saving::DryRun {
+        text.push_str(" unsaved");
+    }
+}
+
+/// Pushes what of the lock is printed.
+fn push_shown(text: &mut Telling, shown: Shown<'_>) {
+    match shown {
+        Shown::Table => {}
+        Shown::Entry(name, None) => write!(text, " {name}"),
+        Shown::Entry(name, Some(index)) => write!(text, " {name} over {index}"),
+        Shown::Tree => text.push_str(" tree"),
+    }
+}
+
+/// Pushes two places of the history.
+fn push_range(text: &mut Telling, range: DiffRange) {
+    match range {
+        DiffRange::LastStep => {}
+        DiffRange::Since(from) => write!(text, " {from}"),
+        DiffRange::Between(from, to) => write!(text, " {from} {to}"),
+    }
+}
+
+/// Pushes what `why` is asked.
+fn push_question(text: &mut Telling, question: &Question<'_>) {
+    match question {
+        Question::Edit(edit, index) => {
+            push_edit(text, edit);
+            write!(text, " {index}");
+        }
+        Question::Init(inputs, line) => {
+            push_inputs(text, "init", inputs);
+            if let Some(line) = line {
+                write!(text, "|{line}");
+            }
+        }
+        Question::Release(release, index) => write!(text, "not {release} {index}"),
+    }
+}
+
 /// Pushes what words ask for.
 fn push_subcommand(text: &mut Telling, subcommand: Subcommand<'_>) {
     match subcommand {
         Subcommand::Init(inputs) => push_inputs(text, "init", &inputs),
-        Subcommand::Edit(edit, index) => {
+        Subcommand::Edit(edit, index, saving) => {
             push_edit(text, &edit);
             write!(text, " {index}");
+            push_saving(text, saving);
         }
-        Subcommand::Undo => text.push_str("undo"),
-        Subcommand::Redo => text.push_str("redo"),
+        Subcommand::Undo(saving) => {
+            text.push_str("undo");
+            push_saving(text, saving);
+        }
+        Subcommand::Redo(saving) => {
+            text.push_str("redo");
+            push_saving(text, saving);
+        }
         Subcommand::Batch(index) => write!(text, "batch {index}"),
         Subcommand::Try(inputs) => push_inputs(text, "try", &inputs),
-        Subcommand::Show => text.push_str("show"),
-        Subcommand::Log(long) => text.push_str(if long { "log long" } else { "log" }),
-        Subcommand::Check => text.push_str("check"),
         Subcommand::Skipped(index) => write!(text, "skipped {index}"),
-        Subcommand::Why(edit, index, explains) => {
+        Subcommand::Why(question, explains) => {
             text.push_str("why ");
-            push_edit(text, &edit);
-            let how = if explains { " in sentences" } else { "" };
-            write!(text, " {index}{how}");
+            push_question(text, &question);
+            text.push_str(if explains { " in sentences" } else { "" });
         }
+        view => push_view(text, view),
+    }
+}
+
+/// Pushes a subcommand that prints what is there.
+fn push_view(text: &mut Telling, view: Subcommand<'_>) {
+    match view {
+        Subcommand::Show(shown, format) => {
+            text.push_str("show");
+            push_shown(text, shown);
+            push_format(text, format);
+        }
+        Subcommand::Log(long, format) => {
+            text.push_str(if long { "log long" } else { "log" });
+            push_format(text, format);
+        }
+        Subcommand::Diff(range, format) => {
+            text.push_str("diff");
+            push_range(text, range);
+            push_format(text, format);
+        }
+        Subcommand::Check(current, format) => {
+            text.push_str("check");
+            if let Some(index) = current {
+                write!(text, " over {index}");
+            }
+            push_format(text, format);
+        }
+        Subcommand::Outdated(index, format) => {
+            write!(text, "outdated {index}");
+            push_format(text, format);
+        }
+        _ => {}
     }
 }
 
 /// What words ask for, in a folder.
 fn invocation_text(alloc: Global, invocation: Invocation<'_>) -> Option<String> {
-    let Invocation { dir, subcommand } = invocation;
+    let Invocation {
+        dir,
+        is_verbose,
+        subcommand,
+    } = invocation;
     let mut text = Telling::new(alloc);
     write!(text, "{dir} ");
     push_subcommand(&mut text, subcommand);
+    text.push_str(if is_verbose { " verbose" } else { "" });
     text.told()
 }
 

@@ -9,44 +9,28 @@ use std::alloc::Global;
 use std::cmp::Ordering;
 use std::collections::BTreeSet;
 
-fn name_of(alloc: Global, told: &str) -> Option<Name> {
-    Name::parse(alloc, told).ok()
-}
-
 /// The choice that a text such as `x[e]==1` tells.
 fn choice_of(alloc: Global, told: &str) -> Option<Choice> {
     let (node, version) = told.split_once("==")?;
-    let version = Version::parse(alloc, version).ok()?;
-    match node.split_once('[') {
-        Some((name, extra)) => Some(Choice {
-            name: name_of(alloc, name)?,
-            extra: Some(name_of(alloc, extra.trim_end_matches(']'))?),
-            version,
-        }),
-        None => Some(Choice {
-            name: name_of(alloc, node)?,
-            extra: None,
-            version,
-        }),
-    }
+    let (name, extra) = node.split_once('[').unwrap_or((node, ""));
+    let extra = match extra {
+        "" => None,
+        _ => Some(Name::parse(alloc, extra.trim_end_matches(']')).ok()?),
+    };
+    Some(Choice {
+        name: Name::parse(alloc, name).ok()?,
+        extra,
+        version: Version::parse(alloc, version).ok()?,
+    })
 }
 
-/// How two choices are ordered, which equality agrees with.
-fn sign(one: &Choice, other: &Choice) -> Option<&'static str> {
-    let order = one.cmp(other);
-    let are_equal = order.is_eq();
-    if (one == other) != are_equal || one.is_same(other) != are_equal {
-        return None;
+/// How two choices are ordered.
+fn sign(one: &Choice, other: &Choice) -> &'static str {
+    match one.cmp(other) {
+        Ordering::Less => " < ",
+        Ordering::Equal => " = ",
+        Ordering::Greater => " > ",
     }
-    match order {
-        Ordering::Less => Some(" < "),
-        Ordering::Equal => Some(" = "),
-        Ordering::Greater => Some(" > "),
-    }
-}
-
-fn text_of(alloc: Global, choice: &Choice) -> Option<String> {
-    choice.text(alloc).ok()
 }
 
 /// Choices, and between each two how they are ordered.
@@ -56,9 +40,9 @@ pub fn choices(alloc: Global, told: &[String]) -> Option<String> {
     for one in told {
         let choice = choice_of(alloc, one.as_str())?;
         if let Some(earlier) = before.as_ref() {
-            text.push_str(sign(earlier, &choice)?);
+            text.push_str(sign(earlier, &choice));
         }
-        text.push_str(text_of(alloc, &choice)?.as_str());
+        text.push_str(choice.text(alloc).ok()?.as_str());
         before = Some(choice);
     }
     text.told()
@@ -88,7 +72,7 @@ pub fn refutation_of(alloc: Global, told: &[String]) -> Option<Refutation> {
 fn texts_of(alloc: Global, conflict: &[Choice]) -> Option<BTreeSet<String>> {
     let mut choices = BTreeSet::new(alloc);
     for choice in conflict {
-        choices.insert(text_of(alloc, choice)?).ok()?;
+        choices.insert(choice.text(alloc).ok()?).ok()?;
     }
     Some(choices)
 }

@@ -2,7 +2,7 @@
 
 use crate::background::Background;
 use crate::marker_rows::told_fault;
-use crate::notation::{agreed, owned};
+use crate::notation::owned;
 use crate::targets::copies;
 use crate::telling::Telling;
 use edits::{Refusal, TargetName, Targets};
@@ -60,52 +60,19 @@ fn parts(
     text.told()
 }
 
-/// Whether a variable has one text by all calls, and the form for debugging shows it.
-fn has_one_text(
-    alloc: Global,
-    environment: &Environment,
-    shown: &str,
-    variable: Variable,
-) -> Option<bool> {
-    let text = environment.text(variable);
-    let quoted = format!(in alloc; "{text:?}").ok()?;
-    Some(environment.value(variable.name()) == Some(text) && shown.contains(quoted.as_str()))
-}
-
-/// Whether each variable has one text by all calls, the marker and the form for debugging among them.
-fn is_of_one_text(alloc: Global, environment: &Environment) -> Option<bool> {
-    let marker = environment.marker_text(alloc).ok()?;
-    let shown = format!(in alloc; "{environment:?}").ok()?;
-    for variable in &VARIABLES {
-        if !has_one_text(alloc, environment, shown.as_str(), *variable)? {
-            return Some(false);
-        }
-    }
-    Some(parts(alloc, environment, None)?.as_str() == marker.as_str())
-}
-
-/// The version of an environment and the parts of its marker.
-fn told(alloc: Global, environment: &Environment, earlier: Option<&Environment>) -> Option<String> {
-    if !is_of_one_text(alloc, environment)? {
-        return None;
-    }
-    let version = environment.full_version();
-    let parts = parts(alloc, environment, earlier)?;
-    format!(in alloc; "{version}: {parts}").ok()
-}
-
-/// An environment, or why there is none.
+/// The version of an environment and the parts of its marker, or why there is none.
 fn answer(
     alloc: Global,
     read: &Result<Environment, Fault>,
     earlier: Option<&Environment>,
 ) -> Option<String> {
     match read {
-        Ok(environment) => agreed(
-            told(alloc, environment, earlier)?,
-            told(alloc, &environment.clone().ok()?, earlier)?,
-        ),
-        Err(fault) => told_fault(alloc, *fault, Some(fault.cause)),
+        Ok(environment) => {
+            let version = environment.full_version();
+            let parts = parts(alloc, environment, earlier)?;
+            format!(in alloc; "{version}: {parts}").ok()
+        }
+        Err(fault) => told_fault(alloc, *fault),
     }
 }
 
@@ -122,7 +89,7 @@ pub fn environment(alloc: Global, background: &mut Background, json: &str) -> Op
 
 /// The environment as that of a target of this name, for which lines are locked below; the targets so far.
 pub fn target(alloc: Global, background: &mut Background, name: &str) -> Option<String> {
-    let environment = background.environment()?.clone().ok()?;
+    let environment = background.environment.as_ref()?.clone().ok()?;
     match TargetName::parse(alloc, name) {
         Ok(name) => background.targets.push((name, environment)).ok()?,
         Err(Refusal::OutOfMemory) => return None,
@@ -164,12 +131,12 @@ pub fn changed(alloc: Global, background: &Background, old: &str, new: &str) -> 
     }
     let json = json.replace(alloc, old, new).ok()?;
     let read = Environment::read(alloc, json.as_str().as_bytes());
-    answer(alloc, &read, Some(background.environment()?))
+    answer(alloc, &read, Some(background.environment.as_ref()?))
 }
 
 /// The value of a variable of the environment, in quotes, or `none`.
 pub fn value(alloc: Global, background: &Background, name: &str) -> Option<String> {
-    match background.environment()?.value(name) {
+    match background.environment.as_ref()?.value(name) {
         Some(value) => format!(in alloc; "\"{value}\"").ok(),
         None => owned(alloc, "none"),
     }

@@ -167,5 +167,5 @@ fn of_journal(
 fn of_commands(alloc: Global) -> Result<bool, RequestFault> {
     let words = ["reqlock", "--dir", "web", "undo"];
     let asked = request(alloc, &words)?;
-    Ok(asked.dir == "web" && matches!(asked.subcommand, Subcommand::Undo))
+    Ok(asked.dir == "web" && matches!(asked.subcommand, Subcommand::Undo(_)))
 }

@@ -49,7 +49,7 @@ pub fn packages(alloc: Global, background: &mut Background, packages: &str) -> O
 
 /// The digest of the index.
 pub fn digest(alloc: Global, background: &Background) -> Option<String> {
-    let digest = background.index()?.digest();
+    let digest = background.index.as_ref()?.digest();
     format!(in alloc; "{digest:?}").ok()
 }
 
@@ -90,7 +90,7 @@ pub fn releases(alloc: Global, background: &Background, name: &str) -> Option<St
     let name = Name::parse(alloc, name).ok()?;
     let mut text = Telling::new(alloc);
     let mut separator = "";
-    for release in background.index()?.releases(&name) {
+    for release in background.index.as_ref()?.releases(&name) {
         text.push_str(separator);
         push_release(&mut text, release);
         separator = "; ";
@@ -106,7 +106,7 @@ pub fn versions(alloc: Global, background: &Background, name: &str) -> Option<St
     let name = Name::parse(alloc, name).ok()?;
     let mut text = Telling::new(alloc);
     let mut separator = "";
-    for release in background.index()?.releases(&name) {
+    for release in background.index.as_ref()?.releases(&name) {
         let version = release.version();
         write!(text, "{separator}{version}");
         separator = " ";

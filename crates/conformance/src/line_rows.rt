@@ -3,7 +3,7 @@
 use crate::background::Background;
 use crate::environment_rows::bytes_of;
 use crate::marker_rows::told_fault;
-use crate::notation::{agreed, owned};
+use crate::notation::owned;
 use crate::requirement_rows;
 use crate::telling::Telling;
 use pep508::{Line, ReqFile, ReqLine, Requirement, SpecifierText};
@@ -43,39 +43,21 @@ fn slices(alloc: Global, line: &ReqLine<'_>) -> Option<String> {
     text.told()
 }
 
-/// What a line asks for that is kept with its text and this ending.
-fn kept(alloc: Global, background: &Background, text: &str, ending: &str) -> Option<String> {
-    let line = line_of(alloc, text)?;
-    if line.text() != text || line.ending() != ending {
-        return None;
-    }
-    asked(alloc, background, line.requirement())
-}
-
-/// A clone of the line of a text.
-fn line_of(alloc: Global, text: &str) -> Option<Line> {
-    let line = Line::read(alloc, text).ok()?;
-    line.clone().ok()
-}
-
 /// The slices of a line and what it asks for, or why there is none.
 pub fn line(alloc: Global, background: &Background, text: &str) -> Option<String> {
     match ReqLine::read(alloc, text) {
         Ok(line) => {
             let slices = slices(alloc, &line)?;
-            let asked = agreed(
-                asked(alloc, background, line.requirement())?,
-                kept(alloc, background, text, line.end())?,
-            )?;
+            let asked = asked(alloc, background, line.requirement())?;
             format!(in alloc; "{slices} {asked}").ok()
         }
-        Err(fault) => told_fault(alloc, fault, Line::read(alloc, text).err()),
+        Err(fault) => told_fault(alloc, fault),
     }
 }
 
 /// A line that gets endings, one after the other.
 pub fn ended(alloc: Global, text: &str, endings: &[String]) -> Option<String> {
-    let mut line = line_of(alloc, text)?;
+    let mut line = Line::read(alloc, text).ok()?;
     for ending in endings {
         line = match ending.as_str() {
             "\n" => line.ended("\n").ok()?,
@@ -91,7 +73,7 @@ pub fn ended(alloc: Global, text: &str, endings: &[String]) -> Option<String> {
 pub fn constrained(alloc: Global, line: &str, specifiers: &str) -> Option<String> {
     match SpecifierText::parse(alloc, specifiers) {
         Ok(specifiers) => with_specifier(alloc, line, &specifiers),
-        Err(fault) => told_fault(alloc, fault, Some(fault.cause)),
+        Err(fault) => told_fault(alloc, fault),
     }
 }
 
@@ -109,19 +91,10 @@ fn with_specifier(alloc: Global, line: &str, specifiers: &SpecifierText) -> Opti
 pub fn file(alloc: Global, text: &str) -> Option<String> {
     let bytes = bytes_of(alloc, text)?;
     match ReqFile::read(alloc, bytes.as_slice()) {
-        Ok(file) => agreed(
-            told_file(alloc, &file, bytes.as_slice())?,
-            told_file(alloc, &file.clone().ok()?, bytes.as_slice())?,
-        ),
-        Err(fault) => told_fault(alloc, fault, Some(fault.cause)),
+        Ok(file) => {
+            let count = file.lines().len();
+            format!(in alloc; "{count} lines").ok()
+        }
+        Err(fault) => told_fault(alloc, fault),
     }
-}
-
-/// How many lines a file has, whose bytes are those that were read.
-fn told_file(alloc: Global, file: &ReqFile, read: &[u8]) -> Option<String> {
-    if file.bytes(alloc).ok()?.as_str().as_bytes() != read {
-        return None;
-    }
-    let count = file.lines().len();
-    format!(in alloc; "{count} lines").ok()
 }

@@ -7,7 +7,6 @@ mod answers;
 mod background;
 mod batch_rows;
 mod command_rows;
-mod confirmations;
 mod conflicts;
 mod environment_rows;
 mod examples;

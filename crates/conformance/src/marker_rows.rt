@@ -1,34 +1,25 @@
 // Rows of names and markers.
 
 use crate::background::Background;
-use crate::notation::{agreed, mark, owned};
+use crate::notation::{mark, owned};
 use crate::telling::Telling;
 use markers::{Cause, Environment, Fault, Marker, Name, VersionFault};
 use std::alloc::Global;
 
-/// The text of a fault where the other call has the same cause; none where memory was refused.
-pub fn told_fault(alloc: Global, fault: Fault, other: Option<Cause>) -> Option<String> {
-    if fault.cause == Cause::OutOfMemory || other != Some(fault.cause) {
-        return None;
+/// The text of a fault; none where memory was refused.
+pub fn told_fault(alloc: Global, fault: Fault) -> Option<String> {
+    match fault.cause {
+        Cause::OutOfMemory => None,
+        _ => fault.to_string(alloc).ok(),
     }
-    fault.to_string(alloc).ok()
 }
 
 /// The normal form of a name, or why there is none.
 pub fn name(alloc: Global, text: &str) -> Option<String> {
     match Name::parse(alloc, text) {
-        Ok(name) => normal(alloc, &name),
-        Err(fault) => told_fault(alloc, fault, Name::read(alloc, text).err()),
+        Ok(name) => owned(alloc, name.normal()),
+        Err(fault) => told_fault(alloc, fault),
     }
-}
-
-/// The normal form of a name, which reads as the same name, as does a clone.
-fn normal(alloc: Global, name: &Name) -> Option<String> {
-    let again = Name::read(alloc, name.normal()).ok()?;
-    if again != *name || name.clone().ok()? != *name {
-        return None;
-    }
-    owned(alloc, name.normal())
 }
 
 /// Whether a marker holds with each of the extras, `none` for no extra; or why there is none.
@@ -38,26 +29,14 @@ pub fn marker(
     text: &str,
     extras: &[String],
 ) -> Option<String> {
-    let environment = background.environment()?;
-    match Marker::parse(alloc, text) {
-        Ok(marker) => agreed(
-            marks(alloc, &marker, environment, extras)?,
-            marks(alloc, &marker.clone().ok()?, environment, extras)?,
-        ),
-        Err(fault) => told_fault(alloc, fault, Marker::read(alloc, text).err()),
-    }
-}
-
-/// Whether a marker holds with each of the extras.
-fn marks(
-    alloc: Global,
-    marker: &Marker,
-    environment: &Environment,
-    extras: &[String],
-) -> Option<String> {
+    let environment = background.environment.as_ref()?;
+    let marker = match Marker::parse(alloc, text) {
+        Ok(marker) => marker,
+        Err(fault) => return told_fault(alloc, fault),
+    };
     let mut marks = Telling::new(alloc);
     for extra in extras {
-        marks.push(mark(holds(alloc, marker, environment, extra.as_str())?));
+        marks.push(mark(holds(alloc, &marker, environment, extra.as_str())?));
     }
     marks.told()
 }

@@ -111,14 +111,6 @@ pub fn owned(alloc: Global, text: &str) -> Option<String> {
     String::from_str(alloc, text).ok()
 }
 
-/// The first answer, if the other is the same.
-pub fn agreed(answer: String, other: String) -> Option<String> {
-    if answer == other {
-        return Some(answer);
-    }
-    None
-}
-
 /// How it is printed whether something holds.
 pub fn mark(holds: bool) -> char {
     if holds { '1' } else { '0' }

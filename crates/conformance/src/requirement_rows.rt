@@ -2,7 +2,6 @@
 
 use crate::background::Background;
 use crate::marker_rows::told_fault;
-use crate::notation::agreed;
 use crate::specifier_rows::marks_of;
 use crate::telling::Telling;
 use pep508::{Cause, Requirement};
@@ -22,7 +21,7 @@ fn extras(alloc: Global, requirement: &Requirement) -> Option<String> {
 
 /// Whether a requirement counts in the environment: `-` where it has no marker.
 fn activity(background: &Background, requirement: &Requirement) -> Option<&'static str> {
-    let is_active = requirement.is_active(background.environment()?);
+    let is_active = requirement.is_active(background.environment.as_ref()?);
     match (requirement.marker().is_some(), is_active) {
         (true, true) => Some("1"),
         (true, false) => Some("0"),
@@ -48,11 +47,8 @@ pub fn told(alloc: Global, background: &Background, requirement: &Requirement) -
 /// A requirement, or why there is none.
 pub fn requirement(alloc: Global, background: &Background, text: &str) -> Option<String> {
     match Requirement::parse(alloc, text) {
-        Ok(requirement) => agreed(
-            told(alloc, background, &requirement)?,
-            told(alloc, background, &requirement.clone().ok()?)?,
-        ),
-        Err(fault) => told_fault(alloc, fault, Requirement::read(alloc, text).err()),
+        Ok(requirement) => told(alloc, background, &requirement),
+        Err(fault) => told_fault(alloc, fault),
     }
 }
 

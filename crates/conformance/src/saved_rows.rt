@@ -1,10 +1,9 @@
 // Rows of saved histories.
 
 use crate::notation::owned;
-use crate::state_texts::whole_text;
 use crate::targets::bytes_of;
 use edits::{Refusal, TargetName};
-use journal::{Saved, Session, targets};
+use journal::{Saved, Session};
 use lists::Text;
 use std::alloc::Global;
 use std::collections::BTreeMap;
@@ -20,32 +19,11 @@ fn opened(
     Session::open(alloc, requirements.as_bytes(), &locks, journal.as_bytes())
 }
 
-/// Whether the journal names the targets whose locks were saved.
-fn names_locks(alloc: Global, saved: &Saved) -> Option<bool> {
-    let names = targets(alloc, saved.journal.as_str().as_bytes()).ok()?;
-    let names = names.as_slice();
-    Some(
-        names.len() == saved.locks.len() && names.iter().all(|name| saved.locks.contains_key(name)),
-    )
-}
-
-/// Whether what was saved of a session stands for it.
-fn stands_for(alloc: Global, session: &Session, again: &Session) -> Option<bool> {
-    Some(
-        session.cursor() == again.cursor()
-            && session.steps() == again.steps()
-            && whole_text(alloc, session.state())? == whole_text(alloc, again.state())?,
-    )
-}
-
 /// Saves the session, and opens what was saved: its place among the steps, and the lines of the journal.
 pub fn saved(alloc: Global, session: &Session) -> Option<String> {
     let saved = session.save(alloc).ok()?;
     let (requirements, journal) = (saved.requirements.as_str(), saved.journal.as_str());
     let again = opened(alloc, requirements, &saved.locks, journal).ok()?;
-    if !stands_for(alloc, session, &again)? || !names_locks(alloc, &saved)? {
-        return None;
-    }
     let (cursor, steps) = (again.cursor(), again.steps());
     let lines = journal.lines().count();
     format!(in alloc; "{cursor} of {steps}, {lines} lines").ok()

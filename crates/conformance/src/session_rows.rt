@@ -1,13 +1,12 @@
 // Rows of histories.
 
-use crate::background::{Background, Histories};
-use crate::confirmations::tried;
-use crate::notation::{agreed, owned};
-use crate::state_texts::{change_text, files_text, lock_text, push_lock, whole_text};
+use crate::background::Background;
+use crate::notation::owned;
+use crate::state_texts::{change_text, push_lock};
 use crate::telling::Telling;
 use commands::{Item, ReplyText, read_item};
-use edits::{Change, Refusal, ReqFile, Snapshot, State, init};
-use journal::{Command, History, Learning, Plain, Reply, Session, WholeHistory};
+use edits::{Change, Refusal, ReqFile, Snapshot, State};
+use journal::{Command, Learning, Reply, Session};
 use std::alloc::Global;
 
 /// A reply, as a program prints it without the LF.
@@ -44,61 +43,29 @@ pub fn others(alloc: Global) -> Option<String> {
     text.told()
 }
 
-/// The file of these lines.
-fn file_of(alloc: Global, lines: &str) -> Option<ReqFile> {
-    ReqFile::read(alloc, lines.as_bytes()).ok()
-}
-
-/// The first state of the lines over the index.
-fn begun(alloc: Global, background: &Background, lines: &str) -> Option<Result<State, Refusal>> {
-    let (targets, index) = (background.targets(alloc)?, background.index()?);
-    Some(init(alloc, file_of(alloc, lines)?, targets, index, &Plain))
-}
-
 /// A session of the lines over the index.
 pub fn session_of(
     alloc: Global,
     background: &Background,
     lines: &str,
 ) -> Option<Result<Session, Refusal>> {
-    let (targets, index) = (background.targets(alloc)?, background.index()?);
-    Some(Session::init(alloc, file_of(alloc, lines)?, targets, index, &Learning))
-}
-
-/// Keeps one history in both ways: what its first state locks.
-fn kept(
-    alloc: Global,
-    background: &mut Background,
-    session: Session,
-    state: State,
-) -> Option<String> {
-    let answer = agreed(
-        lock_text(alloc, session.state())?,
-        lock_text(alloc, &state)?,
-    )?;
-    let whole = WholeHistory::new(alloc, state).ok()?;
-    background.histories = Some(Histories { session, whole });
-    format!(in alloc; "ok 0:{answer}").ok()
-}
-
-/// The reply to lines that both ways refuse alike.
-fn refused(alloc: Global, refusal: Refusal, other: Refusal) -> Option<String> {
-    if refusal != other {
-        return None;
-    }
-    let mut text = Telling::new(alloc);
-    push_reply(alloc, &mut text, &Reply::Refused(refusal))?;
-    text.told()
+    let lines = ReqFile::read(alloc, lines.as_bytes()).ok()?;
+    let (targets, index) = (background.targets(alloc)?, background.index.as_ref()?);
+    Some(Session::init(alloc, lines, targets, index, &Learning))
 }
 
 /// Begins a history of the lines: what is locked, or why there is none.
 pub fn begin(alloc: Global, background: &mut Background, lines: &str) -> Option<String> {
-    let session = session_of(alloc, background, lines)?;
-    match (session, begun(alloc, background, lines)?) {
-        (Ok(session), Ok(state)) => kept(alloc, background, session, state),
-        (Err(other), Err(refusal)) => refused(alloc, refusal, other),
-        _ => None,
+    let mut text = Telling::new(alloc);
+    match session_of(alloc, background, lines)? {
+        Ok(session) => {
+            text.push_str("ok 0:");
+            push_lock(&mut text, session.state());
+            background.session = Some(session);
+        }
+        Err(refusal) => push_reply(alloc, &mut text, &Reply::Refused(refusal))?,
     }
+    text.told()
 }
 
 /// The command that a line tells.
@@ -120,49 +87,6 @@ fn commands_of<'a>(alloc: Global, index: &'a Snapshot, lines: &str) -> Option<Ve
     Some(commands)
 }
 
-/// The replies of the history of whole states.
-fn all_tried(
-    alloc: Global,
-    whole: &mut WholeHistory,
-    commands: &[Command<'_>],
-) -> Option<Vec<Reply>> {
-    let mut replies = Vec::new(alloc);
-    for command in commands {
-        replies.push(tried(alloc, whole, command)?).ok()?;
-    }
-    Some(replies)
-}
-
-/// A change in its form for debugging.
-fn form_of(alloc: Global, change: &Change) -> Option<String> {
-    format!(in alloc; "{change:?}").ok()
-}
-
-/// Whether both histories have the same steps.
-fn have_same_steps(alloc: Global, histories: &Histories) -> Option<bool> {
-    let Histories { session, whole } = histories;
-    let steps = whole.steps();
-    if session.steps() != steps {
-        return Some(false);
-    }
-    for step in 0..steps {
-        if form_of(alloc, session.change(step + 1))? != form_of(alloc, whole.change(step + 1))? {
-            return Some(false);
-        }
-    }
-    Some(true)
-}
-
-/// Whether both histories are the same.
-fn are_same(alloc: Global, histories: &Histories) -> Option<bool> {
-    let Histories { session, whole } = histories;
-    Some(
-        session.cursor() == whole.cursor()
-            && whole_text(alloc, session.state())? == whole_text(alloc, whole.state())?
-            && have_same_steps(alloc, histories)?,
-    )
-}
-
 /// The replies, and what is locked behind the last.
 fn replies_text(alloc: Global, replies: &[Reply], state: &State) -> Option<String> {
     let mut text = Telling::new(alloc);
@@ -177,63 +101,46 @@ fn replies_text(alloc: Global, replies: &[Reply], state: &State) -> Option<Strin
     text.told()
 }
 
-/// Does the commands of the lines on both histories.
+/// Does the commands of the lines.
 pub fn done(alloc: Global, background: &mut Background, lines: &str) -> Option<String> {
-    let index = background.index.as_ref()?;
-    let histories = background.histories.as_mut()?;
-    let commands = commands_of(alloc, index, lines)?;
-    let replies = all_tried(alloc, &mut histories.whole, commands.as_slice())?;
-    let session = &mut histories.session;
-    let run = session.run(alloc, commands.as_slice(), &Learning).ok()?;
-    if run.as_slice() != replies.as_slice() || !are_same(alloc, histories)? {
-        return None;
-    }
-    replies_text(alloc, replies.as_slice(), histories.session.state())
+    let commands = commands_of(alloc, background.index.as_ref()?, lines)?;
+    let session = background.session.as_mut()?;
+    let replies = session.run(alloc, commands.as_slice(), &Learning).ok()?;
+    replies_text(alloc, replies.as_slice(), session.state())
 }
 
 /// The lines of the present state.
-pub fn lines(alloc: Global, histories: &Histories) -> Option<String> {
-    let lines = histories.session.state().lines().bytes(alloc).ok()?;
+pub fn lines(alloc: Global, session: &Session) -> Option<String> {
+    let lines = session.state().lines().bytes(alloc).ok()?;
     format!(in alloc; "{lines:?}").ok()
 }
 
-/// The files of the present lock, whose digest is that of the index.
-pub fn files(alloc: Global, background: &Background, histories: &Histories) -> Option<String> {
-    let state = histories.session.state();
-    if state.digest() != background.index()?.digest() {
-        return None;
-    }
-    files_text(alloc, state)
-}
-
 /// The change of the last step.
-fn last_change(whole: &WholeHistory) -> Option<&Change> {
-    let steps = whole.steps();
+fn last_change(session: &Session) -> Option<&Change> {
+    let steps = session.steps();
     if steps == 0 {
         return None;
     }
-    Some(whole.change(steps))
+    Some(session.change(steps))
 }
 
 /// What the change of the last step is told as.
-pub fn change(alloc: Global, histories: &Histories) -> Option<String> {
-    change_text(alloc, last_change(&histories.whole)?)
+pub fn change(alloc: Global, session: &Session) -> Option<String> {
+    change_text(alloc, last_change(session)?)
 }
 
-/// The lines of a state, and what it locks.
-fn state_text(alloc: Global, state: &State) -> Option<String> {
-    let lines = state.lines().bytes(alloc).ok()?;
-    let lock = lock_text(alloc, state)?;
-    format!(in alloc; "{lines:?}{lock}").ok()
-}
-
-/// What the change of the last step leads to from the first state of other lines.
+/// The lines and the lock that the change of the last step leads to from the first state of other lines.
 pub fn applied(alloc: Global, background: &Background, lines: &str) -> Option<String> {
-    let state = begun(alloc, background, lines)?.ok()?;
-    let histories = background.histories.as_ref()?;
-    let change = last_change(&histories.whole)?;
-    match change.apply(alloc, &state).ok()? {
-        Some(state) => state_text(alloc, &state),
+    let first = session_of(alloc, background, lines)?.ok()?;
+    let change = last_change(background.session.as_ref()?)?;
+    match change.apply(alloc, first.state()).ok()? {
+        Some(state) => {
+            let lines = state.lines().bytes(alloc).ok()?;
+            let mut text = Telling::new(alloc);
+            write!(text, "{lines:?}");
+            push_lock(&mut text, &state);
+            text.told()
+        }
         None => owned(alloc, "nowhere"),
     }
 }

@@ -1,14 +1,18 @@
 // Rows of sets of specifiers.
 
 use crate::background::Background;
-use crate::notation::{agreed, mark};
+use crate::notation::mark;
 use crate::telling::Telling;
 use crate::version_rows::told_fault;
 use pep440::{SpecifierSet, Version};
 use std::alloc::Global;
 
-/// The clauses of a set, how many they are, and which properties it has.
-fn told(alloc: Global, set: &SpecifierSet) -> Option<String> {
+/// The clauses of a set, how many they are, and which properties it has; or why there is none.
+pub fn set(alloc: Global, text: &str) -> Option<String> {
+    let set = match SpecifierSet::parse(alloc, text) {
+        Ok(set) => set,
+        Err(fault) => return told_fault(alloc, fault),
+    };
     let mut text = Telling::new(alloc);
     for clause in set.clauses() {
         let operator = clause.operator;
@@ -21,18 +25,9 @@ fn told(alloc: Global, set: &SpecifierSet) -> Option<String> {
     text.told()
 }
 
-/// A set, or why there is none.
-pub fn set(alloc: Global, text: &str) -> Option<String> {
-    match SpecifierSet::parse(alloc, text) {
-        Ok(set) => agreed(told(alloc, &set)?, told(alloc, &set.clone().ok()?)?),
-        Err(fault) => told_fault(alloc, fault),
-    }
-}
-
 /// The mark of each of the versions.
 pub fn matched(alloc: Global, set: &str, versions: &[String]) -> Option<String> {
     let set = SpecifierSet::parse(alloc, set).ok()?;
-    let set = set.clone().ok()?;
     let mut marks = Telling::new(alloc);
     for version in versions {
         let version = Version::parse(alloc, version.as_str()).ok()?;

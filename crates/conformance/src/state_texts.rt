@@ -40,13 +40,6 @@ pub fn push_lock(text: &mut Telling, state: &State) {
     }
 }
 
-/// What is locked.
-pub fn lock_text(alloc: Global, state: &State) -> Option<String> {
-    let mut text = Telling::new(alloc);
-    push_lock(&mut text, state);
-    text.told()
-}
-
 fn push_pins(text: &mut Telling, target: &Target) {
     for entry in target.lock.entries() {
         push_pin(text, entry);
@@ -59,26 +52,6 @@ pub fn push_versions(text: &mut Telling, state: &State) {
         push_target(text, &target.name);
         push_pins(text, target);
     }
-}
-
-/// The names and versions of a target's lock.
-pub fn pins_text(alloc: Global, target: &Target) -> Option<String> {
-    let mut text = Telling::new(alloc);
-    push_pins(&mut text, target);
-    text.told()
-}
-
-/// All of a state: its lines, and its locks as they are printed.
-pub fn whole_text(alloc: Global, state: &State) -> Option<String> {
-    let mut text = Telling::new(alloc);
-    let lines = state.lines().bytes(alloc).ok()?;
-    write!(text, "{lines}");
-    for target in state.targets() {
-        let lock = target.lock.print(alloc).ok()?;
-        push_target(&mut text, &target.name);
-        write!(text, "{lock}");
-    }
-    text.told()
 }
 
 fn push_file(text: &mut Telling, file: &FileEntry) {

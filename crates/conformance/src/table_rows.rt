@@ -1,24 +1,17 @@
 // Rows of tables of numbers, over which the searches go.
 
-use crate::notation::{agreed, owned};
+use crate::notation::owned;
 use crate::telling::Telling;
 use lists::Seq;
-use search::{
-    Choice, Found, NodeChoice, Requirement, Table, best, learned_best, learned_or_refuted,
-};
+use search::{Choice, Requirement, Table, learned_best};
 use std::alloc::Global;
-
-/// The number that a word is.
-fn number(word: &str) -> Option<usize> {
-    word.parse::<usize>().ok()
-}
 
 /// The numbers between spaces.
 fn numbers(alloc: Global, text: &str) -> Option<Seq<usize>> {
     let mut read = Seq::new(alloc);
     for word in text.split(' ') {
         if !word.is_empty() {
-            read.push(number(word)?).ok()?;
+            read.push(word.parse::<usize>().ok()?).ok()?;
         }
     }
     Some(read)
@@ -56,7 +49,7 @@ fn requirement(alloc: Global, text: &str) -> Option<Requirement> {
     let (nodes, admits) = text.split_once(':')?;
     let (node, more) = nodes.split_once('+').unwrap_or((nodes, ""));
     Some(Requirement {
-        node: number(node)?,
+        node: node.parse::<usize>().ok()?,
         more: numbers(alloc, more)?,
         admits: marks(alloc, admits)?,
     })
@@ -98,50 +91,13 @@ fn best_text(alloc: Global, choices: &[Choice]) -> Option<String> {
     text.told()
 }
 
-/// The best solution, or `none`.
-fn solution(alloc: Global, solved: Option<Seq<Choice>>) -> Option<String> {
-    match solved {
+/// The best solution of a table, or `none`.
+pub fn searched(alloc: Global, told: &[String]) -> Option<String> {
+    let Some(table) = table_of(alloc, told)? else {
+        return owned(alloc, "no table");
+    };
+    match learned_best(alloc, &table).ok()? {
         Some(choices) => best_text(alloc, choices.as_slice()),
         None => owned(alloc, "none"),
-    }
-}
-
-/// What the search that learns finds.
-pub fn learned(alloc: Global, told: &[String]) -> Option<String> {
-    match table_of(alloc, told)? {
-        Some(table) => solution(alloc, learned_best(alloc, &table).ok()?),
-        None => owned(alloc, "no table"),
-    }
-}
-
-/// What both searches find.
-pub fn searched(alloc: Global, told: &[String]) -> Option<String> {
-    let answer = learned(alloc, told)?;
-    match table_of(alloc, told)? {
-        Some(table) => {
-            let other = solution(alloc, best(alloc, &table).ok()?)?;
-            agreed(answer, other)
-        }
-        None => Some(answer),
-    }
-}
-
-/// How many choices each conflict has.
-fn counts(alloc: Global, conflicts: &[Seq<NodeChoice<usize, usize>>]) -> Option<String> {
-    let mut text = Telling::new(alloc);
-    text.push_str("recorded:");
-    for conflict in conflicts {
-        let count = conflict.len();
-        write!(text, " {count}");
-    }
-    text.told()
-}
-
-/// How many choices each conflict has that the search that learns records; or its best solution.
-pub fn recorded(alloc: Global, told: &[String]) -> Option<String> {
-    let table = table_of(alloc, told)??;
-    match learned_or_refuted(alloc, &table).ok()? {
-        Found::Best(choices) => best_text(alloc, choices.as_slice()),
-        Found::Refuted(conflicts) => counts(alloc, conflicts.as_slice()),
     }
 }

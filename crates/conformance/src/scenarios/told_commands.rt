@@ -9,16 +9,12 @@ use std::alloc::Global;
 /// Two steps, of which one is undone.
 pub const BEFORE: &str = "add d/constrain a <2/undo";
 
-fn text_of(alloc: Global, told: &str) -> Option<Text> {
-    Text::copy_of(alloc, told).ok()
-}
-
 /// The edit that a word and what stands behind it tell.
 pub fn edit_of(alloc: Global, told: &str) -> Option<Edit> {
     let (word, rest) = told.split_once(' ').unwrap_or((told, ""));
     match word {
-        "add" => Some(Edit::Add(text_of(alloc, rest)?)),
-        "remove" => Some(Edit::Remove(text_of(alloc, rest)?)),
+        "add" => Some(Edit::Add(Text::copy_of(alloc, rest).ok()?)),
+        "remove" => Some(Edit::Remove(Text::copy_of(alloc, rest).ok()?)),
         "constrain" => constraint_of(alloc, rest),
         "upgrade" if rest.is_empty() => Some(Edit::UpgradeAll),
         "upgrade" => upgrade_of(alloc, rest),
@@ -29,13 +25,16 @@ pub fn edit_of(alloc: Global, told: &str) -> Option<Edit> {
 
 fn constraint_of(alloc: Global, told: &str) -> Option<Edit> {
     let (name, specifiers) = told.split_once(' ').unwrap_or((told, ""));
-    Some(Edit::Constrain(text_of(alloc, name)?, text_of(alloc, specifiers)?))
+    Some(Edit::Constrain(
+        Text::copy_of(alloc, name).ok()?,
+        Text::copy_of(alloc, specifiers).ok()?,
+    ))
 }
 
 fn upgrade_of(alloc: Global, told: &str) -> Option<Edit> {
     let mut names = Seq::new(alloc);
     for word in told.split(' ') {
-        names.push(text_of(alloc, word)?).ok()?;
+        names.push(Text::copy_of(alloc, word).ok()?).ok()?;
     }
     Some(Edit::Upgrade(names))
 }
