@@ -113,6 +113,15 @@ class FileCalls(Fifty):
             self.assertEqual(self.watched(*words, FILE_CALLS_LOCK=str(errno.ENOMEM)), told)
         self.assertEqual(self.files(), files)
 
+    def test_a_dry_run_only_reads(self):
+        self.begin_all()
+        self.assertEqual(self.call("add", "p00"), (0, "ok 1\n"))
+        for words in ["add", "p01"], ["remove", "p00"], ["constrain", "p00", "<2"], ["upgrade"], ["relock"], ["undo"], ["redo"]:
+            with self.subTest(words=words):
+                before = self.files()
+                self.assertEqual(self.watched(*words, "--dry-run")[2], ["flock folder"])
+                self.assertEqual(self.files(), before)
+
     def test_a_folder_without_a_name_is_not_locked(self):
         self.begin_all()
         for words in ["init"], ["add", "p01"], ["check"]:

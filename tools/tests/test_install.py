@@ -16,6 +16,7 @@ from places import PROGRAM, TOP
 
 INSTALL = TOP / "install"
 SHARE = TOP / "share"
+EVERYWHERE = {"--dir", "--index", "--env", "--help"}  # the options of each subcommand
 COMMANDS = (
     "reqlock", "reqlock-adopt", "reqlock-check-refutation", "reqlock-environment", "reqlock-hashes", "reqlock-portable-lock",
     "reqlock-snapshot",
@@ -89,12 +90,13 @@ class Installed(unittest.TestCase):
 
     def test_bash_completes(self):
         self.install(self.prefix)
-        options = {"--dir", "--index", "--env", "--help"}
+        saving = {*EVERYWHERE, "--dry-run", "--verbose"}
         for words, wanted in (
             (["reqlock", "re"], {"remove", "relock", "redo"}), (["reqlock", "--i"], {"--index"}),
-            (["reqlock", "--index", "x", "why", "--ex"], {"--explain"}), (["reqlock", "--dir", "d", "upgrade", ""], {"a", *options}),
-            (["reqlock", "upgrade", "--dir", "d", ""], {"a", *options}), (["reqlock", "log", "--l"], {"--long"}),
-            (["reqlock", "--dir", "a p"], {"a prefix"}), (["reqlock", "help", "ba"], {"batch"}), (["reqlock", "undo", ""], options),
+            (["reqlock", "--index", "x", "why", "--ex"], {"--explain"}), (["reqlock", "--dir", "d", "upgrade", ""], {"a", *saving}),
+            (["reqlock", "upgrade", "--dir", "d", ""], {"a", *saving}), (["reqlock", "log", "--l"], {"--long"}),
+            (["reqlock", "--dir", "a p"], {"a prefix"}), (["reqlock", "help", "ba"], {"batch"}), (["reqlock", "undo", ""], saving),
+            (["reqlock", "--dir", "d", "why", "--not", ""], {"a"}), (["reqlock", "--dr"], {"--dry-run"}),
             (["reqlock", "--index", "file"], {"file.json"}), (["reqlock", "add", "a", "--index", "file"], {"file.json"}),
         ):
             with self.subTest(words=words):
@@ -126,10 +128,9 @@ class Words(unittest.TestCase):
         told = self.help_of()
         self.subcommands = set(re.findall(r"(?m)^  ([a-z]+) ", told.split("Commands:")[1].split("Options:")[0])) | {"help"}
         self.options = self.options_of(told)
-        own = {name: self.options_of(self.help_of(name)) - {"--help"} for name in self.subcommands - {"help"}}
-        self.own = {name: options - self.options for name, options in own.items()}
+        self.own = {name: self.options_of(self.help_of(name)) - EVERYWHERE for name in self.subcommands - {"help"}}
         self.assertIn("init", self.subcommands)
-        self.assertIn("--index", self.options)
+        self.assertLess(EVERYWHERE, self.options)
 
     @staticmethod
     def help_of(*subcommand):
@@ -150,7 +151,7 @@ class Words(unittest.TestCase):
         self.assertEqual(set(re.search('subcommands="([^"]*)"', text)[1].split()), self.subcommands)
         common = set(re.search('common="([^"]*)"', text)[1].split())
         self.assertEqual(common | set(re.search('options="([^"]*)"', text)[1].split()) - {"$common"}, self.options)
-        self.assertEqual(common, self.options - {"--version"})
+        self.assertEqual(common, EVERYWHERE)
         for name, options in self.own.items():
             if options:
                 self.assertEqual(set(re.search(rf'\b{name}\) words="([^"]*)"', text)[1].split()), options | {"$common"})

@@ -64,13 +64,13 @@ class Printed(Program):
 
     def test_a_refutation_in_sentences(self):
         self.begin_refuted()
-        needs = [f"{name}==1 needs {other}" for name, other in zip(NAMES, [*NAMES[1:], "z>=2"])]
-        causes = [f"{needs[-1]}, which doesn't admit z==1"]
-        for number, (need, other) in enumerate(zip(reversed(needs), ["z", *reversed(NAMES)]), 1):
-            causes.append(f"{need}, and no release of {other} is left: 1 by {number}")
-        number, first = COUNT + 1, NAMES[0]
-        causes.append(f"the new line ({first}) needs {first}, and no release of {first} is left: 1 by {number}")
-        sentences = [f"{number}. {conflict}: {cause}" for number, (conflict, cause) in enumerate(zip(self.CONFLICTS, causes), 1)]
+        first, left = NAMES[0], "and no release of {} is left: 1"
+        causes = [f"the only release of {NAMES[-1]} needs z>=2, {left.format('z')} doesn't match >=2"]
+        for number, (name, other) in enumerate(zip(reversed(NAMES[:-1]), reversed(NAMES)), 1):
+            causes.append(f"the only release of {name} needs {other}, {left.format(other)} by {number}")
+        causes.append(f"the new line ({first}) needs {first}, {left.format(first)} by {COUNT}")
+        sentences = [f"No choice of versions meets the new line ({first})."]
+        sentences += [f"{number}. {cause}." for number, cause in enumerate(causes, 1)]
         left_out = [f"{name}: release 1: version bad-version" for name in (*NAMES, "z")]
         self.plays((["why", "--explain", first], 3, "".join(f"{line}\n" for line in sentences + left_out)))
 

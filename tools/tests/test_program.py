@@ -32,7 +32,9 @@ class Help(Program):
         "try": "Do the commands of standard input on a new history; save nothing",
         "show": "Print the lock as a table, with what asks for each entry",
         "log": "Print the history, a line for each edit",
+        "diff": "Print what changed between two places of the history",
         "check": "Tell whether the three files belong together; change nothing",
+        "outdated": "Print which locked releases have newer ones, and who holds them back",
         "skipped": "Print which releases of the index are left out, and why",
         "why": "Print a proof that nothing can be locked with this line, where that is so",
     }
@@ -43,18 +45,38 @@ class Help(Program):
             "<NAME>": "The name of the line", "[SPEC]": "The specifiers, such as '>=2,<3'; without them any version will do",
         },
         "upgrade": {"[NAME]...": "Names in the lock; without any, all of them"},
-        "log": {"--long": "Print each entry that a step changed on a line of its own"},
-        "why": {"[TEXT]": "The line; without it, the file as it stands", "--explain": "Tell it in sentences"},
+        "show": {
+            "[NAME]": "Print the entry of this name, with its files", "--tree": "Print the entries below the lines that ask for them",
+            "--json": "Print JSON",
+        },
+        "log": {"--long": "Print each entry that a step changed on a line of its own", "--json": "Print JSON"},
+        "diff": {
+            "[FROM]": "The first place; without it, the one before the present",
+            "[TO]": "The second place; without it, the present one", "--json": "Print JSON",
+        },
+        "check": {"--current": "Tell whether a relock over the index would change something", "--json": "Print JSON"},
+        "outdated": {"--json": "Print JSON"},
+        "why": {
+            "[TEXT]": "The line; without it, the file as it stands", "--explain": "Tell it in sentences",
+            "--init": "Ask about a first lock, for the environments given",
+            "--constrain <NAME> [SPEC]": "Ask about other specifiers in the line of a name",
+            "--upgrade [<NAME>...]": "Ask about an upgrade of these names; without any, of all",
+            "--remove <NAME>": "Ask about the removal of the line of a name",
+            "--not <NAME[==VERSION]>": "Ask why the lock lacks this version; without one, the newest",
+        },
     }
     OPTIONS = {
         "--dir <DIR>": "The folder of requirements.txt [default: .]", "--index <FILE>": "The snapshot of the index",
         "--env <FILE>": "The environment that a lock is for; or NAME=FILE",
+        "--dry-run": "Save nothing; print what would change", "--json": "Print JSON",
+        "-v, --verbose": "Tell what changed, or what is known of a refusal",
     }
     ALL = {"--dir", "--index", "--env"}
     NEEDED = {
-        "init": ALL, "try": ALL, "skipped": {"--index"},
-        **dict.fromkeys(["add", "remove", "constrain", "upgrade", "relock", "batch", "why"], {"--dir", "--index"}),
-        **dict.fromkeys(["undo", "redo", "show", "log", "check"], {"--dir"}),
+        "init": ALL, "try": ALL, "why": ALL, "skipped": {"--index"},
+        **dict.fromkeys(["add", "remove", "constrain", "upgrade", "relock", "batch"], {"--dir", "--index"}),
+        **dict.fromkeys(["show", "check", "outdated"], {"--dir", "--index"}),
+        **dict.fromkeys(["undo", "redo", "log", "diff"], {"--dir"}),
     }
 
     def test_help_names_each_subcommand_and_each_option(self):
@@ -78,7 +100,7 @@ class Help(Program):
                 self.assertIn(f"\nUsage: reqlock {name}", told)
                 lines = [line.split() for line in told.splitlines()]
                 for argument, text in self.ARGUMENTS.get(name, {}).items():
-                    self.assertIn([argument, *text.split()], lines)
+                    self.assertIn([*argument.split(), *text.split()], lines)
                 self.assertEqual({line[0] for line in lines if line and line[0] in self.ALL}, self.NEEDED[name])
                 self.assertEqual(lines[-1][:3], ["Example:", "reqlock", name])
 

@@ -202,7 +202,8 @@ class Program(Growths):
         for words, starts in (
             (["add", "d"], "ok 1"), (["add", "x[e]"], "refused no-solution"), (["remove", "a"], "ok 1"),
             (["constrain", "B_b", ">=1"], "ok 1"), (["upgrade"], "same"), (["upgrade", "z"], "refused not-locked"),
-            (["relock"], "same"), (["undo"], "refused nothing-to-undo"),
+            (["relock"], "same"), (["undo"], "refused nothing-to-undo"), (["add", "d", "--dry-run"], "ok 1\n- 3: a\n"),
+            (["add", "d", "-v"], "ok 1"), (["add", "x[e]", "-v"], "refused no-solution"), (["remove", "b b", "-v"], "refused bad-text"),
         ):
             self.check_single(*words, starts=starts)
 
@@ -211,7 +212,8 @@ class Program(Growths):
         self.prepare("add", "d")
         for words, starts in (
             (["check"], "ok 1"), (["show"], "name  version"), (["log"], "  0 init"), (["skipped"], "x: release 1"),
-            (["--help"], ""), (["--version"], "reqlock "),
+            (["--help"], ""), (["--version"], "reqlock "), (["diff"], "- 3: a\n"), (["diff", "1", "0", "--json"], '{"entries":'),
+            (["log", "--json"], '{"current":'),
         ):
             self.check_single(*words, starts=starts)
 
@@ -242,7 +244,7 @@ class Program(Growths):
         self.prepare("init")
         for words, starts in (
             (["why"], "solvable"), (["why", "x[e]"], "d==1 x[e]==1"), (["why", "A"], "refused already-present"),
-            (["why", "--explain", "x[e]"], "1. d==1 x[e]==1: "),
+            (["why", "--explain", "x[e]"], "No choice of versions meets the new line (x[e]).\n1. "),
         ):
             self.check_single(*words, starts=starts)
 

@@ -73,11 +73,11 @@ class Tables(Program):
         return [[cell.strip() for cell in line.strip("|").split("|")] for line in table.splitlines()[1:]]
 
     def subcommands(self):
-        """Each subcommand with a word for each argument that it can't do without, and the options that it needs."""
+        """Each subcommand with its own options and a word for each argument that it can't do without, and the options that it needs."""
         for name, _, needs in self.rows("| Subcommand | Does | Needs |"):
-            for words in re.findall("`([^`]+)`", name):
-                subcommand, *arguments = re.sub(r"\[.*?\]", "", words).split()
-                yield [subcommand, *("a" for _ in arguments)], re.findall("--[a-z]+", needs)
+            for shown in re.findall("`([^`]+)`", name):
+                subcommand, *words = re.sub(r"\[.*?\]", "", shown).split()
+                yield [subcommand, *(word if word.startswith("--") else "a" for word in words)], re.findall("--[a-z]+", needs)
 
     def test_name_each_subcommand_and_option(self):
         told = self.call("--help")[1]

@@ -99,6 +99,11 @@ class Sessions(Calls):
                     if words == "log":
                         status, text = self.call("log", "--long")
                         self.assertEqual((status, steps_of(text)), (told[0], steps_told(told[1])))
+                    elif "--explain" in words:
+                        # the words of sentences are free; they name the line that is asked about
+                        status, text = self.call(*words.split())
+                        self.assertEqual(status, told[0])
+                        self.assertIn("f<1", text)
                     else:
                         self.assertEqual(self.call(*words.split()), tuple(told))
             self.call("skipped")

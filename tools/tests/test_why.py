@@ -49,44 +49,43 @@ class Why(Program):
         (CUT_AWAY, b"", ["m"], "b==1\nm==1\n-\n"),
         (
             [("a", "1", [])], b"# web\na==1\n", ["--explain", "z"],
-            "1. -: the new line (z) needs z, and the index has no release of z\n",
+            "No choice of versions meets the new line (z).\n"
+            "1. the new line (z) needs z, and the index has no package z.\n",
         ),
         (
             SHARED, b"a==2\n", ["--explain", "c"],
-            "1. b==1 c==1: c==1 needs b>=2, which doesn't admit b==1\n"
-            "2. b==1: the new line (c) needs c, and no release of c is left: 1 by 1\n"
-            "3. a==2 b==2: a==2 needs b<2, which doesn't admit b==2\n"
-            "4. a==2: a==2 needs b<2, and no release of b is left: 2 by 3, 1 by 2\n"
-            "5. a==1: line 1 (a==2) doesn't admit a==1\n"
-            "6. -: line 1 (a==2) needs a, and no release of a is left: 2 by 4, 1 by 5\n",
+            "No choice of versions meets line 1 (a==2) and the new line (c).\n"
+            "1. a 2 needs b<2, and beside the only release of c no release of b is left: 2 doesn't match <2; 1\n"
+            "   doesn't match >=2 of c.\n"
+            "2. the new line (c) needs c, and beside a 2 no release of c is left: 1 by 1.\n"
+            "3. line 1 (a==2) needs a, and no release of a is left: 1 doesn't match ==2; 2 by 2.\n",
         ),
         (
             UNMET_EXTRA, b"", ["--explain", "x[e]"],
-            "1. x[e]==1 y==1: x[e]==1 needs y>=2, which doesn't admit y==1\n"
-            "2. x[e]==1: x[e]==1 needs y>=2, and no release of y is left: 1 by 1\n"
-            "3. -: the new line (x[e]) needs x[e], and no release of x[e] is left: 1 by 2\n",
+            "No choice of versions meets the new line (x[e]).\n"
+            "1. the only release of x[e] needs y>=2, and no release of y is left: 1 doesn't match >=2.\n"
+            "2. the new line (x[e]) needs x[e], and no release of x[e] is left: 1 by 1.\n",
         ),
         (
             TWO_VERSIONS, b"a\n", ["--explain", "b"],
-            "1. a[e]==2 y==1: a[e]==2 needs y>=2, which doesn't admit y==1\n"
-            "2. a[e]==2: a[e]==2 needs y>=2, and no release of y is left: 1 by 1\n"
-            "3. a==2 a[e]==1: a can have one version only\n"
-            "4. a==2 b==1: b==1 needs a[e], and no release of a[e] is left: 2 by 2, 1 by 3\n"
-            "5. a==2: the new line (b) needs b, and no release of b is left: 1 by 4\n"
-            "6. a==1: a==1 needs z, and the index has no release of z\n"
-            "7. -: line 1 (a) needs a, and no release of a is left: 2 by 5, 1 by 6\n",
+            "No choice of versions meets the new line (b).\n"
+            "1. a[e] 2 needs y>=2, and no release of y is left: 1 doesn't match >=2.\n"
+            "2. a[e] 1 needs z, and the index has no package z.\n"
+            "3. the only release of b needs a[e], and no release of a[e] is left: 2 by 1; 1 by 2.\n"
+            "4. the new line (b) needs b, and no release of b is left: 1 by 3.\n",
         ),
         (
             SIGNS, b"", ["--explain", "a"],
-            f"1. a==1 b==1: a==1 needs {SIGNS_TOLD}, which doesn't admit b==1\n"
-            f"2. a==1: a==1 needs {SIGNS_TOLD}, and no release of b is left: 1 by 1\n"
-            "3. -: the new line (a) needs a, and no release of a is left: 1 by 2\n",
+            "No choice of versions meets the new line (a).\n"
+            f"1. the only release of a needs {SIGNS_TOLD}, and no release\n"
+            "   of b is left: 1 doesn't match ~=2.0.\n"
+            "2. the new line (a) needs a, and no release of a is left: 1 by 1.\n",
         ),
         (
             LEFT_OUT, b"", ["--explain", "b"],
-            "1. b==1 c==1: b==1 needs c>1, which doesn't admit c==1\n"
-            "2. b==1: b==1 needs c>1, and no release of c is left: 1 by 1\n"
-            "3. -: the new line (b) needs b, and no release of b is left: 1 by 2\n"
+            "No choice of versions meets the new line (b).\n"
+            "1. the only release of b needs c>1, and no release of c is left: 1 doesn't match >1.\n"
+            "2. the new line (b) needs b, and no release of b is left: 1 by 1.\n"
             "b: release 1: requirement 0 url-requirement\n",
         ),
     )

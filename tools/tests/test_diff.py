@@ -1,0 +1,308 @@
+"""What the program tells of changes, in drawn sessions: `diff` between all pairs of places, dry runs of each command, and what `--verbose`
+adds. The changes that it tells in JSON are applied as the rules have it to the files of one place, and must give those of the other; the lines for
+people are those of that JSON. There are 12 sessions, or 200 with LONG_TESTS=1."""
+
+import fcntl
+import json
+import os
+import unittest
+
+from made.environments import LINUX, OLDER, WINDOWS
+from made.sessions import Draw
+from places import IS_LONG
+from program import Program
+from rules.journals import file_name
+from rules.lock_tables import read_lock
+from rules.requirements import cut_lines
+from rules.states import Change, State, Target, after, inverse, is_minimal, places_of
+from test_drawn_sessions import locked_names, names_on
+
+SESSIONS = 200 if IS_LONG else 12
+COMMANDS = 6
+TARGETS = [{"": LINUX}, {"linux": LINUX, "win": WINDOWS}, {"": LINUX, "older": OLDER, "x-1": WINDOWS}]
+DRY = {"add", "remove", "constrain", "upgrade", "relock", "undo", "redo"}
+
+
+def entry_in(value):
+    """An entry, without its name; None where there is none."""
+    return value and {key: part for key, part in value.items() if key != "name"}
+
+
+def change_in(told):
+    """The change that an object of JSON tells."""
+    splices = [(splice["line"] - 1, splice["old"], splice["new"]) for splice in told["lines"]]
+    entries = []
+    for entry in told["entries"]:
+        for part in filter(None, (entry["old"], entry["new"])):
+            assert part["name"] == entry["name"]
+        entries.append((entry["target"], entry["name"], entry_in(entry["old"]), entry_in(entry["new"])))
+    return Change(splices, entries, told["index"] and (told["index"]["old"], told["index"]["new"]))
+
+
+def plain(text):
+    """A text as a terminal may have it."""
+    is_odd = [letter != "\t" and (ord(letter) < 32 or 127 <= ord(letter) < 160) for letter in text]
+    return "".join(f"\\u{{{ord(letter):x}}}" if odd else letter for letter, odd in zip(text, is_odd))
+
+
+def line_told(sign, number, line):
+    end = "\n" if line.endswith("\n") else "\n\\ no line ending\n"
+    return f"{sign} {number}: " + plain(line.removesuffix("\n").removesuffix("\r")) + end
+
+
+def entry_told(name, old, new):
+    if old is None or new is None:
+        return f"- {name} {old['version']}\n" if new is None else f"+ {name} {new['version']}\n"
+    return f"{name} {old['version']} -> {new['version']}\n"
+
+
+def text_of(change):
+    """A change as it is told to people."""
+    told, target = "", ""
+    for (place, old, new), (_, behind) in zip(change.splices, places_of(change)):
+        told += "".join(line_told("-", number, line) for number, line in enumerate(old, place + 1))
+        told += "".join(line_told("+", number, line) for number, line in enumerate(new, behind + 1))
+    for own, name, old, new in change.entries:
+        if own != target:
+            told, target = f"{told}target {own}\n", own
+        told += entry_told(name, old, new)
+    if change.digests is not None:
+        told += "- index: {}\n+ index: {}\n".format(*change.digests)
+    return told
+
+
+class Changes(Program):
+    def state(self):
+        """The state that the files of the folder hold."""
+        files, targets, digest = self.files(), {}, None
+        for name, environment in sorted(self.environments.items()):
+            _, digest, entries = read_lock(files[file_name(name)])
+            targets[name] = Target(environment, entries)
+        return State(cut_lines(files["requirements.txt"].decode()), digest, targets)
+
+    def times(self):
+        """What stands in the folder, and when it and its files were written."""
+        told = {path.name: (path.stat().st_mtime_ns, path.stat().st_ino) for path in self.folder.iterdir()}
+        return self.files(), told, self.folder.stat().st_mtime_ns
+
+    def succeeds(self, *words):
+        """What a call prints that has nothing to report."""
+        status, output, errors = self.told(*words)
+        self.assertEqual((status, errors), (0, ""), words)
+        return output
+
+    def change(self, *places):
+        return change_in(json.loads(self.succeeds("diff", "--json", *map(str, places))))
+
+
+class DrawnChanges(Changes):
+    def test_in_sessions(self):
+        for seed in range(SESSIONS):
+            with self.subTest(seed=seed):
+                draw = Draw(seed + 5000)
+                self.lock_for(TARGETS[seed % 3])
+                self.begin_drawn(draw)
+                for _ in range(COMMANDS):
+                    self.draw_index(draw, 40)
+                    state = self.state()
+                    self.check_command(draw.command(names_on(state.lines), locked_names(state)))
+                self.check_pairs()
+
+    def draw_index(self, draw, percent):
+        if draw.happens(percent):
+            (self.outside / "index.json").write_text(json.dumps(draw.index()), encoding="utf-8")
+
+    def begin_drawn(self, draw):
+        self.draw_index(draw, 100)
+        for _ in range(100):
+            self.put({"requirements.txt": draw.requirements().encode()})
+            if self.told("init")[0] == 0:
+                return
+        raise AssertionError("no file that was drawn has a solution")
+
+    def check_command(self, command):
+        """A dry run says what the command and `diff` then do, and leaves all as it was. With `--verbose` the command prints the same on
+        standard error."""
+        before, old, place = self.times(), self.state(), self.cursor()
+        dry = self.told(*command, "--dry-run")
+        self.assertEqual(self.times(), before, command)
+        told = self.told(*command, "-v") if len(command[-1]) % 2 else self.told("--verbose", *command)
+        self.assertEqual(dry[0], told[0], command)
+        if told[0] != 0:
+            self.assertEqual(dry, (*told[:2], ""), command)
+            self.assertNotEqual(told[2], "")
+            self.assertEqual(self.files(), before[0])
+            return
+        diff = self.succeeds("diff", str(place))
+        self.assertEqual(dry, (0, told[1] + diff, ""), command)
+        self.assertEqual(told[2], diff, command)
+        self.assertEqual(after(old, self.change(place)), self.state())
+
+    def cursor(self):
+        return int(self.succeeds("check").split()[1])
+
+    def go_to(self, place):
+        while self.cursor() > place:
+            self.succeeds("undo")
+        while self.cursor() < place:
+            self.succeeds("redo")
+
+    def check_pairs(self):
+        """The changes between all pairs of places, asked for at one of them."""
+        states, steps = [], self.succeeds("log").count("\n")
+        for place in range(steps):
+            self.go_to(place)
+            states.append(self.state())
+            wanted = self.succeeds("diff", str(max(place - 1, 0)), str(place))
+            self.assertEqual(self.succeeds("diff"), wanted)
+        self.go_to(steps // 2)
+        for first, old in enumerate(states):
+            self.assertEqual(self.change(first), self.change(first, steps // 2))
+            for second, new in enumerate(states):
+                self.check_pair(first, second, old, new)
+        status = self.told("diff", str(steps)), self.told("diff", "0", str(steps))
+        self.assertEqual(status, ((2, "", f"reqlock: the history has no place {steps}\n"),) * 2)
+
+    def check_pair(self, first, second, old, new):
+        told = json.loads(self.succeeds("diff", "--json", str(first), str(second)))
+        self.assertEqual((told["from"], told["to"]), (first, second))
+        change = change_in(told)
+        self.assertEqual(after(old, change), new)
+        self.assertTrue(is_minimal(change))
+        self.assertEqual(change == Change([], [], None), old == new)
+        if first < second:
+            self.assertEqual(self.change(second, first), inverse(change))
+        self.assertEqual(self.succeeds("diff", str(first), str(second)), text_of(change))
+
+
+class Histories(Changes):
+    def test_the_log_as_json(self):
+        self.begin(b"a\n", ("a", "1", []), ("a", "2", []), ("b", "1", []))
+        for words in ("init",), ("add", "b  # \u009bx"), ("constrain", "a", "<2"), ("undo",):
+            self.succeeds(*words)
+        steps = [json.loads(line) for line in self.succeeds("log", "--json").splitlines()]
+        self.assertEqual([(step["step"], step["current"]) for step in steps], [(0, False), (1, True), (2, False)])
+        self.assertEqual([step["told"] for step in steps], ["init", "add b  # \\u{9b}x", "constrain a <2"])
+        for number, step in enumerate(steps[1:], 1):
+            self.assertEqual(change_in(step), self.change(number - 1, number))
+        self.assertNotIn("\u009b", self.succeeds("log", "--json") + self.succeeds("diff", "--json") + self.succeeds("diff"))
+
+    def test_what_comes_and_goes_is_not_told(self):
+        self.begin(b"a\nc", ("a", "1", []), ("b", "1", ["d"]), ("c", "1", []), ("d", "1", []))
+        for words in ("init",), ("add", "b"), ("remove", "b"), ("remove", "a"):
+            self.succeeds(*words)
+        self.assertEqual(self.succeeds("diff", "0", "1"), "- 2: c\n\\ no line ending\n+ 2: c\n+ 3: b\n+ b 1\n+ d 1\n")
+        self.assertEqual(self.succeeds("diff", "1", "2"), "- 3: b\n- b 1\n- d 1\n")
+        self.assertEqual(self.succeeds("diff", "0", "3"), "- 1: a\n- 2: c\n\\ no line ending\n+ 1: c\n- a 1\n")
+        self.assertEqual(self.succeeds("diff", "3", "2"), "+ 1: a\n+ a 1\n")
+        self.assertEqual(self.succeeds("diff", "2", "2"), "")
+
+
+class Details(Changes):
+    """What `--verbose` tells of a refusal."""
+
+    def details(self, *words, status=1):
+        """What a refused call tells on standard error with `-v`. All else is as it is without."""
+        plainly, told = self.told(*words), self.told("-v", *words)
+        self.assertEqual((plainly[0], plainly[1]), (status, told[1]))
+        self.assertEqual(told[0], status)
+        self.assertEqual(told[2][: len(plainly[2])], plainly[2])
+        return told[2][len(plainly[2]) :]
+
+    def begin_two(self):
+        self.begin(b"a<2  # why\nb\nb ; os_name == 'nt'\n", ("a", "1", []), ("b", "1", []), ("c", "1", ["a>=2"]))
+        self.succeeds("init")
+
+    def test_of_texts(self):
+        self.begin_two()
+        head = "the text does not read\n"
+        for text, wanted in (
+            ("_a", "column 1: this is no name"),
+            ("  c[x, _y] >=1", "column 4: this is no name"),
+            ("c >=1, >>2", "column 8: clause 2 is no version specifier"),
+            ("c (>>2)", "column 4: clause 1 is no version specifier"),
+            ("c ; x", "column 5: this is no marker"),
+            ("c @ https://x.example", "column 3: a URL is not supported"),
+            ("-r other", "column 1: an option line is not supported"),
+            ("c \\", "column 3: a line may not end in a backslash"),
+            ("c # \u0007", "column 5: a control character stands in the line"),
+            ("# c", "it asks for nothing"),
+            ("c\nd", "it has more than one line"),
+        ):
+            self.assertEqual(self.details("add", "--", text), f"{head}{wanted}\n", text)
+        self.assertEqual(self.details("remove", "a b"), f"{head}a b: this is no name\n")
+        self.assertEqual(self.details("upgrade", "a", "_"), f"{head}_: this is no name\n")
+        self.assertEqual(
+            self.details("constrain", "a", ">=1, x\u001b"),
+            f"{head}>=1, x\\u{{1b}}: column 6: clause 2 is no version specifier\n",
+        )
+
+    def test_of_lines(self):
+        self.begin_two()
+        self.assertEqual(self.details("add", "A"), "line 1 has this name\nline 1: a<2  # why\n")
+        self.assertEqual(self.details("remove", "b"), "2 lines have this name\nline 2: b\nline 3: b ; os_name == 'nt'\n")
+        self.assertEqual(self.details("remove", "c"), "no line has this name\n")
+        self.assertEqual(self.details("upgrade", "c"), "c is not locked\n")
+        self.assertEqual(self.details("undo"), "there is nothing to undo\n")
+        self.assertEqual(self.details("redo"), "there is nothing to redo\n")
+
+    def test_of_no_solution(self):
+        self.begin_two()
+        options = f"ask: reqlock --dir {self.folder} --index {self.outside / 'index.json'} why --explain"
+        head = "no versions meet all requirements\n"
+        self.assertEqual(self.details("add", "c  # it's", status=3), f"{head}{options} 'c  # it'\\''s'\n")
+        lacking = "the index has no release of x\n"
+        self.assertEqual(self.details("add", "x", status=3), f"{head}{lacking}{options} x\n")
+        self.assertEqual(self.details("constrain", "a", ">=2", status=3), f"{head}{options} --constrain a '>=2'\n")
+        self.begin(b"a\n", ("b", "1", []))
+        lacking = "the index has no release of a\n"
+        options = f"--dir {self.folder} --index {self.outside / 'index.json'} --env {self.environment_file('')}"
+        asking = f"ask: reqlock {options} why --explain --init\n"
+        self.assertEqual(self.details("init", status=3), head + lacking + asking)
+
+    def test_of_files(self):
+        self.begin(b"a\n", ("a", "1", []))
+        path = self.folder / "reqlock.journal"
+        missing = f"{path}: No such file or directory (os error 2)\n`reqlock init` begins a history here\n"
+        self.assertEqual(self.details("undo", status=4), missing)
+        self.succeeds("init")
+        (self.folder / "requirements.txt").write_bytes(b"a # by hand\n")
+        self.assertEqual(
+            self.details("relock", status=4),
+            "requirements.txt isn't the one that was saved last: put that one back, or begin a new history by `reqlock init`\n",
+        )
+        (self.outside / "index.json").unlink()
+        missing = f"{self.outside / 'index.json'}: No such file or directory (os error 2)\n"
+        self.assertEqual(self.details("relock", status=4), missing)
+
+    def test_without_details(self):
+        self.begin(b"a\n", ("a", "1", []))
+        self.assertEqual(self.told("init", "-v"), (0, "ok 0\n", ""))
+        self.assertEqual(self.told("relock", "-v"), (0, "same\n", ""))
+        self.assertEqual(self.told("relock", "--dry-run"), (0, "same\n", ""))
+
+    def test_a_dry_run_waits_for_no_reader(self):
+        self.begin(b"a\n", ("a", "1", []), ("b", "1", []))
+        self.succeeds("init")
+        folder = os.open(self.folder, os.O_RDONLY)
+        self.addCleanup(os.close, folder)
+        fcntl.flock(folder, fcntl.LOCK_SH)
+        self.assertEqual(self.call("add", "b", "--dry-run", seconds=60), (0, "ok 1\n+ 2: b\n+ b 1\n"))
+
+    def test_a_dry_run_ends_no_stopped_save(self):
+        self.begin(b"a\n", ("a", "1", []), ("b", "1", []))
+        self.succeeds("init")
+        before = self.files()
+        self.succeeds("add", "b")
+        new = self.files()
+        self.put(before | {"requirements.txt": new["requirements.txt"]})
+        for name in set(new) - {"requirements.txt"}:
+            (self.folder / f"{name}.new").write_bytes(new[name])
+        stopped = self.times()
+        self.assertEqual(self.told("undo", "--dry-run"), (4, "", "reqlock: requirements.txt: files-disagree\n"))
+        self.assertEqual(self.times(), stopped)
+        self.assertEqual(self.succeeds("undo"), "ok 0\n")
+
+
+if __name__ == "__main__":
+    unittest.main()

@@ -1,0 +1,197 @@
+"""What `outdated` and `check --current` tell: by worked examples, and over drawn sessions by a second reading of the rules. They need the
+program, which ./check builds first."""
+
+import json
+import unittest
+
+from made.environments import LINUX, OLDER, WINDOWS
+from made.sessions import Draw
+from places import IS_LONG
+from program import Program
+from rules.edits import History, Refused, begun, edited, problems_after
+from rules.locks import read_index
+from rules.newer import outdated
+from rules.requirements import cut_lines
+
+SESSIONS = 300 if IS_LONG else 30
+EDITS = 4
+
+
+def table(rows):
+    """A table, its first row the heads."""
+    widths = [max(map(len, column)) for column in zip(*rows)]
+    return "".join("  ".join(f"{cell:{width}}" for cell, width in zip(row, widths)).rstrip() + "\n" for row in rows)
+
+
+def holder_text(holder):
+    who = f"line {holder['line']}" if "line" in holder else f"{holder['name']} {holder['version']}"
+    return f"{who} ({holder['requirement']})"
+
+
+def target_text(told):
+    """What is printed of a target."""
+    rows = [["name", "locked", "admitted", "newest", "held by"]]
+    for it in told["outdated"]:
+        rows.append([it["name"], it["locked"], it["admitted"] or "-", it["newest"], ", ".join(map(holder_text, it["held_by"]))])
+    text = table(rows) if len(rows) > 1 else ""
+    absent = ", ".join(f"{it['name']} {it['version']}" for it in told["not_in_index"])
+    text += f"not in the index: {absent}\n" if absent else ""
+    return (f"target {told['target']}\n" if told["target"] and text else "") + text
+
+
+def outdated_text(told):
+    """What is printed for what the JSON tells."""
+    return "\n".join(filter(None, map(target_text, told["targets"])))
+
+
+class Outdated(Program):
+    def tells(self, wanted, *more):
+        """What is printed, once more by the JSON."""
+        self.assertEqual(self.told("outdated"), (0, wanted, ""))
+        status, output, error = self.told("outdated", "--json")
+        self.assertEqual((status, error), (0, ""))
+        self.assertEqual(outdated_text(json.loads(output)), wanted)
+
+    def test_who_holds_back(self):
+        self.begin(b"a<2\nc\n", ("a", "1", []), ("b", "1", []), ("c", "1", ["b<2"]))
+        self.assertEqual(self.call("init"), (0, "ok 0\n"))
+        self.tells("")
+        lines = (self.folder / "requirements.txt").read_bytes()
+        self.begin(
+            lines, ("a", "1", []), ("a", "1.5", []), ("a", "2", []), ("b", "1", []), ("b", "2", []), ("c", "1", ["b<2"]), ("c", "1.1", []),
+        )
+        self.tells(
+            "name  locked  admitted  newest  held by\n"
+            "a     1       1.5       2       line 1 (a<2)\n"
+            "b     1       1         2       c 1 (b<2)\n"
+            "c     1       1.1       1.1\n"
+        )
+
+    def test_what_counts_as_newest(self):
+        self.begin(b"a\nb\nd==1\n", ("a", "1", []), ("b", "1", []), ("d", "1", []))
+        self.assertEqual(self.call("init"), (0, "ok 0\n"))
+        self.begin(
+            b"a\nb\nd==1\n", ("a", "1", []), ("a", "2rc1", []), ("a", "3", [], {"requires_python": "<3"}), ("b", "1", []),
+            ("b", "2", [], {"yanked": True}), ("d", "1", []), ("d", "2", [], {"yanked": True}),
+        )
+        self.tells("name  locked  admitted  newest  held by\nd     1       1         2       line 3 (d==1)\n")
+
+    def test_a_release_that_the_index_lacks(self):
+        self.begin(b"a\n", ("a", "1", ["b<2"]), ("b", "1", []))
+        self.assertEqual(self.call("init"), (0, "ok 0\n"))
+        self.begin(b"a\n", ("a", "2", []), ("b", "1", []), ("b", "2", []))
+        self.tells(
+            "name  locked  admitted  newest  held by\na     1       2         2\nb     1       2         2\nnot in the index: a 1\n"
+        )
+
+    def test_drawn_sessions(self):
+        seen = set()
+        for seed in range(SESSIONS):
+            with self.subTest(seed=seed):
+                draw = Draw(seed)
+                names = draw.random.sample(("", "linux", "older", "x-1"), seed % 3 + 1)
+                self.lock_for({name: draw.one((LINUX, WINDOWS, OLDER)) for name in names})
+                self.play(draw, seen)
+        self.assertLessEqual({"held", "free", "none admitted", "absent", "current", "stale", "no-solution"}, seen)
+
+    def play(self, draw, seen):
+        self.put({})
+        self.take_index(draw.index())
+        history = History(self.begun_session(draw))
+        for _ in range(EDITS):
+            self.take_index(draw.index())
+            self.check_outdated(history.state(), seen)
+            self.check_current(history.state(), history.cursor, seen)
+            names = sorted({name for target in history.state().targets.values() for name in target.entries})
+            command = draw.command(names, names)
+            reply = history.reply(command, self.index)
+            self.assertEqual(self.told(*command)[1], f"{reply}\n")
+
+    def check_outdated(self, state, seen):
+        before = self.files()
+        wanted = outdated(state, problems_after(state, ("relock",), self.index)[1])
+        status, output, error = self.told("outdated", "--json")
+        self.assertEqual((status, json.loads(output), error), (0, wanted, ""))
+        self.assertEqual(self.told("outdated"), (0, outdated_text(wanted), ""))
+        self.assertEqual(self.files(), before)
+        for target in wanted["targets"]:
+            seen.update("held" if it["held_by"] else "free" for it in target["outdated"])
+            seen.update("none admitted" for it in target["outdated"] if it["admitted"] is None)
+            seen.update("absent" for _ in target["not_in_index"])
+
+    def check_current(self, state, cursor, seen):
+        before = self.files()
+        status, output, error = self.told("check", "--current")
+        told = self.told("check", "--current", "--json")
+        self.assertEqual((self.files(), error), (before, ""))
+        try:
+            is_current = edited(state, ("relock",), self.index) == state
+        except Refused as refused:
+            seen.add(refused.word)
+            self.assertEqual((status, output), (3, f"refused {refused.word}\n"))
+            self.assertEqual(told, (3, f"refused {refused.word}\n", ""))
+            return
+        answer = json.loads(told[1])
+        self.assertEqual((told[0], answer["place"], answer["current"]), (status, cursor, is_current))
+        seen.add("current" if is_current else "stale")
+        if is_current:
+            self.assertEqual((status, output, answer["diff"]), (0, "current\n", None))
+            return
+        self.assertEqual((status, output.splitlines()[0]), (1, "stale"))
+        self.check_stale(output.removeprefix("stale\n"), answer["diff"])
+
+    def check_stale(self, told, diff):
+        """What a relock does now is what was told. It is taken back."""
+        before = self.files()
+        status, reply, _ = self.told("relock")
+        self.assertEqual((status, reply[:2]), (0, "ok"))
+        self.assertEqual(self.told("diff"), (0, told, ""))
+        found = json.loads(self.told("diff", "--json")[1])
+        self.assertEqual({key: found[key] for key in diff}, diff)
+        self.put(before)
+
+    def take_index(self, index):
+        data = json.dumps(index).encode()
+        (self.outside / "index.json").write_bytes(data)
+        self.index = read_index(data)
+
+    def begun_session(self, draw):
+        """The first state that `init` makes of drawn files, which it refuses where they have no solution."""
+        for _ in range(100):
+            text = draw.requirements()
+            self.put({"requirements.txt": text.encode()})
+            try:
+                state = begun(cut_lines(text), self.environments, self.index)
+            except Refused:
+                continue
+            self.assertEqual(self.told("init"), (0, "ok 0\n", ""), text)
+            return state
+        raise AssertionError("no file that was drawn has a solution")
+
+
+class Current(Program):
+    def test_a_lock_that_is_current_and_one_that_is_stale(self):
+        self.begin(b"a\n", ("a", "1", []))
+        self.assertEqual(self.call("init"), (0, "ok 0\n"))
+        self.assertEqual(self.told("check", "--current"), (0, "current\n", ""))
+        self.assertEqual(self.told("check", "--json"), (0, '{"place":0}\n', ""))
+        self.assertEqual(self.told("check", "--current", "--json"), (0, '{"current":true,"diff":null,"place":0}\n', ""))
+        self.begin(b"a\n", ("a", "1", ["b"]), ("b", "1", []))
+        files = self.files()
+        status, told, error = self.told("check", "--current")
+        self.assertEqual((status, error), (1, ""))
+        self.assertRegex(told, r"\Astale\na 1 -> 1\n\+ b 1\n- index: [0-9a-f]{64}\n\+ index: [0-9a-f]{64}\n\Z")
+        self.assertEqual(self.files(), files)
+        self.begin(b"a\n", ("a", "2", ["z"]))
+        self.assertEqual(self.told("check", "--current"), (3, "refused no-solution\n", ""))
+
+    def test_the_index_is_needed(self):
+        self.begin(b"a\n", ("a", "1", []))
+        self.assertEqual(self.call("init"), (0, "ok 0\n"))
+        for words in ["check", "--current"], ["outdated"]:
+            with self.subTest(words=words):
+                self.assertEqual(self.answered("--dir", self.folder, *words), (2, "", "reqlock: --index is needed\n"))
+
+
+if __name__ == "__main__":
+    unittest.main()

@@ -1,0 +1,189 @@
+"""Every question of `why`, over the built program: of the first lock, of each edit, and why a lock hasn't a release."""
+
+import random
+import re
+import unittest
+
+from made.environments import LINUX
+from made.releases import SHARED
+from program import Program
+from rules.locks import Problem, is_refutation, read_index, read_refutation
+
+# `b` 2 asks for a newer Python, `c` 2 was taken back, and `d` 2 is a pre-release
+KEPT_BACK = (
+    ("b", "1", []), ("b", "2", [], {"requires_python": ">=3.99"}),
+    ("c", "1", []), ("c", "2", [], {"yanked": True}),
+    ("d", "1", []), ("d", "2a1", []), ("e", "1", ["d!=1"]),
+)
+
+# `a` 2 and `z` 2 can't both be had
+HELD = ("a", "1", []), ("a", "2", ["z<2"]), ("z", "1", []), ("z", "2", [])
+
+
+class Questions(Program):
+    """What is told of questions. Nothing is saved."""
+
+    def refutes(self, words, *lines):
+        """A refutation of these lines is told, by the rules of refutations."""
+        status, told = self.call(*words)
+        index = read_index((self.outside / "index.json").read_bytes())
+        problem = Problem([f"{line}\n" for line in lines], LINUX, index, {})
+        self.assertEqual((status, is_refutation(problem, read_refutation(told))), (3, True), told)
+
+    def test_the_first_lock_can_be_asked(self):
+        self.begin(b"a==2\nc\n", *SHARED)
+        self.plays(
+            (["init"], 3, "refused no-solution\n"),
+            (["why"], 4, "reqlock: reqlock.journal: unreadable\n"),
+            (["why", "--init", "a"], 1, "refused already-present\n"),
+            (["why", "--init", "--", "-r x"], 1, "refused bad-text\n"),
+        )
+        self.refutes(["why", "--init"], "a==2", "c")
+        self.assertEqual(list(self.files()), ["requirements.txt"])
+
+    def test_the_first_lock_can_be_asked_with_a_line_more(self):
+        self.begin(b"a==2\n", *SHARED)
+        self.plays(
+            (["why", "--init"], 0, "solvable\n"),
+            (["why", "--init", "b"], 0, "solvable\n"),
+        )
+        self.refutes(["why", "--init", "c"], "a==2", "c")
+
+    def test_the_first_lock_needs_an_environment(self):
+        self.begin(b"a\n", *SHARED)
+        words = ["--dir", str(self.folder), "--index", str(self.outside / "index.json"), "why", "--init"]
+        self.assertEqual(self.answered(*words), (2, "", "reqlock: --env is needed\n"))
+
+    def test_an_old_history_counts_for_nothing_in_the_first_lock(self):
+        self.begin(b"a\n", *SHARED)
+        self.plays((["init"], 0, "ok 0\n"))
+        (self.folder / "reqlock.journal").write_bytes(b"no journal")
+        self.plays((["why", "--init"], 0, "solvable\n"))
+
+    def test_the_first_target_without_a_solution_is_told(self):
+        self.lock_for({"one": LINUX, "two": LINUX | {"sys_platform": "win32"}})
+        self.begin(b"a\nz ; sys_platform == 'win32'\n", *SHARED)
+        self.plays((["why", "--init"], 3, "target two\n-\n"))
+
+    def test_a_refused_constraint_can_be_asked(self):
+        self.begin(b"a\nc\n", *SHARED)
+        self.plays(
+            (["init"], 0, "ok 0\n"),
+            (["constrain", "a", "==2"], 3, "refused no-solution\n"),
+            (["why", "--constrain", "a", "<2"], 0, "solvable\n"),
+            (["why", "--constrain", "a"], 0, "solvable\n"),
+            (["why", "--constrain", "b", "<2"], 1, "refused not-present\n"),
+            (["why", "--constrain", "a", "=2"], 1, "refused bad-text\n"),
+            (["log"], 0, "* 0 init\n"),
+        )
+        self.refutes(["why", "--constrain", "a", "==2"], "a==2", "c")
+
+    def test_an_upgrade_and_a_removal_can_be_asked(self):
+        self.begin(b"a\nc\n", *SHARED)
+        self.plays((["init"], 0, "ok 0\n"))
+        self.begin(b"a\nc\n", ("a", "1", ["b"]), ("c", "1", []))
+        self.plays(
+            (["why", "--upgrade"], 3, "a==1\n-\n"),
+            (["why", "--upgrade", "a", "b"], 3, "a==1\n-\n"),
+            (["why", "--upgrade", "z"], 1, "refused not-locked\n"),
+            (["why", "--remove", "c"], 3, "a==1\n-\n"),
+            (["why", "--remove", "a"], 0, "solvable\n"),
+            (["why", "--remove", "b"], 1, "refused not-present\n"),
+        )
+
+    def test_questions_exclude_one_another(self):
+        self.begin(b"a\n", *SHARED)
+        for words in (["--init", "--not", "a"], ["--remove", "a", "--upgrade"], ["--constrain", "a", "--not", "b"]):
+            self.assertEqual(self.call("why", *words)[0], 2)
+
+    def test_what_isnt_known_of_a_release_is_refused(self):
+        self.begin(b"a\n", *SHARED)
+        self.plays(
+            (["init"], 0, "ok 0\n"),
+            (["why", "--not", "c"], 1, "refused not-locked\n"),
+            (["why", "--not", "a[e]"], 1, "refused bad-text\n"),
+            (["why", "--not", "a==x"], 1, "refused bad-text\n"),
+            (["why", "--not", "b==1.0"], 0, "b 1.0 is locked.\n"),
+        )
+
+
+class Reasons(Program):
+    """Why a release isn't admitted."""
+
+    def asked(self, line, file=b""):
+        """What `why --explain` tells of a line behind those of a file."""
+        self.begin(file, *KEPT_BACK)
+        status, told = self.call("why", "--init", "--explain", line)
+        self.assertEqual(status, 3)
+        return told.replace("\n   ", " ")
+
+    def test_each_reason_is_told(self):
+        self.assertIn(" 2 needs Python >=3.99, the environment has ", self.asked("b>=2"))
+        self.assertIn(" 2 is yanked, and no line pins it with ==", self.asked("c>=2"))
+        self.assertIn(" 2a1 is a pre-release, which counts where a line names one", self.asked("e", b"d>=1\n"))
+        self.assertIn(" is left: none matches >=9.", self.asked("b>=9"))
+
+    def test_names_that_are_near_are_told(self):
+        self.begin(b"", ("requests", "1", []), ("request", "1", []), ("flask", "1", []))
+        told = self.call("why", "--init", "--explain", "reqeusts")[1].replace("\n   ", " ")
+        self.assertIn("the index has no package reqeusts; near names: requests.", told)
+
+    def test_no_file_writes_to_the_terminal(self):
+        self.begin(b"", ("a", "1", [], {"requires_python": ">=3.99,\u001b<4"}), ("a", "2", [], {"requires_python": " >=3.99\t"}))
+        for line in ("a", "a ; python_version > '3'  # \u001b[31m"):
+            self.assertNotIn("\u001b", self.call("why", "--init", "--explain", line)[1])
+
+
+class Sentences(Program):
+    """The sentences of drawn problems without a solution."""
+
+    NAMES = "abcde"
+
+    def drawn(self, rng):
+        """The lines and the releases of a small problem, most of which have no solution."""
+
+        def asked(name):
+            sign, version = rng.choice((">=", "<", "==", "!=")), rng.randrange(1, 5)
+            return rng.choice((name, name + "[x]")) + sign + str(version)
+
+        releases = []
+        for name in self.NAMES:
+            for version in range(1, rng.randrange(2, 6)):
+                others = [other for other in self.NAMES if other != name]
+                needs = [asked(other) for other in rng.sample(others, rng.randrange(3))]
+                needs += [asked(other) + ' ; extra == "x"' for other in rng.sample(others, rng.randrange(2))]
+                releases.append((name, str(version), needs))
+        return [asked(name) for name in rng.sample(self.NAMES, rng.randrange(1, 4))], releases
+
+    def check(self, told, lines):
+        """The conclusion names lines of the file, each step cites only steps above it, and each one but the last is cited."""
+        conclusion, *steps = re.split(r"\n(?=[0-9]+\. )", told.rstrip("\n").replace("\n   ", " "))
+        self.assertRegex(conclusion, r"^No choice of versions meets line ")
+        named = {int(number) for number in re.findall(r"\bline ([0-9]+) \(", conclusion)}
+        self.assertTrue(named)
+        for number, line in enumerate(lines, 1):
+            if number in named:
+                self.assertIn(f"line {number} ({line})", conclusion)
+        cited = set()
+        for number, step in enumerate(steps, 1):
+            self.assertTrue(step.startswith(f"{number}. "), step)
+            above = {int(other) for other in re.findall(r"\bby ([0-9]+)\b", step)}
+            self.assertTrue(all(other < number for other in above), step)
+            cited |= above
+            self.assertLessEqual({int(other) for other in re.findall(r"\bline ([0-9]+)\b", step)}, named)
+        self.assertEqual(cited, set(range(1, len(steps))))
+
+    def test_each_step_is_cited_by_one_below_it(self):
+        rng, count = random.Random(7), 0
+        while count < 40:
+            lines, releases = self.drawn(rng)
+            self.begin("".join(f"{line}\n" for line in lines).encode(), *releases)
+            status, told = self.call("why", "--init", "--explain")
+            if status == 3:
+                count += 1
+                with self.subTest(lines=lines, releases=releases):
+                    self.check(told, lines)
+
+
+if __name__ == "__main__":
+    unittest.main()
