@@ -1,5 +1,6 @@
 #!/usr/bin/env python3
-"""Refutes planted problems to which one line was added, and prints how long the search, the cut and the check took.
+"""Refutes planted problems to which one line was added, by conflicts of single versions and of sets, and prints how long each
+step took.
 
 refutations.py RESOLVE_PROGRAM FOLDER [SECONDS [COUNT..]]
 
@@ -22,7 +23,7 @@ COUNTS = [100, 300, 1_000]
 SEEDS = [1, 2, 3]
 ROUNDS = 3
 SHORT = 5
-STEPS = ["Problem::new", "Learning::resolve", "Learning::refute", "check"]
+STEPS = ["Problem::new", "Learning::resolve", "Learning::refute", "check", "Learning::refute_sets", "check_sets"]
 DEEP = {
     (100, 1): 90,
     (100, 2): 65,
@@ -52,7 +53,8 @@ def last_contradicted(lines):
 
 
 def refute(program, files, seconds):
-    """How many conflicts and choices there are, and the least seconds of each step; nothing where that takes too long."""
+    """How many conflicts and choices there are, conflicts of sets and terms, and the least seconds of each step; nothing where that
+    takes too long."""
     limited = ["prlimit", f"--cpu={seconds}:{seconds + 5}"]
     command = [*limited, program, "refute", files[0], ENVIRONMENT, files[1]]
     sizes, times = None, []
@@ -72,9 +74,9 @@ def compare(program, files, seconds):
     found = refute(program, files, seconds)
     if found is None:
         return f"none in {seconds} s"
-    (conflicts, choices), times = found
+    (conflicts, choices, sets, terms), times = found
     texts = [f"{step} {time:.4f} s" for step, time in zip(STEPS, times)]
-    return f"{conflicts:,} conflicts with {choices:,} choices; {', '.join(texts)}"
+    return f"{conflicts:,} conflicts with {choices:,} choices, {sets:,} of sets with {terms:,} terms; {', '.join(texts)}"
 
 
 def main():
