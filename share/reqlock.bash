@@ -6,9 +6,9 @@ _reqlock_names() {
 }
 
 _reqlock() {
-    local subcommands="init add remove constrain upgrade relock undo redo batch try show log check skipped why help"
+    local subcommands="init add remove constrain upgrade relock undo redo batch try show log diff check outdated skipped why help"
     local common="--dir --index --env --help"
-    local options="$common --version"
+    local options="$common --dry-run --verbose --json --version"
     local word=${COMP_WORDS[COMP_CWORD]} before=${COMP_WORDS[COMP_CWORD - 1]}
     local place subcommand="" folder=. words=""
     COMPREPLY=()
@@ -36,13 +36,25 @@ _reqlock() {
     case $subcommand in
     "") words="$subcommands $options" ;;
     help) words=$subcommands ;;
-    remove | constrain | upgrade)
-        words="$common"
-        if [ "$subcommand" = upgrade ] || [ "$before" = "$subcommand" ]; then words+=" $(_reqlock_names "$folder")"; fi
-        ;;
-    log) words="$common --long" ;;
-    why) words="$common --explain" ;;
+    init) words="$common --verbose" ;;
+    add) words="$common --dry-run --verbose" ;;
+    remove) words="$common --dry-run --verbose" ;;
+    constrain) words="$common --dry-run --verbose" ;;
+    upgrade) words="$common --dry-run --verbose" ;;
+    relock) words="$common --dry-run --verbose" ;;
+    undo) words="$common --dry-run --verbose" ;;
+    redo) words="$common --dry-run --verbose" ;;
+    show) words="$common --tree --json" ;;
+    log) words="$common --long --json" ;;
+    diff) words="$common --json" ;;
+    check) words="$common --current --json" ;;
+    outdated) words="$common --json" ;;
+    why) words="$common --explain --init --constrain --upgrade --remove --not" ;;
     *) words="$common" ;;
+    esac
+    case $subcommand,$before in
+    upgrade,* | remove,remove | constrain,constrain | show,show) words+=" $(_reqlock_names "$folder")" ;;
+    why,--constrain | why,--upgrade | why,--remove | why,--not) words=$(_reqlock_names "$folder") ;;
     esac
     mapfile -t COMPREPLY < <(compgen -W "$words" -- "$word")
 }
