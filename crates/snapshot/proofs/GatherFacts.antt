@@ -17,6 +17,7 @@ use Rattle.snapshot.specs.Tied.Gathering.{Gathered, gather_release, kept, left_o
 use Rattle.snapshot.specs.declared.skipped.SkipCause.TheVariants.{Duplicate}
 use Rattle.snapshot.specs.declared.skipped.SkipCause.{SkipCause}
 use Rattle.snapshot.specs.declared.skipped.Skipped.{Skipped}
+use Rattle.snapshot.specs.declared.usable.Outcome.{Outcome}
 
 new_by : (b added : Bool) → added ≡ not b → added ≡ true → b ≡ false
 new_by true added is new = absurd (true≢false (sym new ∙ is))
@@ -27,31 +28,31 @@ old_by true added is old = refl
 old_by false added is old = absurd (true≢false (sym is ∙ old))
 
 -- a release that is put into its place
-pub release_kept : (name : List ℕ) (place : ℕ) (keys more : List Release) (skipped : List Skipped) (r : Release) (added : Bool) → more ≡ insert_key newer_cmp keys r → added ≡ not (list_any (has_version_of r) keys) → added ≡ true
-    → record { place = place + 1; releases = more; skipped = skipped } ≡ gather_release name (record { place = place; releases = keys; skipped = skipped }) (Ok r)
-release_kept name place keys more skipped r added put is new =
+pub release_kept : (name : List ℕ) (place : ℕ) (version : List ℕ) (keys more : List Release) (skipped : List Skipped) (r : Release) (added : Bool) → more ≡ insert_key newer_cmp keys r → added ≡ not (list_any (has_version_of r) keys) → added ≡ true
+    → record { place = place + 1; releases = more; skipped = skipped } ≡ gather_release name (record { place = place; releases = keys; skipped = skipped }) (record { version = version; release = Ok r })
+release_kept name place version keys more skipped r added put is new =
     let none : list_any (has_version_of r) keys ≡ false = new_by (list_any (has_version_of r) keys) added is new in
-    let same : skipped ≡ skipped ++ cond (list_any (has_version_of r) keys) (left_out name place Duplicate) [] = rw none (sym (append-nil skipped)) in
+    let same : skipped ≡ skipped ++ cond (list_any (has_version_of r) keys) (left_out name place version Duplicate) [] = rw none (sym (append-nil skipped)) in
     λ i. record { place = place + 1; releases = put i; skipped = same i }
 
 -- a release of a version that is there
-pub release_repeated : (name : List ℕ) (place : ℕ) (keys more : List Release) (skipped all : List Skipped) (r : Release) (added : Bool) → more ≡ insert_key newer_cmp keys r → added ≡ not (list_any (has_version_of r) keys) → added ≡ false
-    → all ≡ skipped ++ left_out name place Duplicate → record { place = place + 1; releases = more; skipped = all } ≡ gather_release name (record { place = place; releases = keys; skipped = skipped }) (Ok r)
-release_repeated name place keys more skipped all r added put is old left =
+pub release_repeated : (name : List ℕ) (place : ℕ) (version : List ℕ) (keys more : List Release) (skipped all : List Skipped) (r : Release) (added : Bool) → more ≡ insert_key newer_cmp keys r → added ≡ not (list_any (has_version_of r) keys) → added ≡ false
+    → all ≡ skipped ++ left_out name place version Duplicate → record { place = place + 1; releases = more; skipped = all } ≡ gather_release name (record { place = place; releases = keys; skipped = skipped }) (record { version = version; release = Ok r })
+release_repeated name place version keys more skipped all r added put is old left =
     let some : list_any (has_version_of r) keys ≡ true = old_by (list_any (has_version_of r) keys) added is old in
-    let same : all ≡ skipped ++ cond (list_any (has_version_of r) keys) (left_out name place Duplicate) [] = rw some left in
+    let same : all ≡ skipped ++ cond (list_any (has_version_of r) keys) (left_out name place version Duplicate) [] = rw some left in
     λ i. record { place = place + 1; releases = put i; skipped = same i }
 
 -- a release that can't be used
-pub release_left : (name : List ℕ) (place : ℕ) (keys : List Release) (skipped all : List Skipped) (cause : SkipCause) → all ≡ skipped ++ left_out name place cause
-    → record { place = place + 1; releases = keys; skipped = all } ≡ gather_release name (record { place = place; releases = keys; skipped = skipped }) (Err cause)
-release_left name place keys skipped all cause left = λ i. record { place = place + 1; releases = keys; skipped = left i }
+pub release_left : (name : List ℕ) (place : ℕ) (version : List ℕ) (keys : List Release) (skipped all : List Skipped) (cause : SkipCause) → all ≡ skipped ++ left_out name place version cause
+    → record { place = place + 1; releases = keys; skipped = all } ≡ gather_release name (record { place = place; releases = keys; skipped = skipped }) (record { version = version; release = Err cause })
+release_left name place version keys skipped all cause left = λ i. record { place = place + 1; releases = keys; skipped = left i }
 
 -- what an array lists for a package
-abbrev listed_with : List ℕ → Result (List (Result Release SkipCause)) Fault → Result ReadReleases Fault
+abbrev listed_with : List ℕ → Result (List Outcome) Fault → Result ReadReleases Fault
 listed_with name read = read >>= λ listed. Ok (record { releases = newest_first (usable_of listed); skipped = skipped_of name listed })
 
-kept_by : (name : List ℕ) (read : Result (List (Result Release SkipCause)) Fault) (g : Gathered) → gather (gather_release name) nothing read ≡ Ok g → listed_with name read ≡ Ok (kept g)
+kept_by : (name : List ℕ) (read : Result (List Outcome) Fault) (g : Gathered) → gather (gather_release name) nothing read ≡ Ok g → listed_with name read ≡ Ok (kept g)
 kept_by name (Ok listed) g is =
     ap (λ (r : ReadReleases). let whole : Result ReadReleases Fault = Ok r in whole) (sym (gathered-is name listed) ∙ ap (λ (h : Gathered). kept h) (ok-inside _ _ is))
 kept_by name (Err e) g is = absurd cc
@@ -61,7 +62,7 @@ pub kept_gathered : (name : List ℕ) (ds : Items) (g : Gathered) → gather (ga
 unfolding releases_in
 kept_gathered name ds g is = kept_by name (each_from release_of 0 ds) g is
 
-fault_by : (name : List ℕ) (read : Result (List (Result Release SkipCause)) Fault) (e : Fault) → gather (gather_release name) nothing read ≡ Err e → listed_with name read ≡ Err e
+fault_by : (name : List ℕ) (read : Result (List Outcome) Fault) (e : Fault) → gather (gather_release name) nothing read ≡ Err e → listed_with name read ≡ Err e
 fault_by name (Ok listed) e is = absurd cc
 fault_by name (Err d) e is = cc
 

@@ -5,9 +5,11 @@ use Rattle.std.proofs.lemmas.List.{append-nil, length-append}
 use Rattle.std.specs.BTreeSet.{insert_key}
 use Rattle.std.specs.List.{cons_option, enumerate_from, filter_map, list_any}
 use Rattle.std.specs.Prelude.{◌||◌, is_some}
+use Rattle.std.specs.Result.{result_ok}
 use Rattle.snapshot.specs.declared.skipped.SkipCause.{SkipCause}
 use Rattle.snapshot.specs.declared.skipped.SkipCause.TheVariants.{Duplicate}
 use Rattle.snapshot.specs.declared.skipped.Skipped.{Skipped}
+use Rattle.snapshot.specs.declared.usable.Outcome.{Outcome}
 use Rattle.snapshot.specs.Release.{Release}
 use Rattle.snapshot.specs.Releases.{cause_behind, has_version_of, left_out_for, newer_cmp, newest_first, skipped_of, usable_of}
 use Rattle.snapshot.specs.Tied.Gathering.{Gathered, gather_release, kept, left_out, nothing, skipped_at, with_release}
@@ -15,14 +17,22 @@ use Rattle.snapshot.proofs.FirstOfEqualsStays.{newest-first}
 
 -- ---- the releases that are kept
 
-with-usable : (so_far : List Release) (listed : List (Result Release SkipCause)) → fold with_release so_far listed ≡ fold (insert_key newer_cmp) so_far (usable_of listed)
-with-usable so_far [] = refl
-with-usable so_far (Err cause ∷ listed) = with-usable so_far listed
-with-usable so_far (Ok r ∷ listed) = with-usable (insert_key newer_cmp so_far r) listed
+-- the releases with that of one more outcome
+abbrev with_outcome : List Release → Outcome → List Release
+with_outcome releases o = with_release releases o.release
 
-releases-gathered : (name : List ℕ) (g : Gathered) (listed : List (Result Release SkipCause)) → (fold (gather_release name) g listed).releases ≡ fold with_release g.releases listed
+usable-first : (so_far : List Release) (r : Result Release SkipCause) (others : List Release)
+    → fold (insert_key newer_cmp) (with_release so_far r) others ≡ fold (insert_key newer_cmp) so_far (cons_option (result_ok r) others)
+usable-first so_far (Ok r) others = refl
+usable-first so_far (Err cause) others = refl
+
+with-usable : (so_far : List Release) (listed : List Outcome) → fold with_outcome so_far listed ≡ fold (insert_key newer_cmp) so_far (usable_of listed)
+with-usable so_far [] = refl
+with-usable so_far (o ∷ listed) = with-usable (with_outcome so_far o) listed ∙ usable-first so_far o.release (usable_of listed)
+
+releases-gathered : (name : List ℕ) (g : Gathered) (listed : List Outcome) → (fold (gather_release name) g listed).releases ≡ fold with_outcome g.releases listed
 releases-gathered name g [] = refl
-releases-gathered name g (r ∷ listed) = releases-gathered name (gather_release name g r) listed
+releases-gathered name g (o ∷ listed) = releases-gathered name (gather_release name g o) listed
 
 -- ---- the releases that are left out
 
@@ -44,24 +54,24 @@ before_others None others = others
 before_others (Some one) others = one ∷ others
 
 -- those that are left out behind others
-skipped_behind : List ℕ → List (Result Release SkipCause) → List (Result Release SkipCause) → List Skipped
+skipped_behind : List ℕ → List Outcome → List Outcome → List Skipped
 skipped_behind name before [] = []
-skipped_behind name before (r ∷ rest) = before_others (left_out_for name (length before) (cause_behind before r)) (skipped_behind name (before ++ r ∷ []) rest)
+skipped_behind name before (o ∷ rest) = before_others (left_out_for name (length before) o.version (cause_behind before o.release)) (skipped_behind name (before ++ o ∷ []) rest)
 
 one-more : {X : Type 0} (before : List X) (x : X) → length (before ++ x ∷ []) ≡ length before + 1
 one-more before x = length-append before (x ∷ [])
 
 -- the rule, gone through from the front
-behind-front : (name : List ℕ) (before rest : List (Result Release SkipCause))
-    → filter_map (λ at. left_out_for name at.0 (cause_behind (take at.0 (before ++ rest)) at.1)) (enumerate_from (length before) rest) ≡ skipped_behind name before rest
+behind-front : (name : List ℕ) (before rest : List Outcome)
+    → filter_map (λ at. left_out_for name at.0 at.1.version (cause_behind (take at.0 (before ++ rest)) at.1.release)) (enumerate_from (length before) rest) ≡ skipped_behind name before rest
 unfolding skipped_behind before_others
 behind-front name before [] = refl
-behind-front name before (r ∷ rest) =
-    let all = append_assoc before (r ∷ []) rest in
-    let more : filter_map (λ at. left_out_for name at.0 (cause_behind (take at.0 (before ++ r ∷ rest)) at.1)) (enumerate_from (length before + 1) rest) ≡ skipped_behind name (before ++ r ∷ []) rest =
-    (λ i. filter_map (λ at. left_out_for name at.0 (cause_behind (take at.0 (sym all i)) at.1)) (enumerate_from (sym (one-more before r) i) rest)) ∙ behind-front name (before ++ r ∷ []) rest in
-    front (left_out_for name (length before) (cause_behind (take (length before) (before ++ r ∷ rest)) r)) (left_out_for name (length before) (cause_behind before r)) _ _
-    (ap (λ (front : List (Result Release SkipCause)). left_out_for name (length before) (cause_behind front r)) (take-append_seam before (r ∷ rest))) more
+behind-front name before (o ∷ rest) =
+    let all = append_assoc before (o ∷ []) rest in
+    let more : filter_map (λ at. left_out_for name at.0 at.1.version (cause_behind (take at.0 (before ++ o ∷ rest)) at.1.release)) (enumerate_from (length before + 1) rest) ≡ skipped_behind name (before ++ o ∷ []) rest =
+    (λ i. filter_map (λ at. left_out_for name at.0 at.1.version (cause_behind (take at.0 (sym all i)) at.1.release)) (enumerate_from (sym (one-more before o) i) rest)) ∙ behind-front name (before ++ o ∷ []) rest in
+    front (left_out_for name (length before) o.version (cause_behind (take (length before) (before ++ o ∷ rest)) o.release)) (left_out_for name (length before) o.version (cause_behind before o.release)) _ _
+    (ap (λ (front : List Outcome). left_out_for name (length before) o.version (cause_behind front o.release)) (take-append_seam before (o ∷ rest))) more
   where
     front : (a b : Option Skipped) (xs ys : List Skipped) → a ≡ b → xs ≡ ys → cons_option a xs ≡ before_others b ys
     front None None xs ys e f = f
@@ -70,38 +80,39 @@ behind-front name before (r ∷ rest) =
     front (Some x) (Some y) xs ys e f = let same : x ≡ y = cc in λ i. same i ∷ f i
 
 -- a release that is gone through
-one-skipped : (name : List ℕ) (before : List (Result Release SkipCause)) (r : Result Release SkipCause) (others : List Skipped)
-    → skipped_at name (length before) (newest_first (usable_of before)) r ++ others ≡ before_others (left_out_for name (length before) (cause_behind before r)) others
+one-skipped : (name : List ℕ) (before : List Outcome) (version : List ℕ) (r : Result Release SkipCause) (others : List Skipped)
+    → skipped_at name (length before) version (newest_first (usable_of before)) r ++ others ≡ before_others (left_out_for name (length before) version (cause_behind before r)) others
 unfolding before_others
-one-skipped name before (Err cause) others = refl
-one-skipped name before (Ok r) others = rw (repeats r (usable_of before)) (by (list_any (has_version_of r) (usable_of before)))
+one-skipped name before version (Err cause) others = refl
+one-skipped name before version (Ok r) others = rw (repeats r (usable_of before)) (by (list_any (has_version_of r) (usable_of before)))
   where
-    by : (b : Bool) → cond b (left_out name (length before) Duplicate) [] ++ others ≡ before_others (left_out_for name (length before) (cond b (Some Duplicate) None)) others
+    by : (b : Bool) → cond b (left_out name (length before) version Duplicate) [] ++ others ≡ before_others (left_out_for name (length before) version (cond b (Some Duplicate) None)) others
     by true = refl
     by false = refl
 
-skipped-gathered : (name : List ℕ) (g : Gathered) (before listed : List (Result Release SkipCause)) → g.place ≡ length before → g.releases ≡ fold with_release [] before
+skipped-gathered : (name : List ℕ) (g : Gathered) (before listed : List Outcome) → g.place ≡ length before → g.releases ≡ fold with_outcome [] before
     → (fold (gather_release name) g listed).skipped ≡ g.skipped ++ skipped_behind name before listed
 unfolding skipped_behind
 skipped-gathered name g before [] at kept = sym (append-nil g.skipped)
-skipped-gathered name g before (r ∷ listed) at kept =
-    let next = gather_release name g r in
-    let place : next.place ≡ length (before ++ r ∷ []) = ap (λ n. n + 1) at ∙ sym (one-more before r) in
-    let releases : next.releases ≡ fold with_release [] (before ++ r ∷ []) = ap (λ (rs : List Release). with_release rs r) kept ∙ sym (fold-last with_release [] before r) in
-    let others = skipped_behind name (before ++ r ∷ []) listed in
-    let here : skipped_at name g.place g.releases r ≡ skipped_at name (length before) (newest_first (usable_of before)) r = λ i. skipped_at name (at i) ((kept ∙ with-usable [] before) i) r in
-    skipped-gathered name next (before ++ r ∷ []) listed place releases
-    ∙ append_assoc g.skipped (skipped_at name g.place g.releases r) others
-    ∙ ap (λ (l : List Skipped). g.skipped ++ l) (ap (λ (l : List Skipped). l ++ others) here ∙ one-skipped name before r others)
+skipped-gathered name g before (o ∷ listed) at kept =
+    let next = gather_release name g o in
+    let place : next.place ≡ length (before ++ o ∷ []) = ap (λ n. n + 1) at ∙ sym (one-more before o) in
+    let releases : next.releases ≡ fold with_outcome [] (before ++ o ∷ []) = ap (λ (rs : List Release). with_outcome rs o) kept ∙ sym (fold-last with_outcome [] before o) in
+    let others = skipped_behind name (before ++ o ∷ []) listed in
+    let here : skipped_at name g.place o.version g.releases o.release ≡ skipped_at name (length before) o.version (newest_first (usable_of before)) o.release =
+    λ i. skipped_at name (at i) o.version ((kept ∙ with-usable [] before) i) o.release in
+    skipped-gathered name next (before ++ o ∷ []) listed place releases
+    ∙ append_assoc g.skipped (skipped_at name g.place o.version g.releases o.release) others
+    ∙ ap (λ (l : List Skipped). g.skipped ++ l) (ap (λ (l : List Skipped). l ++ others) here ∙ one-skipped name before o.version o.release others)
   where
-    fold-last : (step : List Release → Result Release SkipCause → List Release) (first : List Release) (xs : List (Result Release SkipCause)) (x : Result Release SkipCause)
+    fold-last : (step : List Release → Outcome → List Release) (first : List Release) (xs : List Outcome) (x : Outcome)
         → fold step first (xs ++ x ∷ []) ≡ step (fold step first xs) x
     fold-last step first [] x = refl
     fold-last step first (y ∷ ys) x = fold-last step (step first y) ys x
 
 -- ---- the whole list
 
-pub gathered-is : (name : List ℕ) (listed : List (Result Release SkipCause))
+pub gathered-is : (name : List ℕ) (listed : List Outcome)
     → kept (fold (gather_release name) nothing listed) ≡ record { releases = newest_first (usable_of listed); skipped = skipped_of name listed }
 gathered-is name listed =
     let releases = releases-gathered name nothing listed ∙ with-usable [] listed in

@@ -2,6 +2,7 @@
 
 ghost use Rattle.std.specs.Prelude.{◌≡◌};
 
+use lists::Text;
 use pep440::Fault as VersionFault;
 use pep508::{Cause, Name};
 
@@ -24,6 +25,7 @@ pub enum SkipCause {
 pub struct Skipped {
     name: Name,
     place: usize,
+    version: Text,
     cause: SkipCause,
 }
 
@@ -32,16 +34,27 @@ impl Drop for Skipped {
         let Skipped {
             name: _,
             place: _,
+            version: _,
             cause: _,
         } = self;
     }
 }
 
 impl Skipped {
-    pub(crate) fn new(name: Name, place: usize, cause: SkipCause) -> Skipped
-        ensures { result ≡ record { name = name; place = place; cause = cause } }
+    pub(crate) fn new(name: Name, place: usize, version: Text, cause: SkipCause) -> Skipped
+        ensures { result ≡ record {
+          name = name;
+          place = place;
+          version = version;
+          cause = cause;
+        } }
     {
-        Skipped { name, place, cause }
+        Skipped {
+            name,
+            place,
+            version,
+            cause,
+        }
     }
 
     /// The package whose release it is.
@@ -56,6 +69,13 @@ impl Skipped {
         ensures { result ≡ self.now.place }
     {
         self.place
+    }
+
+    /// The version of the release as the index writes it, also where that is no version.
+    pub fn version(&self) -> &str
+        ensures { result.now ≡ self.now.version }
+    {
+        self.version.as_str()
     }
 
     /// Why it is left out.

@@ -1,13 +1,13 @@
 // Which listed releases can be used.
 
-ghost use Rattle.std.specs.Prelude.{◌≡◌, Ok};
+ghost use Rattle.std.specs.Prelude.{◌≡◌, Err, Ok};
 ghost use Rattle.std.specs.List.{AllByRecursion};
 ghost use Rattle.pep440.specs.Tied.Reading.{version_of};
 ghost use Rattle.pep508.specs.Requirement.{requirement_text};
 ghost use Rattle.snapshot.specs.Files.{has_file};
 ghost use Rattle.snapshot.specs.Lawful.{IsFile};
 ghost use Rattle.snapshot.specs.Python.{python_of};
-ghost use Rattle.snapshot.specs.Releases.{required_at, requirements_from, usable, versioned};
+ghost use Rattle.snapshot.specs.Releases.{outcome_of, required_at, requirements_from, versioned};
 ghost use Rattle.snapshot.specs.Shape.{Gives};
 
 use crate::chosen::{Chosen, choose};
@@ -20,6 +20,25 @@ use lists::{Seq, Text, is_blank};
 use pep440::{Fault as VersionFault, SpecifierSet, Version};
 use pep508::{Cause, Requirement};
 use std::alloc::Global;
+
+/// What comes of a release that the index lists: the text of its version, and the release, or the first
+/// cause for which it can't be used.
+#[derive(Drop)]
+pub(crate) struct Outcome {
+    pub(crate) version: Text,
+    pub(crate) release: Result<Release, SkipCause>,
+}
+
+impl Outcome {
+    fn refused(version: Text, cause: SkipCause) -> Outcome
+        ensures { result ≡ record { version = version; release = Err cause } }
+    {
+        Outcome {
+            version,
+            release: Err(cause),
+        }
+    }
+}
 
 /// The version that a text is.
 fn version_of(alloc: Global, text: &str) -> Result<Result<Version, SkipCause>, Fault>
@@ -85,11 +104,11 @@ fn has_file(files: &Chosen) -> bool
     files.sdist.is_some() || !files.wheels.is_empty()
 }
 
-/// The release, or the first cause for which it can't be used.
+/// What comes of a listed release. The text of its version goes along, and is never copied.
 #[tactic(auto, unfolding(crate::specs::Releases::usable))]
-pub(crate) fn usable(alloc: Global, listed: Listed) -> Result<Result<Release, SkipCause>, Fault>
+pub(crate) fn outcome_of(alloc: Global, listed: Listed) -> Result<Outcome, Fault>
     requires { AllByRecursion IsFile listed.files }
-    ensures { Gives (λ r. r) (Ok (usable listed)) result }
+    ensures { Gives (λ o. o) (Ok (outcome_of listed)) result }
 {
     let Listed {
         version,
@@ -98,21 +117,25 @@ pub(crate) fn usable(alloc: Global, listed: Listed) -> Result<Result<Release, Sk
         yanked,
         files,
     } = listed;
-    let version = match version_of(alloc, version.as_str())? {
-        Ok(version) => version,
-        Err(cause) => return Ok(Err(cause)),
+    let parsed = match version_of(alloc, version.as_str())? {
+        Ok(parsed) => parsed,
+        Err(cause) => return Ok(Outcome::refused(version, cause)),
     };
     let requires_python = match python_of(alloc, requires_python)? {
         Ok(python) => python,
-        Err(cause) => return Ok(Err(cause)),
+        Err(cause) => return Ok(Outcome::refused(version, cause)),
     };
     let dependencies = match requirements_of(alloc, requires_dist.as_slice())? {
         Ok(dependencies) => dependencies,
-        Err(cause) => return Ok(Err(cause)),
+        Err(cause) => return Ok(Outcome::refused(version, cause)),
     };
     let files = choose(alloc, files)?;
     if !has_file(&files) {
-        return Ok(Err(SkipCause::NoFile));
+        return Ok(Outcome::refused(version, SkipCause::NoFile));
     }
-    Ok(Ok(Release::new(version, requires_python, dependencies, yanked, files)))
+    let release = Release::new(parsed, requires_python, dependencies, yanked, files);
+    Ok(Outcome {
+        version,
+        release: Ok(release),
+    })
 }

@@ -8,6 +8,7 @@ use Rattle.snapshot.specs.declared.release.reading.ReadReleases.{ReadReleases}
 use Rattle.snapshot.specs.declared.skipped.SkipCause.{SkipCause}
 use Rattle.snapshot.specs.declared.skipped.SkipCause.TheVariants as causes
 use Rattle.snapshot.specs.declared.skipped.Skipped.{Skipped}
+use Rattle.snapshot.specs.declared.usable.Outcome.{Outcome}
 use Rattle.snapshot.specs.Release.{Release}
 use Rattle.snapshot.specs.Releases.{has_version_of, newer_cmp}
 
@@ -21,25 +22,25 @@ abbrev pub nothing : Gathered
 nothing = record { place = 0; releases = []; skipped = [] }
 
 -- the release at this place, left out
-abbrev pub left_out : List ℕ → ℕ → SkipCause → List Skipped
-left_out name place cause = record { name = name; place = place; cause = cause } ∷ []
+abbrev pub left_out : List ℕ → ℕ → List ℕ → SkipCause → List Skipped
+left_out name place version cause = record { name = name; place = place; version = version; cause = cause } ∷ []
 
 -- the releases with one more at its place, unless one of an equal version is there
 abbrev pub with_release : List Release → Result Release SkipCause → List Release
 with_release releases (Ok r) = insert_key newer_cmp releases r
 with_release releases (Err cause) = releases
 
--- what is left out at this place, where these releases are kept before it
-abbrev pub skipped_at : List ℕ → ℕ → List Release → Result Release SkipCause → List Skipped
-skipped_at name place kept (Ok r) = if list_any (has_version_of r) kept then left_out name place causes.Duplicate else []
-skipped_at name place kept (Err cause) = left_out name place cause
+-- what is left out at this place, of this version, where these releases are kept before it
+abbrev pub skipped_at : List ℕ → ℕ → List ℕ → List Release → Result Release SkipCause → List Skipped
+skipped_at name place version kept (Ok r) = if list_any (has_version_of r) kept then left_out name place version causes.Duplicate else []
+skipped_at name place version kept (Err cause) = left_out name place version cause
 
 -- one more release of the package
-abbrev pub gather_release : List ℕ → Gathered → Result Release SkipCause → Gathered
-gather_release name g r = record {
+abbrev pub gather_release : List ℕ → Gathered → Outcome → Gathered
+gather_release name g o = record {
   place = g.place + 1;
-  releases = with_release g.releases r;
-  skipped = g.skipped ++ skipped_at name g.place g.releases r;
+  releases = with_release g.releases o.release;
+  skipped = g.skipped ++ skipped_at name g.place o.version g.releases o.release;
 }
 
 -- what was gathered

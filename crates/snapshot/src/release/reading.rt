@@ -14,8 +14,8 @@ use crate::listed::listed_of;
 use crate::release::{Newest, Release};
 use crate::shape::below_place;
 use crate::skipped::{SkipCause, Skipped};
-use crate::usable::usable;
-use lists::Seq;
+use crate::usable::{Outcome, outcome_of};
+use lists::{Seq, Text};
 use pep508::Name;
 use serde_json::Value;
 use std::alloc::{AllocError, Global};
@@ -35,22 +35,18 @@ pub(crate) struct Gathering {
     skipped: Vec<Skipped>,
 }
 
-/// The release that a value lists, or why it can't be used.
+/// What comes of the release that a value lists.
 #[tactic(auto, unfolding(crate::specs::Releases::release_of))]
-fn release_of(alloc: Global, value: Value) -> Result<Result<Release, SkipCause>, Fault>
-    ensures { Gives (λ r. r) (release_of (view value)) result }
+fn release_of(alloc: Global, value: Value) -> Result<Outcome, Fault>
+    ensures { Gives (λ o. o) (release_of (view value)) result }
 {
     let listed = listed_of(alloc, value)?;
-    usable(alloc, listed)
+    outcome_of(alloc, listed)
 }
 
-/// The release that the value at `place` lists, or why it can't be used.
-fn release_at_place(
-    alloc: Global,
-    place: usize,
-    value: Value,
-) -> Result<Result<Release, SkipCause>, Fault>
-    ensures { Gives (λ r. r) (below (place_path place) (release_of (view value))) result }
+/// What comes of the release that the value at `place` lists.
+fn release_at_place(alloc: Global, place: usize, value: Value) -> Result<Outcome, Fault>
+    ensures { Gives (λ o. o) (below (place_path place) (release_of (view value))) result }
 {
     below_place(alloc, place, release_of(alloc, value))
 }
@@ -70,37 +66,40 @@ fn leave_out(
     skipped: &mut Vec<Skipped>,
     name: &Name,
     place: usize,
+    version: Text,
     cause: SkipCause,
 ) -> Result<(), Fault>
     ensures kept { OnOk result (skipped.new.items
-        ≡ skipped.old.items ++ left_out name.now place cause) }
+        ≡ skipped.old.items ++ left_out name.now place version cause) }
     ensures memory { IsOkUnless result OutOfMemory }
 {
     let name = name.clone()?;
-    skipped.push(Skipped::new(name, place, cause))?;
+    skipped.push(Skipped::new(name, place, version, cause))?;
     Ok(())
 }
 
-/// Puts one more release of the package to those before it: into its place, or with its cause to those
-/// that are left out.
-fn add(
-    gathering: &mut Gathering,
-    name: &Name,
-    place: usize,
-    release: Result<Release, SkipCause>,
-) -> Result<(), Fault>
+/// Puts one more release of the package to those before it: into its place, or with its version and the cause
+/// to those that are left out.
+fn add(gathering: &mut Gathering, name: &Name, place: usize, outcome: Outcome) -> Result<(), Fault>
     ensures kept { OnOk result
         (gathered_view (place + 1) gathering.new
-        ≡ gather_release name.now (gathered_view place gathering.old) release) }
+        ≡ gather_release name.now (gathered_view place gathering.old) outcome) }
     ensures memory { IsOkUnless result OutOfMemory }
 {
+    let Outcome { version, release } = outcome;
     match release {
         Ok(release) => {
             if !put(&mut gathering.newest, Newest::new(release))? {
-                leave_out(&mut gathering.skipped, name, place, SkipCause::Duplicate)?;
+                leave_out(
+                    &mut gathering.skipped,
+                    name,
+                    place,
+                    version,
+                    SkipCause::Duplicate,
+                )?;
             }
         }
-        Err(cause) => leave_out(&mut gathering.skipped, name, place, cause)?,
+        Err(cause) => leave_out(&mut gathering.skipped, name, place, version, cause)?,
     }
     Ok(())
 }
@@ -114,8 +113,8 @@ fn gathered(alloc: Global, name: &Name, values: Vec<Value>) -> Result<Gathering,
         skipped: Vec::new(alloc),
     };
     for (place, value) in values.into_iter().enumerate() {
-        let release = release_at_place(alloc, place, value)?;
-        add(&mut gathering, name, place, release)?;
+        let outcome = release_at_place(alloc, place, value)?;
+        add(&mut gathering, name, place, outcome)?;
     }
     Ok(gathering)
 }

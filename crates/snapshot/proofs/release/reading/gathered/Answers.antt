@@ -11,17 +11,17 @@ loop-place-init c =
     let numbered = c.enumerate-place-items.ensures in
     rw (c.into_iter-place-iterator.ensures.into_iter_gives, numbered.count, numbered.source, c.into_iter.ensures.rest, c.new.ensures.empty, c.new-2.ensures.items) refl
 
-pub returns-in_err-release : goal.returns-in_err-release
-returns-in_err-release c =
+pub returns-in_err-outcome : goal.returns-in_err-outcome
+returns-in_err-outcome c =
     let p = err_from_is_err_and c.from_residual.result c.from_residual.ensures.1 in
     let taken = c.in-Some.ensures.steps in
-    rw (p.1, p.2) (kept_refused c.args.name.now _ _ (ends (gather_release c.args.name.now) _ release_of c.in-Some.place c.in-Some.value _ _ c.in_err-release.field-0.0 _ taken.0.0 c.in_err-release.ensures (rw (← taken.1) at c.loop-place.invariant)))
+    rw (p.1, p.2) (kept_refused c.args.name.now _ _ (ends (gather_release c.args.name.now) _ release_of c.in-Some.place c.in-Some.value _ _ c.in_err-outcome.field-0.0 _ taken.0.0 c.in_err-outcome.ensures (rw (← taken.1) at c.loop-place.invariant)))
 
 pub loop-place-preserved : goal.loop-place-preserved
 loop-place-preserved c =
     let taken = c.in-Some.ensures.steps in
     rw (taken.2, ← taken.1, c.in_ok-add.ensures.kept)
-    (goes_on (gather_release c.args.name.now) _ release_of c.in-Some.place c.in-Some.value _ _ c.in_ok-release.release _ taken.0.0 c.in_ok-release.ensures (rw (← taken.1) at c.loop-place.invariant))
+    (goes_on (gather_release c.args.name.now) _ release_of c.in-Some.place c.in-Some.value _ _ c.in_ok-outcome.outcome _ taken.0.0 c.in_ok-outcome.ensures (rw (← taken.1) at c.loop-place.invariant))
 
 pub returns : goal.returns
 returns c =

@@ -2,10 +2,10 @@ use Rattle.std.proofs.Common.{◌≡◌, ◌∙◌, true, arith}
 use Rattle.snapshot.specs.Files.{has_file}
 use Rattle.snapshot.proofs.UsableReleasesAreLawful.{release-lawful}
 use Rattle.snapshot.proofs.SeveralSteps.{ok-inside}
-use Rattle.snapshot.proofs.usable.usable.Goals as goal
+use Rattle.snapshot.proofs.usable.outcome_of.Goals as goal
 
-pub new-requires : goal.new-requires
-new-requires c =
+pub new-release-requires : goal.new-release-requires
+new-release-requires c =
     let files = c.in_ok-files.files in
     let python = ok-inside _ _ c.in_ok-python.ensures ∙ c.in-Ok-2.is in
     let file : has_file files.sdist files.wheels ≡ true = grind arith in
