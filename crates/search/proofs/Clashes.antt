@@ -1,56 +1,25 @@
 -- What a clash, or no clash, says of the choices.
-use Rattle.std.proofs.Common.{ℕ, zero, suc, ◌<◌, ◌≤◌, ◌+◌, length, take, get_or, arith, add-one, List, [], ◌∷◌, ◌≡◌, ◌⊎◌, inl, inr, Contains, refl, sym, ◌∙◌, ap, subst, Some, None, Option, Bool, true, false, not, ◌||◌}
+use Rattle.std.proofs.Common.{ℕ, zero, suc, ◌<◌, ◌≤◌, ◌+◌, length, take, get_or, arith, add-one, List, [], ◌∷◌, ◌≡◌, inl, inr, Contains, refl, sym, ◌∙◌, ap, subst, Some, None, Option, Bool, true, false, not, ◌||◌}
 use Rattle.std.specs.List.{list_any}
-use Rattle.lists.proofs.Members.{Contains-here, Contains-there, Contains-cons_cases, Contains-nil, take-whole}
-use Rattle.search.proofs.PinnedMaps.{clash-line, clash-dependency}
+use Rattle.lists.proofs.Members.{Contains-cons_cases, Contains-nil, take-whole}
 use Rattle.search.specs.FirstWalk.{IsComplete}
 use Rattle.search.specs.Rules.{Rules, IsLawful}
-use Rattle.search.specs.Solutions.{Needed, by_line, by_dependency, version_pinned, Pin}
-use Rattle.search.specs.Tied.Search.{IsRefuted, AllFit, AreNeeded, AreAsked, NoneFree, clash_at, clash_in}
-
-or-true : (a b : Bool) → (a || b) ≡ true → (a ≡ true) ⊎ (b ≡ true)
-or-true true b h = inl refl
-or-true false b h = inr h
+use Rattle.search.specs.Solutions.{Needed, by_line, by_dependency}
+use Rattle.search.specs.Tied.Search.{AllFit, AreNeeded, AreAsked, NoneFree, clash_at, clash_in}
 
 or-false : (a b : Bool) → (a || b) ≡ false → (a ≡ false) × (b ≡ false)
 or-false true b h = absurd (cc)
 or-false false b h = (refl, h)
 
-not-true : (b : Bool) → not b ≡ true → b ≡ false
-not-true true h = absurd (cc)
-not-true false h = refl
-
 not-false : (b : Bool) → not b ≡ false → b ≡ true
 not-false true h = refl
 not-false false h = absurd (cc)
-
-any-true : {X : Type 0} (p : X → Bool) (xs : List X) → list_any p xs ≡ true → (x : X) × Contains xs x × (p x ≡ true)
-any-true p [] h = absurd (cc)
-any-true p (x ∷ xs) h = elim (or-true (p x) (list_any p xs) h) [
-  | inl a ↦ (x, Contains-here x xs, a)
-  | inr b ↦ let k : (y : _) × Contains xs y × (p y ≡ true) = any-true p xs b in (k.0, Contains-there x xs k.0 k.1, k.2)
-]
 
 pub any-false : {X : Type 0} (p : X → Bool) (xs : List X) (x : X) → list_any p xs ≡ false → Contains xs x → p x ≡ false
 any-false p [] x h i = absurd (Contains-nil x i)
 any-false p (y ∷ xs) x h i =
     let k : (p y ≡ false) × (list_any p xs ≡ false) = or-false (p y) (list_any p xs) h in
     elim (Contains-cons_cases y xs x i) [ inl e ↦ subst (λ z. p z ≡ false) e k.0 | inr r ↦ any-false p xs x k.1 r ]
-
-clash_at-true : (rules : Rules ℕ ℕ ℕ ℕ) (r : ℕ) (o : Option ℕ) → clash_at rules r o ≡ true → (w : ℕ) × (o ≡ Some w) × (rules.admits r w ≡ false)
-clash_at-true rules r None h = absurd (cc)
-clash_at-true rules r (Some w) h = (w, refl, not-true (rules.admits r w) h)
-
--- where something that is asked for clashes, no solution has what is taken
-pub asked-refuted : (rules : Rules ℕ ℕ ℕ ℕ) (taken : List (Pin ℕ ℕ)) (asked : List ℕ) → AreAsked rules (version_pinned rules.compare taken) asked → list_any (clash_in rules (version_pinned rules.compare taken)) asked ≡ true → IsRefuted rules taken
-asked-refuted rules taken asked a h =
-    let chosen : ℕ → Option ℕ = version_pinned rules.compare taken in
-    let r : (r : ℕ) × Contains asked r × (clash_in rules chosen r ≡ true) = any-true (clash_in rules chosen) asked h in
-    let w : (w : ℕ) × (chosen (rules.name r.0) ≡ Some w) × (rules.admits r.0 w ≡ false) = clash_at-true rules r.0 (chosen (rules.name r.0)) r.2 in
-    elim (a.sound r.0 r.1) [
-      | inl l ↦ clash-line rules taken r.0 w.0 l w.1 w.2
-      | inr k ↦ clash-dependency rules taken k.0 k.1 r.0 w.0 k.2 k.3 k.4 w.1 w.2
-    ]
 
 clash_at-false : (rules : Rules ℕ ℕ ℕ ℕ) (r : ℕ) (o : Option ℕ) (w : ℕ) → clash_at rules r o ≡ false → o ≡ Some w → rules.admits r w ≡ true
 clash_at-false rules r None w h e = absurd (cc)

@@ -1,5 +1,6 @@
 pub mod PinnedMaps
 pub mod Unique
+pub mod PlacesEquality
 pub mod Ranges
 pub mod Counts
 pub mod Marks
@@ -9,7 +10,6 @@ pub mod Least
 pub mod Stack
 pub mod FirstWalks
 pub mod WhatIsLeft
-pub mod Steps
 pub mod TakenFacts
 pub mod Walks
 pub mod Fronts
@@ -17,16 +17,6 @@ pub mod PictureFacts
 pub mod PictureLaw
 pub mod Refutations
 pub mod SetRefutations
-pub mod Sets
-pub mod Entries
-pub mod Holding
-pub mod LearnedSearch
-pub mod Asked
-pub mod Rows
-pub mod Watching
-pub mod Needs
-pub mod Learns
-pub mod WhatIsLeftToLearn
 pub mod PicturedConflicts
 pub mod PicturedSets
 pub mod SetsOfChoices

@@ -2,7 +2,7 @@
 use Rattle.std.proofs.Common.{ℕ, List, [], ◌∷◌, ◌++◌, ◌≡◌, ◌<◌, inl, inr, Contains, length, map, sym, ◌∙◌, ap, subst, Bool, true, false}
 use Rattle.std.proofs.lemmas.Bool.{eq-eqb}
 use Rattle.lists.proofs.Members.{map-append, Contains-here, Contains-there, Contains-map, Contains-map_of}
-use Rattle.search.proofs.Entries.{off-of}
+use Rattle.search.proofs.PlacesEquality.{off-of}
 use Rattle.search.proofs.PictureFacts.{picture-lines, picture-nodes}
 use Rattle.search.proofs.Ranges.{eq-true, lines-known, wants-known, nodes-known, name-known}
 use Rattle.search.specs.declared.conflict.NodeChoice.{NodeChoice}

@@ -7,10 +7,10 @@ use Rattle.search.proofs.Ranges.{eq-true, lines-known, wants-known, nodes-known,
 use Rattle.search.specs.declared.conflict.NodeChoice.{NodeChoice}
 use Rattle.search.specs.declared.term.Term.{Term}
 use Rattle.search.specs.SetConflicts.{HasVersion, LineRefusesSet, Refuses, PairClashes, SetsClash, BindsWithin, CompletesSet, EachVersion, SetNeedsNode, NoCandidateLeft, SetFollows, EachSetFollows, IsSetRefutation}
-use Rattle.search.specs.Known.{IsKnown, IsKnownTerm, AreKnownSets, AreApart, choice_pictured, term_pictured, set_pictured, sets_pictured}
+use Rattle.search.specs.Known.{IsKnown, IsKnownTerm, AreKnownSets, AreApart, term_pictured, set_pictured, sets_pictured}
 use Rattle.search.specs.Picture.{Picture, IsPicture}
 use Rattle.search.specs.Rules.{Rules}
-use Rattle.search.specs.Table.{TableParts, rules_of, name_of, wants_at, candidates_of, in_range, places_eq}
+use Rattle.search.specs.Table.{TableParts, rules_of, name_of, candidates_of, in_range, places_eq}
 
 -- a term with one of its versions, as a choice
 abbrev at : Term ℕ ℕ → ℕ → NodeChoice ℕ ℕ

@@ -1,5 +1,5 @@
 -- Maps made of pins, needed nodes and solutions, over any rules.
-use Rattle.std.proofs.Common.{List, [], ◌∷◌, ◌++◌, ◌≡◌, ◌⊎◌, inl, inr, Contains, refl, sym, ◌∙◌, ap, subst, Some, None, Option, Bool, true, false, cond, Ordering}
+use Rattle.std.proofs.Common.{List, [], ◌∷◌, ◌++◌, ◌≡◌, ◌⊎◌, inl, inr, Contains, refl, sym, ◌∙◌, ap, Some, None, Option, Bool, true, false, cond, Ordering}
 use Rattle.std.specs.Ordering.{is_eq}
 use Rattle.std.specs.Cmp.{Equal-is}
 use Rattle.std.proofs.lemmas.Cmp.{tied_itself}
@@ -7,7 +7,6 @@ use Rattle.lists.proofs.Members.{Contains-here, Contains-there}
 use Rattle.search.specs.FirstWalk.{IsComplete}
 use Rattle.search.specs.Rules.{Rules, IsOrder, IsLawful}
 use Rattle.search.specs.Solutions.{Pin, Needed, by_line, by_dependency, IsNeededName, IsMet, Solution, version_pinned, IsNext, Has}
-use Rattle.search.specs.Tied.Search.{IsRefuted}
 
 -- ---- maps made of choices
 
@@ -108,21 +107,6 @@ next-in_solution {N} {X} {V} rules law t taken n s h next =
 
 pub some-inj : {V : Type 0} (v w : V) → Some v ≡ Some w → v ≡ w
 some-inj v w e = cc
-
--- what is taken contradicts a requirement that counts, so no solution has it
-pub clash-line : {N X V R : Type 0} (rules : Rules N X V R) (taken : List (Pin N V)) (r : R) (w : V) → Contains rules.lines r → version_pinned rules.compare taken (rules.name r) ≡ Some w → rules.admits r w ≡ false → IsRefuted rules taken
-clash-line {N} {X} {V} rules taken r w l e bad t s h =
-    let m : IsMet rules t r = s.lines_met r l in
-    let v : m.0 ≡ w = some-inj m.0 w (sym m.1 ∙ h (rules.name r) w e) in
-    let k : rules.admits r w ≡ true = subst (λ x. rules.admits r x ≡ true) v m.2 in
-    absurd (cc)
-
-pub clash-dependency : {N X V R : Type 0} (rules : Rules N X V R) (taken : List (Pin N V)) (node : X) (v : V) (r : R) (w : V) → Needed rules (version_pinned rules.compare taken) node → version_pinned rules.compare taken (rules.on node) ≡ Some v → Contains (rules.wants node v) r → version_pinned rules.compare taken (rules.name r) ≡ Some w → rules.admits r w ≡ false → IsRefuted rules taken
-clash-dependency {N} {X} {V} rules taken node v r w k e want f bad t s h =
-    let m : IsMet rules t r = s.dependencies_met node v r (Needed-more rules (version_pinned rules.compare taken) t h node k) (h (rules.on node) v e) want in
-    let v : m.0 ≡ w = some-inj m.0 w (sym m.1 ∙ h (rules.name r) w f) in
-    let k : rules.admits r w ≡ true = subst (λ x. rules.admits r x ≡ true) v m.2 in
-    absurd (cc)
 
 -- ---- what is met under all that is taken is a solution
 

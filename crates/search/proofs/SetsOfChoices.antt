@@ -1,9 +1,9 @@
 -- A refutation is a set refutation, where each choice stands for the set of its version alone.
-use Rattle.std.proofs.Common.{List, [], ◌∷◌, ◌++◌, ◌≡◌, ◌⊎◌, inl, inr, Contains, map, sym, ◌∙◌, ap, subst, Bool, true, false}
+use Rattle.std.proofs.Common.{List, [], ◌∷◌, ◌++◌, ◌≡◌, ◌⊎◌, inl, inr, Contains, sym, ◌∙◌, ap, subst, Bool, false}
 use Rattle.lists.proofs.Members.{map-append, Contains-here, Contains-cons_cases, Contains-map, Contains-map_of, Contains-nil}
 use Rattle.search.specs.declared.conflict.NodeChoice.{NodeChoice}
 use Rattle.search.specs.declared.term.Term.{Term}
-use Rattle.search.specs.Conflicts.{IsSameChoice, LineRefuses, ChoicesClash, VersionsDiffer, NeedsNode, Completes, NoneLeft, Follows, EachFollows, IsRefutation}
+use Rattle.search.specs.Conflicts.{IsSameChoice, LineRefuses, NeedsNode, Completes, NoneLeft, Follows, EachFollows, IsRefutation}
 use Rattle.search.specs.Rules.{Rules}
 use Rattle.search.specs.SetConflicts.{HasVersion, LineRefusesSet, PairClashes, SetsClash, BindsWithin, CompletesSet, SetNeedsNode, NoCandidateLeft, SetFollows, EachSetFollows, IsSetRefutation}
 use Rattle.search.specs.SetsOfChoices.{term_of, terms_of, as_sets}

@@ -1,12 +1,12 @@
 -- What a search learns of solutions, as its frames come and go.
-use Rattle.std.proofs.Common.{ℕ, suc, List, [], ◌∷◌, ◌++◌, ◌≡◌, ◌≢◌, ◌≤◌, ◌⊎◌, inl, inr, Contains, length, take, drop, refl, sym, ◌∙◌, ap, subst, Some, None, Option, append_assoc, append-nil}
-use Rattle.lists.proofs.Members.{Contains-take_suc, take-whole, nat_cases, split_at, get_or-any}
+use Rattle.std.proofs.Common.{ℕ, suc, List, [], ◌∷◌, ◌++◌, ◌≡◌, ◌≢◌, ◌⊎◌, inl, inr, Contains, take, drop, refl, sym, ◌∙◌, ap, subst, Some, None, Option, append_assoc, append-nil}
+use Rattle.lists.proofs.Members.{nat_cases, split_at, get_or-any}
 use Rattle.search.proofs.PinnedMaps.{version_pinned-cons_cases, version_pinned-last, Has-front, Has-push, Needed-more, next-in_solution, complete-same}
 use Rattle.search.specs.declared.parts.Frame.{Frame}
 use Rattle.search.specs.FirstWalk.{IsComplete}
 use Rattle.search.specs.Rules.{Rules, IsLawful}
 use Rattle.search.specs.Solutions.{Pin, IsNeededName, Solution, version_pinned, IsNext, IsWalk, Has, ComesFirst, IsBetter, IsBest}
-use Rattle.search.specs.Tied.Search.{pin_at, pins_of, Refutes, IsFrame, IsSearch, IsRefuted}
+use Rattle.search.specs.Tied.Search.{pin_at, pins_of, IsFrame, IsSearch}
 
 -- ---- the choices of a search
 
@@ -14,30 +14,12 @@ pub pins_of-push : (fs : List Frame) (f : Frame) → pins_of (fs ++ f ∷ []) �
 pins_of-push [] f = refl
 pins_of-push (g ∷ fs) f = ap (λ cs. pin_at g ∷ cs) (pins_of-push fs f)
 
-append-step : (xs : List (Pin ℕ ℕ)) (c : Pin ℕ ℕ) (ys : List (Pin ℕ ℕ)) → (xs ++ c ∷ []) ++ ys ≡ xs ++ c ∷ ys
+pub append-step : (xs : List (Pin ℕ ℕ)) (c : Pin ℕ ℕ) (ys : List (Pin ℕ ℕ)) → (xs ++ c ∷ []) ++ ys ≡ xs ++ c ∷ ys
 append-step xs c ys = append_assoc xs (c ∷ []) ys
 
 pub IsSearch-push : (rules : Rules ℕ ℕ ℕ ℕ) (law : IsLawful rules) (before : List (Pin ℕ ℕ)) (fs : List Frame) (f : Frame) → IsSearch rules before fs → IsFrame rules (before ++ pins_of fs) f → IsSearch rules before (fs ++ f ∷ [])
 IsSearch-push rules law before [] f h k = (subst (λ cs. IsFrame rules cs f) (append-nil before) k, tt)
 IsSearch-push rules law before (g ∷ fs) f h k = (h.0, IsSearch-push rules law (before ++ pin_at g ∷ []) fs f h.1 (subst (λ cs. IsFrame rules cs f) (sym (append-step before (pin_at g) (pins_of fs))) k))
-
-pub IsSearch-pop : (rules : Rules ℕ ℕ ℕ ℕ) (law : IsLawful rules) (before : List (Pin ℕ ℕ)) (fs : List Frame) (f : Frame) → IsSearch rules before (fs ++ f ∷ []) → IsSearch rules before fs × IsFrame rules (before ++ pins_of fs) f
-IsSearch-pop rules law before [] f h = (tt, subst (λ cs. IsFrame rules cs f) (sym (append-nil before)) h.0)
-IsSearch-pop rules law before (g ∷ fs) f h =
-    let k : IsSearch rules (before ++ pin_at g ∷ []) fs × IsFrame rules ((before ++ pin_at g ∷ []) ++ pins_of fs) f = IsSearch-pop rules law (before ++ pin_at g ∷ []) fs f h.1 in
-    ((h.0, k.0), subst (λ cs. IsFrame rules cs f) (append-step before (pin_at g) (pins_of fs)) k.1)
-
--- a frame whose choice is refuted refutes one candidate more
-pub Refutes-more : (rules : Rules ℕ ℕ ℕ ℕ) (law : IsLawful rules) (taken : List (Pin ℕ ℕ)) (f : Frame) → IsFrame rules taken f → IsRefuted rules (taken ++ pin_at f ∷ []) → Refutes rules taken f.name (suc f.turn)
-Refutes-more rules law taken f h bad t s has w i e = elim (Contains-take_suc (rules.candidates f.name) f.turn f.place w h.turn i) [
-  | inl low ↦ h.refuted t s has w low e
-  | inr here ↦ bad t s (Has-push rules law.order t taken (pin_at f) has (e ∙ ap (λ x. Some x) (sym here ∙ h.place)))
-]
-
-pub IsRefuted-exhausted : (rules : Rules ℕ ℕ ℕ ℕ) (law : IsLawful rules) (taken : List (Pin ℕ ℕ)) (n : ℕ) (k : ℕ) → IsNext rules taken n → Refutes rules taken n k → length (rules.candidates n) ≤ k → IsRefuted rules taken
-IsRefuted-exhausted rules law taken n k next bad l t s has =
-    let w : (w : ℕ) × (t n ≡ Some w) × Contains (rules.candidates n) w = next-in_solution rules law t taken n s has next in
-    bad t s has w.0 (subst (λ xs. Contains xs w.0) (sym (take-whole (rules.candidates n) k l)) w.2) w.1
 
 -- ---- the end of a search
 

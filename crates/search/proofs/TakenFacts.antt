@@ -1,11 +1,12 @@
 -- What is taken, as a list with a place or none for each name.
-use Rattle.std.proofs.Common.{ℕ, zero, suc, List, [], ◌∷◌, ◌++◌, ◌≡◌, ◌≢◌, ◌<◌, ◌≤◌, ◌+◌, ◌⊎◌, inl, inr, Contains, length, take, get_or, map, refl, sym, ◌∙◌, ap, subst, arith, add-one, Some, None, Option, Bool, true, false, cond}
+use Rattle.std.proofs.Common.{ℕ, zero, suc, List, [], ◌∷◌, ◌++◌, ◌≡◌, ◌≢◌, ◌<◌, ◌≤◌, ◌+◌, ◌⊎◌, inl, inr, Contains, length, take, get_or, map, refl, sym, ◌∙◌, ap, subst, arith, add-one, Some, None, Option, cond}
 use Rattle.std.proofs.Math.ListN.{replicate}
 use Rattle.std.proofs.lemmas.List.Elements.{Contains-push_cases}
 use Rattle.std.specs.Ordering.{nat_cmp, is_eq}
 use Rattle.search.proofs.Counts.{nat_less}
 use Rattle.search.proofs.Least.{nat-order}
 use Rattle.lists.proofs.Members.{Contains-map, map-append, Contains-nil, Contains-here, Contains-there, nat_cases}
+use Rattle.search.proofs.PlacesEquality.{off-of}
 use Rattle.search.proofs.Nodes.{take-more}
 use Rattle.search.proofs.Stack.{pins_of-push}
 use Rattle.search.proofs.PinnedMaps.{pin-member, is_eq-same, option_cases, version_pinned-append_some, version_pinned-append_none, version_pinned-last}
@@ -13,7 +14,7 @@ use Rattle.search.specs.declared.parts.Choice.{Choice}
 use Rattle.search.specs.declared.parts.Frame.{Frame}
 use Rattle.search.specs.Tied.Search.{pin_at, pins_of, taken_at}
 use Rattle.search.specs.Solutions.{Pin, version_pinned}
-use Rattle.search.specs.Tied.Steps.{TakesFirst}
+use Rattle.search.specs.Tied.Taken.{TakesFirst}
 use Rattle.search.specs.Table.{pin_of, place_in, IsAscending}
 
 pub none-taken : (room n : ℕ) → taken_at (replicate room None) n ≡ None
@@ -21,16 +22,12 @@ none-taken zero n = refl
 none-taken (suc room) zero = refl
 none-taken (suc room) (suc n) = none-taken room n
 
-bool-off : (b : Bool) → (b ≡ true → ⊥) → b ≡ false
-bool-off true h = absurd (h refl)
-bool-off false h = refl
-
 -- a pin on another name adds nothing
-version_pinned-other : (ps : List (Pin ℕ ℕ)) (p : Pin ℕ ℕ) (n : ℕ) → n ≢ p.name → version_pinned nat_cmp (ps ++ p ∷ []) n ≡ version_pinned nat_cmp ps n
+pub version_pinned-other : {V : Type 0} (ps : List (Pin ℕ V)) (p : Pin ℕ V) (n : ℕ) → n ≢ p.name → version_pinned nat_cmp (ps ++ p ∷ []) n ≡ version_pinned nat_cmp ps n
 version_pinned-other ps p n d = elim (option_cases (version_pinned nat_cmp ps n)) [
   | inl none ↦
       version_pinned-append_none nat_cmp ps (p ∷ []) n none
-      ∙ ap (λ b. cond b (Some p.version) None) (bool-off (is_eq (nat_cmp p.name n)) (λ e. d (sym (is_eq-same nat_cmp nat-order p.name n e))))
+      ∙ ap (λ b. cond b (Some p.version) None) (off-of (is_eq (nat_cmp p.name n)) (λ e. d (sym (is_eq-same nat_cmp nat-order p.name n e))))
       ∙ sym none
   | inr some ↦ version_pinned-append_some nat_cmp ps (p ∷ []) n some.0 some.1 ∙ sym some.1
 ]

@@ -4,7 +4,7 @@ use Rattle.std.proofs.lemmas.List.Elements.{Contains-append_left}
 use Rattle.lists.proofs.Members.{Contains-here, Contains-there, Contains-nil, Contains-take_suc, Contains-take_zero, take-whole}
 use Rattle.search.proofs.Nodes.{asked-to, linked-needed, take-front, closing-start, closing-step, closing-end}
 use Rattle.search.proofs.PinnedMaps.{Needed-more}
-use Rattle.search.specs.declared.parts.Since.{Since}
+use Rattle.search.specs.declared.parts.KnownBefore.{KnownBefore}
 use Rattle.search.specs.Tied.Front.{IsAsking, IsFollowed}
 use Rattle.search.specs.Tied.Nodes.{Extends, Grows, nodes_asked, nodes_linked, wants_linked}
 use Rattle.search.specs.Rules.{Rules}
@@ -40,11 +40,11 @@ asking-step rules chosen nodes new asked more at link n c l is g k = record {
       ];
 }
 
-pub followed-step : (rules : Rules ℕ ℕ ℕ ℕ) (chosen : ℕ → Option ℕ) (nodes new asked more : List ℕ) (since : Since) (at link : ℕ) → IsFollowed rules chosen nodes asked since at → at < length nodes → link ≡ get_or nodes at link → Grows nodes new (nodes_linked rules link (chosen (rules.on link))) → Grows asked more (wants_linked rules link (chosen (rules.on link))) → IsFollowed rules chosen new more since (at + 1)
-followed-step rules chosen nodes new asked more since at link h l is g k =
+pub followed-step : (rules : Rules ℕ ℕ ℕ ℕ) (chosen : ℕ → Option ℕ) (nodes new asked more : List ℕ) (known_before : KnownBefore) (at link : ℕ) → IsFollowed rules chosen nodes asked known_before at → at < length nodes → link ≡ get_or nodes at link → Grows nodes new (nodes_linked rules link (chosen (rules.on link))) → Grows asked more (wants_linked rules link (chosen (rules.on link))) → IsFollowed rules chosen new more known_before (at + 1)
+followed-step rules chosen nodes new asked more known_before at link h l is g k =
     let e = ap length g.extended in
     let w = h.within in
-    let front : take since.nodes new ≡ take since.nodes nodes = grows-front nodes new (nodes_linked rules link (chosen (rules.on link))) since.nodes g h.within in
+    let front : take known_before.nodes new ≡ take known_before.nodes nodes = grows-front nodes new (nodes_linked rules link (chosen (rules.on link))) known_before.nodes g h.within in
     record {
       closing = closing-step rules chosen nodes new at link h.closing l is g;
       asking = asking-step rules chosen nodes new asked more at link (h.closing.sound link (at, l, sym is)) h.asking l is g k;
@@ -60,9 +60,9 @@ Contains-take_at (x ∷ xs) (suc k) zero d a l = Contains-here x (take k xs)
 Contains-take_at (x ∷ xs) (suc k) (suc at) d a l = Contains-there x (take k xs) (get_or xs at d) (Contains-take_at xs k at d (omega arith) (omega arith))
 
 -- a node that was known on another name needn't be followed
-pub followed-skip : (rules : Rules ℕ ℕ ℕ ℕ) (chosen : ℕ → Option ℕ) (nodes asked : List ℕ) (since : Since) (at link : ℕ) → IsFollowed rules chosen nodes asked since at → at < length nodes → link ≡ get_or nodes at link → at < since.nodes → rules.on link ≢ since.name → IsFollowed rules chosen nodes asked since (at + 1)
-followed-skip rules chosen nodes asked since at link h l is low d =
-    let there : Contains (take since.nodes nodes) link = subst (λ n. Contains (take since.nodes nodes) n) (sym is) (Contains-take_at nodes since.nodes at link low h.within) in
+pub followed-skip : (rules : Rules ℕ ℕ ℕ ℕ) (chosen : ℕ → Option ℕ) (nodes asked : List ℕ) (known_before : KnownBefore) (at link : ℕ) → IsFollowed rules chosen nodes asked known_before at → at < length nodes → link ≡ get_or nodes at link → at < known_before.nodes → rules.on link ≢ known_before.last_taken → IsFollowed rules chosen nodes asked known_before (at + 1)
+followed-skip rules chosen nodes asked known_before at link h l is low d =
+    let there : Contains (take known_before.nodes nodes) link = subst (λ n. Contains (take known_before.nodes nodes) n) (sym is) (Contains-take_at nodes known_before.nodes at link low h.within) in
     record {
       closing = record {
         sound = h.closing.sound;
@@ -86,8 +86,8 @@ followed-skip rules chosen nodes asked since at link h l is low d =
     }
 
 -- the walk begins with the lines alone
-pub followed-start : (rules : Rules ℕ ℕ ℕ ℕ) (chosen : ℕ → Option ℕ) (nodes asked : List ℕ) (since : Since) → since.nodes ≡ 0 → Grows [] nodes (nodes_asked rules rules.lines) → Grows [] asked rules.lines → IsFollowed rules chosen nodes asked since 0
-followed-start rules chosen nodes asked since none g k = record {
+pub followed-start : (rules : Rules ℕ ℕ ℕ ℕ) (chosen : ℕ → Option ℕ) (nodes asked : List ℕ) (known_before : KnownBefore) → known_before.nodes ≡ 0 → Grows [] nodes (nodes_asked rules rules.lines) → Grows [] asked rules.lines → IsFollowed rules chosen nodes asked known_before 0
+followed-start rules chosen nodes asked known_before none g k = record {
   closing = closing-start rules chosen nodes g;
   asking = record {
     sound = λ r h. elim (k.only r h) [ inl a ↦ absurd (Contains-nil r a) | inr b ↦ inl b ];
@@ -100,9 +100,9 @@ followed-start rules chosen nodes asked since none g k = record {
 }
 
 -- or with all that was known before one name was taken
-pub followed-more : (rules : Rules ℕ ℕ ℕ ℕ) (old new : ℕ → Option ℕ) (nodes asked : List ℕ) (since : Since) → since.nodes ≡ length nodes → AreNeeded rules old nodes → AreAsked rules old asked → ((n v : ℕ) → old n ≡ Some v → new n ≡ Some v) → ((n : ℕ) → n ≢ since.name → new n ≡ old n) → IsFollowed rules new nodes asked since 0
-followed-more rules old new nodes asked since count a b more others =
-    let known : (link : ℕ) → Contains (take since.nodes nodes) link → Contains nodes link = λ link i. subst (λ xs. Contains xs link) (take-whole nodes since.nodes (omega arith)) i in
+pub followed-more : (rules : Rules ℕ ℕ ℕ ℕ) (old new : ℕ → Option ℕ) (nodes asked : List ℕ) (known_before : KnownBefore) → known_before.nodes ≡ length nodes → AreNeeded rules old nodes → AreAsked rules old asked → ((n v : ℕ) → old n ≡ Some v → new n ≡ Some v) → ((n : ℕ) → n ≢ known_before.last_taken → new n ≡ old n) → IsFollowed rules new nodes asked known_before 0
+followed-more rules old new nodes asked known_before count a b more others =
+    let known : (link : ℕ) → Contains (take known_before.nodes nodes) link → Contains nodes link = λ link i. subst (λ xs. Contains xs link) (take-whole nodes known_before.nodes (omega arith)) i in
     record {
       closing = record {
         sound = λ node h. Needed-more rules old new more node (a.sound node h);
@@ -119,11 +119,11 @@ followed-more rules old new nodes asked since count a b more others =
       wanted = λ link r i d j. b.whole r (wanted-asked rules old link r (old (rules.on link)) refl (a.sound link (known link i)) (subst (λ o. Contains (wants_linked rules link o) r) (others (rules.on link) d) j));
     }
 
-pub followed-needed : (rules : Rules ℕ ℕ ℕ ℕ) (chosen : ℕ → Option ℕ) (nodes asked : List ℕ) (since : Since) (at : ℕ) → IsFollowed rules chosen nodes asked since at → length nodes ≤ at → AreNeeded rules chosen nodes
-followed-needed rules chosen nodes asked since at h l = closing-end rules chosen nodes at h.closing l
+pub followed-needed : (rules : Rules ℕ ℕ ℕ ℕ) (chosen : ℕ → Option ℕ) (nodes asked : List ℕ) (known_before : KnownBefore) (at : ℕ) → IsFollowed rules chosen nodes asked known_before at → length nodes ≤ at → AreNeeded rules chosen nodes
+followed-needed rules chosen nodes asked known_before at h l = closing-end rules chosen nodes at h.closing l
 
-pub followed-asked : (rules : Rules ℕ ℕ ℕ ℕ) (chosen : ℕ → Option ℕ) (nodes asked : List ℕ) (since : Since) (at : ℕ) → IsFollowed rules chosen nodes asked since at → length nodes ≤ at → AreAsked rules chosen asked
-followed-asked rules chosen nodes asked since at h l =
+pub followed-asked : (rules : Rules ℕ ℕ ℕ ℕ) (chosen : ℕ → Option ℕ) (nodes asked : List ℕ) (known_before : KnownBefore) (at : ℕ) → IsFollowed rules chosen nodes asked known_before at → length nodes ≤ at → AreAsked rules chosen asked
+followed-asked rules chosen nodes asked known_before at h l =
     let n : AreNeeded rules chosen nodes = closing-end rules chosen nodes at h.closing l in
     record {
       sound = h.asking.sound;

@@ -1,6 +1,5 @@
 pub mod Rules
 pub mod Solutions
-pub mod Found
 pub mod Conflicts
 pub mod SetConflicts
 pub mod SetsOfChoices

@@ -7,8 +7,8 @@ ghost use Rattle.search.specs.Tied.Front.{HaveFit};
 ghost use Rattle.search.specs.Tied.Search.{taken_at, clash_in, NoneFree, IsLeastFree};
 ghost use Rattle.search.specs.Table.{rules_of};
 
-use crate::needed::place_of;
-use crate::parts::Since;
+use crate::needed_nodes::place_of;
+use crate::parts::KnownBefore;
 use crate::table::Table;
 
 /// Whether a requirement doesn't admit the release that its name has.
@@ -43,13 +43,24 @@ fn does_now_clash(
 
 /// Whether one of the requirements clashes. Of those that were known before only the ones on the
 /// name that was taken last are tested.
-pub fn do_any_clash(table: &Table, taken: &[Option<usize>], asked: &[usize], since: Since) -> bool
+pub fn do_any_clash(
+    table: &Table,
+    taken: &[Option<usize>],
+    asked: &[usize],
+    known_before: KnownBefore,
+) -> bool
     requires known { EachBelow (length table.now.requirements) asked.now }
-    requires fit { HaveFit (rules_of table.now) (taken_at taken.now) asked.now since }
+    requires fit { HaveFit (rules_of table.now) (taken_at taken.now) asked.now known_before }
     ensures { result ≡ list_any (clash_in (rules_of table.now) (taken_at taken.now)) asked.now }
 {
     for at in 0..asked.len() {
-        if does_now_clash(table, taken, asked[at], at < since.asked, since.name) {
+        if does_now_clash(
+            table,
+            taken,
+            asked[at],
+            at < known_before.asked,
+            known_before.last_taken,
+        ) {
             return true;
         }
     }

@@ -5,15 +5,15 @@ ghost use Rattle.std.specs.Ordering.{nat_cmp};
 ghost use Rattle.search.specs.Tied.Front.{IsFront};
 ghost use Rattle.search.specs.Tied.Search.{taken_at, pins_of, NoneFree, IsLeastFree};
 ghost use Rattle.search.specs.Solutions.{version_pinned};
-ghost use Rattle.search.specs.Tied.Steps.{AreKnownFrames, TakesFirst};
+ghost use Rattle.search.specs.Tied.Taken.{AreKnownFrames, TakesFirst};
 ghost use Rattle.search.specs.Table.{rules_of};
 
 use crate::clash::{do_any_clash, least_free};
-use crate::needed::{ask, follow_all, place_of};
+use crate::needed_nodes::{ask, follow_all, place_of};
 use crate::node_set::NodeSet;
-use crate::parts::{Frame, Since};
+use crate::parts::{Frame, KnownBefore};
 use crate::table::Table;
-use crate::taken::{take_frame, taken_of};
+use crate::taken_places::{take_frame, taken_of};
 use std::alloc::{AllocError, Global};
 
 /// What is taken, the nodes that are needed under it, the requirements that count there, and
@@ -47,14 +47,20 @@ impl Front {
         let taken = taken_of(alloc, table, frames)?;
         let mut needed = NodeSet::new(alloc, table.node_count())?;
         let mut asked = NodeSet::new(alloc, table.requirement_count())?;
-        let since = Since {
-            name: 0,
+        let known_before = KnownBefore {
+            last_taken: 0,
             nodes: 0,
             asked: 0,
         };
         ask(table, &mut needed, &mut asked, table.lines())?;
-        follow_all(table, taken.as_slice(), &mut needed, &mut asked, since)?;
-        let clashes = do_any_clash(table, taken.as_slice(), asked.as_slice(), since);
+        follow_all(
+            table,
+            taken.as_slice(),
+            &mut needed,
+            &mut asked,
+            known_before,
+        )?;
+        let clashes = do_any_clash(table, taken.as_slice(), asked.as_slice(), known_before);
         Ok(Front {
             taken,
             needed,
@@ -97,8 +103,8 @@ impl Front {
         ensures taken { IfOk result
             (λ _. TakesFirst self.old.taken.items self.new.taken.items frame) }
     {
-        let since = Since {
-            name: frame.name,
+        let known_before = KnownBefore {
+            last_taken: frame.name,
             nodes: self.needed.len(),
             asked: self.asked.len(),
         };
@@ -108,9 +114,14 @@ impl Front {
             self.taken.as_slice(),
             &mut self.needed,
             &mut self.asked,
-            since,
+            known_before,
         )?;
-        self.clashes = do_any_clash(table, self.taken.as_slice(), self.asked.as_slice(), since);
+        self.clashes = do_any_clash(
+            table,
+            self.taken.as_slice(),
+            self.asked.as_slice(),
+            known_before,
+        );
         Ok(())
     }
 }

@@ -38,18 +38,10 @@ pub struct Frame {
     pub turn: usize,
 }
 
-/// The name that a search took last, and how many nodes and requirements it knew before.
+/// What a search knew before it took its last name: how many nodes and requirements, and that name.
 #[derive(Clone, Copy)]
-pub struct Since {
-    pub name: usize,
+pub struct KnownBefore {
+    pub last_taken: usize,
     pub nodes: usize,
     pub asked: usize,
-}
-
-/// What a step of a search finds.
-#[derive(Debug, Drop)]
-pub enum Step {
-    Complete,
-    Entered,
-    Refuted,
 }

@@ -2,7 +2,7 @@
 use Rattle.std.proofs.Common.{ℕ, List, [], ◌++◌, ◌≡◌, ◌<◌, inl, inr, Option, Some, true, false, Contains, length, take, get_or, sym, ◌∙◌, subst, arith, nat_eq}
 use Rattle.lists.proofs.Members.{nat_cases}
 use Rattle.lists.specs.Bits.{LiesWithin}
-use Rattle.search.proofs.LearnedSearch.{places-equality}
+use Rattle.search.proofs.PlacesEquality.{places-equality}
 use Rattle.search.proofs.SetRefutations.{SetFollows-excluded, set-list-excluded}
 use Rattle.search.proofs.WhatIsLeft.{table-lawful}
 use Rattle.search.proofs.PinnedMaps.{Has-front, Needed-in_solution, some-inj}

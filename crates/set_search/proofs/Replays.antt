@@ -13,7 +13,7 @@ use Rattle.search.specs.Solutions.{IsBest, IsNext, version_pinned}
 use Rattle.search.specs.Table.{TableParts, candidates_of, in_range, name_of, rules_of}
 use Rattle.search.specs.Tied.Front.{IsFront, IsFrontOf}
 use Rattle.search.specs.Tied.Search.{AreAsked, AreNeeded, IsLeastFree, IsSearch, NoneFree, clash_in, pin_at, pins_of, taken_at}
-use Rattle.search.specs.Tied.Steps.{TakesFirst}
+use Rattle.search.specs.Tied.Taken.{TakesFirst}
 use Rattle.set_search.specs.declared.left.Left.{Left}
 use Rattle.set_search.specs.declared.replaying.Replay.{Replay}
 use Rattle.set_search.specs.Tied.Left.{Keeps}

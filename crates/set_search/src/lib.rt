@@ -29,6 +29,5 @@ mod tests;
 
 pub use crate::following::{Reason, follows};
 pub use crate::refuting::{Step, refutation_of};
-pub use crate::searching::refuted_by_sets;
 pub use crate::solving::{Found, solved};
 pub use crate::term::TableTerm;

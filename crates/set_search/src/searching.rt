@@ -1,13 +1,8 @@
 // The search itself.
 
-ghost use Rattle.std.specs.Prelude.{◌≡◌, IfOk, IfSome};
-ghost use Rattle.search.specs.SetConflicts.{IsSetRefutation};
-ghost use Rattle.search.specs.Solutions.{HasNoSolution};
-ghost use Rattle.search.specs.Table.{places_eq, rules_of};
-
 use crate::learning::{first_conflict, resolve};
 use crate::reasons::Making;
-use crate::refuting::{Step, refutation_of};
+use crate::refuting::Step;
 use crate::replaying::Move;
 use crate::settling::{apply_all, look};
 use crate::starting::{name_at, node_count_of, node_of, started};
@@ -365,23 +360,4 @@ pub fn search_sets(alloc: Global, table: &Table) -> Result<Outcome, AllocError> 
         }
     }
     Ok(Outcome::GaveUp)
-}
-
-/// A refutation of a table, if the search finds one. Then the table has no solution; where it answers none, nothing is said.
-pub fn refuted_by_sets(
-    alloc: Global,
-    table: &Table,
-) -> Result<Option<Seq<Seq<TableTerm>>>, AllocError>
-    ensures refutation { IfOk result
-        (λ list. IfSome list (λ list. IsSetRefutation (rules_of table.now) places_eq list)) }
-    ensures none { IfOk result (λ list. IfSome list (λ _. HasNoSolution (rules_of table.now))) }
-{
-    match search_sets(alloc, table)? {
-        Outcome::Refuted(steps) => {
-            let list = refutation_of(alloc, table, steps)?;
-            Ok(list)
-        }
-        Outcome::Walked { .. } => Ok(None),
-        Outcome::GaveUp => Ok(None),
-    }
 }

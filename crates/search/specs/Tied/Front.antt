@@ -1,11 +1,11 @@
 -- What a search knows of its choices while it goes forward.
--- Tied to `IsBest` by the contract of `best`; need not be read.
+-- Tied to `IsBest` by the contracts of the searches; need not be read.
 use Rattle.std.specs.Prelude.{ℕ, List, Option, ◌≡◌, ◌≢◌, ◌≤◌, false, take, length}
 use Rattle.std.specs.List.{Contains, list_any}
 use Rattle.std.specs.Ordering.{nat_cmp}
 use Rattle.search.specs.declared.front.Front.{Front}
 use Rattle.search.specs.declared.parts.Frame.{Frame}
-use Rattle.search.specs.declared.parts.Since.{Since}
+use Rattle.search.specs.declared.parts.KnownBefore.{KnownBefore}
 use Rattle.search.specs.Tied.Nodes.{IsClosing, nodes_linked, wants_linked}
 use Rattle.search.specs.Rules.{Rules}
 use Rattle.search.specs.Tied.Search.{taken_at, pins_of, clash_in, IsAsked, AreNeeded, AreAsked}
@@ -19,16 +19,16 @@ pub record IsAsking (rules : Rules ℕ ℕ ℕ ℕ) (chosen : ℕ → Option ℕ
   pub wanted : (link r : ℕ) → Contains (take at nodes) link → Contains (wants_linked rules link (chosen (rules.on link))) r → Contains asked r
 
 -- the same walk, where the nodes that were known on other names lead to nothing new
-pub record IsFollowed (rules : Rules ℕ ℕ ℕ ℕ) (chosen : ℕ → Option ℕ) (nodes asked : List ℕ) (since : Since) (at : ℕ) : Type 0 where
+pub record IsFollowed (rules : Rules ℕ ℕ ℕ ℕ) (chosen : ℕ → Option ℕ) (nodes asked : List ℕ) (known_before : KnownBefore) (at : ℕ) : Type 0 where
   pub closing : IsClosing rules chosen nodes at
   pub asking : IsAsking rules chosen nodes asked at
-  pub within : since.nodes ≤ length nodes
-  pub linked : (link node : ℕ) → Contains (take since.nodes nodes) link → rules.on link ≢ since.name → Contains (nodes_linked rules link (chosen (rules.on link))) node → Contains nodes node
-  pub wanted : (link r : ℕ) → Contains (take since.nodes nodes) link → rules.on link ≢ since.name → Contains (wants_linked rules link (chosen (rules.on link))) r → Contains asked r
+  pub within : known_before.nodes ≤ length nodes
+  pub linked : (link node : ℕ) → Contains (take known_before.nodes nodes) link → rules.on link ≢ known_before.last_taken → Contains (nodes_linked rules link (chosen (rules.on link))) node → Contains nodes node
+  pub wanted : (link r : ℕ) → Contains (take known_before.nodes nodes) link → rules.on link ≢ known_before.last_taken → Contains (wants_linked rules link (chosen (rules.on link))) r → Contains asked r
 
 -- the requirements that were known on other names don't clash
-abbrev pub HaveFit : Rules ℕ ℕ ℕ ℕ → (ℕ → Option ℕ) → List ℕ → Since → Type 0
-HaveFit rules chosen asked since = (r : ℕ) → Contains (take since.asked asked) r → rules.name r ≢ since.name → clash_in rules chosen r ≡ false
+abbrev pub HaveFit : Rules ℕ ℕ ℕ ℕ → (ℕ → Option ℕ) → List ℕ → KnownBefore → Type 0
+HaveFit rules chosen asked known_before = (r : ℕ) → Contains (take known_before.asked asked) r → rules.name r ≢ known_before.last_taken → clash_in rules chosen r ≡ false
 
 -- a front has all that is needed and asked for under what it takes, and tells whether something clashes
 pub record IsFront (t : TableParts) (front : Front) : Type 0 where

@@ -1,5 +1,5 @@
 -- Lists of nodes that grow.
--- Tied to `Needed` by the contract of `best`; need not be read.
+-- Tied to `Needed` by the contracts of the searches; need not be read.
 use Rattle.std.specs.Prelude.{ℕ, List, [], ◌∷◌, ◌++◌, Option, Some, None, ◌≡◌, ◌⊎◌, true, false, take, Bool}
 use Rattle.std.specs.List.{Contains, slice_index_or}
 use Rattle.search.specs.Rules.{Rules}

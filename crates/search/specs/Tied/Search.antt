@@ -1,5 +1,5 @@
 -- What a backtracking search keeps true of its choices.
--- Tied to `IsBest` by the contract of `best`; need not be read.
+-- Tied to `IsBest` by the contracts of the searches; need not be read.
 use Rattle.std.specs.Prelude.{ℕ, List, [], ◌∷◌, ◌++◌, Option, Some, None, ◌≡◌, ◌<◌, ◌≤◌, ◌⊎◌, Bool, true, false, not, take, length}
 use Rattle.std.specs.List.{Contains, slice_index_or}
 use Rattle.search.specs.declared.parts.Frame.{Frame}

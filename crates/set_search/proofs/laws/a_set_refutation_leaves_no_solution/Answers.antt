@@ -1,5 +1,5 @@
 use Rattle.search.specs.Table.{places_eq, rules_of}
-use Rattle.search.proofs.LearnedSearch.{places-equality}
+use Rattle.search.proofs.PlacesEquality.{places-equality}
 use Rattle.set_search.proofs.laws.a_set_refutation_leaves_no_solution.Goals as goal
 
 pub returns : goal.returns

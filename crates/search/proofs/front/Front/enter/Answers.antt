@@ -5,7 +5,7 @@ use Rattle.search.proofs.Walks.{followed-more, extends-front}
 use Rattle.search.specs.Tied.Front.{IsFront}
 use Rattle.search.specs.Ranges.{EachBelow}
 use Rattle.search.specs.Tied.Search.{taken_at, clash_in, AreNeeded, AreAsked}
-use Rattle.search.specs.Tied.Steps.{TakesFirst}
+use Rattle.search.specs.Tied.Taken.{TakesFirst}
 use Rattle.search.specs.Table.{rules_of}
 use Rattle.search.proofs.front.Front.enter.Goals as goal
 
@@ -28,7 +28,7 @@ pub follow_all-requires-clause-followed : goal.follow_all-requires-clause-follow
 follow_all-requires-clause-followed c =
     let f : IsFront c.args.table.now c.args.self.now = c.requires.front in
     let k : TakesFirst c.args.self.now.taken.items c.take_frame.new.taken.items c.args.frame = c.take_frame.ensures in
-    followed-more (rules_of c.args.table.now) (taken_at c.args.self.now.taken.items) (taken_at c.as_slice.result.now) c.args.self.now.needed.members c.args.self.now.asked.members (record { name = c.args.frame.name; nodes = c.len.result; asked = c.len-2.result }) c.len.ensures.len f.needed f.asked
+    followed-more (rules_of c.args.table.now) (taken_at c.args.self.now.taken.items) (taken_at c.as_slice.result.now) c.args.self.now.needed.members c.args.self.now.asked.members (record { last_taken = c.args.frame.name; nodes = c.len.result; asked = c.len-2.result }) c.len.ensures.len f.needed f.asked
     (λ n v e. ap (λ (ts : List (Option ℕ)). taken_at ts n) c.as_slice.ensures.value ∙ k.kept n v e)
     (λ n d. ap (λ (ts : List (Option ℕ)). taken_at ts n) c.as_slice.ensures.value ∙ k.others n d)
 
@@ -39,7 +39,7 @@ pub do_any_clash-self-requires-clause-fit : goal.do_any_clash-self-requires-clau
 do_any_clash-self-requires-clause-fit c =
     let f : IsFront c.args.table.now c.args.self.now = c.requires.front in
     let k : TakesFirst c.args.self.now.taken.items c.take_frame.new.taken.items c.args.frame = c.take_frame.ensures in
-    fit-kept (rules_of c.args.table.now) (taken_at c.args.self.now.taken.items) (taken_at c.as_slice-2.result.now) c.args.self.now.asked.members c.as_slice-3.result.now (record { name = c.args.frame.name; nodes = c.len.result; asked = c.len-2.result })
+    fit-kept (rules_of c.args.table.now) (taken_at c.args.self.now.taken.items) (taken_at c.as_slice-2.result.now) c.args.self.now.asked.members c.as_slice-3.result.now (record { last_taken = c.args.frame.name; nodes = c.len.result; asked = c.len-2.result })
     (extends-front c.args.self.now.asked.members c.as_slice-3.result.now c.len-2.result
     (c.in_ok-follow_all.ensures.kept.0, c.as_slice-3.ensures.members ∙ c.in_ok-follow_all.ensures.kept.1) c.len-2.ensures.len)
     (sym f.clashes ∙ c.requires.fits)

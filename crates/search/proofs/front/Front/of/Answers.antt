@@ -31,7 +31,7 @@ pub follow_all-requires-clause-followed : goal.follow_all-requires-clause-follow
 follow_all-requires-clause-followed c =
     let g : IsGrown c.in_ok-needed.needed c.ask.new.nodes (nodes_asked (rules_of c.args.table.now) c.lines.result.now) = c.in_ok-ask.ensures.nodes in
     let k : IsGrown c.in_ok-asked.asked c.ask.new.asked c.lines.result.now = c.in_ok-ask.ensures.asked in
-    followed-start (rules_of c.args.table.now) (taken_at c.as_slice.result.now) c.ask.new.nodes.members c.ask.new.asked.members (record { name = 0; nodes = 0; asked = 0 }) refl
+    followed-start (rules_of c.args.table.now) (taken_at c.as_slice.result.now) c.ask.new.nodes.members c.ask.new.asked.members (record { last_taken = 0; nodes = 0; asked = 0 }) refl
     (subst₂ (λ (old lines : List ℕ). Grows old c.ask.new.nodes.members (nodes_asked (rules_of c.args.table.now) lines)) c.in_ok-needed.ensures.0 c.lines.ensures.lines g.grows)
     (subst₂ (λ (old lines : List ℕ). Grows old c.ask.new.asked.members lines) c.in_ok-asked.ensures.0 c.lines.ensures.lines k.grows)
 
@@ -39,7 +39,7 @@ pub do_any_clash-clashes-requires-clause-known : goal.do_any_clash-clashes-requi
 do_any_clash-clashes-requires-clause-known c = subst (λ room. EachBelow room c.as_slice-3.result.now) c.in_ok-follow_all.ensures.asked_room c.as_slice-3.ensures.within
 
 pub do_any_clash-clashes-requires-clause-fit : goal.do_any_clash-clashes-requires-clause-fit
-do_any_clash-clashes-requires-clause-fit c = fit-none (rules_of c.args.table.now) (taken_at c.as_slice-2.result.now) c.as_slice-3.result.now (record { name = 0; nodes = 0; asked = 0 }) refl
+do_any_clash-clashes-requires-clause-fit c = fit-none (rules_of c.args.table.now) (taken_at c.as_slice-2.result.now) c.as_slice-3.result.now (record { last_taken = 0; nodes = 0; asked = 0 }) refl
 
 pub returns-clause-front : goal.returns-clause-front
 returns-clause-front c = record {

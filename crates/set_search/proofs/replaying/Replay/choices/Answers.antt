@@ -5,7 +5,7 @@ use Rattle.search.specs.declared.parts.Frame.{Frame}
 use Rattle.search.specs.Solutions.{IsBest, version_pinned}
 use Rattle.search.specs.Table.{TableParts, place_in, rules_of}
 use Rattle.search.specs.Tied.Search.{pins_of}
-use Rattle.search.specs.Tied.Steps.{AreKnownFrames}
+use Rattle.search.specs.Tied.Taken.{AreKnownFrames}
 use Rattle.set_search.proofs.Replays.{front-best}
 use Rattle.set_search.proofs.replaying.Replay.choices.Goals as goal
 

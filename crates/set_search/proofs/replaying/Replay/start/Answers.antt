@@ -5,7 +5,7 @@ use Rattle.search.specs.declared.parts.Frame.{Frame}
 use Rattle.search.specs.Solutions.{version_pinned}
 use Rattle.search.specs.Table.{rules_of}
 use Rattle.search.specs.Tied.Search.{IsSearch, pins_of}
-use Rattle.search.specs.Tied.Steps.{AreKnownFrames}
+use Rattle.search.specs.Tied.Taken.{AreKnownFrames}
 use Rattle.set_search.specs.Tied.Left.{Keeps}
 use Rattle.set_search.proofs.replaying.Replay.start.Goals as goal
 

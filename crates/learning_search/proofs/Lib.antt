@@ -1,0 +1,10 @@
+pub mod Sets
+pub mod Entries
+pub mod Assignments
+pub mod LearnedSearch
+pub mod Asked
+pub mod Rows
+pub mod Watching
+pub mod Needs
+pub mod Learns
+pub mod WhatIsLeftToLearn

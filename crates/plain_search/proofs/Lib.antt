@@ -1,0 +1,3 @@
+pub mod Refuted
+pub mod Steps
+pub mod WorkLeft

@@ -1,9 +1,0 @@
-use Rattle.std.proofs.Common.{ℕ, [], length, ◌≡◌}
-use Rattle.search.specs.Tied.Agendas.{row_at}
-use Rattle.search.proofs.agenda.empty_rows.Given as goal
-
-abbrev pub invariant-loop : goal.invariant-loop
-invariant-loop l = record {
-  size : length l.rows.items ≡ l.counter;
-  empty : (n : ℕ) → row_at l.rows.items n ≡ [];
-}

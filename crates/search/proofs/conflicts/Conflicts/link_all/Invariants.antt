@@ -1,5 +1,0 @@
-use Rattle.std.proofs.Common.{◌≡◌}
-use Rattle.search.proofs.conflicts.Conflicts.link_all.Given as goal
-
-abbrev pub invariant-loop-decision : goal.invariant-loop-decision
-invariant-loop-decision l = l.self.list.items ≡ l.fn.self.list.items

@@ -1,6 +1,0 @@
-use Rattle.std.proofs.Common.{List, ℕ, length, subst, sym}
-use Rattle.search.specs.Ranges.{EachBelow}
-use Rattle.search.proofs.needed.follow.Goals as goal
-
-pub ask-requires-clause-known : goal.ask-requires-clause-known
-ask-requires-clause-known c = subst (λ (rs : List ℕ). EachBelow (length c.args.table.now.requirements) rs) (sym c.wants.ensures.wants) c.wants.ensures.known

@@ -1,5 +1,0 @@
-use Rattle.std.proofs.Common.{rules}
-use Rattle.search.proofs.refusal.tied_clash.Goals as goal
-
-pub returns-then-first-candidate : goal.returns-then-first-candidate
-returns-then-first-candidate c = search rules
