@@ -24,6 +24,9 @@ versions-alike = eq_by_cmp_equiv version_total
 pub same-back : (v w : VersionParts) → same_version v w ≡ true → same_version w v ≡ true
 same-back v w h = sym (versions-alike.symm v w) ∙ h
 
+pub apart-back : (v w : VersionParts) → same_version v w ≡ false → same_version w v ≡ false
+apart-back v w h = sym (versions-alike.symm v w) ∙ h
+
 pub same-onward : (u v w : VersionParts) → same_version u v ≡ true → same_version v w ≡ true → same_version u w ≡ true
 same-onward u v w h k = versions-alike.congr u v w h ∙ k
 

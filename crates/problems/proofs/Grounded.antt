@@ -1,7 +1,8 @@
 -- What is found in a list passes its test, and where nothing is found nothing passes.
-use Rattle.std.proofs.Common.{◌≡◌, ◌∙◌, ◌↔◌, inl, inr, IsTrue, is_some, ◌<◌, ◌+◌, ◌&&◌, ◌||◌, ℕ, zero, suc, Bool, true, false, List, [], ◌∷◌, Option, Some, None, MatchOption, Contains, drop, find, filter, get_or, length, map, refl, sym, ap, subst}
+use Rattle.std.proofs.Common.{◌≡◌, ◌∙◌, ◌↔◌, inl, inr, IsTrue, is_some, ◌<◌, ◌+◌, ◌&&◌, ◌||◌, ℕ, zero, suc, Bool, true, false, List, [], ◌∷◌, Option, Some, None, IfSome, MatchOption, Contains, drop, find, filter, get_or, length, map, refl, sym, ap, subst}
 use Rattle.std.specs.Bool.{Decides}
 use Rattle.std.specs.List.{list_all, list_any, slice_get}
+use Rattle.std.specs.Option.{option_map_or}
 use Rattle.std.proofs.lemmas.Bool.{cases_Bool}
 use Rattle.std.proofs.lemmas.List.{at_drop_more}
 use Rattle.std.proofs.lemmas.Option.{slice_get_read}
@@ -30,6 +31,19 @@ any-past p xs k x within is fails so_far = so_far ∙ at_drop_more (list_any p) 
 
 pub placed : {X : Type 0} (xs : List X) (k : ℕ) (x : X) → k < length xs → x ≡ get_or xs k x → slice_get xs k ≡ Some x
 placed xs k x within is = slice_get_read xs (length xs) k x refl within is
+
+pub all-past : {X : Type 0} (p : X → Bool) (xs : List X) (k : ℕ) (x : X) → k < length xs → x ≡ get_or xs k x → p x ≡ true
+    → list_all p xs ≡ list_all p (drop k xs) → list_all p xs ≡ list_all p (drop (k + 1) xs)
+all-past p xs k x within is passes so_far = so_far ∙ at_drop_more (list_all p) xs k x within ∙ ap (λ b. b && list_all p (drop (k + 1) xs)) (ap p (sym is) ∙ passes)
+
+pub all-stopped : {X : Type 0} (p : X → Bool) (xs : List X) (k : ℕ) (x : X) → k < length xs → x ≡ get_or xs k x → p x ≡ false
+    → list_all p xs ≡ list_all p (drop k xs) → list_all p xs ≡ false
+all-stopped p xs k x within is fails so_far = so_far ∙ at_drop_more (list_all p) xs k x within ∙ ap (λ b. b && list_all p (drop (k + 1) xs)) (ap p (sym is) ∙ fails)
+
+any-at : {X : Type 0} (p : X → Bool) (xs : List X) (k : ℕ) (x : X) → slice_get xs k ≡ Some x → p x ≡ true → list_any p xs ≡ true
+any-at p [] k x e h = absurd cc
+any-at p (y ∷ ys) zero x e h = let same : y ≡ x = cc in rw (ap p same ∙ h) refl
+any-at p (y ∷ ys) (suc k) x e h = elim (cases_Bool (p y)) [ inl passes ↦ rw passes refl | inr fails ↦ rw fails (any-at p ys k x e h) ]
 
 -- ---- what is found
 
@@ -70,7 +84,7 @@ never b d e p = let t = d.1 p in absurd cc
 pub found-fails : {X : Type 0} (p : X → Bool) (xs : List X) (x : X) → find p xs ≡ Some x → p x ≡ false → ⊥
 found-fails p xs x e f = let t = (found-is p xs x e).1 in absurd cc
 
-slice_get-there : {X : Type 0} (xs : List X) (k : ℕ) (x : X) → slice_get xs k ≡ Some x → Contains xs x
+pub slice_get-there : {X : Type 0} (xs : List X) (k : ℕ) (x : X) → slice_get xs k ≡ Some x → Contains xs x
 slice_get-there [] k x e = absurd cc
 slice_get-there (y ∷ ys) zero x e = let same : y ≡ x = cc in subst (λ z. Contains (y ∷ ys) z) same (Contains-here y ys)
 slice_get-there (y ∷ ys) (suc k) x e = Contains-there y ys x (slice_get-there ys k x e)
@@ -164,16 +178,15 @@ unexhausted given earlier conflict by_choice by_line none = elim (none-cases giv
 ]
 
 -- of the nodes that a requirement needs, the name alone comes first
-pub none-left_out : (test : Node → Bool) (wanted : RequirementParts) → test (bare wanted.name) ≡ false → find (λ extra. test (with_extra wanted.name extra)) wanted.extras ≡ None
+pub none-left_out : (test : Node → Bool) (wanted : RequirementParts) → test (bare wanted.name) ≡ false → list_any (λ extra. test (with_extra wanted.name extra)) wanted.extras ≡ false
     → list_any test (nodes_of wanted) ≡ false
-none-left_out test wanted bare_left e =
-    let rest : list_any test (map (with_extra wanted.name) wanted.extras) ≡ false = sym (any-mapped test (with_extra wanted.name) wanted.extras) ∙ found-none _ wanted.extras e in
+none-left_out test wanted bare_left none =
+    let rest : list_any test (map (with_extra wanted.name) wanted.extras) ≡ false = sym (any-mapped test (with_extra wanted.name) wanted.extras) ∙ none in
     rw (bare_left, rest) refl
 
-pub extra-found : (test : Node → Bool) (wanted : RequirementParts) (extra : List ℕ) → find (λ extra. test (with_extra wanted.name extra)) wanted.extras ≡ Some extra
+pub extra-found : (test : Node → Bool) (wanted : RequirementParts) (extra : List ℕ) → Contains wanted.extras extra × (test (with_extra wanted.name extra) ≡ true)
     → Contains (nodes_of wanted) (with_extra wanted.name extra) × (test (with_extra wanted.name extra) ≡ true)
-extra-found test wanted extra e =
-    let k = found-is _ wanted.extras extra e in
+extra-found test wanted extra k =
     (Contains-there (bare wanted.name) (map (with_extra wanted.name) wanted.extras) (with_extra wanted.name extra) (Contains-map_of (with_extra wanted.name) wanted.extras extra k.0), k.1)
 
 -- a dependency that counts is wanted
@@ -183,12 +196,12 @@ wanted-counts given node version wanted there counts_there =
     subst (λ ws. Contains ws wanted) (counted given node (release_at given node.name version))
     (Contains-filter_of (counts given.environment node.extra) (dependencies_at given node.name version) wanted there counts_there)
 
-pub exhausted-last : (given : ProblemParts) (earlier : List (List ChoiceParts)) (conflict : List ChoiceParts) (found : Option Ground)
-    → list_any (λ one. list_any (λ wanted. list_any (none_left given earlier conflict) (nodes_of wanted)) (wants given one.node one.version)) conflict ≡ false
-    → MatchOption found (list_any (λ line. list_any (none_left given earlier conflict) (nodes_of line)) given.active ≡ false) (IsGround given earlier conflict)
-    → MatchOption found (NoneLeft (rules_of given) same_version earlier conflict → ⊥) (IsGround given earlier conflict)
-exhausted-last given earlier conflict None by_choice by_line = unexhausted given earlier conflict by_choice by_line
-exhausted-last given earlier conflict (Some found) by_choice ground_is = ground_is
+pub exhausted-last : (H : Type 0) (given : ProblemParts) (earlier : List (List ChoiceParts)) (conflict : List ChoiceParts) (found : Option Ground)
+    → (H → list_any (λ line. list_any (none_left given earlier conflict) (nodes_of line)) given.active ≡ false)
+    → MatchOption found (H → list_any (λ one. list_any (λ wanted. list_any (none_left given earlier conflict) (nodes_of wanted)) (wants given one.node one.version)) conflict ≡ false) (IsGround given earlier conflict)
+    → MatchOption found (H → NoneLeft (rules_of given) same_version earlier conflict → ⊥) (IsGround given earlier conflict)
+exhausted-last H given earlier conflict None by_line by_choice = λ h. unexhausted given earlier conflict (by_choice h) (by_line h)
+exhausted-last H given earlier conflict (Some found) by_line ground_is = ground_is
 
 ground-follows : (given : ProblemParts) (earlier : List (List ChoiceParts)) (conflict : List ChoiceParts) (ground : Ground) → IsGround given earlier conflict ground
     → Follows (rules_of given) same_version earlier conflict
@@ -204,19 +217,53 @@ pub ground-decides : (given : ProblemParts) (earlier : List (List ChoiceParts)) 
 ground-decides given earlier conflict None none = ((λ h. absurd cc), (λ f. absurd (none f)))
 ground-decides given earlier conflict (Some ground) ground_is = ((λ h. ground-follows given earlier conflict ground ground_is), (λ f. refl))
 
-pub ground-last : (given : ProblemParts) (earlier : List (List ChoiceParts)) (conflict : List ChoiceParts) (found : Option Ground)
+pub ground-last : (H : Type 0) (given : ProblemParts) (earlier : List (List ChoiceParts)) (conflict : List ChoiceParts) (found : Option Ground)
     → (LineRefuses (rules_of given) conflict → ⊥) → (ChoicesClash (rules_of given) conflict → ⊥) → (VersionsDiffer (rules_of given) same_version conflict → ⊥)
-    → MatchOption found (NoneLeft (rules_of given) same_version earlier conflict → ⊥) (IsGround given earlier conflict)
-    → MatchOption found (Follows (rules_of given) same_version earlier conflict → ⊥) (IsGround given earlier conflict)
-ground-last given earlier conflict None line clash differs none = λ f. elim f [
+    → MatchOption found (H → NoneLeft (rules_of given) same_version earlier conflict → ⊥) (IsGround given earlier conflict)
+    → MatchOption found (H → Follows (rules_of given) same_version earlier conflict → ⊥) (IsGround given earlier conflict)
+ground-last H given earlier conflict None line clash differs none = λ h f. elim f [
   | inl a ↦ line a
   | inr (inl b) ↦ clash b
   | inr (inr (inl d)) ↦ differs d
-  | inr (inr (inr e)) ↦ none e
+  | inr (inr (inr e)) ↦ none h e
 ]
-ground-last given earlier conflict (Some found) line clash differs ground_is = ground_is
+ground-last H given earlier conflict (Some found) line clash differs ground_is = ground_is
+
+-- a look among all finds a ground exactly where there is one
+pub ground-whole : (H : Type 0) (given : ProblemParts) (earlier : List (List ChoiceParts)) (conflict : List ChoiceParts) (found : Option Ground) → H
+    → MatchOption found (H → Follows (rules_of given) same_version earlier conflict → ⊥) (IsGround given earlier conflict)
+    → MatchOption found (Follows (rules_of given) same_version earlier conflict → ⊥) (IsGround given earlier conflict)
+ground-whole H given earlier conflict None h none = none h
+ground-whole H given earlier conflict (Some found) h ground_is = ground_is
+
+-- what hints find is a ground
+pub ground-hinted : (P : Type 0) (given : ProblemParts) (earlier : List (List ChoiceParts)) (conflict : List ChoiceParts) (found : Option Ground)
+    → MatchOption found P (IsGround given earlier conflict) → IfSome found (IsGround given earlier conflict)
+ground-hinted P given earlier conflict None none = tt
+ground-hinted P given earlier conflict (Some found) ground_is = ground_is
 
 -- ---- an earlier conflict is completed
+
+pub there-at : {X : Type 0} (p : X → Bool) (found : Option X) → option_map_or p found false ≡ true → (x : X) × (found ≡ Some x) × (p x ≡ true)
+there-at p None passes = absurd cc
+there-at p (Some x) passes = (x, refl, passes)
+
+-- what hints found, and what was found among all
+pub found-by_hints : (P : Type 0) (Q : ℕ → Type 0) (found : Option ℕ) → IfSome found Q → P → MatchOption found P Q
+found-by_hints P Q None is none = none
+found-by_hints P Q (Some place) is none = is
+
+pub found-among_all : (H P : Type 0) (Q : ℕ → Type 0) (found : Option ℕ) → MatchOption found P Q → MatchOption found (H → P) Q
+found-among_all H P Q None none = λ h. none
+found-among_all H P Q (Some place) is = is
+
+pub completes-found : (H : Type 0) (earlier : List (List ChoiceParts)) (conflict : List ChoiceParts) (choice : ChoiceParts) (found : Option ℕ)
+    → MatchOption found (H → completes earlier conflict choice ≡ false) (λ place. (old : List ChoiceParts) × (slice_get earlier place ≡ Some old) × (list_all (is_within conflict choice) old ≡ true))
+    → (is_some found ≡ true → completes earlier conflict choice ≡ true) × (H → is_some found ≡ completes earlier conflict choice)
+completes-found H earlier conflict choice None none = ((λ h. absurd cc), (λ h. sym (none h)))
+completes-found H earlier conflict choice (Some place) k =
+    let there = any-at (λ old. list_all (is_within conflict choice) old) earlier place k.0 k.1 k.2 in
+    ((λ h. there), (λ h. sym there))
 
 pub completed-place : (earlier : List (List ChoiceParts)) (conflict : List ChoiceParts) (choice : ChoiceParts) (found : Option ℕ)
     → MatchOption found (completes earlier conflict choice ≡ false) (λ place. (old : List ChoiceParts) × (slice_get earlier place ≡ Some old) × (list_all (is_within conflict choice) old ≡ true))

@@ -8,6 +8,7 @@ pub mod Checked
 pub mod WalkedLists
 pub mod SetsCompleted
 pub mod SetsChecked
+pub mod SetsGrounded
 pub mod Counting
 pub mod Grounded
 pub mod NumbersFound

@@ -1,9 +1,10 @@
 -- The tests of the checker decide the four cases by which a conflict of sets follows.
-use Rattle.std.proofs.Common.{◌≡◌, ◌⊎◌, inl, inr, ◌<◌, ◌&&◌, ◌||◌, not, ℕ, zero, suc, true, false, List, [], ◌∷◌, ◌++◌, Contains, get_or, length, take, arith, refl, sym, subst, append_assoc, append-nil}
+use Rattle.std.proofs.Common.{◌≡◌, ◌∙◌, ◌⊎◌, inl, inr, ◌<◌, ◌+◌, ◌&&◌, ◌||◌, not, ℕ, zero, suc, Bool, true, false, List, [], ◌∷◌, ◌++◌, Option, Some, None, Contains, drop, get_or, length, take, ap, arith, refl, sym, subst, append_assoc, append-nil}
 use Rattle.std.specs.Bool.{Decides}
 use Rattle.std.specs.List.{list_all, list_any}
 use Rattle.std.specs.Map.{lookup}
 use Rattle.std.specs.Str.{bytes_eq}
+use Rattle.std.proofs.lemmas.List.{at_drop_more}
 use Rattle.std.proofs.lemmas.Slice.Eq.{bytes_eq-Decides}
 use Rattle.pep440.specs.Version.{VersionParts}
 use Rattle.pep508.specs.Requirement.{RequirementParts}
@@ -16,19 +17,21 @@ use Rattle.problems.specs.Problem.{ProblemParts, releases_on}
 use Rattle.problems.specs.Refutations.{same_version}
 use Rattle.problems.specs.SetRefutations.{TermParts}
 use Rattle.problems.specs.Rules.{candidates, kept_version, nodes_of, rules_of, wants}
-use Rattle.problems.specs.Tied.SetChecking.{completes, each_needs, each_refuses_all, needs, none_left, none_left_behind, pair_clashes, refuses_all, refuses_at, terms_clash}
+use Rattle.problems.specs.Tied.SetChecking.{clash_onward, completes, each_needs, each_refuses_all, is_left_out, needs, none_left, none_left_behind, pair_clashes, refuses_all, refuses_at, terms_clash}
 use Rattle.problems.specs.declared.node.Node.{Node}
 use Rattle.problems.proofs.Checked.{IsReleased, differ-decides, kept-released, node-decides, preferring-all, preferring-released, refuses-decides}
 use Rattle.problems.proofs.Deciding.{IsThere, decides-all, decides-any, decides-both, decides-either, decides-itself, decides-not, decides-onto}
+use Rattle.problems.proofs.Equals.{apart-back}
+use Rattle.problems.proofs.Grounded.{never}
 use Rattle.problems.proofs.SetsCompleted.{completes-alike, completes-decides}
-use Rattle.lists.proofs.Members.{Contains-here, Contains-nil}
+use Rattle.lists.proofs.Members.{Contains-cons_cases, Contains-here, Contains-nil}
 
 -- ---- lines
 
 abbrev RefusesAll : ProblemParts → RequirementParts → TermParts → Type 0
 RefusesAll given wanted t = (wanted.name ≡ t.node.name) × ((v : VersionParts) → Contains t.versions v → admits given wanted v ≡ false)
 
-refuses_all-decides : (given : ProblemParts) (wanted : RequirementParts) (t : TermParts) → Decides (refuses_all given wanted t) (RefusesAll given wanted t)
+pub refuses_all-decides : (given : ProblemParts) (wanted : RequirementParts) (t : TermParts) → Decides (refuses_all given wanted t) (RefusesAll given wanted t)
 refuses_all-decides given wanted t = decides-both (bytes_eq wanted.name t.node.name) (list_all (λ v. not (admits given wanted v)) t.versions)
     (bytes_eq-Decides wanted.name t.node.name)
     (decides-all (λ v. not (admits given wanted v)) (λ v. admits given wanted v ≡ false) t.versions (λ v. decides-not (admits given wanted v)))
@@ -60,16 +63,55 @@ pair-decides given node v other w = decides-onto (pair_clashes given node v othe
 abbrev TermsClash : ProblemParts → TermParts → TermParts → Type 0
 TermsClash given one other = (v : VersionParts) → Contains one.versions v → (w : VersionParts) → Contains other.versions w → PairClashes (rules_of given) same_version one.node v other.node w
 
-terms-decide : (given : ProblemParts) (one other : TermParts) → Decides (terms_clash given one other) (TermsClash given one other)
+pub terms-decide : (given : ProblemParts) (one other : TermParts) → Decides (terms_clash given one other) (TermsClash given one other)
 terms-decide given one other = decides-all (λ v. list_all (pair_clashes given one.node v other.node) other.versions)
     (λ v. (w : VersionParts) → Contains other.versions w → PairClashes (rules_of given) same_version one.node v other.node w) one.versions
     (λ v. decides-all (pair_clashes given one.node v other.node) (PairClashes (rules_of given) same_version one.node v other.node) other.versions (pair-decides given one.node v other.node))
 
-pub clash-decides : (given : ProblemParts) (conflict : List TermParts) → Decides (list_any (λ one. list_any (terms_clash given one) conflict) conflict) (SetsClash (rules_of given) same_version conflict)
-clash-decides given conflict = decides-onto _
-    (decides-any (λ one. list_any (terms_clash given one) conflict) (λ one. IsThere (TermsClash given one) conflict) conflict (λ one. decides-any (terms_clash given one) (TermsClash given one) conflict (terms-decide given one)))
-    (λ k. record { one = k.item; other = k.is.item; there = k.there; there_too = k.is.there; clash = λ v w i j. k.is.is v i w j })
-    (λ r. record { item = r.one; there = r.there; is = record { item = r.other; there = r.there_too; is = λ v i w j. r.clash v w i j } })
+-- what clashes does so whichever is named first
+pair-back : (given : ProblemParts) (node : Node) (v : VersionParts) (other : Node) (w : VersionParts) → PairClashes (rules_of given) same_version other w node v → PairClashes (rules_of given) same_version node v other w
+pair-back given node v other w k = elim k [ inl a ↦ inr (inl a) | inr (inl b) ↦ inl b | inr (inr d) ↦ inr (inr (sym d.0, apart-back w v d.1)) ]
+
+terms-back : (given : ProblemParts) (one other : TermParts) → terms_clash given one other ≡ true → terms_clash given other one ≡ true
+terms-back given one other h = (terms-decide given other one).1 (λ v i w j. pair-back given other.node v one.node w ((terms-decide given one other).0 h w j v i))
+
+pub any-there : {X : Type 0} (p : X → Bool) (xs : List X) (x : X) → Contains xs x → p x ≡ true → list_any p xs ≡ true
+any-there p xs x there h = (decides-any p (λ y. p y ≡ true) xs (λ y. decides-itself (p y))).1 (record { item = x; there = there; is = h })
+
+either-first : (a b : Bool) → a ≡ true → (a || b) ≡ true
+either-first true b h = refl
+either-first false b h = absurd cc
+
+either-second : (a b : Bool) → b ≡ true → (a || b) ≡ true
+either-second true b h = refl
+either-second false b h = h
+
+onward-whole : (given : ProblemParts) (conflict : List TermParts) (one other : TermParts) → Contains conflict one → Contains conflict other → terms_clash given one other ≡ true → clash_onward given conflict ≡ true
+onward-whole given [] one other i j h = absurd (Contains-nil one i)
+onward-whole given (t ∷ ts) one other i j h =
+    let here = list_any (terms_clash given t) (t ∷ ts) in
+    elim (Contains-cons_cases t ts one i) [
+      | inl e ↦ either-first here (clash_onward given ts) (any-there (terms_clash given t) (t ∷ ts) other j (subst (λ x. terms_clash given x other ≡ true) (sym e) h))
+      | inr more ↦ elim (Contains-cons_cases t ts other j) [
+        | inl e ↦ either-first here (clash_onward given ts) (any-there (terms_clash given t) (t ∷ ts) one i (subst (λ x. terms_clash given x one ≡ true) (sym e) (terms-back given one other h)))
+        | inr rest ↦ either-second here (clash_onward given ts) (onward-whole given ts one other more rest h)
+      ]
+    ]
+
+pub unclashed : (given : ProblemParts) (conflict : List TermParts) → clash_onward given conflict ≡ false → SetsClash (rules_of given) same_version conflict → ⊥
+unclashed given conflict none k =
+    let clash = (terms-decide given k.one k.other).1 (λ v i w j. k.clash v w i j) in
+    let some = onward-whole given conflict k.one k.other k.there k.there_too clash in
+    absurd cc
+
+pub onward-past : (given : ProblemParts) (conflict : List TermParts) (k : ℕ) (one : TermParts) → k < length conflict → one ≡ get_or conflict k one → list_any (terms_clash given one) (drop k conflict) ≡ false
+    → clash_onward given conflict ≡ clash_onward given (drop k conflict) → clash_onward given conflict ≡ clash_onward given (drop (k + 1) conflict)
+onward-past given conflict k one within is fails so_far =
+    let item : TermParts = get_or conflict k one in
+    let rest : List TermParts = drop (k + 1) conflict in
+    let off : list_any (terms_clash given one) (item ∷ rest) ≡ false = sym (at_drop_more (list_any (terms_clash given one)) conflict k one within) ∙ fails in
+    let none : list_any (terms_clash given item) (item ∷ rest) ≡ false = subst (λ x. list_any (terms_clash given x) (item ∷ rest) ≡ false) is off in
+    so_far ∙ at_drop_more (clash_onward given) conflict k one within ∙ ap (λ b. b || clash_onward given rest) none
 
 refuses_all-at : (given : ProblemParts) (one other : TermParts) → each_refuses_all given one other ≡ true → (v : VersionParts) → Contains one.versions v → (w : VersionParts) → Contains other.versions w → Refuses (rules_of given) one.node v other.node w
 refuses_all-at given one other h v i w j =
@@ -120,17 +162,22 @@ each_needs-decides given t node = decides-all (λ v. list_any (λ wanted. needs 
 abbrev IsLeftBehind : ProblemParts → List (List TermParts) → List TermParts → TermParts → Node → Type 0
 IsLeftBehind given earlier conflict t node = IsExhausted given earlier conflict node × EachNeeds given t node
 
+pub behind-decides : (given : ProblemParts) (earlier : List (List TermParts)) (conflict : List TermParts) (t : TermParts) (node : Node)
+    → Decides (is_left_out given earlier conflict (Some t) node) (IsLeftBehind given earlier conflict t node)
+behind-decides given earlier conflict t node = decides-both (none_left given earlier conflict node) (each_needs given t node) (exhausted-decides given earlier conflict node) (each_needs-decides given t node)
+
+pub left_out-decides : (given : ProblemParts) (earlier : List (List TermParts)) (conflict : List TermParts) (node : Node)
+    → Decides (is_left_out given earlier conflict None node) (IsExhausted given earlier conflict node)
+left_out-decides given earlier conflict node = decides-onto (is_left_out given earlier conflict None node)
+    (decides-both (none_left given earlier conflict node) true (exhausted-decides given earlier conflict node) (decides-itself true))
+    (λ k. k.0)
+    (λ e. (e, refl))
+
 first-decides : (given : ProblemParts) (earlier : List (List TermParts)) (conflict : List TermParts) (t : TermParts) (first : VersionParts) (others : List VersionParts)
     → Decides (none_left_behind given earlier conflict t (first ∷ others)) (IsThere (λ wanted. IsThere (IsLeftBehind given earlier conflict t) (nodes_of wanted)) (wants given t.node first))
 first-decides given earlier conflict t first others =
-    decides-any (λ wanted. list_any (λ node. none_left given earlier conflict node && each_needs given t node) (nodes_of wanted)) (λ wanted. IsThere (IsLeftBehind given earlier conflict t) (nodes_of wanted)) (wants given t.node first)
-    (λ wanted. decides-any (λ node. none_left given earlier conflict node && each_needs given t node) (IsLeftBehind given earlier conflict t) (nodes_of wanted)
-    (λ node. decides-both (none_left given earlier conflict node) (each_needs given t node) (exhausted-decides given earlier conflict node) (each_needs-decides given t node)))
-
-behind-found : (given : ProblemParts) (earlier : List (List TermParts)) (conflict : List TermParts) (t : TermParts) (versions : List VersionParts) → none_left_behind given earlier conflict t versions ≡ true
-    → (node : Node) × IsLeftBehind given earlier conflict t node
-behind-found given earlier conflict t [] h = absurd cc
-behind-found given earlier conflict t (first ∷ others) h = let k = (first-decides given earlier conflict t first others).0 h in (k.is.item, k.is.is)
+    decides-any (λ wanted. list_any (is_left_out given earlier conflict (Some t)) (nodes_of wanted)) (λ wanted. IsThere (IsLeftBehind given earlier conflict t) (nodes_of wanted)) (wants given t.node first)
+    (λ wanted. decides-any (is_left_out given earlier conflict (Some t)) (IsLeftBehind given earlier conflict t) (nodes_of wanted) (behind-decides given earlier conflict t))
 
 behind-whole : (given : ProblemParts) (earlier : List (List TermParts)) (conflict : List TermParts) (t : TermParts) (node : Node) → IsLeftBehind given earlier conflict t node → (versions : List VersionParts) → t.versions ≡ versions
     → (versions ≡ []) ⊎ (none_left_behind given earlier conflict t versions ≡ true)
@@ -139,23 +186,10 @@ behind-whole given earlier conflict t node left (first ∷ others) e =
     let w = left.1 first (subst (λ vs. Contains vs first) (sym e) (Contains-here first others)) in
     inr ((first-decides given earlier conflict t first others).1 (record { item = w.0; there = w.1; is = record { item = node; there = w.2; is = left } }))
 
-pub none-by_term : (given : ProblemParts) (earlier : List (List TermParts)) (conflict : List TermParts) → list_any (λ t. none_left_behind given earlier conflict t t.versions) conflict ≡ true
-    → NoCandidateLeft (rules_of given) same_version earlier conflict
-none-by_term given earlier conflict h =
-    let k = (decides-any (λ t. none_left_behind given earlier conflict t t.versions) (λ t. none_left_behind given earlier conflict t t.versions ≡ true) conflict (λ t. decides-itself (none_left_behind given earlier conflict t t.versions))).0 h in
-    let left = behind-found given earlier conflict k.item k.item.versions k.is in
-    record { node = left.0; needs = inr (k.item, k.there, left.1.1); each = left.1.0 }
-
 by_line-decides : (given : ProblemParts) (earlier : List (List TermParts)) (conflict : List TermParts)
-    → Decides (list_any (λ line. list_any (none_left given earlier conflict) (nodes_of line)) given.active) (IsThere (λ line. IsThere (IsExhausted given earlier conflict) (nodes_of line)) given.active)
-by_line-decides given earlier conflict = decides-any (λ line. list_any (none_left given earlier conflict) (nodes_of line)) (λ line. IsThere (IsExhausted given earlier conflict) (nodes_of line)) given.active
-    (λ line. decides-any (none_left given earlier conflict) (IsExhausted given earlier conflict) (nodes_of line) (exhausted-decides given earlier conflict))
-
-pub none-by_line : (given : ProblemParts) (earlier : List (List TermParts)) (conflict : List TermParts) → list_any (λ line. list_any (none_left given earlier conflict) (nodes_of line)) given.active ≡ true
-    → NoCandidateLeft (rules_of given) same_version earlier conflict
-none-by_line given earlier conflict h =
-    let k = (by_line-decides given earlier conflict).0 h in
-    record { node = k.is.item; needs = inl (k.item, k.there, k.is.there); each = k.is.is }
+    → Decides (list_any (λ line. list_any (is_left_out given earlier conflict None) (nodes_of line)) given.active) (IsThere (λ line. IsThere (IsExhausted given earlier conflict) (nodes_of line)) given.active)
+by_line-decides given earlier conflict = decides-any (λ line. list_any (is_left_out given earlier conflict None) (nodes_of line)) (λ line. IsThere (IsExhausted given earlier conflict) (nodes_of line)) given.active
+    (λ line. decides-any (is_left_out given earlier conflict None) (IsExhausted given earlier conflict) (nodes_of line) (left_out-decides given earlier conflict))
 
 -- a term with no version clashes with itself
 empty-clashes : (given : ProblemParts) (conflict : List TermParts) (t : TermParts) → Contains conflict t → t.versions ≡ [] → SetsClash (rules_of given) same_version conflict
@@ -167,16 +201,15 @@ empty-clashes given conflict t there e = record {
   clash = λ v w i j. absurd (Contains-nil v (subst (λ vs. Contains vs v) e i));
 }
 
-pub none-whole : (given : ProblemParts) (earlier : List (List TermParts)) (conflict : List TermParts) → NoCandidateLeft (rules_of given) same_version earlier conflict
-    → list_any (λ t. none_left_behind given earlier conflict t t.versions) conflict ≡ false
-    → (list_any (λ line. list_any (none_left given earlier conflict) (nodes_of line)) given.active ≡ true) ⊎ SetsClash (rules_of given) same_version conflict
-none-whole given earlier conflict f off = elim f.needs [
-  | inl a ↦ inl ((by_line-decides given earlier conflict).1 (record { item = a.0; there = a.1; is = record { item = f.node; there = a.2; is = f.each } }))
+pub none-whole : (given : ProblemParts) (earlier : List (List TermParts)) (conflict : List TermParts)
+    → list_any (λ line. list_any (is_left_out given earlier conflict None) (nodes_of line)) given.active ≡ false → list_any (λ t. none_left_behind given earlier conflict t t.versions) conflict ≡ false
+    → NoCandidateLeft (rules_of given) same_version earlier conflict → SetsClash (rules_of given) same_version conflict
+none-whole given earlier conflict by_line by_term f = elim f.needs [
+  | inl a ↦ absurd (never _ (by_line-decides given earlier conflict) by_line (record { item = a.0; there = a.1; is = record { item = f.node; there = a.2; is = f.each } }))
   | inr b ↦ elim (behind-whole given earlier conflict b.0 f.node (f.each, b.2) b.0.versions refl) [
-    | inl none ↦ inr (empty-clashes given conflict b.0 b.1 none)
+    | inl none ↦ empty-clashes given conflict b.0 b.1 none
     | inr left ↦
-        let on = (decides-any (λ t. none_left_behind given earlier conflict t t.versions) (λ t. none_left_behind given earlier conflict t t.versions ≡ true) conflict (λ t. decides-itself (none_left_behind given earlier conflict t t.versions))).1
-        (record { item = b.0; there = b.1; is = left }) in
+        let on = any-there (λ t. none_left_behind given earlier conflict t t.versions) conflict b.0 b.1 left in
         absurd cc
   ]
 ]

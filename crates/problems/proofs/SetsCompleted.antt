@@ -57,10 +57,13 @@ completes-alike earlier conflict node v w h k = (
   ],
 )
 
+pub term-decides : (earlier : List (List TermParts)) (conflict : List TermParts) (t : TermParts)
+    → Decides (each_completes earlier conflict t) ((v : VersionParts) → Contains t.versions v → CompletesSet same_version earlier conflict t.node v)
+term-decides earlier conflict t = decides-all (completes earlier conflict t.node) (CompletesSet same_version earlier conflict t.node) t.versions (completes-decides earlier conflict t.node)
+
 pub each-decides : (earlier : List (List TermParts)) (conflict : List TermParts) → Decides (list_any (each_completes earlier conflict) conflict) (EachVersion same_version earlier conflict)
 each-decides earlier conflict = decides-onto (list_any (each_completes earlier conflict) conflict)
-    (decides-any (each_completes earlier conflict) (λ (t : TermParts). (v : VersionParts) → Contains t.versions v → CompletesSet same_version earlier conflict t.node v) conflict
-    (λ t. decides-all (completes earlier conflict t.node) (CompletesSet same_version earlier conflict t.node) t.versions (completes-decides earlier conflict t.node)))
+    (decides-any (each_completes earlier conflict) (λ (t : TermParts). (v : VersionParts) → Contains t.versions v → CompletesSet same_version earlier conflict t.node v) conflict (term-decides earlier conflict))
     (λ k. record { term = k.item; there = k.there; each = k.is })
     (λ e. record { item = e.term; there = e.there; is = e.each })
 

@@ -1,5 +1,6 @@
 pub mod Problem
 pub mod Admission
+pub mod Reasons
 pub mod Rules
 pub mod Solutions
 pub mod Refutations

@@ -9,7 +9,7 @@ ghost use Rattle.pep440.specs.Version.{is_pre};
 ghost use Rattle.problems.specs.Admission as spec;
 ghost use Rattle.problems.specs.Problem.{releases_on};
 
-use crate::question::Question;
+use crate::problem::Problem;
 use lists::Seq;
 use pep440::Version;
 use pep508::{Environment, Requirement};
@@ -17,7 +17,7 @@ use snapshot::{Release, RequiresPython};
 use std::alloc::{AllocError, Global};
 
 /// Whether what a release asks of Python is met; where it asks for nothing, it is.
-fn meets_python(environment: &Environment, python: Option<&RequiresPython>) -> bool
+pub(crate) fn meets_python(environment: &Environment, python: Option<&RequiresPython>) -> bool
     ensures { result ≡ spec.meets_python environment.now (option_copied python.entry) }
 {
     match python {
@@ -60,10 +60,10 @@ fn some_line_pins(lines: &[Requirement], wanted: &Requirement) -> bool
 }
 
 /// Whether the requirement, or an active line on its name, names a pre-release.
-fn names_pre(question: &Question<'_>, wanted: &Requirement) -> bool
-    ensures { result ≡ spec.is_said clauses.names_pre question.now wanted.now }
+fn names_pre(problem: &Problem<'_>, wanted: &Requirement) -> bool
+    ensures { result ≡ spec.is_said clauses.names_pre problem.now wanted.now }
 {
-    wanted.specifiers().names_pre() || some_line_names_pre(question.active.as_slice(), wanted)
+    wanted.specifiers().names_pre() || some_line_names_pre(problem.active.as_slice(), wanted)
 }
 
 /// Whether neither a pre-release nor yanked.
@@ -74,26 +74,26 @@ fn is_final(release: &Release) -> bool
 }
 
 /// Whether some final release fits.
-fn has_final(question: &Question<'_>, wanted: &Requirement) -> bool
-    ensures { result ≡ spec.has_final question.now wanted.now }
+fn has_final(problem: &Problem<'_>, wanted: &Requirement) -> bool
+    ensures { result ≡ spec.has_final problem.now wanted.now }
 {
-    let environment = &question.environment;
-    let releases = question.releases(wanted.name());
+    let environment = &problem.environment;
+    let releases = problem.releases(wanted.name());
     releases.iter().any(|release| is_final(release) && fits(environment, wanted, release))
 }
 
 /// Whether pre-releases count: where they are asked for by name, or where no final release fits.
-fn takes_pre(question: &Question<'_>, wanted: &Requirement) -> bool
-    ensures { result ≡ spec.takes_pre question.now wanted.now }
+pub(crate) fn takes_pre(problem: &Problem<'_>, wanted: &Requirement) -> bool
+    ensures { result ≡ spec.takes_pre problem.now wanted.now }
 {
-    names_pre(question, wanted) || !has_final(question, wanted)
+    names_pre(problem, wanted) || !has_final(problem, wanted)
 }
 
 /// Whether yanked releases count: where the requirement, or an active line on its name, pins one.
-fn takes_yanked(question: &Question<'_>, wanted: &Requirement) -> bool
-    ensures { result ≡ spec.takes_yanked question.now wanted.now }
+pub(crate) fn takes_yanked(problem: &Problem<'_>, wanted: &Requirement) -> bool
+    ensures { result ≡ spec.takes_yanked problem.now wanted.now }
 {
-    wanted.specifiers().pins() || some_line_pins(question.active.as_slice(), wanted)
+    wanted.specifiers().pins() || some_line_pins(problem.active.as_slice(), wanted)
 }
 
 /// Whether some of the releases is a pre-release.
@@ -152,36 +152,36 @@ fn admitted(
 /// The lines are asked about pre-releases and yanked releases only where the name has one.
 pub fn admissions(
     alloc: Global,
-    question: &Question<'_>,
+    problem: &Problem<'_>,
     wanted: &Requirement,
 ) -> Result<Seq<bool>, AllocError>
     ensures { IfOk result
         (λ admits. admits
-        ≡ map (spec.admits_release question.now wanted.now) (releases_on question.now
+        ≡ map (spec.admits_release problem.now wanted.now) (releases_on problem.now
         wanted.now.name)) }
 {
-    let releases = question.releases(wanted.name());
-    let pre = has_pre(releases) && takes_pre(question, wanted);
-    let yanked = has_yanked(releases) && takes_yanked(question, wanted);
-    admitted(alloc, &question.environment, wanted, pre, yanked, releases)
+    let releases = problem.releases(wanted.name());
+    let pre = has_pre(releases) && takes_pre(problem, wanted);
+    let yanked = has_yanked(releases) && takes_yanked(problem, wanted);
+    admitted(alloc, &problem.environment, wanted, pre, yanked, releases)
 }
 
 /// Whether the requirement admits a release of its name. The lines are asked about pre-releases and
 /// yanked releases only where the release is one.
-fn admits_found(question: &Question<'_>, wanted: &Requirement, release: &Release) -> bool
-    ensures { result ≡ spec.admits_release question.now wanted.now release.now }
+fn admits_found(problem: &Problem<'_>, wanted: &Requirement, release: &Release) -> bool
+    ensures { result ≡ spec.admits_release problem.now wanted.now release.now }
 {
-    let pre = release.version().is_pre() && takes_pre(question, wanted);
-    let yanked = release.yanked() && takes_yanked(question, wanted);
-    admits_release(&question.environment, wanted, pre, yanked, release)
+    let pre = release.version().is_pre() && takes_pre(problem, wanted);
+    let yanked = release.yanked() && takes_yanked(problem, wanted);
+    admits_release(&problem.environment, wanted, pre, yanked, release)
 }
 
 /// Whether the requirement admits a version of its name: none that is no release's.
-pub fn admits(question: &Question<'_>, wanted: &Requirement, version: &Version) -> bool
-    ensures { result ≡ spec.admits question.now wanted.now version.now }
+pub fn admits(problem: &Problem<'_>, wanted: &Requirement, version: &Version) -> bool
+    ensures { result ≡ spec.admits problem.now wanted.now version.now }
 {
-    match question.release(wanted.name(), version) {
-        Some(release) => admits_found(question, wanted, release),
+    match problem.release(wanted.name(), version) {
+        Some(release) => admits_found(problem, wanted, release),
         None => false,
     }
 }

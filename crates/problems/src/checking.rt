@@ -10,32 +10,62 @@ mod sets;
 
 pub use crate::checking::sets::check_sets;
 use crate::choice::Choice;
-use crate::grounds::ground_in;
+use crate::grounds::ground_by;
+use crate::grounds::hints::{Places, places_of};
 use crate::laws;
 use crate::problem::Problem;
-use crate::question::Question;
 use crate::refutation::Refutation;
 use lists::Seq;
 
 /// Whether a conflict follows from earlier ones.
-fn follows(question: &Question<'_>, earlier: &[Seq<Choice>], conflict: &[Choice]) -> bool
+fn follows(
+    problem: &Problem<'_>,
+    earlier: &[Seq<Choice>],
+    conflict: &[Choice],
+    places: Option<&Places<'_>>,
+) -> bool
     ensures { IsTrue result
-        ↔ Follows (rules_of question.now) same_version earlier.now conflict.now }
+        ↔ Follows (rules_of problem.now) same_version earlier.now conflict.now }
 {
-    ground_in(question, earlier, conflict).is_some()
+    ground_by(problem, earlier, conflict, places).is_some()
 }
 
 /// Whether each conflict follows from those before it.
-fn each_follows(question: &Question<'_>, conflicts: &[Seq<Choice>]) -> bool
+fn each_follows(
+    problem: &Problem<'_>,
+    conflicts: &[Seq<Choice>],
+    places: Option<&Places<'_>>,
+) -> bool
     ensures { IsTrue result
-        ↔ EachFollows (rules_of question.now) same_version [] conflicts.now }
+        ↔ EachFollows (rules_of problem.now) same_version [] conflicts.now }
 {
     for place in 0..conflicts.len() {
-        if !follows(question, &conflicts[..place], conflicts[place].as_slice()) {
+        if !follows(
+            problem,
+            &conflicts[..place],
+            conflicts[place].as_slice(),
+            places,
+        ) {
             return false;
         }
     }
     true
+}
+
+/// Where to look for the conflicts, of which the last is empty: a copy of it takes no memory, and lends
+/// the allocator. Nothing where memory is wanting.
+fn hints_of(conflicts: &[Seq<Choice>]) -> Option<Places<'_>> {
+    let last = conflicts.last()?.clone().ok()?.into_vec();
+    places_of(*last.allocator(), conflicts).ok()
+}
+
+/// The same, where hints tell to look first.
+fn all_follow(problem: &Problem<'_>, conflicts: &[Seq<Choice>]) -> bool
+    ensures { IsTrue result
+        ↔ EachFollows (rules_of problem.now) same_version [] conflicts.now }
+{
+    let places = hints_of(conflicts);
+    each_follows(problem, conflicts, places.as_ref())
 }
 
 /// Whether the last conflict is empty.
@@ -50,10 +80,10 @@ fn ends_empty(conflicts: &[Seq<Choice>]) -> bool
 }
 
 /// Whether these conflicts are a refutation of what is asked.
-fn is_refutation(question: &Question<'_>, conflicts: &[Seq<Choice>]) -> bool
-    ensures { IsTrue result ↔ IsRefutation (rules_of question.now) same_version conflicts.now }
+fn is_refutation(problem: &Problem<'_>, conflicts: &[Seq<Choice>]) -> bool
+    ensures { IsTrue result ↔ IsRefutation (rules_of problem.now) same_version conflicts.now }
 {
-    ends_empty(conflicts) && each_follows(question, conflicts)
+    ends_empty(conflicts) && all_follow(problem, conflicts)
 }
 
 /// Whether each conflict follows from those before it and the last one is empty, whoever made the
@@ -64,5 +94,5 @@ pub fn check(problem: &Problem<'_>, refutation: &Refutation) -> bool
     ensures none { IsTrue result → HasNoSolution (rules_of problem.now) }
 {
     laws::an_accepted_refutation_leaves_no_solution();
-    is_refutation(problem.question(), refutation.conflicts())
+    is_refutation(problem, refutation.conflicts())
 }

@@ -1,6 +1,6 @@
 // The ground of a conflict. None of it has a refusal.
 
-ghost use Rattle.std.specs.Prelude.{◌≡◌, ◌∷◌, [], List, MatchOption, Some};
+ghost use Rattle.std.specs.Prelude.{◌≡◌, ◌∷◌, [], IfSome, List, MatchOption, None, Some};
 ghost use Rattle.std.specs.List.{slice_get};
 ghost use Rattle.std.specs.Option.{option_copied};
 ghost use Rattle.search.specs.Conflicts.{Completes, Follows};
@@ -12,6 +12,7 @@ pub(crate) mod clashing;
 pub(crate) mod completing;
 pub(crate) mod differing;
 mod exhausting;
+pub(crate) mod hints;
 pub(crate) mod refusing;
 
 use crate::choice::Choice;
@@ -20,33 +21,35 @@ use crate::grounds::clashing::clashing;
 use crate::grounds::completing::first_completed;
 use crate::grounds::differing::differing;
 use crate::grounds::exhausting::exhausted;
+use crate::grounds::hints::{Hints, Places};
 use crate::grounds::refusing::refused;
 use crate::problem::Problem;
-use crate::question::Question;
 use lists::Seq;
 use pep440::Version;
 use pep508::Name;
 
-/// A ground by which a conflict follows from earlier ones, or nothing where it doesn't follow.
-pub(crate) fn ground_in<'a>(
-    question: &'a Question<'_>,
+/// A ground by which a conflict follows from earlier ones that are found.
+pub(crate) fn found_ground<'a>(
+    problem: &'a Problem<'_>,
     earlier: &[Seq<Choice>],
+    hints: Option<&Hints<'_, '_>>,
     conflict: &'a [Choice],
 ) -> Option<Ground<'a>>
     ensures { MatchOption result
-        (Follows (rules_of question.now) same_version earlier.now conflict.now → ⊥)
-        (IsGround question.now earlier.now conflict.now) }
+        (hints.entry ≡ None
+        → Follows (rules_of problem.now) same_version earlier.now conflict.now → ⊥)
+        (IsGround problem.now earlier.now conflict.now) }
 {
-    if let Some(ground) = refused(question, conflict) {
+    if let Some(ground) = refused(problem, conflict) {
         return Some(ground);
     }
-    if let Some(ground) = clashing(question, conflict) {
+    if let Some(ground) = clashing(problem, conflict) {
         return Some(ground);
     }
     if let Some(ground) = differing(conflict) {
         return Some(ground);
     }
-    exhausted(question, earlier, conflict)
+    exhausted(problem, earlier, hints, conflict)
 }
 
 /// A ground by which a conflict follows from earlier ones, or nothing where it doesn't follow.
@@ -59,7 +62,43 @@ pub fn ground_of<'a>(
         (Follows (rules_of problem.now) same_version earlier.now conflict.now → ⊥)
         (IsGround problem.now earlier.now conflict.now) }
 {
-    ground_in(problem.question(), earlier, conflict)
+    found_ground(problem, earlier, None, conflict)
+}
+
+/// A ground by which a conflict follows from earlier ones that are found where hints tell to look; none
+/// either where memory is wanting.
+fn hinted_ground<'a>(
+    problem: &'a Problem<'_>,
+    earlier: &[Seq<Choice>],
+    conflict: &'a [Choice],
+    places: &Places<'_>,
+) -> Option<Ground<'a>>
+    ensures { IfSome result (IsGround problem.now earlier.now conflict.now) }
+{
+    let hints = places.hints(earlier, conflict).ok()?;
+    found_ground(problem, earlier, Some(&hints), conflict)
+}
+
+/// What `ground_of` gives, which is looked for where hints tell before it is looked for everywhere.
+///
+/// An accepted list costs no look at all earlier conflicts: one that lies in the conflict without the
+/// choice that is looked up has a ground by hints, and the conflict has the same one.
+pub(crate) fn ground_by<'a>(
+    problem: &'a Problem<'_>,
+    earlier: &[Seq<Choice>],
+    conflict: &'a [Choice],
+    places: Option<&Places<'_>>,
+) -> Option<Ground<'a>>
+    ensures { MatchOption result
+        (Follows (rules_of problem.now) same_version earlier.now conflict.now → ⊥)
+        (IsGround problem.now earlier.now conflict.now) }
+{
+    if let Some(places) = places {
+        if let Some(ground) = hinted_ground(problem, earlier, conflict, places) {
+            return Some(ground);
+        }
+    }
+    ground_of(problem, earlier, conflict)
 }
 
 /// The place of one of the earlier conflicts that the conflict contains with the version at the

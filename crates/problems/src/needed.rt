@@ -9,7 +9,7 @@ ghost use Rattle.problems.specs.Solutions.{AreNeeded, version_for};
 
 use crate::node::Node;
 use crate::nodes::Nodes;
-use crate::question::Question;
+use crate::problem::Problem;
 use crate::releases::counts;
 use lists::Seq;
 use pep440::Version;
@@ -74,26 +74,26 @@ fn add_dependencies(
 /// Adds the nodes that a node leads to.
 fn follow(
     alloc: Global,
-    question: &Question<'_>,
+    problem: &Problem<'_>,
     versions: &BTreeMap<Name, Version>,
     nodes: &mut Nodes,
     node: &Node,
 ) -> Result<(), AllocError>
     ensures { IfOk result
-        (λ _. Grows nodes.old nodes.new (nodes_linked question.now node.now (version_for
+        (λ _. Grows nodes.old nodes.new (nodes_linked problem.now node.now (version_for
         versions.now.entries node.now.name))) }
 {
     let Some(version) = versions.get(&node.name) else {
         return Ok(());
     };
-    let Some(release) = question.release(&node.name, version) else {
+    let Some(release) = problem.release(&node.name, version) else {
         return Ok(());
     };
     let extra = node.extra.as_ref();
     add_dependencies(
         alloc,
         nodes,
-        &question.environment,
+        &problem.environment,
         extra,
         release.dependencies(),
     )?;
@@ -103,17 +103,17 @@ fn follow(
 /// The nodes that are needed where these versions are chosen.
 pub(crate) fn needed(
     alloc: Global,
-    question: &Question<'_>,
+    problem: &Problem<'_>,
     versions: &BTreeMap<Name, Version>,
 ) -> Result<Seq<Node>, AllocError>
-    ensures { IfOk result (AreNeeded question.now (version_for versions.now.entries)) }
+    ensures { IfOk result (AreNeeded problem.now (version_for versions.now.entries)) }
 {
     let mut nodes = Nodes::new(alloc);
-    add_lines(alloc, &mut nodes, question.active.as_slice())?;
+    add_lines(alloc, &mut nodes, problem.active.as_slice())?;
     let mut at = 0;
     while at < nodes.len() {
         let node = nodes.as_slice()[at].clone()?;
-        follow(alloc, question, versions, &mut nodes, &node)?;
+        follow(alloc, problem, versions, &mut nodes, &node)?;
         at += 1;
     }
     Ok(nodes.into_seq())

@@ -1,32 +1,43 @@
 // Problems.
 
 ghost use Rattle.std.specs.Prelude.{◌≡◌, IfOk};
-ghost use Rattle.std.specs.Option.{option_copied};
+ghost use Rattle.std.specs.List.Sorted.{IsStrictlySortedBy};
+ghost use Rattle.std.specs.Option.{option_copied, option_to_list};
+ghost use Rattle.pep508.specs.Requirement.{requirement_of};
+ghost use Rattle.snapshot.specs.Releases.{newer_cmp};
 ghost use Rattle.problems.specs.Admission.{release_at};
-ghost use Rattle.problems.specs.Problem.{ProblemParts, requirements};
+ghost use Rattle.problems.specs.Problem.{ProblemParts, active_in, releases_on, requirements};
 ghost use Rattle.problems.specs.Rules.{counts};
 ghost use Rattle.problems.specs.Solutions.{AreNeeded, version_for};
+ghost use Rattle.problems.specs.Tied.Checking.{dependencies_at};
 
 use crate::node::Node;
-use crate::question::Question;
 use crate::{needed, releases};
 use lists::Seq;
 use pep440::Version;
-use pep508::{Environment, Name, ReqFile, Requirement};
+use pep508::{Environment, Line, Name, ReqFile, Requirement};
 use snapshot::{Release, Snapshot};
 use std::alloc::{AllocError, Global};
 use std::collections::BTreeMap;
 use std::marker::Model;
 
-/// What a resolver is given: the active lines of a file in an environment, an index, and the versions
-/// that an earlier lock has.
+/// What a resolver is given: the requirements of the active lines of a file in an environment, an index,
+/// and the versions that an earlier lock has.
 pub struct Problem<'a> {
-    question: Question<'a>,
+    pub active: Seq<Requirement>,
+    pub environment: Environment,
+    pub snapshot: &'a Snapshot,
+    pub kept: BTreeMap<Name, Version>,
 }
 
 impl<'a> Drop for Problem<'a> {
     fn drop(self) {
-        let Problem { question: _ } = self;
+        let Problem {
+            active: _,
+            environment: _,
+            snapshot: _,
+            kept: _,
+        } = self;
     }
 }
 
@@ -39,7 +50,42 @@ impl<'a> Model for Problem<'a> {
 
     ghost coded = { Prim.hlevel (codes, tree_code) };
 
-    ghost view = { λ p. p.question };
+    ghost view = { λ q. record {
+      active = q.active;
+      environment = q.environment;
+      index = q.snapshot.now;
+      kept = q.kept.entries;
+    } };
+}
+
+/// What a line asks for, where it counts in the environment.
+fn active<'l>(environment: &Environment, line: &'l Line) -> Option<&'l Requirement>
+    ensures { option_to_list (option_copied result)
+        ≡ active_in environment.now (requirement_of line.now) }
+{
+    let requirement = line.requirement()?;
+    if requirement.is_active(environment) {
+        Some(requirement)
+    } else {
+        None
+    }
+}
+
+/// The requirements of the active lines.
+fn requirements(
+    alloc: Global,
+    environment: &Environment,
+    lines: &[Line],
+) -> Result<Seq<Requirement>, AllocError>
+    ensures { IfOk result (λ active. active ≡ requirements environment.now lines.now) }
+{
+    let mut kept = Vec::new(alloc);
+    for line in lines {
+        if let Some(requirement) = active(environment, line) {
+            kept.push(requirement.clone()?)?;
+        }
+    }
+    Ok(Seq::from_vec(kept))
 }
 
 impl<'a> Problem<'a> {
@@ -62,29 +108,46 @@ impl<'a> Problem<'a> {
               kept = kept.entries;
             }) }
     {
-        let question = Question::new(alloc, lines, environment, snapshot, kept)?;
-        Ok(Problem { question })
+        let active = requirements(alloc, environment, lines.lines())?;
+        let environment = environment.clone()?;
+        Ok(Problem {
+            active,
+            environment,
+            snapshot,
+            kept,
+        })
     }
 
-    /// What the problem asks, for who writes a resolver.
-    pub fn question(&self) -> &Question<'a>
-        ensures { result.now ≡ self.now }
+    /// The releases of a name, newest first.
+    pub fn releases(&self, name: &Name) -> &[Release]
+        ensures listed { result.now ≡ releases_on self.now name.now }
+        ensures fall { IsStrictlySortedBy newer_cmp result.now }
     {
-        &self.question
+        self.snapshot.releases(name)
     }
 
     /// The release of a name with a version that equals this one, if the index has one.
     pub fn release(&self, name: &Name, version: &Version) -> Option<&Release>
         ensures { option_copied result ≡ release_at self.now name.now version.now }
     {
-        self.question.release(name, version)
+        releases::release_at(self.releases(name), version)
+    }
+
+    /// The dependencies of the release with that version; none where the index has no such release.
+    pub fn dependencies(&self, name: &Name, version: &Version) -> &[Requirement]
+        ensures { result.now ≡ dependencies_at self.now name.now version.now }
+    {
+        match self.release(name, version) {
+            Some(release) => release.dependencies(),
+            None => &[],
+        }
     }
 
     /// Whether a dependency counts at a node of its release: its marker holds with the node's extra.
     pub fn does_count(&self, node: &Node, dependency: &Requirement) -> bool
         ensures { result ≡ counts self.now.environment node.now.extra dependency.now }
     {
-        releases::counts(&self.question.environment, node.extra.as_ref(), dependency)
+        releases::counts(&self.environment, node.extra.as_ref(), dependency)
     }
 
     /// The nodes that are needed where these versions are chosen.
@@ -96,6 +159,6 @@ impl<'a> Problem<'a> {
         ensures { IfOk result
             (λ nodes. AreNeeded self.now (version_for versions.now.entries) nodes) }
     {
-        needed::needed(alloc, &self.question, versions)
+        needed::needed(alloc, self, versions)
     }
 }

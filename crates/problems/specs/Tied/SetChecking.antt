@@ -1,6 +1,6 @@
 -- The cases of `SetFollows` as tests.
--- Tied to `IsSetRefutation` by the contract of `check_sets`; need not be read.
-use Rattle.std.specs.Prelude.{◌&&◌, ◌||◌, not, Bool, false, List, [], ◌∷◌}
+-- Tied to `SetFollows` by the contract of `set_ground_of`; need not be read.
+use Rattle.std.specs.Prelude.{◌&&◌, ◌||◌, not, Bool, true, false, List, [], ◌∷◌, Option, Some, None}
 use Rattle.std.specs.List.{list_all, list_any}
 use Rattle.std.specs.Str.{bytes_eq}
 use Rattle.pep440.specs.Version.{VersionParts}
@@ -40,6 +40,11 @@ terms_clash given one other = list_all (λ version. list_all (pair_clashes given
 -- whether each version of a term wants something that admits none of the other's
 abbrev pub each_refuses_all : ProblemParts → TermParts → TermParts → Bool
 each_refuses_all given one other = list_all (λ version. list_any (λ wanted. refuses_all given wanted other) (wants given one.node version)) one.versions
+
+-- whether one of the terms clashes with itself or with a later one
+abbrev pub clash_onward : ProblemParts → List TermParts → Bool
+clash_onward given [] = false
+clash_onward given (one ∷ others) = list_any (terms_clash given one) (one ∷ others) || clash_onward given others
 
 -- whether the conflict has a term on the node of this one, all of whose versions are among this one's
 abbrev pub is_bound : List TermParts → TermParts → Bool
@@ -81,8 +86,17 @@ needs wanted node = list_any (λ needed. is_node needed node.name node.extra) (n
 abbrev pub each_needs : ProblemParts → TermParts → Node → Bool
 each_needs given term node = list_all (λ version. list_any (λ wanted. needs wanted node) (wants given term.node version)) term.versions
 
+-- whether each version of the term needs the node, where there is a term
+abbrev pub is_needed_by : ProblemParts → Option TermParts → Node → Bool
+is_needed_by given None node = true
+is_needed_by given (Some term) node = each_needs given term node
+
+-- whether no candidate is left for a node which each version of the term needs, where there is a term
+abbrev pub is_left_out : ProblemParts → List (List TermParts) → List TermParts → Option TermParts → Node → Bool
+is_left_out given earlier conflict term node = none_left given earlier conflict node && is_needed_by given term node
+
 -- whether each version of a term needs a node that the first one needs, and for which no candidate is left
 abbrev pub none_left_behind : ProblemParts → List (List TermParts) → List TermParts → TermParts → List VersionParts → Bool
 none_left_behind given earlier conflict term [] = false
 none_left_behind given earlier conflict term (first ∷ others) =
-    list_any (λ wanted. list_any (λ node. none_left given earlier conflict node && each_needs given term node) (nodes_of wanted)) (wants given term.node first)
+    list_any (λ wanted. list_any (is_left_out given earlier conflict (Some term)) (nodes_of wanted)) (wants given term.node first)

@@ -7,46 +7,27 @@ ghost use Rattle.problems.specs.Refutations.{same_version};
 ghost use Rattle.problems.specs.SetRefutations.{TermParts};
 ghost use Rattle.problems.specs.Rules.{rules_of};
 
-mod clashing;
-mod completing;
-mod exhausting;
-mod listing;
-mod refusing;
-
-use crate::checking::sets::clashing::sets_clash;
-use crate::checking::sets::completing::each_version_completes;
-use crate::checking::sets::exhausting::no_candidate_left;
-use crate::checking::sets::refusing::line_refuses_set;
 use crate::laws;
 use crate::problem::Problem;
-use crate::question::Question;
+use crate::set_grounds::set_ground_of;
 use crate::set_refutation::{SetRefutation, SetTerm};
 use lists::Seq;
 
 /// Whether a conflict follows from earlier ones.
-fn follows(question: &Question<'_>, earlier: &[Seq<SetTerm>], conflict: &[SetTerm]) -> bool
+fn follows(problem: &Problem<'_>, earlier: &[Seq<SetTerm>], conflict: &[SetTerm]) -> bool
     ensures { IsTrue result
-        ↔ SetFollows (rules_of question.now) same_version earlier.now conflict.now }
+        ↔ SetFollows (rules_of problem.now) same_version earlier.now conflict.now }
 {
-    if line_refuses_set(question, conflict) {
-        return true;
-    }
-    if each_version_completes(earlier, conflict) {
-        return true;
-    }
-    if sets_clash(question, conflict) {
-        return true;
-    }
-    no_candidate_left(question, earlier, conflict)
+    set_ground_of(problem, earlier, conflict).is_some()
 }
 
 /// Whether each conflict follows from those before it.
-fn each_follows(question: &Question<'_>, conflicts: &[Seq<SetTerm>]) -> bool
+fn each_follows(problem: &Problem<'_>, conflicts: &[Seq<SetTerm>]) -> bool
     ensures { IsTrue result
-        ↔ EachSetFollows (rules_of question.now) same_version [] conflicts.now }
+        ↔ EachSetFollows (rules_of problem.now) same_version [] conflicts.now }
 {
     for place in 0..conflicts.len() {
-        if !follows(question, &conflicts[..place], conflicts[place].as_slice()) {
+        if !follows(problem, &conflicts[..place], conflicts[place].as_slice()) {
             return false;
         }
     }
@@ -65,10 +46,10 @@ fn ends_empty(conflicts: &[Seq<SetTerm>]) -> bool
 }
 
 /// Whether these conflicts are a refutation of what is asked.
-fn is_refutation(question: &Question<'_>, conflicts: &[Seq<SetTerm>]) -> bool
-    ensures { IsTrue result ↔ IsSetRefutation (rules_of question.now) same_version conflicts.now }
+fn is_refutation(problem: &Problem<'_>, conflicts: &[Seq<SetTerm>]) -> bool
+    ensures { IsTrue result ↔ IsSetRefutation (rules_of problem.now) same_version conflicts.now }
 {
-    ends_empty(conflicts) && each_follows(question, conflicts)
+    ends_empty(conflicts) && each_follows(problem, conflicts)
 }
 
 /// Whether each conflict follows from those before it and the last one is empty, whoever made the
@@ -79,5 +60,5 @@ pub fn check_sets(problem: &Problem<'_>, refutation: &SetRefutation) -> bool
     ensures none { IsTrue result → HasNoSolution (rules_of problem.now) }
 {
     laws::an_accepted_set_refutation_leaves_no_solution();
-    is_refutation(problem.question(), refutation.conflicts())
+    is_refutation(problem, refutation.conflicts())
 }

@@ -13,32 +13,32 @@ ghost use Rattle.problems.specs.Rules.{rules_of};
 use crate::admission::admits;
 use crate::choice::Choice;
 use crate::ground::Ground;
-use crate::question::Question;
+use crate::problem::Problem;
 use pep508::Requirement;
 
 /// Whether a requirement is on the name of a choice and doesn't admit its version.
-pub(crate) fn refuses(question: &Question<'_>, wanted: &Requirement, choice: &Choice) -> bool
-    ensures { result ≡ spec.refuses question.now wanted.now choice.now }
+pub(crate) fn refuses(problem: &Problem<'_>, wanted: &Requirement, choice: &Choice) -> bool
+    ensures { result ≡ spec.refuses problem.now wanted.now choice.now }
 {
-    wanted.name().normal() == choice.name.normal() && !admits(question, wanted, &choice.version)
+    wanted.name().normal() == choice.name.normal() && !admits(problem, wanted, &choice.version)
 }
 
 /// Whether one of the lines refuses a choice.
-fn some_line_refuses(question: &Question<'_>, lines: &[Requirement], choice: &Choice) -> bool
-    ensures { result ≡ list_any (λ line. spec.refuses question.now line choice.now) lines.now }
+fn some_line_refuses(problem: &Problem<'_>, lines: &[Requirement], choice: &Choice) -> bool
+    ensures { result ≡ list_any (λ line. spec.refuses problem.now line choice.now) lines.now }
 {
-    lines.iter().any(|line| refuses(question, line, choice))
+    lines.iter().any(|line| refuses(problem, line, choice))
 }
 
 /// The place of the first of the lines that refuses a choice.
-fn place_refusing(question: &Question<'_>, lines: &[Requirement], choice: &Choice) -> Option<usize>
+fn place_refusing(problem: &Problem<'_>, lines: &[Requirement], choice: &Choice) -> Option<usize>
     ensures { MatchOption result
-        (list_any (λ line. spec.refuses question.now line choice.now) lines.now ≡ false)
+        (list_any (λ line. spec.refuses problem.now line choice.now) lines.now ≡ false)
         (λ place. (line : RequirementParts) × (slice_get lines.now place ≡ Some line)
-        × (spec.refuses question.now line choice.now ≡ true)) }
+        × (spec.refuses problem.now line choice.now ≡ true)) }
 {
     for place in 0..lines.len() {
-        if refuses(question, &lines[place], choice) {
+        if refuses(problem, &lines[place], choice) {
             return Some(place);
         }
     }
@@ -47,27 +47,27 @@ fn place_refusing(question: &Question<'_>, lines: &[Requirement], choice: &Choic
 
 /// The first of the choices that one of the lines refuses.
 fn choice_refused<'a>(
-    question: &Question<'_>,
+    problem: &Problem<'_>,
     lines: &[Requirement],
     conflict: &'a [Choice],
 ) -> Option<&'a Choice>
     ensures { option_copied result ≡ find
-        (λ choice. list_any (λ line. spec.refuses question.now line choice) lines.now)
+        (λ choice. list_any (λ line. spec.refuses problem.now line choice) lines.now)
         conflict.now }
 {
     conflict
         .iter()
-        .find(|choice| some_line_refuses(question, lines, choice))
+        .find(|choice| some_line_refuses(problem, lines, choice))
 }
 
 /// The active line on its name that doesn't admit one of the choices.
-pub(crate) fn refused<'a>(question: &Question<'_>, conflict: &'a [Choice]) -> Option<Ground<'a>>
-    ensures { MatchOption result (LineRefuses (rules_of question.now) conflict.now → ⊥)
+pub(crate) fn refused<'a>(problem: &Problem<'_>, conflict: &'a [Choice]) -> Option<Ground<'a>>
+    ensures { MatchOption result (LineRefuses (rules_of problem.now) conflict.now → ⊥)
         (λ found. (earlier : List (List ChoiceParts))
-        → IsGround question.now earlier conflict.now found) }
+        → IsGround problem.now earlier conflict.now found) }
 {
-    let lines = question.active.as_slice();
-    let choice = choice_refused(question, lines, conflict)?;
-    let place = place_refusing(question, lines, choice)?;
+    let lines = problem.active.as_slice();
+    let choice = choice_refused(problem, lines, conflict)?;
+    let place = place_refusing(problem, lines, choice)?;
     Some(Ground::LineRefuses(place, choice))
 }

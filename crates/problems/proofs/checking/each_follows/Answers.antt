@@ -8,7 +8,7 @@ use Rattle.problems.proofs.checking.each_follows.Goals as goal
 
 pub loop-place-preserved : goal.loop-place-preserved
 loop-place-preserved c =
-    let given = c.args.question.now in
+    let given = c.args.problem.now in
     let conflicts = c.args.conflicts.now in
     let place = c.loop-place.place in
     let here = c.index-conflicts-place.result in
@@ -18,7 +18,7 @@ loop-place-preserved c =
 
 pub returns-then-not-follows : goal.returns-then-not-follows
 returns-then-not-follows c =
-    let given = c.args.question.now in
+    let given = c.args.problem.now in
     let conflicts = c.args.conflicts.now in
     let place = c.loop-place.place in
     let follows = rw c.as_slice.ensures at c.follows.ensures in (

@@ -6,10 +6,10 @@ use Rattle.problems.specs.Solutions.{version_for}
 
 abbrev pub invariant-loop-at : goal.invariant-loop-at
 invariant-loop-at l = record {
-  closing : IsClosing l.question (version_for l.versions.entries) l.nodes l.at;
+  closing : IsClosing l.problem (version_for l.versions.entries) l.nodes l.at;
   within : l.at ≤ length l.nodes;
 }
 
 -- the nodes that may still be followed
 abbrev pub decreases-loop-at : goal.decreases-loop-at
-decreases-loop-at l = length (nodes_met l.question) - l.at
+decreases-loop-at l = length (nodes_met l.problem) - l.at

@@ -5,4 +5,4 @@ use Rattle.problems.specs.Rules.{rules_of}
 use Rattle.problems.proofs.checking.sets.each_follows.Given as goal
 
 abbrev pub invariant-loop-place : goal.invariant-loop-place
-invariant-loop-place l = EachSetFollows (rules_of l.question) same_version [] (take l.place l.conflicts)
+invariant-loop-place l = EachSetFollows (rules_of l.problem) same_version [] (take l.place l.conflicts)

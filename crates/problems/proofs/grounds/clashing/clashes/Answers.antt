@@ -9,7 +9,7 @@ use Rattle.problems.proofs.grounds.clashing.clashes.Goals as goal
 
 pub returns : goal.returns
 returns c =
-    let given = c.args.question.now in
+    let given = c.args.problem.now in
     let inside = c.one.inside in
     let test : RequirementParts → Bool = λ wanted. list_any (refuses given wanted) c.args.conflict.now in
     let some = rw (c.dependencies-dependencies.ensures, c.as_ref.ensures.value) at c.some_refuses_one.ensures in

@@ -10,7 +10,7 @@ use Rattle.problems.proofs.grounds.clashing.wanted_refusing.Goals as goal
 
 pub returns : goal.returns
 returns c =
-    let given = c.args.question.now in
+    let given = c.args.problem.now in
     let inside = c.one.inside in
     let test : RequirementParts → Bool = λ wanted. list_any (refuses given wanted) c.args.conflict.now in
     let some = rw (c.dependencies-dependencies.ensures, c.as_ref.ensures.value) at c.dependency_refusing.ensures in

@@ -12,16 +12,16 @@ use Rattle.problems.proofs.grounds.exhausting.exhausted_behind.Goals as goal
 
 pub returns-in_err-wanted : goal.returns-in_err-wanted
 returns-in_err-wanted c =
-    let given = c.args.question.now in
+    let given = c.args.problem.now in
     let inside = c.one.inside in
     let test : RequirementParts → Bool = λ wanted. list_any (none_left given c.args.earlier.now c.args.conflict.now) (nodes_of wanted) in
     let none = rw (c.dependencies-dependencies.ensures, c.as_ref.ensures.value) at c.in_err-wanted.ensures in
-    rw c.from_residual.ensures (subst (λ (one : ChoiceParts). list_any test (wants given one.node one.version) ≡ false) c.one.view_is
-    (sym (any-wanted test given (record { name = inside.name; extra = inside.extra }) inside.version) ∙ none))
+    rw c.from_residual.ensures (λ h. subst (λ (one : ChoiceParts). list_any test (wants given one.node one.version) ≡ false) c.one.view_is
+    (sym (any-wanted test given (record { name = inside.name; extra = inside.extra }) inside.version) ∙ none h))
 
 pub returns : goal.returns
 returns c = λ there.
-    let given = c.args.question.now in
+    let given = c.args.problem.now in
     let inside = c.one.inside in
     let wanted = c.in_ok-wanted.wanted.now in
     let extra = option_copied c.in_ok-wanted.extra in

@@ -4,4 +4,4 @@ use Rattle.problems.specs.Tied.Checking.{refuses}
 use Rattle.problems.proofs.grounds.refusing.place_refusing.Given as goal
 
 abbrev pub invariant-loop-place : goal.invariant-loop-place
-invariant-loop-place l = list_any (λ line. refuses l.question line l.choice) l.lines ≡ list_any (λ line. refuses l.question line l.choice) (drop l.place l.lines)
+invariant-loop-place l = list_any (λ line. refuses l.problem line l.choice) l.lines ≡ list_any (λ line. refuses l.problem line l.choice) (drop l.place l.lines)

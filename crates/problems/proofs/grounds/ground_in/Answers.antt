@@ -1,7 +1,0 @@
-use Rattle.problems.proofs.Grounded.{ground-last}
-use Rattle.problems.proofs.grounds.ground_in.Goals as goal
-
-pub returns : goal.returns
-returns c =
-    let given = c.args.question.now in
-    ground-last given c.args.earlier.now c.args.conflict.now c.exhausted.result c.in_default.ensures c.in_default-clashing.ensures (c.in_default-differing.ensures given) c.exhausted.ensures
