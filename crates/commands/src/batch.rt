@@ -16,12 +16,10 @@ use crate::reply_text::ReplyText;
 use crate::sink::Sink;
 use crate::source::Source;
 use edits::Refusal;
-use journal::{Command, Learning, Reply, Session};
+use journal::{Command, Reply, Session};
+use resolve::RESOLVER;
 use snapshot::Snapshot;
 use std::alloc::{AllocError, Global};
-
-/// What finds each lock.
-pub const RESOLVER: Learning = Learning;
 
 // How many bytes one read asks for.
 const PIECE: usize = 8192;

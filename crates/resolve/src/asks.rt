@@ -8,7 +8,8 @@ ghost use Rattle.problems.specs.Rules.{counts};
 
 use pep440::Version;
 use pep508::{Environment, Name, Requirement};
-use problems::parts::{Question, admits, counts};
+use problems::Problem;
+use problems::parts::{admits, counts};
 use std::alloc::{AllocError, Global};
 use std::marker::Model;
 
@@ -97,11 +98,11 @@ impl<'q> Asks<'q> {
     }
 
     /// Whether all of it admits a version.
-    pub(crate) fn admit(&self, question: &Question<'_>, version: &Version) -> bool
-        ensures { result ≡ list_all (λ wanted. admits question.now wanted version.now) self.now }
+    pub(crate) fn admit(&self, problem: &Problem<'_>, version: &Version) -> bool
+        ensures { result ≡ list_all (λ wanted. admits problem.now wanted version.now) self.now }
     {
         for place in 0..self.len() {
-            if !admits(question, self.at(place), version) {
+            if !admits(problem, self.at(place), version) {
                 return false;
             }
         }

@@ -11,7 +11,8 @@ ghost use Rattle.resolve.specs.Tied.Places.{AreCandidates, version_at};
 use lists::Seq;
 use pep440::Version;
 use pep508::Name;
-use problems::parts::{Question, has_version};
+use problems::Problem;
+use problems::parts::has_version;
 use snapshot::Release;
 use std::alloc::{AllocError, Global};
 
@@ -25,14 +26,14 @@ fn place_of(releases: &[Release], version: &Version) -> Option<usize>
 }
 
 /// The place of the release that has the version kept for the name.
-fn kept_place(question: &Question<'_>, name: &Name) -> Option<usize>
-    ensures version { option_map (version_at (releases_on question.now name.now)) result
-        ≡ kept_version question.now name.now }
-    ensures within { IfSome result (λ place. place < length (releases_on question.now name.now)) }
+fn kept_place(problem: &Problem<'_>, name: &Name) -> Option<usize>
+    ensures version { option_map (version_at (releases_on problem.now name.now)) result
+        ≡ kept_version problem.now name.now }
+    ensures within { IfSome result (λ place. place < length (releases_on problem.now name.now)) }
 {
-    match question.kept.get(name) {
+    match problem.kept.get(name) {
         None => None,
-        Some(version) => place_of(question.releases(name), version),
+        Some(version) => place_of(problem.releases(name), version),
     }
 }
 
@@ -51,13 +52,13 @@ fn first_place(alloc: Global, room: usize, kept: Option<usize>) -> Result<Vec<us
 /// version kept for the name, and then the others from newest to oldest.
 pub(crate) fn candidates(
     alloc: Global,
-    question: &Question<'_>,
+    problem: &Problem<'_>,
     name: &Name,
 ) -> Result<Seq<usize>, AllocError>
-    ensures { IfOk result (AreCandidates question.now name.now) }
+    ensures { IfOk result (AreCandidates problem.now name.now) }
 {
-    let releases = question.releases(name);
-    let kept = kept_place(question, name);
+    let releases = problem.releases(name);
+    let kept = kept_place(problem, name);
     let mut places = first_place(alloc, releases.len(), kept)?;
     for place in 0..releases.len() {
         if Some(place) != kept {

@@ -11,46 +11,42 @@ ghost use Rattle.resolve.specs.Tied.Choosing.{IsNewest, IsRefusedBy};
 use crate::asks::Asks;
 use pep440::Version;
 use pep508::Name;
+use problems::Problem;
 use problems::laws::equal_versions_are_alike;
-use problems::parts::Question;
 use snapshot::Release;
 
 /// The release that has the version kept for a name.
-fn kept<'q>(question: &'q Question<'_>, name: &Name) -> Option<&'q Release>
+fn kept<'q>(problem: &'q Problem<'_>, name: &Name) -> Option<&'q Release>
     ensures { option_map (λ release. release.version) (option_copied result)
-        ≡ kept_version question.now name.now }
+        ≡ kept_version problem.now name.now }
 {
-    match question.kept.get(name) {
+    match problem.kept.get(name) {
         None => None,
-        Some(version) => question.release(name, version),
+        Some(version) => problem.release(name, version),
     }
 }
 
 /// The first of the releases that all admit.
-fn first<'q>(
-    question: &Question<'_>,
-    asks: &Asks<'_>,
-    releases: &'q [Release],
-) -> Option<&'q Release>
+fn first<'q>(problem: &Problem<'_>, asks: &Asks<'_>, releases: &'q [Release]) -> Option<&'q Release>
     ensures { option_copied result
         ≡ find
-        (λ release. list_all (λ wanted. admits question.now wanted release.version) asks.now)
+        (λ release. list_all (λ wanted. admits problem.now wanted release.version) asks.now)
         releases.now }
 {
     releases
         .iter()
-        .find(|release| asks.admit(question, release.version()))
+        .find(|release| asks.admit(problem, release.version()))
 }
 
 /// The newest version of a name that all admit.
 fn newest_admitted<'q>(
-    question: &'q Question<'_>,
+    problem: &'q Problem<'_>,
     name: &Name,
     asks: &Asks<'_>,
 ) -> Option<&'q Version>
-    ensures { IfSome result (λ version. IsNewest question.now name.now asks.now version.now) }
+    ensures { IfSome result (λ version. IsNewest problem.now name.now asks.now version.now) }
 {
-    match first(question, asks, question.releases(name)) {
+    match first(problem, asks, problem.releases(name)) {
         None => None,
         Some(release) => Some(release.version()),
     }
@@ -58,22 +54,22 @@ fn newest_admitted<'q>(
 
 /// The first candidate of a name that all admit.
 pub(crate) fn first_admitted<'q>(
-    question: &'q Question<'_>,
+    problem: &'q Problem<'_>,
     name: &Name,
     asks: &Asks<'_>,
 ) -> Option<&'q Version>
     ensures { IfSome result
-        (λ version. IsFirst (rules_of question.now) (IsRefusedBy question.now asks.now) name.now
+        (λ version. IsFirst (rules_of problem.now) (IsRefusedBy problem.now asks.now) name.now
         version.now) }
 {
     equal_versions_are_alike();
-    match kept(question, name) {
-        None => newest_admitted(question, name, asks),
+    match kept(problem, name) {
+        None => newest_admitted(problem, name, asks),
         Some(release) => {
-            if asks.admit(question, release.version()) {
+            if asks.admit(problem, release.version()) {
                 Some(release.version())
             } else {
-                newest_admitted(question, name, asks)
+                newest_admitted(problem, name, asks)
             }
         }
     }

@@ -8,13 +8,14 @@ ghost use Rattle.resolve.specs.Tied.Walking.{Follow};
 use crate::asks::Asks;
 use pep440::Version;
 use pep508::{Name, Requirement};
-use problems::parts::{Nodes, Question};
+use problems::Problem;
+use problems::parts::Nodes;
 use std::alloc::{AllocError, Global};
 
 /// Follows a node whose name has this version to what is wanted there, where it wasn't followed yet.
 fn follow<'q>(
     alloc: Global,
-    question: &'q Question<'_>,
+    problem: &'q Problem<'_>,
     version: &Version,
     name: &Name,
     extra: Option<&Name>,
@@ -22,15 +23,15 @@ fn follow<'q>(
     asks: &mut Asks<'q>,
 ) -> Result<(), AllocError>
     ensures { IfOk result
-        (λ _. Follow question.now version.now
+        (λ _. Follow problem.now version.now
         (record { name = name.now; extra = option_copied extra.entry } ∷ []) followed.old
         followed.new asks.old asks.new) }
 {
     let before = followed.as_slice().len();
     followed.number_of(alloc, name, extra)?;
     if followed.as_slice().len() > before {
-        let dependencies = question.dependencies(name, version);
-        asks.push_counted(&question.environment, extra, dependencies)?;
+        let dependencies = problem.dependencies(name, version);
+        asks.push_counted(&problem.environment, extra, dependencies)?;
     }
     Ok(())
 }
@@ -38,7 +39,7 @@ fn follow<'q>(
 /// Follows the nodes of a name with each of the extras.
 fn follow_extras<'q>(
     alloc: Global,
-    question: &'q Question<'_>,
+    problem: &'q Problem<'_>,
     version: &Version,
     name: &Name,
     extras: &[Name],
@@ -46,11 +47,11 @@ fn follow_extras<'q>(
     asks: &mut Asks<'q>,
 ) -> Result<(), AllocError>
     ensures { IfOk result
-        (λ _. Follow question.now version.now (map (with_extra name.now) extras.now) followed.old
+        (λ _. Follow problem.now version.now (map (with_extra name.now) extras.now) followed.old
         followed.new asks.old asks.new) }
 {
     for extra in extras {
-        follow(alloc, question, version, name, Some(extra), followed, asks)?;
+        follow(alloc, problem, version, name, Some(extra), followed, asks)?;
     }
     Ok(())
 }
@@ -58,21 +59,21 @@ fn follow_extras<'q>(
 /// Follows the nodes of a requirement whose name has this version.
 pub(crate) fn follow_all<'q>(
     alloc: Global,
-    question: &'q Question<'_>,
+    problem: &'q Problem<'_>,
     version: &Version,
     wanted: &Requirement,
     followed: &mut Nodes,
     asks: &mut Asks<'q>,
 ) -> Result<(), AllocError>
     ensures { IfOk result
-        (λ _. Follow question.now version.now (nodes_of wanted.now) followed.old followed.new
+        (λ _. Follow problem.now version.now (nodes_of wanted.now) followed.old followed.new
         asks.old asks.new) }
 {
     let name = wanted.name();
-    follow(alloc, question, version, name, None, followed, asks)?;
+    follow(alloc, problem, version, name, None, followed, asks)?;
     follow_extras(
         alloc,
-        question,
+        problem,
         version,
         name,
         wanted.extras(),

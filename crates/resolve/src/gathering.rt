@@ -13,9 +13,9 @@ ghost use Rattle.resolve.specs.Tied.Building.{AreEntries, AreWants, IsGrown, IsW
 
 use lists::Seq;
 use pep508::{Name, Requirement};
-use problems::Node;
 use problems::laws::what_is_needed_can_be_met;
-use problems::parts::{Nodes, Question, admissions, counts};
+use problems::parts::{Nodes, admissions, counts};
+use problems::{Node, Problem};
 use search::Requirement as Entry;
 use snapshot::Release;
 use std::alloc::{AllocError, Global};
@@ -93,19 +93,19 @@ impl<'q> Gathering<'q> {
     fn ask(
         &mut self,
         alloc: Global,
-        question: &Question<'_>,
+        problem: &Problem<'_>,
         wanted: &'q Requirement,
     ) -> Result<usize, AllocError>
-        requires met { Contains (requirements_met question.now) wanted.now }
-        requires entries { AreEntries question.now self.old }
-        ensures entries { IfOk result (λ _. AreEntries question.now self.new) }
+        requires met { Contains (requirements_met problem.now) wanted.now }
+        requires entries { AreEntries problem.now self.old }
+        ensures entries { IfOk result (λ _. AreEntries problem.now self.new) }
         ensures grown { IfOk result (λ _. IsGrown self.old self.new) }
         ensures number { IfOk result (λ number. Stands self.new.asked number wanted.now) }
     {
         let number = self.asked.len();
         let node = self.nodes.number_of(alloc, wanted.name(), None)?;
         let more = extras_of(alloc, &mut self.nodes, wanted)?;
-        let admits = admissions(alloc, question, wanted)?;
+        let admits = admissions(alloc, problem, wanted)?;
         self.entries.push(Entry { node, more, admits })?;
         self.asked.push(wanted)?;
         Ok(number)
@@ -115,17 +115,17 @@ impl<'q> Gathering<'q> {
     pub(crate) fn ask_lines(
         &mut self,
         alloc: Global,
-        question: &'q Question<'_>,
+        problem: &'q Problem<'_>,
     ) -> Result<Seq<usize>, AllocError>
-        requires entries { AreEntries question.now self.old }
-        ensures entries { IfOk result (λ _. AreEntries question.now self.new) }
+        requires entries { AreEntries problem.now self.old }
+        ensures entries { IfOk result (λ _. AreEntries problem.now self.new) }
         ensures numbers { IfOk result
-            (λ numbers. AllStand self.new.asked numbers question.now.active) }
+            (λ numbers. AllStand self.new.asked numbers problem.now.active) }
     {
-        let lines = question.active.as_slice();
+        let lines = problem.active.as_slice();
         let mut numbers = Vec::with_capacity(alloc, lines.len())?;
         for wanted in lines {
-            let number = self.ask(alloc, question, wanted)?;
+            let number = self.ask(alloc, problem, wanted)?;
             numbers.push(number)?;
         }
         Ok(Seq::from_vec(numbers))
@@ -135,24 +135,24 @@ impl<'q> Gathering<'q> {
     fn ask_release(
         &mut self,
         alloc: Global,
-        question: &Question<'_>,
+        problem: &Problem<'_>,
         extra: Option<&Name>,
         release: &'q Release,
     ) -> Result<Seq<usize>, AllocError>
         requires met { (wanted : RequirementParts) → Contains release.now.dependencies wanted
-            → Contains (requirements_met question.now) wanted }
-        requires entries { AreEntries question.now self.old }
-        ensures entries { IfOk result (λ _. AreEntries question.now self.new) }
+            → Contains (requirements_met problem.now) wanted }
+        requires entries { AreEntries problem.now self.old }
+        ensures entries { IfOk result (λ _. AreEntries problem.now self.new) }
         ensures grown { IfOk result (λ _. IsGrown self.old self.new) }
         ensures numbers { IfOk result
-            (λ numbers. AllStand self.new.asked numbers (wants_of question.now.environment
+            (λ numbers. AllStand self.new.asked numbers (wants_of problem.now.environment
             (option_copied extra.entry) release.now)) }
     {
         let dependencies = release.dependencies();
         let mut numbers = Vec::new(alloc);
         for wanted in dependencies {
-            if counts(&question.environment, extra, wanted) {
-                let number = self.ask(alloc, question, wanted)?;
+            if counts(&problem.environment, extra, wanted) {
+                let number = self.ask(alloc, problem, wanted)?;
                 numbers.push(number)?;
             }
         }
@@ -164,23 +164,23 @@ impl<'q> Gathering<'q> {
     fn ask_releases(
         &mut self,
         alloc: Global,
-        question: &Question<'_>,
+        problem: &Problem<'_>,
         node: &Node,
         releases: &'q [Release],
     ) -> Result<Seq<Seq<usize>>, AllocError>
         requires met { (release : Release) → Contains releases.now release
             → (wanted : RequirementParts) → Contains release.dependencies wanted
-            → Contains (requirements_met question.now) wanted }
-        requires entries { AreEntries question.now self.old }
-        ensures entries { IfOk result (λ _. AreEntries question.now self.new) }
+            → Contains (requirements_met problem.now) wanted }
+        requires entries { AreEntries problem.now self.old }
+        ensures entries { IfOk result (λ _. AreEntries problem.now self.new) }
         ensures grown { IfOk result (λ _. IsGrown self.old self.new) }
         ensures rows { IfOk result
-            (λ rows. AreWants self.new.asked rows (map (wants_of question.now.environment
+            (λ rows. AreWants self.new.asked rows (map (wants_of problem.now.environment
             node.now.extra) releases.now)) }
     {
         let mut rows = Vec::with_capacity(alloc, releases.len())?;
         for release in releases {
-            let numbers = self.ask_release(alloc, question, node.extra.as_ref(), release)?;
+            let numbers = self.ask_release(alloc, problem, node.extra.as_ref(), release)?;
             rows.push(numbers)?;
         }
         Ok(Seq::from_vec(rows))
@@ -190,37 +190,37 @@ impl<'q> Gathering<'q> {
     fn ask_node(
         &mut self,
         alloc: Global,
-        question: &'q Question<'_>,
+        problem: &'q Problem<'_>,
         number: usize,
     ) -> Result<Seq<Seq<usize>>, AllocError>
         requires within { number < length self.old.nodes }
-        requires entries { AreEntries question.now self.old }
-        ensures entries { IfOk result (λ _. AreEntries question.now self.new) }
+        requires entries { AreEntries problem.now self.old }
+        ensures entries { IfOk result (λ _. AreEntries problem.now self.new) }
         ensures grown { IfOk result (λ _. IsGrown self.old self.new) }
         ensures rows { IfOk result (λ rows. (node : _) → Stands self.old.nodes number node
-            → IsWanted question.now self.new.asked rows node) }
+            → IsWanted problem.now self.new.asked rows node) }
     {
         what_is_needed_can_be_met();
         let node = self.nodes.as_slice()[number].clone()?;
-        let releases = question.releases(&node.name);
-        self.ask_releases(alloc, question, &node, releases)
+        let releases = problem.releases(&node.name);
+        self.ask_releases(alloc, problem, &node, releases)
     }
 
     /// Follows the nodes that are there, and those that come to them, to what is wanted at each.
     pub(crate) fn ask_nodes(
         &mut self,
         alloc: Global,
-        question: &'q Question<'_>,
+        problem: &'q Problem<'_>,
     ) -> Result<Seq<Seq<Seq<usize>>>, AllocError>
-        requires entries { AreEntries question.now self.old }
-        ensures entries { IfOk result (λ _. AreEntries question.now self.new) }
+        requires entries { AreEntries problem.now self.old }
+        ensures entries { IfOk result (λ _. AreEntries problem.now self.new) }
         ensures grown { IfOk result (λ _. IsGrown self.old self.new) }
         ensures wants { IfOk result
-            (λ wants. AllZip (IsWanted question.now self.new.asked) wants self.new.nodes) }
+            (λ wants. AllZip (IsWanted problem.now self.new.asked) wants self.new.nodes) }
     {
         let mut wants = Vec::new(alloc);
         'nodes: while wants.len() < self.nodes.len() {
-            let rows = self.ask_node(alloc, question, wants.len())?;
+            let rows = self.ask_node(alloc, problem, wants.len())?;
             wants.push(rows)?;
         }
         Ok(Seq::from_vec(wants))

@@ -31,8 +31,8 @@ mod tabling;
 mod walking;
 
 pub use crate::answer::Answer;
-pub use crate::resolver::{Learning, Plain, Resolver};
+pub use crate::resolver::{Learning, Plain, RESOLVER, Resolver};
 pub use problems::{
-    Choice, Ground, Need, Node, Problem, Refutation, SetRefutation, SetTerm, check, check_sets,
-    completed, ground_of,
+    Choice, Ground, Need, Node, Problem, Refutation, SetGround, SetNeed, SetRefutation, SetTerm,
+    check, check_sets, completed, ground_of, set_completed, set_ground_of,
 };

@@ -4,7 +4,9 @@ ghost use Rattle.std.specs.Prelude.{IfOk, MatchOption};
 ghost use Rattle.search.specs.Solutions.{HasNoSolution, IsBest};
 ghost use Rattle.search.specs.Table.{IsAscending, place_in, rules_of};
 
+use learning_search::learned_best;
 use lists::Seq;
+use plain_search::best;
 use search::{Choice, Table};
 use set_search::{Found, solved};
 use std::alloc::{AllocError, Global};
@@ -28,7 +30,7 @@ fn learned(alloc: Global, table: &Table) -> Result<Option<Seq<Choice>>, AllocErr
     match solved(alloc, table)? {
         Found::Best(choices) => Ok(Some(choices)),
         Found::Refuted(_) => Ok(None),
-        Found::GaveUp => search::learned_best(alloc, table),
+        Found::GaveUp => learned_best(alloc, table),
     }
 }
 
@@ -47,7 +49,7 @@ impl Method {
             (λ answer. MatchOption answer Unit (λ choices. IsAscending choices)) }
     {
         match self {
-            Method::Plain => search::best(alloc, table),
+            Method::Plain => best(alloc, table),
             Method::Learning => learned(alloc, table),
         }
     }

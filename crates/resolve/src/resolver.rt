@@ -13,7 +13,7 @@ use crate::method::Method;
 use crate::searching::{best, refuted};
 use crate::set_searching::refuted_by_sets;
 use crate::walking::first_walk;
-use problems::parts::{Question, cut};
+use problems::parts::cut;
 use problems::{Problem, Refutation, SetRefutation};
 use std::alloc::{AllocError, Global};
 
@@ -30,17 +30,17 @@ pub struct Plain;
 
 impl Resolver for Plain {
     fn resolve(&self, alloc: Global, problem: &Problem<'_>) -> Result<Answer, AllocError> {
-        best(alloc, problem.question(), Method::Plain)
+        best(alloc, problem, Method::Plain)
     }
 }
 
 /// What the first walk finds, or where it gives up, the searches that learn from their conflicts.
-fn walked_or_learned(alloc: Global, question: &Question<'_>) -> Result<Answer, AllocError>
-    ensures { IfOk result (Resolves question.now) }
+fn walked_or_learned(alloc: Global, problem: &Problem<'_>) -> Result<Answer, AllocError>
+    ensures { IfOk result (Resolves problem.now) }
 {
-    match first_walk(alloc, question)? {
+    match first_walk(alloc, problem)? {
         Some(versions) => Ok(Answer::Solution(versions)),
-        None => best(alloc, question, Method::Learning),
+        None => best(alloc, problem, Method::Learning),
     }
 }
 
@@ -49,9 +49,12 @@ fn walked_or_learned(alloc: Global, question: &Question<'_>) -> Result<Answer, A
 #[derive(Debug, Drop)]
 pub struct Learning;
 
+/// What finds each lock of the program.
+pub const RESOLVER: Learning = Learning;
+
 impl Resolver for Learning {
     fn resolve(&self, alloc: Global, problem: &Problem<'_>) -> Result<Answer, AllocError> {
-        walked_or_learned(alloc, problem.question())
+        walked_or_learned(alloc, problem)
     }
 }
 
@@ -67,7 +70,7 @@ impl Learning {
             (λ found. MatchOption found (HasSolution problem.now)
             (IsRefutation (rules_of problem.now) same_version)) }
     {
-        match refuted(alloc, problem.question())? {
+        match refuted(alloc, problem)? {
             None => Ok(None),
             Some(refutation) => Ok(Some(cut(alloc, problem, refutation)?)),
         }
@@ -84,6 +87,6 @@ impl Learning {
             (λ found. MatchOption found (HasSolution problem.now)
             (IsSetRefutation (rules_of problem.now) same_version)) }
     {
-        refuted_by_sets(alloc, problem.question())
+        refuted_by_sets(alloc, problem)
     }
 }

@@ -13,22 +13,22 @@ use crate::method::Method;
 use crate::refuting::refutation_of;
 use crate::solution::versions_of;
 use crate::tabling::{Tabled, table_of};
+use learning_search::{Found, learned_or_refuted};
 use pep440::Version;
 use pep508::{Name, Requirement};
-use problems::parts::Question;
-use problems::{Node, Refutation};
-use search::{Found, laws, learned_or_refuted};
+use problems::{Node, Problem, Refutation};
+use search::laws;
 use std::alloc::{AllocError, Global};
 
 /// The best solution, worked out on a table.
 fn best_in(
     alloc: Global,
-    question: &Question<'_>,
+    problem: &Problem<'_>,
     tabled: &Tabled,
     method: Method,
 ) -> Result<Answer, AllocError>
-    requires { IsPictured question.now tabled.now.names tabled.now.nodes tabled.now.table }
-    ensures { IfOk result (Resolves question.now) }
+    requires { IsPictured problem.now tabled.now.names tabled.now.nodes tabled.now.table }
+    ensures { IfOk result (Resolves problem.now) }
 {
     laws::a_picture_keeps_the_best_solution::<Name, Node, Version, Requirement>();
     let table = &tabled.table;
@@ -37,7 +37,7 @@ fn best_in(
         None => Ok(Answer::NoSolution),
         Some(choices) => {
             let names = tabled.names.as_slice();
-            let versions = versions_of(alloc, question, names, choices.as_slice())?;
+            let versions = versions_of(alloc, problem, names, choices.as_slice())?;
             Ok(Answer::Solution(versions))
         }
     }
@@ -46,26 +46,26 @@ fn best_in(
 /// The best solution, worked out on the table of the problem.
 pub(crate) fn best(
     alloc: Global,
-    question: &Question<'_>,
+    problem: &Problem<'_>,
     method: Method,
 ) -> Result<Answer, AllocError>
-    ensures { IfOk result (Resolves question.now) }
+    ensures { IfOk result (Resolves problem.now) }
 {
-    let tabled = table_of(alloc, question)?;
-    let answer = best_in(alloc, question, &tabled, method)?;
+    let tabled = table_of(alloc, problem)?;
+    let answer = best_in(alloc, problem, &tabled, method)?;
     Ok(answer)
 }
 
 /// A refutation, or nothing where there is a solution, worked out on a table.
 pub(crate) fn refuted_in(
     alloc: Global,
-    question: &Question<'_>,
+    problem: &Problem<'_>,
     tabled: &Tabled,
 ) -> Result<Option<Refutation>, AllocError>
-    requires { IsPictured question.now tabled.now.names tabled.now.nodes tabled.now.table }
+    requires { IsPictured problem.now tabled.now.names tabled.now.nodes tabled.now.table }
     ensures { IfOk result
-        (λ found. MatchOption found (HasSolution question.now)
-        (IsRefutation (rules_of question.now) same_version)) }
+        (λ found. MatchOption found (HasSolution problem.now)
+        (IsRefutation (rules_of problem.now) same_version)) }
 {
     laws::a_picture_keeps_the_best_solution::<Name, Node, Version, Requirement>();
     laws::a_picture_keeps_refutations::<Name, Node, Version, Requirement>();
@@ -75,7 +75,7 @@ pub(crate) fn refuted_in(
         Found::Best(_) => Ok(None),
         Found::Refuted(conflicts) => {
             let conflicts = conflicts.as_slice();
-            let refutation = refutation_of(alloc, question, tabled, conflicts)?;
+            let refutation = refutation_of(alloc, problem, tabled, conflicts)?;
             Ok(Some(refutation))
         }
     }
@@ -84,13 +84,13 @@ pub(crate) fn refuted_in(
 /// A refutation, or nothing where there is a solution, worked out on the table of the problem.
 pub(crate) fn refuted(
     alloc: Global,
-    question: &Question<'_>,
+    problem: &Problem<'_>,
 ) -> Result<Option<Refutation>, AllocError>
     ensures { IfOk result
-        (λ found. MatchOption found (HasSolution question.now)
-        (IsRefutation (rules_of question.now) same_version)) }
+        (λ found. MatchOption found (HasSolution problem.now)
+        (IsRefutation (rules_of problem.now) same_version)) }
 {
-    let tabled = table_of(alloc, question)?;
-    let found = refuted_in(alloc, question, &tabled)?;
+    let tabled = table_of(alloc, problem)?;
+    let found = refuted_in(alloc, problem, &tabled)?;
     Ok(found)
 }

@@ -15,27 +15,27 @@ use crate::tabling::Tabled;
 use lists::Seq;
 use pep440::Version;
 use pep508::Name;
-use problems::parts::{Question, copy_of};
-use problems::{Choice, Refutation, SetRefutation, SetTerm};
+use problems::parts::copy_of;
+use problems::{Choice, Problem, Refutation, SetRefutation, SetTerm};
 use set_search::TableTerm;
 use std::alloc::{AllocError, Global};
 
 /// The versions of the releases of a name at these places.
 fn versions_at(
     alloc: Global,
-    question: &Question<'_>,
+    problem: &Problem<'_>,
     name: &Name,
     places: &[usize],
 ) -> Result<Seq<Version>, AllocError>
     requires { (place : ℕ) → Contains places.now place
-        → place < length (releases_on question.now name.now) }
+        → place < length (releases_on problem.now name.now) }
     ensures { IfOk result
         (λ versions. versions
-        ≡ map (λ place. version_at (releases_on question.now name.now) place) places.now) }
+        ≡ map (λ place. version_at (releases_on problem.now name.now) place) places.now) }
 {
     let mut versions = Vec::with_capacity(alloc, places.len())?;
     for place in places {
-        versions.push(version_at(question, name, *place)?)?;
+        versions.push(version_at(problem, name, *place)?)?;
     }
     Ok(Seq::from_vec(versions))
 }
@@ -43,37 +43,37 @@ fn versions_at(
 /// The versions of a term of the table.
 fn term_versions(
     alloc: Global,
-    question: &Question<'_>,
+    problem: &Problem<'_>,
     tabled: &Tabled,
     term: &TableTerm,
 ) -> Result<Seq<Version>, AllocError>
-    requires pictured { IsPictured question.now tabled.now.names tabled.now.nodes tabled.now.table }
+    requires pictured { IsPictured problem.now tabled.now.names tabled.now.nodes tabled.now.table }
     requires known { IsKnownTerm tabled.now.table term.now }
     ensures { IfOk result
         (λ versions. versions
-        ≡ versions_pictured question.now tabled.now.names tabled.now.table term.now) }
+        ≡ versions_pictured problem.now tabled.now.names tabled.now.table term.now) }
 {
     let at = term.node();
     let name = &tabled.names.as_slice()[tabled.table.name_of(at)];
     let places = term.listed(alloc)?;
-    let versions = versions_at(alloc, question, name, places.as_slice())?;
+    let versions = versions_at(alloc, problem, name, places.as_slice())?;
     Ok(versions)
 }
 
 /// The term that one of the table stands for.
 fn set_term_of(
     alloc: Global,
-    question: &Question<'_>,
+    problem: &Problem<'_>,
     tabled: &Tabled,
     term: &TableTerm,
 ) -> Result<SetTerm, AllocError>
-    requires pictured { IsPictured question.now tabled.now.names tabled.now.nodes tabled.now.table }
+    requires pictured { IsPictured problem.now tabled.now.names tabled.now.nodes tabled.now.table }
     requires known { IsKnownTerm tabled.now.table term.now }
     ensures { IfOk result
         (λ made. made
-        ≡ term_at question.now tabled.now.names tabled.now.nodes tabled.now.table term.now) }
+        ≡ term_at problem.now tabled.now.names tabled.now.nodes tabled.now.table term.now) }
 {
-    let versions = term_versions(alloc, question, tabled, term)?;
+    let versions = term_versions(alloc, problem, tabled, term)?;
     let node = &tabled.nodes.as_slice()[term.node()];
     Ok(SetTerm {
         name: node.name.clone()?,
@@ -85,21 +85,21 @@ fn set_term_of(
 /// The conflict that terms of the table stand for.
 fn set_conflict_of(
     alloc: Global,
-    question: &Question<'_>,
+    problem: &Problem<'_>,
     tabled: &Tabled,
     terms: &[TableTerm],
 ) -> Result<Seq<SetTerm>, AllocError>
-    requires pictured { IsPictured question.now tabled.now.names tabled.now.nodes tabled.now.table }
+    requires pictured { IsPictured problem.now tabled.now.names tabled.now.nodes tabled.now.table }
     requires known { (term : Term ℕ ℕ) → Contains terms.now term
         → IsKnownTerm tabled.now.table term }
     ensures { IfOk result
         (λ conflict. conflict
-        ≡ map (term_at question.now tabled.now.names tabled.now.nodes tabled.now.table)
+        ≡ map (term_at problem.now tabled.now.names tabled.now.nodes tabled.now.table)
         terms.now) }
 {
     let mut made = Vec::with_capacity(alloc, terms.len())?;
     for term in terms {
-        made.push(set_term_of(alloc, question, tabled, term)?)?;
+        made.push(set_term_of(alloc, problem, tabled, term)?)?;
     }
     Ok(Seq::from_vec(made))
 }
@@ -107,20 +107,20 @@ fn set_conflict_of(
 /// The set refutation that the conflicts of a search stand for.
 pub(crate) fn set_refutation_of(
     alloc: Global,
-    question: &Question<'_>,
+    problem: &Problem<'_>,
     tabled: &Tabled,
     conflicts: &[Seq<TableTerm>],
 ) -> Result<SetRefutation, AllocError>
-    requires pictured { IsPictured question.now tabled.now.names tabled.now.nodes tabled.now.table }
+    requires pictured { IsPictured problem.now tabled.now.names tabled.now.nodes tabled.now.table }
     requires known { AreKnownSets tabled.now.table conflicts.now }
     ensures { IfOk result
         (λ refutation. refutation
-        ≡ map (map (term_at question.now tabled.now.names tabled.now.nodes tabled.now.table))
+        ≡ map (map (term_at problem.now tabled.now.names tabled.now.nodes tabled.now.table))
         conflicts.now) }
 {
     let mut refuted = Vec::with_capacity(alloc, conflicts.len())?;
     for terms in conflicts {
-        refuted.push(set_conflict_of(alloc, question, tabled, terms.as_slice())?)?;
+        refuted.push(set_conflict_of(alloc, problem, tabled, terms.as_slice())?)?;
     }
     Ok(SetRefutation::new(Seq::from_vec(refuted)))
 }

@@ -12,8 +12,7 @@ use crate::set_refuting::{as_sets, set_refutation_of};
 use crate::tabling::{Tabled, table_of};
 use pep440::Version;
 use pep508::{Name, Requirement};
-use problems::parts::Question;
-use problems::{Node, SetRefutation};
+use problems::{Node, Problem, SetRefutation};
 use search::laws;
 use set_search::{Found, solved};
 use std::alloc::{AllocError, Global};
@@ -21,16 +20,16 @@ use std::alloc::{AllocError, Global};
 /// A refutation by conflicts of single versions as one of sets, or nothing where there is a solution.
 fn refuted_singly_in(
     alloc: Global,
-    question: &Question<'_>,
+    problem: &Problem<'_>,
     tabled: &Tabled,
 ) -> Result<Option<SetRefutation>, AllocError>
-    requires { IsPictured question.now tabled.now.names tabled.now.nodes tabled.now.table }
+    requires { IsPictured problem.now tabled.now.names tabled.now.nodes tabled.now.table }
     ensures { IfOk result
-        (λ found. MatchOption found (HasSolution question.now)
-        (IsSetRefutation (rules_of question.now) same_version)) }
+        (λ found. MatchOption found (HasSolution problem.now)
+        (IsSetRefutation (rules_of problem.now) same_version)) }
 {
     laws::a_refutation_is_a_set_refutation::<Name, Node, Version, Requirement>();
-    match refuted_in(alloc, question, tabled)? {
+    match refuted_in(alloc, problem, tabled)? {
         None => Ok(None),
         Some(refutation) => Ok(Some(as_sets(alloc, &refutation)?)),
     }
@@ -39,13 +38,13 @@ fn refuted_singly_in(
 /// A set refutation, or nothing where there is a solution, worked out on a table.
 fn refuted_by_sets_in(
     alloc: Global,
-    question: &Question<'_>,
+    problem: &Problem<'_>,
     tabled: &Tabled,
 ) -> Result<Option<SetRefutation>, AllocError>
-    requires { IsPictured question.now tabled.now.names tabled.now.nodes tabled.now.table }
+    requires { IsPictured problem.now tabled.now.names tabled.now.nodes tabled.now.table }
     ensures { IfOk result
-        (λ found. MatchOption found (HasSolution question.now)
-        (IsSetRefutation (rules_of question.now) same_version)) }
+        (λ found. MatchOption found (HasSolution problem.now)
+        (IsSetRefutation (rules_of problem.now) same_version)) }
 {
     laws::a_picture_keeps_the_best_solution::<Name, Node, Version, Requirement>();
     laws::a_picture_keeps_set_refutations::<Name, Node, Version, Requirement>();
@@ -55,23 +54,23 @@ fn refuted_by_sets_in(
         Found::Best(_) => Ok(None),
         Found::Refuted(conflicts) => {
             let conflicts = conflicts.as_slice();
-            let refutation = set_refutation_of(alloc, question, tabled, conflicts)?;
+            let refutation = set_refutation_of(alloc, problem, tabled, conflicts)?;
             Ok(Some(refutation))
         }
-        Found::GaveUp => refuted_singly_in(alloc, question, tabled),
+        Found::GaveUp => refuted_singly_in(alloc, problem, tabled),
     }
 }
 
 /// A set refutation, or nothing where there is a solution, worked out on the table of the problem.
 pub(crate) fn refuted_by_sets(
     alloc: Global,
-    question: &Question<'_>,
+    problem: &Problem<'_>,
 ) -> Result<Option<SetRefutation>, AllocError>
     ensures { IfOk result
-        (λ found. MatchOption found (HasSolution question.now)
-        (IsSetRefutation (rules_of question.now) same_version)) }
+        (λ found. MatchOption found (HasSolution problem.now)
+        (IsSetRefutation (rules_of problem.now) same_version)) }
 {
-    let tabled = table_of(alloc, question)?;
-    let found = refuted_by_sets_in(alloc, question, &tabled)?;
+    let tabled = table_of(alloc, problem)?;
+    let found = refuted_by_sets_in(alloc, problem, &tabled)?;
     Ok(found)
 }

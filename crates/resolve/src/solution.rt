@@ -11,25 +11,25 @@ ghost use Rattle.resolve.specs.Tied.Places.{version_at};
 
 use pep440::Version;
 use pep508::Name;
-use problems::parts::Question;
+use problems::Problem;
 use search::Choice;
 use std::alloc::{AllocError, Global};
 use std::collections::BTreeMap;
 
 /// Puts the version that a choice stands for at its name.
 fn put(
-    question: &Question<'_>,
+    problem: &Problem<'_>,
     names: &[Name],
     choice: Choice,
     versions: &mut BTreeMap<Name, Version>,
 ) -> Result<(), AllocError>
-    requires { IsKnown question.now names.now choice }
+    requires { IsKnown problem.now names.now choice }
     ensures { OnOk result (Updates (slice_cmp nat_cmp) versions.old versions.new (name_at names.now
-        choice.name) (Some (version_at (releases_on question.now (name_at names.now choice.name))
+        choice.name) (Some (version_at (releases_on problem.now (name_at names.now choice.name))
         choice.place))) }
 {
     let name = &names[choice.name];
-    let releases = question.releases(name);
+    let releases = problem.releases(name);
     let version = releases[choice.place].version().clone()?;
     versions.insert(name.clone()?, version)?;
     Ok(())
@@ -38,19 +38,19 @@ fn put(
 /// The versions that choices stand for, by their names; of two on one name the first.
 pub(crate) fn versions_of(
     alloc: Global,
-    question: &Question<'_>,
+    problem: &Problem<'_>,
     names: &[Name],
     choices: &[Choice],
 ) -> Result<BTreeMap<Name, Version>, AllocError>
-    requires { AreKnown question.now names.now choices.now }
+    requires { AreKnown problem.now names.now choices.now }
     ensures { IfOk result (λ versions. (name : List ℕ)
-        → version_for versions.entries name ≡ chosen question.now names.now choices.now name) }
+        → version_for versions.entries name ≡ chosen problem.now names.now choices.now name) }
 {
     let mut versions = BTreeMap::new(alloc);
     let mut left = choices.len();
     while left > 0 {
         left -= 1;
-        put(question, names, choices[left], &mut versions)?;
+        put(problem, names, choices[left], &mut versions)?;
     }
     Ok(versions)
 }

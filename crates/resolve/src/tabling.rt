@@ -8,8 +8,7 @@ use crate::gathering::Gathering;
 use crate::names::{names_of, numbers_of};
 use lists::Seq;
 use pep508::Name;
-use problems::Node;
-use problems::parts::Question;
+use problems::{Node, Problem};
 use search::Table;
 use std::alloc::{AllocError, Global};
 
@@ -22,39 +21,39 @@ pub(crate) struct Tabled {
 }
 
 /// The candidates of a name, whose releases fall by version.
-fn listed(alloc: Global, question: &Question<'_>, name: &Name) -> Result<Seq<usize>, AllocError>
-    ensures { IfOk result (λ places. IsListed question.now places name.now) }
+fn listed(alloc: Global, problem: &Problem<'_>, name: &Name) -> Result<Seq<usize>, AllocError>
+    ensures { IfOk result (λ places. IsListed problem.now places name.now) }
 {
-    let _releases = question.releases(name);
-    candidates(alloc, question, name)
+    let _releases = problem.releases(name);
+    candidates(alloc, problem, name)
 }
 
 /// The candidates of each name.
 fn all_listed(
     alloc: Global,
-    question: &Question<'_>,
+    problem: &Problem<'_>,
     names: &[Name],
 ) -> Result<Seq<Seq<usize>>, AllocError>
-    ensures { IfOk result (λ rows. AreListed question.now rows names.now) }
+    ensures { IfOk result (λ rows. AreListed problem.now rows names.now) }
 {
     let mut rows = Vec::with_capacity(alloc, names.len())?;
     for name in names {
-        rows.push(listed(alloc, question, name)?)?;
+        rows.push(listed(alloc, problem, name)?)?;
     }
     Ok(Seq::from_vec(rows))
 }
 
 /// The table of a problem.
-pub(crate) fn table_of(alloc: Global, question: &Question<'_>) -> Result<Tabled, AllocError>
+pub(crate) fn table_of(alloc: Global, problem: &Problem<'_>) -> Result<Tabled, AllocError>
     ensures { IfOk result
-        (λ tabled. IsPictured question.now tabled.names tabled.nodes tabled.table) }
+        (λ tabled. IsPictured problem.now tabled.names tabled.nodes tabled.table) }
 {
     let mut gathering = Gathering::new(alloc);
-    let lines = gathering.ask_lines(alloc, question)?;
-    let wants = gathering.ask_nodes(alloc, question)?;
+    let lines = gathering.ask_lines(alloc, problem)?;
+    let wants = gathering.ask_nodes(alloc, problem)?;
     let names = names_of(alloc, gathering.nodes())?;
     let numbers = numbers_of(alloc, names.as_slice(), gathering.nodes())?;
-    let candidates = all_listed(alloc, question, names.as_slice())?;
+    let candidates = all_listed(alloc, problem, names.as_slice())?;
     let (nodes, requirements) = gathering.into_parts();
     match Table::new(numbers, requirements, candidates, wants, lines) {
         Some(table) => Ok(Tabled {

@@ -13,9 +13,9 @@ use crate::choosing::first_admitted;
 use crate::following::follow_all;
 use pep440::Version;
 use pep508::{Name, Requirement};
-use problems::Node;
 use problems::laws::{the_rules_of_a_problem_are_lawful, what_is_needed_can_be_met};
-use problems::parts::{Nodes, Question, admits};
+use problems::parts::{Nodes, admits};
+use problems::{Node, Problem};
 use search::laws;
 use std::alloc::{AllocError, Global};
 use std::collections::BTreeMap;
@@ -42,7 +42,7 @@ fn wait<'q>(
 /// is one that it admits. Whether it could be placed.
 fn place<'q>(
     alloc: Global,
-    question: &'q Question<'_>,
+    problem: &'q Problem<'_>,
     taken: &BTreeMap<Name, Version>,
     waiting: &mut BTreeMap<Name, Asks<'q>>,
     followed: &mut Nodes,
@@ -51,7 +51,7 @@ fn place<'q>(
 ) -> Result<bool, AllocError>
     ensures { IfOk result
         (λ placed. placed ≡ true
-        → IsPlaced question.now taken.now.entries waiting.old.entries waiting.new.entries
+        → IsPlaced problem.now taken.now.entries waiting.old.entries waiting.new.entries
         followed.old followed.new wanted.now asks.old asks.new) }
 {
     the_rules_of_a_problem_are_lawful();
@@ -62,10 +62,10 @@ fn place<'q>(
             Ok(true)
         }
         Some(version) => {
-            if !admits(question, wanted, version) {
+            if !admits(problem, wanted, version) {
                 return Ok(false);
             }
-            follow_all(alloc, question, version, wanted, followed, asks)?;
+            follow_all(alloc, problem, version, wanted, followed, asks)?;
             Ok(true)
         }
     }
@@ -74,23 +74,23 @@ fn place<'q>(
 /// Places requirements, and what comes to them. Whether all could be placed.
 fn settle<'q>(
     alloc: Global,
-    question: &'q Question<'_>,
+    problem: &'q Problem<'_>,
     taken: &BTreeMap<Name, Version>,
     waiting: &mut BTreeMap<Name, Asks<'q>>,
     followed: &mut Nodes,
     asks: Asks<'q>,
 ) -> Result<bool, AllocError>
-    requires { IsOnWay question.now taken.now.entries waiting.old.entries followed.old asks }
+    requires { IsOnWay problem.now taken.now.entries waiting.old.entries followed.old asks }
     ensures { IfOk result
         (λ settled. settled ≡ true
-        → IsOnWay question.now taken.now.entries waiting.new.entries followed.new []) }
+        → IsOnWay problem.now taken.now.entries waiting.new.entries followed.new []) }
 {
     what_is_needed_can_be_met();
     let mut asks = asks;
     let mut at = 0;
     while at < asks.len() {
         let wanted = asks.at(at);
-        if !place(alloc, question, taken, waiting, followed, wanted, &mut asks)? {
+        if !place(alloc, problem, taken, waiting, followed, wanted, &mut asks)? {
             return Ok(false);
         }
         // No node is followed twice, so this ends.
@@ -104,38 +104,38 @@ fn settle<'q>(
 /// such a candidate, and all could be placed.
 fn take<'q>(
     alloc: Global,
-    question: &'q Question<'_>,
+    problem: &'q Problem<'_>,
     taken: &mut BTreeMap<Name, Version>,
     waiting: &mut BTreeMap<Name, Asks<'q>>,
     followed: &mut Nodes,
     name: Name,
     asks: Asks<'q>,
 ) -> Result<bool, AllocError>
-    requires { IsTurn question.now taken.old.entries waiting.old.entries followed.old name asks }
+    requires { IsTurn problem.now taken.old.entries waiting.old.entries followed.old name asks }
     ensures way { IfOk result
         (λ settled. settled ≡ true
-        → IsOnWay question.now taken.new.entries waiting.new.entries followed.new []) }
+        → IsOnWay problem.now taken.new.entries waiting.new.entries followed.new []) }
     ensures longer { IfOk result
         (λ settled. settled ≡ true
         → length taken.new.entries ≡ length taken.old.entries + 1) }
 {
     the_rules_of_a_problem_are_lawful();
-    let Some(version) = first_admitted(question, &name, &asks) else {
+    let Some(version) = first_admitted(problem, &name, &asks) else {
         return Ok(false);
     };
     let version = version.clone()?;
     taken.insert(name, version)?;
-    settle(alloc, question, taken, waiting, followed, asks)
+    settle(alloc, problem, taken, waiting, followed, asks)
 }
 
 /// The best solution where the first walk finds it. Where it gives up, nothing is known.
 pub(crate) fn first_walk(
     alloc: Global,
-    question: &Question<'_>,
+    problem: &Problem<'_>,
 ) -> Result<Option<BTreeMap<Name, Version>>, AllocError>
     ensures { IfOk result
         (λ found. IfSome found
-        (λ versions. IsBest (rules_of question.now) (version_for versions.entries))) }
+        (λ versions. IsBest (rules_of problem.now) (version_for versions.entries))) }
 {
     the_rules_of_a_problem_are_lawful();
     what_is_needed_can_be_met();
@@ -143,14 +143,14 @@ pub(crate) fn first_walk(
     let mut taken = BTreeMap::new(alloc);
     let mut waiting = BTreeMap::new(alloc);
     let mut followed = Nodes::new(alloc);
-    let lines = Asks::of(alloc, question.active.as_slice())?;
-    if !settle(alloc, question, &taken, &mut waiting, &mut followed, lines)? {
+    let lines = Asks::of(alloc, problem.active.as_slice())?;
+    if !settle(alloc, problem, &taken, &mut waiting, &mut followed, lines)? {
         return Ok(None);
     }
     'turns: while let Some((name, asks)) = waiting.pop_first() {
         if !take(
             alloc,
-            question,
+            problem,
             &mut taken,
             &mut waiting,
             &mut followed,

@@ -18,7 +18,12 @@ pub enum SavedFile {
     Lock(TargetName),
 }
 
-/// Why a request is refused, in the order in which the tests are made.
+/// Why a request is refused. There are two groups:
+///
+/// - What an edit, an undo or a redo is refused for, in the order in which the tests are made: from `BadText` to
+///   `NothingToRedo`. Nothing has changed then.
+/// - What is told of something that was read: from `FilesDisagree` to `NoTarget`. The files of a session, a line of a script, and
+///   the targets that are given.
 #[derive(Debug, Drop, PartialEq, Eq)]
 pub enum Refusal {
     /// A name, a line or a specifier doesn't read.

@@ -5,7 +5,7 @@ use Rattle.resolve.proofs.candidates.candidates.Goals as goal
 use Rattle.resolve.proofs.candidates.candidates.Goals.{then-ne+in_ok-push, else-ne}
 
 pub loop-place-init : goal.loop-place-init
-loop-place-init c = rw c.in_ok-places.ensures (preferring-start (releases_on c.args.question.now c.args.name.now) c.kept_place-kept.result c.kept_place-kept.ensures.within)
+loop-place-init c = rw c.in_ok-places.ensures (preferring-start (releases_on c.args.problem.now c.args.name.now) c.kept_place-kept.result c.kept_place-kept.ensures.within)
 
 pub loop-place-preserved : goal.loop-place-preserved
 loop-place-preserved c =
@@ -21,4 +21,4 @@ loop-place-preserved c =
 pub returns : goal.returns
 returns c =
     let past = rw c.releases-releases.ensures.listed at c.loop-place-test.false in
-    rw c.from_vec.ensures (preferring-all c.args.question.now c.args.name.now _ _ _ c.kept_place-kept.ensures.version past c.loop-place.invariant)
+    rw c.from_vec.ensures (preferring-all c.args.problem.now c.args.name.now _ _ _ c.kept_place-kept.ensures.version past c.loop-place.invariant)

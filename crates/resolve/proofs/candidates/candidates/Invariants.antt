@@ -3,4 +3,4 @@ use Rattle.resolve.proofs.Preferring.{IsPreferring}
 use Rattle.resolve.proofs.candidates.candidates.Given as goal
 
 abbrev pub invariant-loop-place : goal.invariant-loop-place
-invariant-loop-place l = IsPreferring (releases_on l.question l.name) l.kept l.places.items l.place
+invariant-loop-place l = IsPreferring (releases_on l.problem l.name) l.kept l.places.items l.place

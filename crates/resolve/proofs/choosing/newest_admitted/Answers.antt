@@ -7,4 +7,4 @@ pub returns-in-Some : goal.returns-in-Some
 returns-in-Some c =
     let fall = rw c.releases.ensures.listed at c.releases.ensures.fall in
     let found = rw (c.in-Some.is, c.releases.ensures.listed) at c.first.ensures in
-    subst (IsNewest c.args.question.now c.args.name.now c.args.asks.now) (sym c.version.ensures) (newest-found c.args.question.now c.args.name.now c.args.asks.now c.in-Some.release.now fall (sym found))
+    subst (IsNewest c.args.problem.now c.args.name.now c.args.asks.now) (sym c.version.ensures) (newest-found c.args.problem.now c.args.name.now c.args.asks.now c.in-Some.release.now fall (sym found))

@@ -4,4 +4,4 @@ use Rattle.resolve.specs.Tied.Walking.{Follow}
 use Rattle.resolve.proofs.following.follow_extras.Given as goal
 
 abbrev pub invariant-loop-extra : goal.invariant-loop-extra
-invariant-loop-extra l = Follow l.question l.version (map (with_extra l.name) (take l.extra-index l.extras)) l.fn.followed l.followed l.fn.asks l.asks
+invariant-loop-extra l = Follow l.problem l.version (map (with_extra l.name) (take l.extra-index l.extras)) l.fn.followed l.followed l.fn.asks l.asks

@@ -11,7 +11,7 @@ version_at-requires c =
     let number : ℕ = name_of c.args.tabled.now.table c.args.decision.node in
     let counted : number < length c.args.tabled.now.table.candidates = rw c.name_of.ensures.name at c.name_of.ensures.known in
     let within : number < length names = subst (λ n. number < n) c.requires.pictured.counted counted in
-    subst (λ name. c.args.decision.version < length (releases_on c.args.question.now name))
+    subst (λ name. c.args.decision.version < length (releases_on c.args.problem.now name))
     (name-read names number c.index-as_slice-name_of.result within (rw (c.as_slice.ensures, c.name_of.ensures.name) at c.index-as_slice-name_of.is))
     (c.requires.pictured.within number c.args.decision.version c.requires.known.1)
 

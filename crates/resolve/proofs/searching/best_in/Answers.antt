@@ -14,20 +14,20 @@ versions_of-requires c =
     let rules = rules_of_table c.args.tabled.now.table in
     let best : IsBest rules (place_in c.in-Some.choices) = rw c.in-Some.is at c.in_ok-best.ensures.best in
     let ascending : IsAscending c.in-Some.choices = rw c.in-Some.is at c.in_ok-best.ensures.ascending in
-    subst (λ (names : List (List ℕ)). AreKnown c.args.question.now names c.as_slice.result.now) (sym c.as_slice-names.ensures)
-    (subst (λ (choices : List Choice). AreKnown c.args.question.now c.args.tabled.now.names choices) (sym c.as_slice.ensures)
-    (best-known c.args.question.now c.args.tabled.now.names c.args.tabled.now.nodes c.args.tabled.now.table c.in-Some.choices c.requires best ascending))
+    subst (λ (names : List (List ℕ)). AreKnown c.args.problem.now names c.as_slice.result.now) (sym c.as_slice-names.ensures)
+    (subst (λ (choices : List Choice). AreKnown c.args.problem.now c.args.tabled.now.names choices) (sym c.as_slice.ensures)
+    (best-known c.args.problem.now c.args.tabled.now.names c.args.tabled.now.nodes c.args.tabled.now.table c.in-Some.choices c.requires best ascending))
 
 pub returns-in-None : goal.returns-in-None
 returns-in-None c =
     let table = c.args.tabled.now.table in
     let none : HasNoSolution (rules_of_table table) = rw c.in-None.is at c.in_ok-best.ensures.best in
-    c.a_picture_keeps_the_best_solution.ensures.none table (picture_of c.args.question.now c.args.tabled.now.names c.args.tabled.now.nodes c.requires.asked) (rules_of c.args.question.now)
+    c.a_picture_keeps_the_best_solution.ensures.none table (picture_of c.args.problem.now c.args.tabled.now.names c.args.tabled.now.nodes c.requires.asked) (rules_of c.args.problem.now)
     c.name_count-count.ensures.known bytes-order c.requires.pictured none
 
 pub returns-in_ok-versions-in-Some : goal.returns-in_ok-versions-in-Some
 returns-in_ok-versions-in-Some c =
-    let given = c.args.question.now in
+    let given = c.args.problem.now in
     let names = c.args.tabled.now.names in
     let table = c.args.tabled.now.table in
     let best : IsBest (rules_of_table table) (place_in c.in-Some.choices) = rw c.in-Some.is at c.in_ok-best.ensures.best in

@@ -13,7 +13,7 @@ use Rattle.resolve.proofs.searching.refuted_in.Goals as goal
 
 pub returns-in-Best : goal.returns-in-Best
 returns-in-Best c =
-    let given = c.args.question.now in
+    let given = c.args.problem.now in
     let tabled = c.args.tabled.now in
     let best : IsBest (rules_of_table tabled.table) (place_in c.in-Best.field-0) = rw c.in-Best.is at c.in_ok-learned_or_refuted.ensures.best in
     best-solves given _
@@ -27,7 +27,7 @@ refutation_of-requires-clause-known c =
 
 pub returns : goal.returns
 returns c =
-    let given = c.args.question.now in
+    let given = c.args.problem.now in
     let tabled = c.args.tabled.now in
     let conflicts = c.in-Refuted.conflicts in
     let known : AreKnown tabled.table conflicts = rw c.in-Refuted.is at c.in_ok-learned_or_refuted.ensures.known in

@@ -14,7 +14,7 @@ use Rattle.resolve.proofs.set_searching.refuted_by_sets_in.Goals as goal
 
 pub returns-in-Best : goal.returns-in-Best
 returns-in-Best c =
-    let given = c.args.question.now in
+    let given = c.args.problem.now in
     let tabled = c.args.tabled.now in
     let best : IsBest (rules_of_table tabled.table) (place_in c.in-Best.field-0) = rw c.in-Best.is at c.in_ok-solved.ensures.best in
     best-solves given _
@@ -28,7 +28,7 @@ set_refutation_of-requires-clause-known c =
 
 pub returns-in-Refuted : goal.returns-in-Refuted
 returns-in-Refuted c =
-    let given = c.args.question.now in
+    let given = c.args.problem.now in
     let tabled = c.args.tabled.now in
     let conflicts = c.in-Refuted.conflicts in
     let known : AreKnownSets tabled.table conflicts = rw c.in-Refuted.is at c.in_ok-solved.ensures.known in

@@ -17,6 +17,6 @@ loop-left-preserved c =
     let choice : Choice = get_or c.args.choices.now (c.loop-left.left - 1) (record { name = 0; place = 0 }) in
     let next : c.loop-left.left ≡ suc (c.loop-left.left - 1) = omega (arith, c.loop-left-test.true) in (
       omega (arith, c.loop-left-test.true, c.loop-left.invariant.0),
-      put-more c.args.question.now c.args.names.now c.args.choices.now (c.loop-left.left - 1) choice c.loop-left.versions c.put.new.versions within (get_or-any c.args.choices.now (c.loop-left.left - 1) (record { name = 0; place = 0 }) choice within)
-          (subst (λ n. (name : List ℕ) → version_for c.loop-left.versions.entries name ≡ chosen c.args.question.now c.args.names.now (drop n c.args.choices.now) name) next c.loop-left.invariant.1) c.in_ok-put.ensures,
+      put-more c.args.problem.now c.args.names.now c.args.choices.now (c.loop-left.left - 1) choice c.loop-left.versions c.put.new.versions within (get_or-any c.args.choices.now (c.loop-left.left - 1) (record { name = 0; place = 0 }) choice within)
+          (subst (λ n. (name : List ℕ) → version_for c.loop-left.versions.entries name ≡ chosen c.args.problem.now c.args.names.now (drop n c.args.choices.now) name) next c.loop-left.invariant.1) c.in_ok-put.ensures,
     )

@@ -7,4 +7,4 @@ abbrev pub decreases-loop-left : goal.decreases-loop-left
 decreases-loop-left l = l.left
 
 abbrev pub invariant-loop-left : goal.invariant-loop-left
-invariant-loop-left l = (l.left ≤ length l.choices) × ((name : List ℕ) → version_for l.versions.entries name ≡ chosen l.question l.names (drop l.left l.choices) name)
+invariant-loop-left l = (l.left ≤ length l.choices) × ((name : List ℕ) → version_for l.versions.entries name ≡ chosen l.problem l.names (drop l.left l.choices) name)

@@ -3,4 +3,4 @@ use Rattle.resolve.specs.Tied.Pictured.{AreListed}
 use Rattle.resolve.proofs.tabling.all_listed.Given as goal
 
 abbrev pub invariant-loop-name : goal.invariant-loop-name
-invariant-loop-name l = AreListed l.question l.rows.items (take l.name-index l.names)
+invariant-loop-name l = AreListed l.problem l.rows.items (take l.name-index l.names)

@@ -12,21 +12,21 @@ numbers_of-requires-clause-whole c node h =
 
 pub unreachable-requires : goal.unreachable-requires
 unreachable-requires c =
-    never-none c.args.question.now c.ask_nodes.new.self c.in_ok-names.names (record { nodes = c.in_ok-numbers.numbers; requirements = c.into_parts-nodes.result.1; candidates = c.in_ok-candidates.candidates; wants = c.in_ok-wants.wants; lines = c.in_ok-lines.lines }) c.new.result
-    (gathered-as c.args.question.now c.ask_lines.new.self c.ask_nodes.new.self c.in_ok-names.names (record { nodes = c.in_ok-numbers.numbers; requirements = c.into_parts-nodes.result.1; candidates = c.in_ok-candidates.candidates; wants = c.in_ok-wants.wants; lines = c.in_ok-lines.lines })
+    never-none c.args.problem.now c.ask_nodes.new.self c.in_ok-names.names (record { nodes = c.in_ok-numbers.numbers; requirements = c.into_parts-nodes.result.1; candidates = c.in_ok-candidates.candidates; wants = c.in_ok-wants.wants; lines = c.in_ok-lines.lines }) c.new.result
+    (gathered-as c.args.problem.now c.ask_lines.new.self c.ask_nodes.new.self c.in_ok-names.names (record { nodes = c.in_ok-numbers.numbers; requirements = c.into_parts-nodes.result.1; candidates = c.in_ok-candidates.candidates; wants = c.in_ok-wants.wants; lines = c.in_ok-lines.lines })
     c.in_ok-wants.ensures.entries c.into_parts-nodes.ensures.entries c.in_ok-wants.ensures.grown c.in_ok-lines.ensures.numbers c.in_ok-wants.ensures.wants c.in_ok-names.ensures.rising
     (subst (λ (names : List (List ℕ)). AllStand names c.in_ok-numbers.numbers (map (λ (node : Node). node.name) c.ask_nodes.new.self.nodes)) c.as_slice.ensures
     (subst (λ (nodes : List Node). AllStand c.as_slice.result.now c.in_ok-numbers.numbers (map (λ (node : Node). node.name) nodes)) c.nodes-2.ensures c.in_ok-numbers.ensures))
-    (subst (λ (names : List (List ℕ)). AreListed c.args.question.now c.in_ok-candidates.candidates names) c.as_slice-2.ensures c.in_ok-candidates.ensures))
+    (subst (λ (names : List (List ℕ)). AreListed c.args.problem.now c.in_ok-candidates.candidates names) c.as_slice-2.ensures c.in_ok-candidates.ensures))
     c.new.ensures c.in-None.is
 
 pub returns : goal.returns
 returns c =
-    subst (λ (nodes : List Node). IsPictured c.args.question.now c.in_ok-names.names nodes c.in-Some.table) (sym c.into_parts-nodes.ensures.nodes)
-    (made-pictured c.args.question.now c.ask_nodes.new.self c.in_ok-names.names (record { nodes = c.in_ok-numbers.numbers; requirements = c.into_parts-nodes.result.1; candidates = c.in_ok-candidates.candidates; wants = c.in_ok-wants.wants; lines = c.in_ok-lines.lines }) c.in-Some.table c.new.result
-    (gathered-as c.args.question.now c.ask_lines.new.self c.ask_nodes.new.self c.in_ok-names.names (record { nodes = c.in_ok-numbers.numbers; requirements = c.into_parts-nodes.result.1; candidates = c.in_ok-candidates.candidates; wants = c.in_ok-wants.wants; lines = c.in_ok-lines.lines })
+    subst (λ (nodes : List Node). IsPictured c.args.problem.now c.in_ok-names.names nodes c.in-Some.table) (sym c.into_parts-nodes.ensures.nodes)
+    (made-pictured c.args.problem.now c.ask_nodes.new.self c.in_ok-names.names (record { nodes = c.in_ok-numbers.numbers; requirements = c.into_parts-nodes.result.1; candidates = c.in_ok-candidates.candidates; wants = c.in_ok-wants.wants; lines = c.in_ok-lines.lines }) c.in-Some.table c.new.result
+    (gathered-as c.args.problem.now c.ask_lines.new.self c.ask_nodes.new.self c.in_ok-names.names (record { nodes = c.in_ok-numbers.numbers; requirements = c.into_parts-nodes.result.1; candidates = c.in_ok-candidates.candidates; wants = c.in_ok-wants.wants; lines = c.in_ok-lines.lines })
     c.in_ok-wants.ensures.entries c.into_parts-nodes.ensures.entries c.in_ok-wants.ensures.grown c.in_ok-lines.ensures.numbers c.in_ok-wants.ensures.wants c.in_ok-names.ensures.rising
     (subst (λ (names : List (List ℕ)). AllStand names c.in_ok-numbers.numbers (map (λ (node : Node). node.name) c.ask_nodes.new.self.nodes)) c.as_slice.ensures
     (subst (λ (nodes : List Node). AllStand c.as_slice.result.now c.in_ok-numbers.numbers (map (λ (node : Node). node.name) nodes)) c.nodes-2.ensures c.in_ok-numbers.ensures))
-    (subst (λ (names : List (List ℕ)). AreListed c.args.question.now c.in_ok-candidates.candidates names) c.as_slice-2.ensures c.in_ok-candidates.ensures))
+    (subst (λ (names : List (List ℕ)). AreListed c.args.problem.now c.in_ok-candidates.candidates names) c.as_slice-2.ensures c.in_ok-candidates.ensures))
     c.new.ensures c.in-Some.is)

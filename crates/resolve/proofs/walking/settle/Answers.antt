@@ -5,7 +5,7 @@ use Rattle.resolve.proofs.walking.settle.Goals as goal
 
 pub loop-at-smaller : goal.loop-at-smaller
 loop-at-smaller c =
-    let given = c.args.question.now in
+    let given = c.args.problem.now in
     let taken = c.args.taken.now.entries in
     let within : c.loop-at.at < length c.loop-at.asks = let e = c.len.ensures in let t = c.loop-at-test.true in omega arith in
     let placed : IsPlaced given taken c.loop-at.waiting.entries c.place.new.waiting.entries c.loop-at.followed c.place.new.followed c.at-wanted.result.now c.loop-at.asks c.place.new.asks = c.in_ok-place.ensures c.if-not-branch.false in

@@ -10,10 +10,10 @@ pub settle-requires : goal.settle-requires
 settle-requires c =
     let first = rw c.in-Some.is at c.first_admitted.ensures in
     let updates = subst (λ (v : VersionParts). Updates (slice_cmp nat_cmp) c.args.taken.now c.insert.new.self c.args.name (Some v)) c.in_ok-version.ensures.cases c.in_ok-insert.ensures.updates in
-    turn-taken c.args.question.now (c.the_rules_of_a_problem_are_lawful.ensures c.args.question.now) c.args.taken.now c.insert.new.self c.args.waiting.now.entries c.args.followed.now c.args.name c.args.asks c.in-Some.version.now c.requires first updates
+    turn-taken c.args.problem.now (c.the_rules_of_a_problem_are_lawful.ensures c.args.problem.now) c.args.taken.now c.insert.new.self c.args.waiting.now.entries c.args.followed.now c.args.name c.args.asks c.in-Some.version.now c.requires first updates
 
 pub returns-clause-longer : goal.returns-clause-longer
 returns-clause-longer c =
-    let free = turn-free c.args.question.now c.args.taken.now.entries c.args.waiting.now.entries c.args.followed.now c.args.name c.args.asks c.requires in
+    let free = turn-free c.args.problem.now c.args.taken.now.entries c.args.waiting.now.entries c.args.followed.now c.args.name c.args.asks c.requires in
     ok-settled (length c.insert.new.self.entries ≡ length c.args.taken.now.entries + 1) c.settle.result
     (longer-by_one c.in_ok-insert.field-0 (length c.args.taken.now.entries) (length c.insert.new.self.entries) c.in_ok-insert.ensures.len (c.in_ok-insert.ensures.old ∙ free))

@@ -12,9 +12,9 @@ returns-clause-entries c =
     let old : Gathered = record { nodes = c.self.inside.nodes; asked = map (λ wanted. wanted.now) c.self.inside.asked.items; entries = c.self.inside.entries.items } in
     let new : Gathered = record { nodes = c.extras_of.new.nodes; asked = map (λ wanted. wanted.now) c.push-2.new.self.items; entries = c.push.new.self.items } in
     let entry : Entry = record { node = c.in_ok-node.node; more = c.in_ok-more.more; admits = c.in_ok-admits.admits } in
-    entries-more c.args.question.now old new entry c.args.wanted.now (subst (AreEntries c.args.question.now) (sym c.self.view_is) c.requires.entries)
+    entries-more c.args.problem.now old new entry c.args.wanted.now (subst (AreEntries c.args.problem.now) (sym c.self.view_is) c.requires.entries)
     (longer-then old.nodes c.number_of.new.self new.nodes c.in_ok-node.ensures.longer c.in_ok-more.ensures.longer)
-    (entry-of c.args.question.now c.number_of.new.self new.nodes entry c.args.wanted.now c.in_ok-more.ensures.longer
+    (entry-of c.args.problem.now c.number_of.new.self new.nodes entry c.args.wanted.now c.in_ok-more.ensures.longer
     (subst (λ name. Stands c.number_of.new.self c.in_ok-node.node (record { name = name; extra = None })) c.name.ensures c.in_ok-node.ensures.number) c.in_ok-more.ensures.numbers c.in_ok-admits.ensures)
     (map-pushed (λ wanted. wanted.now) c.self.inside.asked.items c.push-2.new.self.items c.args.wanted c.in_ok-push-2.ensures.items)
     c.in_ok-push.ensures.items c.requires.met

@@ -21,5 +21,5 @@ returns c = grind (arith, common_steps)
 
 pub ask-requires-clause-met : goal.ask-requires-clause-met
 ask-requires-clause-met c =
-    let lines = c.as_slice-lines.ensures ∙ ap (λ (given : ProblemParts). given.active) c.question.view_is in
-    line-met c.args.question.now c.wanted-item.result (subst (λ (wanted : List RequirementParts). Contains wanted c.wanted-item.result) lines (c.loop-wanted.wanted-index, c.loop-wanted-test.true, sym c.wanted-item.is))
+    let lines = c.as_slice-lines.ensures ∙ ap (λ (given : ProblemParts). given.active) c.problem.view_is in
+    line-met c.args.problem.now c.wanted-item.result (subst (λ (wanted : List RequirementParts). Contains wanted c.wanted-item.result) lines (c.loop-wanted.wanted-index, c.loop-wanted-test.true, sym c.wanted-item.is))

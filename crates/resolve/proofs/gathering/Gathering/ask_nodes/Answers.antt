@@ -17,16 +17,16 @@ nodes-preserved c =
       c.in_ok-rows.ensures.entries,
       grown-then c.args.self.now c.nodes.self c.ask_node.new.self c.nodes.invariant.1 c.in_ok-rows.ensures.grown,
       omega arith,
-      subst (λ n. AllZip (IsWanted c.args.question.now c.ask_node.new.self.asked) c.push.new.self.items (take n c.ask_node.new.self.nodes)) (sym pushed)
-          (wants-more c.args.question.now c.nodes.self c.ask_node.new.self c.nodes.wants.items c.push.new.self.items c.in_ok-rows.rows count within c.in_ok-rows.ensures.grown c.nodes.invariant.3
-          (subst (λ n. (node : Node) → Stands c.nodes.self.nodes n node → IsWanted c.args.question.now c.ask_node.new.self.asked c.in_ok-rows.rows node) c.len-in-nodes-2.ensures c.in_ok-rows.ensures.rows) c.in_ok-push.ensures.items),
+      subst (λ n. AllZip (IsWanted c.args.problem.now c.ask_node.new.self.asked) c.push.new.self.items (take n c.ask_node.new.self.nodes)) (sym pushed)
+          (wants-more c.args.problem.now c.nodes.self c.ask_node.new.self c.nodes.wants.items c.push.new.self.items c.in_ok-rows.rows count within c.in_ok-rows.ensures.grown c.nodes.invariant.3
+          (subst (λ n. (node : Node) → Stands c.nodes.self.nodes n node → IsWanted c.args.problem.now c.ask_node.new.self.asked c.in_ok-rows.rows node) c.len-in-nodes-2.ensures c.in_ok-rows.ensures.rows) c.in_ok-push.ensures.items),
     )
 
 pub nodes-smaller : goal.nodes-smaller
 nodes-smaller c =
     let count = vec_len c.nodes.wants in
     let within : count < length c.self.inside.nodes = let e = c.len-in-nodes.ensures.count in let k = c.len.ensures in let t = c.nodes-test.true in omega arith in
-    let few : length c.self.inside.nodes ≤ length (nodes_met c.args.question.now) = c.len-in-nodes.ensures.once (nodes_met c.args.question.now)
+    let few : length c.self.inside.nodes ≤ length (nodes_met c.args.problem.now) = c.len-in-nodes.ensures.once (nodes_met c.args.problem.now)
     (λ node there. c.nodes.invariant.0.met node (subst (λ (g : Gathered). Contains g.nodes node) c.self.view_is there)) in
     let pushed : vec_len c.push.new.self ≡ count + 1 = c.in_ok-push.ensures.len in
     omega arith

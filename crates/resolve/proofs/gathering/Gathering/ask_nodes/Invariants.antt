@@ -6,7 +6,7 @@ use Rattle.resolve.proofs.gathering.Gathering.ask_nodes.Given as goal
 
 -- the nodes that may still be followed
 abbrev pub decreases-nodes : goal.decreases-nodes
-decreases-nodes l = length (nodes_met l.question) - vec_len l.wants
+decreases-nodes l = length (nodes_met l.problem) - vec_len l.wants
 
 abbrev pub invariant-nodes : goal.invariant-nodes
-invariant-nodes l = AreEntries l.question l.self × IsGrown l.fn.self l.self × (vec_len l.wants ≤ length l.self.nodes) × AllZip (IsWanted l.question l.self.asked) l.wants.items (take (vec_len l.wants) l.self.nodes)
+invariant-nodes l = AreEntries l.problem l.self × IsGrown l.fn.self l.self × (vec_len l.wants ≤ length l.self.nodes) × AllZip (IsWanted l.problem l.self.asked) l.wants.items (take (vec_len l.wants) l.self.nodes)

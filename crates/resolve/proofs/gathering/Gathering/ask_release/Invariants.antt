@@ -5,4 +5,4 @@ use Rattle.resolve.specs.Tied.Building.{AreEntries, IsGrown}
 use Rattle.resolve.proofs.gathering.Gathering.ask_release.Given as goal
 
 abbrev pub invariant-loop-wanted : goal.invariant-loop-wanted
-invariant-loop-wanted l = AreEntries l.question l.self × IsGrown l.fn.self l.self × AllStand l.self.asked l.numbers.items (filter (counts l.question.environment (option_copied l.extra)) (take l.wanted-index l.dependencies))
+invariant-loop-wanted l = AreEntries l.problem l.self × IsGrown l.fn.self l.self × AllStand l.self.asked l.numbers.items (filter (counts l.problem.environment (option_copied l.extra)) (take l.wanted-index l.dependencies))

@@ -4,4 +4,4 @@ use Rattle.resolve.specs.Tied.Building.{AreEntries, AreWants, IsGrown}
 use Rattle.resolve.proofs.gathering.Gathering.ask_releases.Given as goal
 
 abbrev pub invariant-loop-release : goal.invariant-loop-release
-invariant-loop-release l = AreEntries l.question l.self × IsGrown l.fn.self l.self × AreWants l.self.asked l.rows.items (map (wants_of l.question.environment l.node.extra) (take l.release-index l.releases))
+invariant-loop-release l = AreEntries l.problem l.self × IsGrown l.fn.self l.self × AreWants l.self.asked l.rows.items (map (wants_of l.problem.environment l.node.extra) (take l.release-index l.releases))
