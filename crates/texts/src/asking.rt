@@ -171,7 +171,7 @@ fn extras_of(
     for _ in entries {
         extras.push(Vec::new(alloc))?;
     }
-    let nodes = problem.needed(alloc, &problem.question().kept)?;
+    let nodes = problem.needed(alloc, &problem.kept)?;
     for node in nodes.into_vec() {
         add_extra(&mut extras, entries, node)?;
     }
@@ -200,9 +200,8 @@ fn add_needs<'a>(
     entry: &'a Entry,
     extras: &[Node],
 ) -> Result<(), AllocError> {
-    let question = problem.question();
-    for wanted in question.dependencies(entry.name(), entry.version()) {
-        if is_own(entry, wanted.name()) || !does_count(&question.environment, extras, wanted) {
+    for wanted in problem.dependencies(entry.name(), entry.version()) {
+        if is_own(entry, wanted.name()) || !does_count(&problem.environment, extras, wanted) {
             continue;
         }
         let ask = Ask {

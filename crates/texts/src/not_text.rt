@@ -1,7 +1,7 @@
 // Why a lock hasn't a release.
 
 use crate::reasons::add_reasons;
-use crate::sentences::terms::all_places;
+use crate::sentences::terms::place_of;
 use crate::sentences::wrapping::add_wrapped;
 use edits::{Name, Problem, Requirement, Target};
 use lists::Bits;
@@ -173,24 +173,18 @@ pub fn add_uncounted(
     wanted: &Requirement,
     wished: Wished<'_>,
 ) -> Result<bool, AllocError> {
-    let question = problem.question();
-    if question.release(wished.name, wished.version).is_none()
-        || admits(question, wanted, wished.version)
-    {
+    let releases = problem.releases(wished.name);
+    let Some(place) = place_of(releases, wished.version, 0) else {
+        return Ok(false);
+    };
+    if admits(problem, wanted, wished.version) {
         return Ok(false);
     }
-    let releases = question.releases(wished.name);
     let mut places = Bits::new(alloc);
-    for place in all_places(alloc, releases)?.places(alloc)?.as_slice() {
-        if let Some(release) = releases.get(*place) {
-            if release.version().cmp(wished.version).is_eq() {
-                places.insert(*place)?;
-            }
-        }
-    }
+    places.insert(place)?;
     let mut sentence = String::from_str(alloc, wished.name.normal())?;
     sentence.push_str(" ")?;
-    add_reasons(alloc, &mut sentence, question, wanted, "", &places)?;
+    add_reasons(alloc, &mut sentence, problem, wanted, "", &places)?;
     sentence.push_str(".")?;
     add_wrapped(text, sentence.as_str(), "")?;
     Ok(true)

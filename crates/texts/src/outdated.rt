@@ -5,7 +5,7 @@ use edits::{Entry, Line, Name, Problem, Release, Requirement, Target};
 use lists::Seq;
 use pep440::Version;
 use pep508::Cause;
-use problems::parts::{Question, admissions};
+use problems::parts::admissions;
 use std::alloc::{AllocError, Global};
 
 /// An entry that has a newer release.
@@ -44,13 +44,7 @@ pub(crate) fn outdated_of<'a>(
     let asks = asks_of(alloc, lines, target, Some(problem))?;
     let mut found = Vec::new(alloc);
     for (entry, asked) in target.lock.entries().iter().zip(asks.as_slice()) {
-        add_outdated(
-            alloc,
-            &mut found,
-            problem.question(),
-            entry,
-            asked.as_slice(),
-        )?;
+        add_outdated(alloc, &mut found, problem, entry, asked.as_slice())?;
     }
     Ok(found)
 }
@@ -58,20 +52,20 @@ pub(crate) fn outdated_of<'a>(
 fn add_outdated<'a>(
     alloc: Global,
     found: &mut Vec<Outdated<'a>>,
-    question: &'a Question<'a>,
+    problem: &'a Problem<'a>,
     entry: &'a Entry,
     asks: &[Ask<'a>],
 ) -> Result<(), AllocError> {
-    let releases = question.releases(entry.name());
+    let releases = problem.releases(entry.name());
     if !begin_newer(releases, entry) {
         return Ok(());
     }
-    let Some(by_name) = admitted_by_name(alloc, question, entry.name())? else {
+    let Some(by_name) = admitted_by_name(alloc, problem, entry.name())? else {
         return Ok(());
     };
     let admitted = Admitted {
         by_name,
-        heard: heard_of(alloc, question, asks)?,
+        heard: heard_of(alloc, problem, asks)?,
     };
     match newest_of(releases, &admitted) {
         Some(place) => add_newer(alloc, found, entry, releases, place, admitted),
@@ -90,11 +84,11 @@ fn begin_newer(releases: &[Release], entry: &Entry) -> bool {
 // Which releases a requirement admits that is the name alone.
 fn admitted_by_name(
     alloc: Global,
-    question: &Question<'_>,
+    problem: &Problem<'_>,
     name: &Name,
 ) -> Result<Option<Seq<bool>>, AllocError> {
     match Requirement::read(alloc, name.normal()) {
-        Ok(wanted) => Ok(Some(admissions(alloc, question, &wanted)?)),
+        Ok(wanted) => Ok(Some(admissions(alloc, problem, &wanted)?)),
         Err(Cause::OutOfMemory) => Err(AllocError),
         // A name is a requirement.
         Err(_) => Ok(None),
@@ -104,13 +98,13 @@ fn admitted_by_name(
 // What those admit of whom it is known what they ask for.
 fn heard_of<'a>(
     alloc: Global,
-    question: &Question<'_>,
+    problem: &Problem<'_>,
     asks: &[Ask<'a>],
 ) -> Result<Vec<Heard<'a>>, AllocError> {
     let mut heard = Vec::with_capacity(alloc, asks.len())?;
     for ask in asks {
         if let Some(wanted) = ask.wanted {
-            let admits = admissions(alloc, question, wanted)?;
+            let admits = admissions(alloc, problem, wanted)?;
             heard.push(Heard { ask: *ask, admits })?;
         }
     }

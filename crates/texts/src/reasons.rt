@@ -2,98 +2,73 @@
 
 use crate::plain_text::add_plain;
 use crate::requirement_text::add_clause;
-use crate::sentences::runs::{add_runs, are_all, are_many};
+use crate::sentences::runs::{add_runs, add_verb, are_all};
 use edits::{Release, Requirement};
 use lists::Bits;
-use problems::parts::Question;
-use snapshot::RequiresPython;
+use problems::Problem;
+use problems::parts::{Inadmissible, inadmissible};
 use std::alloc::{AllocError, Global};
 
-/// Why a release isn't admitted.
-#[derive(Clone, Copy)]
-enum Reason<'a> {
-    /// It doesn't match the clause at this place.
-    Clause(usize),
-    /// It asks for another Python.
-    Python(&'a RequiresPython),
-    Yanked,
-    Pre,
-    YankedPre,
+/// Releases that aren't admitted for one reason. What is asked of Python is a reason of its own.
+#[derive(Drop)]
+struct Group<'a> {
+    reason: Inadmissible,
+    first: &'a Release,
+    places: Bits,
 }
 
-// The first reason for which a requirement doesn't admit a release that it is known not to admit.
-fn reason_of<'a>(
-    question: &Question<'_>,
-    wanted: &Requirement,
-    release: &'a Release,
-) -> Reason<'a> {
-    for (place, clause) in wanted.specifiers().clauses().iter().enumerate() {
-        if !clause.matches(release.version()) {
-            return Reason::Clause(place);
+// Whether a release isn't admitted for the reason of the group.
+fn belongs_to(group: &Group<'_>, reason: Inadmissible, release: &Release) -> bool {
+    match (group.reason, reason) {
+        (Inadmissible::Clause(place), Inadmissible::Clause(another)) => place == another,
+        (Inadmissible::Python, Inadmissible::Python) => {
+            python_of(group.first) == python_of(release)
         }
-    }
-    if let Some(python) = release.requires_python() {
-        if !python.set().matches(question.environment.full_version()) {
-            return Reason::Python(python);
-        }
-    }
-    match (release.yanked(), release.version().is_pre()) {
-        (true, true) => Reason::YankedPre,
-        (true, false) => Reason::Yanked,
-        _ => Reason::Pre,
-    }
-}
-
-fn is_same(reason: Reason<'_>, other: Reason<'_>) -> bool {
-    match (reason, other) {
-        (Reason::Clause(place), Reason::Clause(another)) => place == another,
-        (Reason::Python(python), Reason::Python(another)) => python.text() == another.text(),
-        (Reason::Yanked, Reason::Yanked) => true,
-        (Reason::Pre, Reason::Pre) => true,
-        (Reason::YankedPre, Reason::YankedPre) => true,
+        (Inadmissible::Yanked, Inadmissible::Yanked) => true,
+        (Inadmissible::PreRelease, Inadmissible::PreRelease) => true,
+        (Inadmissible::YankedPreRelease, Inadmissible::YankedPreRelease) => true,
         _ => false,
     }
 }
 
-/// Releases that aren't admitted for one reason.
-#[derive(Drop)]
-struct Group<'a> {
-    reason: Reason<'a>,
-    places: Bits,
+// What a release asks of Python.
+fn python_of(release: &Release) -> &str {
+    match release.requires_python() {
+        Some(python) => python.text(),
+        None => "",
+    }
 }
 
 // The releases at these places by the reason for which the requirement doesn't admit them.
 fn groups_of<'a>(
     alloc: Global,
-    question: &'a Question<'_>,
+    problem: &'a Problem<'_>,
     wanted: &Requirement,
     places: &Bits,
 ) -> Result<Vec<Group<'a>>, AllocError> {
     let mut groups = Vec::new(alloc);
     let listed = places.places(alloc)?;
     for place in listed.as_slice() {
-        if let Some(release) = question.releases(wanted.name()).get(*place) {
-            put(
-                alloc,
-                &mut groups,
-                reason_of(question, wanted, release),
-                *place,
-            )?;
+        if let Some(release) = problem.releases(wanted.name()).get(*place) {
+            if let Some(reason) = inadmissible(problem, wanted, release) {
+                put(alloc, &mut groups, reason, release, *place)?;
+            }
         }
     }
     Ok(groups)
 }
 
-// Puts a place to those of its reason.
+// Puts a release, with its place, to those of its reason.
 fn put<'a>(
     alloc: Global,
     groups: &mut Vec<Group<'a>>,
-    reason: Reason<'a>,
+    reason: Inadmissible,
+    release: &'a Release,
     place: usize,
 ) -> Result<(), AllocError> {
     let found = groups
         .iter()
-        .position(|group| is_same(group.reason, reason));
+        .position(|group| belongs_to(group, reason, release));
     if let Some(at) = found {
         if let Some(group) = groups.get_mut(at) {
             group.places.insert(place)?;
@@ -102,7 +77,11 @@ fn put<'a>(
     }
     let mut places = Bits::new(alloc);
     places.insert(place)?;
-    Ok(groups.push(Group { reason, places })?)
+    Ok(groups.push(Group {
+        reason,
+        first: release,
+        places,
+    })?)
 }
 
 /// Tells of each of these releases, which the requirement doesn't admit, why. They are told by their
@@ -110,18 +89,18 @@ fn put<'a>(
 pub fn add_reasons(
     alloc: Global,
     text: &mut String,
-    question: &Question<'_>,
+    problem: &Problem<'_>,
     wanted: &Requirement,
     of: &str,
     places: &Bits,
 ) -> Result<(), AllocError> {
-    let groups = groups_of(alloc, question, wanted, places)?;
+    let groups = groups_of(alloc, problem, wanted, places)?;
     for (at, group) in groups.as_slice().iter().enumerate() {
         if at > 0 {
             text.push_str("; ")?;
         }
-        add_group(alloc, text, question, wanted, group)?;
-        if let Reason::Clause(_) = group.reason {
+        add_group(alloc, text, problem, wanted, group)?;
+        if let Inadmissible::Clause(_) = group.reason {
             if !of.is_empty() {
                 write!(text, " of {of}")?;
             }
@@ -133,20 +112,27 @@ pub fn add_reasons(
 fn add_group(
     alloc: Global,
     text: &mut String,
-    question: &Question<'_>,
+    problem: &Problem<'_>,
     wanted: &Requirement,
     group: &Group<'_>,
 ) -> Result<(), AllocError> {
-    let releases = question.releases(wanted.name());
-    if let Reason::Clause(place) = group.reason {
+    let releases = problem.releases(wanted.name());
+    if let Inadmissible::Clause(place) = group.reason {
         if releases.len() > 1 && are_all(alloc, releases, &group.places)? {
             text.push_str("none matches ")?;
             return add_clause_at(text, wanted, place);
         }
     }
     add_runs(alloc, text, releases, &group.places)?;
-    let many = are_many(alloc, releases, &group.places)?;
-    add_reason(text, question, wanted, group.reason, many)
+    let verbs = match group.reason {
+        Inadmissible::Clause(_) => (" doesn't match ", " don't match "),
+        Inadmissible::Python => (" needs Python ", " need Python "),
+        Inadmissible::Yanked => (" is yanked", " are yanked"),
+        Inadmissible::PreRelease => (" is a pre-release", " are pre-releases"),
+        Inadmissible::YankedPreRelease => (" is a yanked pre-release", " are yanked pre-releases"),
+    };
+    add_verb(alloc, text, releases, &group.places, verbs)?;
+    add_condition(text, problem, wanted, group)
 }
 
 fn add_clause_at(text: &mut String, wanted: &Requirement, place: usize) -> Result<(), AllocError> {
@@ -156,49 +142,24 @@ fn add_clause_at(text: &mut String, wanted: &Requirement, place: usize) -> Resul
     }
 }
 
-fn add_reason(
+// What stands behind the verb of a reason: what isn't met.
+fn add_condition(
     text: &mut String,
-    question: &Question<'_>,
+    problem: &Problem<'_>,
     wanted: &Requirement,
-    reason: Reason<'_>,
-    many: bool,
+    group: &Group<'_>,
 ) -> Result<(), AllocError> {
-    let is = if many { " are" } else { " is" };
-    match reason {
-        Reason::Clause(place) => {
-            text.push_str(if many {
-                " don't match "
-            } else {
-                " doesn't match "
-            })?;
-            add_clause_at(text, wanted, place)
-        }
-        Reason::Python(python) => {
-            text.push_str(if many {
-                " need Python "
-            } else {
-                " needs Python "
-            })?;
-            add_plain(text, python.text().trim())?;
-            let version = question.environment.full_version();
+    match group.reason {
+        Inadmissible::Clause(place) => add_clause_at(text, wanted, place),
+        Inadmissible::Python => {
+            add_plain(text, python_of(group.first).trim())?;
+            let version = problem.environment.full_version();
             write!(text, ", the environment has {version}")
         }
-        Reason::Yanked => write!(text, "{is} yanked, and no line pins it with =="),
-        Reason::Pre => {
-            add_kind(text, "pre-release", many)?;
+        Inadmissible::Yanked => text.push_str(", and no line pins it with =="),
+        Inadmissible::PreRelease => {
             text.push_str(", which counts where a line names one or no final release fits")
         }
-        Reason::YankedPre => {
-            add_kind(text, "yanked pre-release", many)?;
-            text.push_str(", and the lines don't let in both")
-        }
-    }
-}
-
-fn add_kind(text: &mut String, kind: &str, many: bool) -> Result<(), AllocError> {
-    if many {
-        write!(text, " are {kind}s")
-    } else {
-        write!(text, " is a {kind}")
+        Inadmissible::YankedPreRelease => text.push_str(", and the lines don't let in both"),
     }
 }

@@ -1,5 +1,6 @@
 // What is known of a refused edit beside its word.
 
+use crate::near_names::{add_near_names, has_package};
 use crate::plain_text::add_plain;
 use crate::shell_word::add_word;
 use crate::text_column::{clause_column, column_of};
@@ -155,31 +156,34 @@ fn add_lacking_names(
         environments.push(&target.environment)?;
     }
     let environments = environments.as_slice();
-    add_lacking(text, state.lines().lines(), environments, snapshot)?;
+    add_lacking(alloc, text, state.lines().lines(), environments, snapshot)?;
     let Edit::Add(line) = edit else {
         return Ok(());
     };
     match Line::read(alloc, line.as_str()) {
-        Ok(line) => add_lacking_name(text, &line, environments, snapshot),
+        Ok(line) => add_lacking_name(alloc, text, &line, environments, snapshot),
         Err(Cause::OutOfMemory) => Err(AllocError),
         Err(_) => Ok(()),
     }
 }
 
 /// Puts the names of the lines behind the text that count in one of the environments, and of which the index has no release.
+/// Behind a name of which it has no package stand those that are near to it.
 pub fn add_lacking(
+    alloc: Global,
     text: &mut String,
     lines: &[Line],
     environments: &[&Environment],
     snapshot: &Snapshot,
 ) -> Result<(), AllocError> {
     for line in lines {
-        add_lacking_name(text, line, environments, snapshot)?;
+        add_lacking_name(alloc, text, line, environments, snapshot)?;
     }
     Ok(())
 }
 
 fn add_lacking_name(
+    alloc: Global,
     text: &mut String,
     line: &Line,
     environments: &[&Environment],
@@ -188,16 +192,31 @@ fn add_lacking_name(
     let Some(requirement) = line.requirement() else {
         return Ok(());
     };
-    if !snapshot.releases(requirement.name()).is_empty() {
+    let name = requirement.name();
+    if !snapshot.releases(name).is_empty() {
         return Ok(());
     }
     for environment in environments {
         if requirement.is_active(environment) {
-            let name = requirement.name().normal();
-            return write!(text, "the index has no release of {name}\n");
+            return add_lacked(alloc, text, name, snapshot);
         }
     }
     Ok(())
+}
+
+// A name of which the index has no release.
+fn add_lacked(
+    alloc: Global,
+    text: &mut String,
+    name: &Name,
+    snapshot: &Snapshot,
+) -> Result<(), AllocError> {
+    text.push_str("the index has no release of ")?;
+    text.push_str(name.normal())?;
+    if !has_package(snapshot, name) {
+        add_near_names(alloc, text, snapshot, name)?;
+    }
+    text.push_str("\n")
 }
 
 /// Puts the command behind the text that tells why an edit has no solution. The options go before the subcommand.

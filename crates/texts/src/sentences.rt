@@ -1,7 +1,6 @@
 // Set refutations in sentences.
 
 pub mod causes;
-pub mod clashing;
 pub mod conclusion;
 pub mod covering;
 pub mod grounds;
@@ -10,6 +9,7 @@ pub mod runs;
 pub mod steps;
 pub mod telling;
 pub mod terms;
+pub mod wants;
 pub mod wrapping;
 
 use crate::sentences::conclusion::add_conclusion;
@@ -43,13 +43,13 @@ pub fn add_sentences(
     told: Told<'_>,
     refutation: &SetRefutation,
 ) -> Result<(), AllocError> {
-    let question = told.problem.question();
-    let lines = spoken_lines(alloc, question, told.lines, told.asked)?;
+    let problem = told.problem;
+    let lines = spoken_lines(alloc, problem, told.lines, told.asked)?;
     let conflicts = conflicts_of(alloc, told.snapshot, refutation)?;
-    let grounds = grounds_of(alloc, question, conflicts.as_slice())?;
+    let grounds = grounds_of(alloc, problem, refutation.conflicts(), conflicts.as_slice())?;
     let steps = told_steps(alloc, grounds.as_slice())?;
     let telling = Telling {
-        question,
+        problem,
         snapshot: told.snapshot,
         lines: lines.as_slice(),
         conflicts: conflicts.as_slice(),

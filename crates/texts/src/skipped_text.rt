@@ -1,6 +1,7 @@
 // What was left out of an index, for people.
 
 use crate::cause_word::cause_word;
+use crate::plain_text::add_plain;
 use pep508::{Cause, Name};
 use snapshot::{SkipCause, Skipped};
 use std::alloc::{AllocError, Global};
@@ -15,20 +16,28 @@ pub fn skipped_text(alloc: Global, skipped: &[Skipped]) -> Result<String, AllocE
     Ok(text)
 }
 
-/// The same lines of the releases of one name.
+/// The same lines of the releases of one name, each with its version as the index writes it.
 pub fn add_skipped(text: &mut String, skipped: &[Skipped], name: &Name) -> Result<(), AllocError> {
     for release in skipped {
         if release.package().normal() == name.normal() {
-            add_release(text, release)?;
+            text.push_str(name.normal())?;
+            text.push_str(" ")?;
+            add_plain(text, release.version())?;
+            add_place(text, release)?;
         }
     }
     Ok(())
 }
 
 fn add_release(text: &mut String, release: &Skipped) -> Result<(), AllocError> {
-    let package = release.package().normal();
+    text.push_str(release.package().normal())?;
+    add_place(text, release)
+}
+
+// Where the release stands, and why it was left out.
+fn add_place(text: &mut String, release: &Skipped) -> Result<(), AllocError> {
     let place = release.place();
-    write!(text, "{package}: release {place}: ")?;
+    write!(text, ": release {place}: ")?;
     add_cause(text, release.cause())?;
     text.push_str("\n")
 }

@@ -1,17 +1,17 @@
 // What excludes releases of a node.
 
 use crate::reasons::add_reasons;
-use crate::sentences::clashing::refused_at;
 use crate::sentences::covering::Cover;
-use crate::sentences::grounds::{Ground, Needing};
+use crate::sentences::grounds::Ground;
 use crate::sentences::lines::add_short;
-use crate::sentences::runs::{add_listed, add_node, add_runs, are_many};
+use crate::sentences::runs::{add_listed, add_node, add_runs, add_verb};
 use crate::sentences::steps::number_of;
 use crate::sentences::telling::{REQUIREMENTS, Telling, requirements_of};
 use crate::sentences::terms::{Named, Term};
+use crate::sentences::wants::{does_want, refused_at};
 use edits::Requirement;
 use lists::Bits;
-use problems::parts::counts;
+use problems::SetNeed;
 use std::alloc::{AllocError, Global};
 
 /// What excludes releases of a node in a sentence on a conflict: a line, another term, or a sentence above.
@@ -20,7 +20,7 @@ pub fn add_cause(
     text: &mut String,
     telling: Telling<'_, '_>,
     conflict: &[Term<'_>],
-    at: (Named<'_>, Option<Needing>),
+    at: (Named<'_>, Option<SetNeed>),
     cover: &Cover,
 ) -> Result<(), AllocError> {
     let (node, need) = at;
@@ -49,9 +49,9 @@ pub fn add_cause(
 }
 
 // Whether it is the term on this node that needs another one.
-fn is_needing(conflict: &[Term<'_>], need: Option<Needing>, node: Named<'_>) -> bool {
+fn is_needing(conflict: &[Term<'_>], need: Option<SetNeed>, node: Named<'_>) -> bool {
     match need {
-        Some(Needing::Term(at)) => match conflict.get(at) {
+        Some(SetNeed::Term(at)) => match conflict.get(at) {
             Some(term) => term.node.is(node),
             None => false,
         },
@@ -81,23 +81,23 @@ fn add_line_cause(
     alloc: Global,
     text: &mut String,
     telling: Telling<'_, '_>,
-    need: Option<Needing>,
+    need: Option<SetNeed>,
     place: usize,
     places: &Bits,
 ) -> Result<(), AllocError> {
-    let question = telling.question;
-    let Some(wanted) = question.active.as_slice().get(place) else {
+    let problem = telling.problem;
+    let Some(wanted) = problem.active.as_slice().get(place) else {
         return Ok(());
     };
     let own = match need {
-        Some(Needing::Line(line)) => line == place,
+        Some(SetNeed::Line(line)) => line == place,
         _ => false,
     };
     let mut of = String::new(alloc);
     if !own {
         add_short(&mut of, telling.lines.get(place))?;
     }
-    add_reasons(alloc, text, question, wanted, of.as_str(), places)
+    add_reasons(alloc, text, problem, wanted, of.as_str(), places)
 }
 
 // By another term, which wants them otherwise or is wanted otherwise by them. It is named unless it is what
@@ -112,7 +112,6 @@ fn add_clash(
 ) -> Result<(), AllocError> {
     let (node, _) = at;
     let releases = telling.snapshot.releases(node.name);
-    let many = are_many(alloc, releases, places)?;
     if each_refuses(alloc, telling, beside, node, places)? {
         return add_refused(alloc, text, telling, at, beside, places);
     }
@@ -122,23 +121,16 @@ fn add_clash(
         places: places.clone()?,
     };
     if each_refuses(alloc, telling, &own, beside.node, &beside.places)? {
-        text.push_str(if many { " need " } else { " needs " })?;
-        let bare = Named {
-            name: beside.node.name,
-            extra: None,
-        };
-        let wanted = requirements_of(alloc, telling, &own, bare)?;
+        add_verb(alloc, text, releases, places, (" needs ", " need "))?;
+        let wanted = requirements_of(alloc, telling, &own, Named::bare(beside.node.name))?;
         if wanted.len() <= REQUIREMENTS {
             return add_listed(text, wanted.as_slice(), "or");
         }
         text.push_str("other releases of ")?;
         return text.push_str(beside.node.name.normal());
     }
-    text.push_str(if many {
-        " don't go with "
-    } else {
-        " doesn't go with "
-    })?;
+    let verbs = (" doesn't go with ", " don't go with ");
+    add_verb(alloc, text, releases, places, verbs)?;
     add_node(text, beside.node)
 }
 
@@ -152,7 +144,7 @@ fn each_refuses(
 ) -> Result<bool, AllocError> {
     let listed = term.places.places(alloc)?;
     for place in listed.as_slice() {
-        let refused = refused_at(alloc, telling.question, term.node, *place, node.name)?;
+        let refused = refused_at(alloc, telling.problem, term.node, *place, node.name)?;
         if !places.lies_within(&refused) {
             return Ok(false);
         }
@@ -170,10 +162,7 @@ fn add_refused(
     places: &Bits,
 ) -> Result<(), AllocError> {
     let (node, own) = at;
-    let bare = Named {
-        name: node.name,
-        extra: None,
-    };
+    let bare = Named::bare(node.name);
     let mut of = String::new(alloc);
     if !own {
         add_node(&mut of, beside.node)?;
@@ -181,24 +170,20 @@ fn add_refused(
     let texts = requirements_of(alloc, telling, beside, bare)?;
     if texts.len() == 1 {
         if let Some(wanted) = requirement_on(telling, beside, bare) {
-            return add_reasons(alloc, text, telling.question, wanted, of.as_str(), places);
+            return add_reasons(alloc, text, telling.problem, wanted, of.as_str(), places);
         }
     }
     let releases = telling.snapshot.releases(node.name);
     add_runs(alloc, text, releases, places)?;
-    let many = are_many(alloc, releases, places)?;
-    text.push_str(if many {
-        " don't match"
-    } else {
-        " doesn't match"
-    })?;
+    let verbs = (" doesn't match", " don't match");
+    add_verb(alloc, text, releases, places, verbs)?;
     if own {
         return Ok(());
     }
     write!(text, " what {of} needs")
 }
 
-// A requirement on the name by the first release of the term.
+// A requirement by which the first release of the term needs the node.
 fn requirement_on<'a>(
     telling: Telling<'_, 'a>,
     term: &Term<'_>,
@@ -206,8 +191,9 @@ fn requirement_on<'a>(
 ) -> Option<&'a Requirement> {
     let place = term.places.first_from(0)?;
     let release = telling.snapshot.releases(term.node.name).get(place)?;
-    let question = telling.question;
-    release.dependencies().iter().find(|wanted| {
-        counts(&question.environment, term.node.extra, wanted) && node.is_on(wanted.name())
-    })
+    let problem = telling.problem;
+    release
+        .dependencies()
+        .iter()
+        .find(|wanted| does_want(problem, term.node, wanted, node))
 }

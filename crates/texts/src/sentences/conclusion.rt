@@ -16,13 +16,13 @@ pub fn add_conclusion(
     text: &mut String,
     telling: Telling<'_, '_>,
 ) -> Result<(), AllocError> {
-    let question = telling.question;
+    let problem = telling.problem;
     let cited = cited_lines(alloc, telling.grounds, telling.told)?;
     let mut items = Vec::new(alloc);
     for (count, place) in cited.iter().enumerate() {
         if count < NAMED {
             let mut item = String::new(alloc);
-            let wanted = question.active.as_slice().get(*place);
+            let wanted = problem.active.as_slice().get(*place);
             add_line(&mut item, telling.lines.get(*place), wanted)?;
             items.push(item)?;
         }

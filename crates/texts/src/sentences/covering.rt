@@ -49,17 +49,17 @@ fn joins_at(ground: &Ground<'_>, node: Named<'_>) -> bool {
     }
 }
 
-// Each earlier conflict that excludes releases at the node, with these.
+// Each conflict of which the ground is given and that excludes releases at the node, with these.
 fn covers_of(
     alloc: Global,
-    earlier: &[Vec<Term<'_>>],
+    conflicts: &[Vec<Term<'_>>],
     grounds: &[Ground<'_>],
     conflict: &[Term<'_>],
     node: Named<'_>,
     wanted: &Bits,
 ) -> Result<Vec<Cover>, AllocError> {
     let mut covers = Vec::new(alloc);
-    for (at, (old, ground)) in earlier.iter().zip(grounds).enumerate() {
+    for (at, (old, ground)) in conflicts.iter().zip(grounds).enumerate() {
         if !joins_at(ground, node) {
             if let Some(places) = covered_by(alloc, old.as_slice(), conflict, node, wanted)? {
                 covers.push(Cover {
@@ -131,16 +131,17 @@ fn take_covers(
     Ok(())
 }
 
-/// Earlier conflicts which together exclude these releases at the node, each with those that the ones before it leave; nothing where they don't. Those that need no step of their own come first.
+/// Earlier conflicts, those of which the grounds are given, that together exclude these releases at the node, as
+/// far as they do: each with those that the ones before it leave. Those that need no step of their own come first.
 pub fn covering(
     alloc: Global,
-    earlier: &[Vec<Term<'_>>],
+    conflicts: &[Vec<Term<'_>>],
     grounds: &[Ground<'_>],
     conflict: &[Term<'_>],
     node: Named<'_>,
     wanted: &Bits,
-) -> Result<Option<Vec<Cover>>, AllocError> {
-    let covers = covers_of(alloc, earlier, grounds, conflict, node, wanted)?;
+) -> Result<Vec<Cover>, AllocError> {
+    let covers = covers_of(alloc, conflicts, grounds, conflict, node, wanted)?;
     let mut left = wanted.clone()?;
     let mut taken = Vec::new(alloc);
     take_covers(
@@ -159,9 +160,5 @@ pub fn covering(
         false,
         &mut taken,
     )?;
-    if left.is_empty() {
-        Ok(Some(taken))
-    } else {
-        Ok(None)
-    }
+    Ok(taken)
 }

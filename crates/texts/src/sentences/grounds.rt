@@ -1,21 +1,13 @@
 // Why the conflicts of a set refutation follow.
 
-use crate::sentences::clashing::{add_refused, do_clash};
 use crate::sentences::covering::{Cover, covering};
 use crate::sentences::terms::{Named, Term, all_places};
-use edits::{Release, Requirement};
-use lists::Bits;
-use problems::parts::{Question, admissions, counts};
+use edits::SetTerm;
+use lists::Seq;
+use problems::{Problem, SetGround, SetNeed, set_ground_of};
 use std::alloc::{AllocError, Global};
 
-/// What needs a node: the line at a place among the active ones, or each release of the term at a place.
-#[derive(Debug, Clone, Copy)]
-pub enum Needing {
-    Line(usize),
-    Term(usize),
-}
-
-/// Why a conflict follows from those before it.
+/// Why a conflict follows from those before it, with the earlier ones that are told of it.
 #[derive(Drop)]
 pub enum Ground<'a> {
     /// The line at this place among the active ones admits nothing of the term at this place.
@@ -30,10 +22,10 @@ pub enum Ground<'a> {
     /// The node is needed, and with each of its releases the conflict contains an earlier one.
     NoneLeft {
         node: Named<'a>,
-        need: Needing,
+        need: SetNeed,
         covers: Vec<Cover>,
     },
-    /// None of these was found.
+    /// It doesn't follow. A list that `check_sets` accepts has no such conflict.
     Unknown,
 }
 
@@ -63,254 +55,59 @@ impl<'a> Ground<'a> {
     }
 }
 
-/// Why each of the conflicts follows.
+/// Why each of the conflicts follows. The terms are those of the conflicts.
 pub fn grounds_of<'a>(
     alloc: Global,
-    question: &'a Question<'_>,
-    conflicts: &[Vec<Term<'a>>],
+    problem: &'a Problem<'_>,
+    conflicts: &'a [Seq<SetTerm>],
+    terms: &[Vec<Term<'a>>],
 ) -> Result<Vec<Ground<'a>>, AllocError> {
     let mut grounds = Vec::new(alloc);
-    for (at, conflict) in conflicts.iter().enumerate() {
+    for (at, (conflict, own)) in conflicts.iter().zip(terms).enumerate() {
         let earlier = conflicts.get(..at).unwrap_or(&[]);
-        let ground = ground_of(
-            alloc,
-            question,
-            earlier,
-            grounds.as_slice(),
-            conflict.as_slice(),
-        )?;
+        let ground = match set_ground_of(problem, earlier, conflict.as_slice()) {
+            Some(found) => {
+                told_ground(
+                    alloc,
+                    problem,
+                    found,
+                    terms,
+                    grounds.as_slice(),
+                    own.as_slice(),
+                )?
+            }
+            None => Ground::Unknown,
+        };
         grounds.push(ground)?;
     }
     Ok(grounds)
 }
 
-fn ground_of<'a>(
+// A ground with the conflicts that are told of it, out of those that have their grounds already.
+fn told_ground<'a>(
     alloc: Global,
-    question: &'a Question<'_>,
-    earlier: &[Vec<Term<'a>>],
-    grounds: &[Ground<'a>],
+    problem: &Problem<'_>,
+    found: SetGround<'a>,
+    conflicts: &[Vec<Term<'_>>],
+    grounds: &[Ground<'_>],
     conflict: &[Term<'a>],
 ) -> Result<Ground<'a>, AllocError> {
-    if let Some(ground) = refused(alloc, question, conflict)? {
-        return Ok(ground);
-    }
-    if let Some(ground) = clashing(alloc, question, conflict)? {
-        return Ok(ground);
-    }
-    if let Some(ground) = joined(alloc, earlier, grounds, conflict)? {
-        return Ok(ground);
-    }
-    match exhausted(alloc, question, earlier, grounds, conflict)? {
-        Some(ground) => Ok(ground),
-        None => Ok(Ground::Unknown),
-    }
-}
-
-// A term of which a line admits nothing.
-fn refused<'a>(
-    alloc: Global,
-    question: &Question<'_>,
-    conflict: &[Term<'_>],
-) -> Result<Option<Ground<'a>>, AllocError> {
-    for (at, term) in conflict.iter().enumerate() {
-        if let Some(line) = refusing_line(alloc, question, term)? {
-            return Ok(Some(Ground::Line(line, at)));
+    match found {
+        SetGround::LineRefuses(line, term) => Ok(Ground::Line(line, term)),
+        SetGround::TermsClash(one, other) => Ok(Ground::Clash(one, other)),
+        SetGround::EachVersion(place) => {
+            let Some(term) = conflict.get(place) else {
+                return Ok(Ground::Unknown);
+            };
+            let node = term.node;
+            let covers = covering(alloc, conflicts, grounds, conflict, node, &term.places)?;
+            Ok(Ground::Each { node, covers })
         }
-    }
-    Ok(None)
-}
-
-// The first active line that admits nothing of the term.
-fn refusing_line(
-    alloc: Global,
-    question: &Question<'_>,
-    term: &Term<'_>,
-) -> Result<Option<usize>, AllocError> {
-    for (place, line) in question.active.as_slice().iter().enumerate() {
-        if term.node.is_on(line.name()) {
-            let mut refused = Bits::new(alloc);
-            add_refused(&mut refused, admissions(alloc, question, line)?.as_slice())?;
-            if term.places.lies_within(&refused) {
-                return Ok(Some(place));
-            }
+        SetGround::NoneLeft(need, name, extra) => {
+            let node = Named { name, extra };
+            let all = all_places(alloc, problem.releases(name))?;
+            let covers = covering(alloc, conflicts, grounds, conflict, node, &all)?;
+            Ok(Ground::NoneLeft { node, need, covers })
         }
-    }
-    Ok(None)
-}
-
-// Two terms, or one twice, that clash.
-fn clashing<'a>(
-    alloc: Global,
-    question: &Question<'_>,
-    conflict: &[Term<'_>],
-) -> Result<Option<Ground<'a>>, AllocError> {
-    for (at, one) in conflict.iter().enumerate() {
-        if let Some(other) = clashing_with(alloc, question, conflict, one, at)? {
-            return Ok(Some(Ground::Clash(at, other)));
-        }
-    }
-    Ok(None)
-}
-
-// The first term from a place on that clashes with this one.
-fn clashing_with(
-    alloc: Global,
-    question: &Question<'_>,
-    conflict: &[Term<'_>],
-    one: &Term<'_>,
-    from: usize,
-) -> Result<Option<usize>, AllocError> {
-    for (at, other) in conflict.iter().enumerate() {
-        if at >= from && do_clash(alloc, question, one, other)? {
-            return Ok(Some(at));
-        }
-    }
-    Ok(None)
-}
-
-// A term with each release of which the conflict contains an earlier one.
-fn joined<'a>(
-    alloc: Global,
-    earlier: &[Vec<Term<'_>>],
-    grounds: &[Ground<'_>],
-    conflict: &[Term<'a>],
-) -> Result<Option<Ground<'a>>, AllocError> {
-    for term in conflict {
-        let covers = covering(alloc, earlier, grounds, conflict, term.node, &term.places)?;
-        if let Some(covers) = covers {
-            return Ok(Some(Ground::Each {
-                node: term.node,
-                covers,
-            }));
-        }
-    }
-    Ok(None)
-}
-
-// A node that is needed and has no release left.
-fn exhausted<'a>(
-    alloc: Global,
-    question: &'a Question<'_>,
-    earlier: &[Vec<Term<'_>>],
-    grounds: &[Ground<'_>],
-    conflict: &[Term<'_>],
-) -> Result<Option<Ground<'a>>, AllocError> {
-    for (place, line) in question.active.as_slice().iter().enumerate() {
-        let found = exhausted_by(alloc, question, earlier, grounds, conflict, line)?;
-        if let Some((node, covers)) = found {
-            let need = Needing::Line(place);
-            return Ok(Some(Ground::NoneLeft { node, need, covers }));
-        }
-    }
-    for (at, term) in conflict.iter().enumerate() {
-        let found = exhausted_at(alloc, question, earlier, grounds, conflict, term)?;
-        if let Some((node, covers)) = found {
-            let need = Needing::Term(at);
-            return Ok(Some(Ground::NoneLeft { node, need, covers }));
-        }
-    }
-    Ok(None)
-}
-
-// A node that a requirement needs and that has no release left.
-fn exhausted_by<'a>(
-    alloc: Global,
-    question: &Question<'_>,
-    earlier: &[Vec<Term<'_>>],
-    grounds: &[Ground<'_>],
-    conflict: &[Term<'_>],
-    wanted: &'a Requirement,
-) -> Result<Option<(Named<'a>, Vec<Cover>)>, AllocError> {
-    let all = all_places(alloc, question.releases(wanted.name()))?;
-    for node in nodes_of(alloc, wanted)? {
-        if let Some(covers) = covering(alloc, earlier, grounds, conflict, node, &all)? {
-            return Ok(Some((node, covers)));
-        }
-    }
-    Ok(None)
-}
-
-// The nodes that a requirement needs.
-fn nodes_of<'a>(alloc: Global, wanted: &'a Requirement) -> Result<Vec<Named<'a>>, AllocError> {
-    let name = wanted.name();
-    let mut nodes = Vec::new(alloc);
-    nodes.push(Named { name, extra: None })?;
-    for extra in wanted.extras() {
-        nodes.push(Named {
-            name,
-            extra: Some(extra),
-        })?;
-    }
-    Ok(nodes)
-}
-
-// A node that each release of a term needs and that has no release left.
-fn exhausted_at<'a>(
-    alloc: Global,
-    question: &'a Question<'_>,
-    earlier: &[Vec<Term<'_>>],
-    grounds: &[Ground<'_>],
-    conflict: &[Term<'_>],
-    term: &Term<'_>,
-) -> Result<Option<(Named<'a>, Vec<Cover>)>, AllocError> {
-    let Some(first) = term.places.first_from(0) else {
-        return Ok(None);
-    };
-    let Some(release) = question.releases(term.node.name).get(first) else {
-        return Ok(None);
-    };
-    for wanted in release.dependencies() {
-        if counts(&question.environment, term.node.extra, wanted) {
-            let found = exhausted_by(alloc, question, earlier, grounds, conflict, wanted)?;
-            if let Some((node, covers)) = found {
-                if each_needs(alloc, question, term, node)? {
-                    return Ok(Some((node, covers)));
-                }
-            }
-        }
-    }
-    Ok(None)
-}
-
-// Whether each release of the term needs the node.
-fn each_needs(
-    alloc: Global,
-    question: &Question<'_>,
-    term: &Term<'_>,
-    node: Named<'_>,
-) -> Result<bool, AllocError> {
-    let releases = question.releases(term.node.name);
-    let places = term.places.places(alloc)?;
-    Ok(
-        places.as_slice().iter().all(|place| match releases.get(*place) {
-            Some(release) => release_needs(question, term.node, release, node),
-            None => false,
-        }),
-    )
-}
-
-// Whether something that counts at a release's own node needs the other one.
-fn release_needs(
-    question: &Question<'_>,
-    own: Named<'_>,
-    release: &Release,
-    node: Named<'_>,
-) -> bool {
-    release.dependencies().iter().any(|wanted| {
-        counts(&question.environment, own.extra, wanted) && needs(wanted, node)
-    })
-}
-
-/// Whether a requirement needs the node.
-pub fn needs(wanted: &Requirement, node: Named<'_>) -> bool {
-    if !node.is_on(wanted.name()) {
-        return false;
-    }
-    match node.extra {
-        None => true,
-        Some(extra) => wanted
-            .extras()
-            .iter()
-            .any(|other| other.normal() == extra.normal()),
     }
 }

@@ -5,7 +5,7 @@ use crate::requirement_text::add_requirement;
 use edits::{Edit, Line, Requirement};
 use lists::Text;
 use pep508::Name;
-use problems::parts::Question;
+use problems::Problem;
 use std::alloc::{AllocError, Global};
 
 /// What was asked of lines.
@@ -29,14 +29,14 @@ pub enum Spoken<'a> {
 /// The active lines, in their order.
 pub fn spoken_lines<'a>(
     alloc: Global,
-    question: &Question<'_>,
+    problem: &Problem<'_>,
     lines: &'a [Line],
     asked: Asked<'a>,
 ) -> Result<Vec<Spoken<'a>>, AllocError> {
     let changed = changed_name(alloc, asked)?;
     let mut spoken = Vec::new(alloc);
     for (index, line) in lines.iter().enumerate() {
-        if is_active(question, line) {
+        if is_active(problem, line) {
             let number = index.saturating_add(1);
             match (asked, is_on(line, changed.as_ref())) {
                 (Asked::After(Edit::Remove(_)), true) => {}
@@ -65,9 +65,9 @@ fn changed_name(alloc: Global, asked: Asked<'_>) -> Result<Option<Name>, AllocEr
     }
 }
 
-fn is_active(question: &Question<'_>, line: &Line) -> bool {
+fn is_active(problem: &Problem<'_>, line: &Line) -> bool {
     match line.requirement() {
-        Some(wanted) => wanted.is_active(&question.environment),
+        Some(wanted) => wanted.is_active(&problem.environment),
         None => false,
     }
 }

@@ -80,10 +80,17 @@ pub fn are_all(alloc: Global, releases: &[Release], places: &Bits) -> Result<boo
     Ok(places.places(alloc)?.len() == releases.len())
 }
 
-/// Whether a verb behind `add_runs` or `add_term` stands in the plural.
-pub fn are_many(alloc: Global, releases: &[Release], places: &Bits) -> Result<bool, AllocError> {
+/// The verb behind `add_runs` or `add_term` of these releases, which is given in the singular and in the plural.
+pub fn add_verb(
+    alloc: Global,
+    text: &mut String,
+    releases: &[Release],
+    places: &Bits,
+    verbs: (&str, &str),
+) -> Result<(), AllocError> {
     let count = places.places(alloc)?.len();
-    Ok(count > 1 && count != releases.len())
+    let many = count > 1 && count != releases.len();
+    text.push_str(if many { verbs.1 } else { verbs.0 })
 }
 
 /// The versions of these releases: `every release` where they are all, and there are several.

@@ -1,28 +1,53 @@
 // Which conflicts of a refutation are told, and by which numbers.
 
-use crate::sentences::grounds::{Ground, Needing};
+use crate::sentences::grounds::Ground;
+use problems::SetNeed;
 use std::alloc::{AllocError, Global};
 use std::collections::BTreeSet;
 
-/// The conflicts that get a sentence: those on which the last one rests, in their order, but for those
-/// whose ground is told where they are cited.
+// A turn of the walk from the last conflict to those that it cites.
+#[derive(Clone, Copy)]
+enum Turn {
+    Enter(usize),
+    Leave(usize),
+}
+
+/// The conflicts that get a sentence: the last one and those on which it rests, but for those whose ground
+/// is told where they are cited. Each stands behind those that its own sentence cites, in the order in which
+/// it cites them.
 pub fn told_steps(alloc: Global, grounds: &[Ground<'_>]) -> Result<Vec<usize>, AllocError> {
-    let mut cited = BTreeSet::new(alloc);
-    cited.insert(grounds.len().saturating_sub(1))?;
-    for (at, ground) in grounds.iter().enumerate().rev() {
-        if cited.contains(&at) {
-            for cover in ground.covers() {
-                cited.insert(cover.conflict)?;
-            }
-        }
-    }
     let mut told = Vec::new(alloc);
-    for (at, ground) in grounds.iter().enumerate() {
-        if cited.contains(&at) && !ground.is_plain() {
-            told.push(at)?;
+    let mut entered = BTreeSet::new(alloc);
+    let mut turns = Vec::new(alloc);
+    turns.push(Turn::Enter(grounds.len().saturating_sub(1)))?;
+    for _ in 0..usize::MAX {
+        match turns.pop() {
+            Some(Turn::Enter(at)) => enter(&mut turns, &mut entered, grounds, at)?,
+            Some(Turn::Leave(at)) => told.push(at)?,
+            None => return Ok(told),
         }
     }
     Ok(told)
+}
+
+// Puts what the sentence of a conflict cites before its own turn. A conflict is entered once.
+fn enter(
+    turns: &mut Vec<Turn>,
+    entered: &mut BTreeSet<usize>,
+    grounds: &[Ground<'_>],
+    at: usize,
+) -> Result<(), AllocError> {
+    let Some(ground) = grounds.get(at) else {
+        return Ok(());
+    };
+    if ground.is_plain() || !entered.insert(at)? {
+        return Ok(());
+    }
+    turns.push(Turn::Leave(at))?;
+    for cover in ground.covers().iter().rev() {
+        turns.push(Turn::Enter(cover.conflict))?;
+    }
+    Ok(())
 }
 
 /// The number of a conflict's sentence, from 1.
@@ -52,7 +77,7 @@ fn add_cited(
     ground: &Ground<'_>,
 ) -> Result<(), AllocError> {
     if let Ground::NoneLeft {
-        need: Needing::Line(place),
+        need: SetNeed::Line(place),
         ..
     } = ground
     {

@@ -1,15 +1,16 @@
 // The sentences of a set refutation.
 
-use crate::near_names::{has_package, near_names};
+use crate::near_names::{add_near_names, has_package};
 use crate::requirement_text::add_requirement;
 use crate::sentences::causes::add_cause;
 use crate::sentences::covering::Cover;
-use crate::sentences::grounds::{Ground, Needing, needs};
+use crate::sentences::grounds::Ground;
 use crate::sentences::lines::{Spoken, add_line};
-use crate::sentences::runs::{add_listed, add_node, add_term, are_many};
+use crate::sentences::runs::{add_listed, add_node, add_term, add_verb};
 use crate::sentences::terms::{Named, Term};
+use crate::sentences::wants::does_want;
 use edits::Snapshot;
-use problems::parts::{Question, counts};
+use problems::{Problem, SetNeed};
 use std::alloc::{AllocError, Global};
 
 /// How many different requirements for one node are told.
@@ -18,7 +19,7 @@ pub const REQUIREMENTS: usize = 3;
 /// What sentences are made of.
 #[derive(Clone, Copy)]
 pub struct Telling<'t, 'a> {
-    pub question: &'a Question<'a>,
+    pub problem: &'a Problem<'a>,
     pub snapshot: &'a Snapshot,
     pub lines: &'t [Spoken<'a>],
     pub conflicts: &'t [Vec<Term<'a>>],
@@ -77,10 +78,7 @@ fn add_joined(
 ) -> Result<(), AllocError> {
     let own = conflict.iter().position(|term| term.node.is(node));
     if let Some(term) = conflict.iter().find(|term| term.node.is(node)) {
-        let releases = telling.snapshot.releases(node.name);
-        add_term(alloc, text, releases, node, &term.places)?;
-        let many = are_many(alloc, releases, &term.places)?;
-        text.push_str(if many { " aren't left" } else { " isn't left" })?;
+        add_subject(alloc, text, telling, term, (" isn't left", " aren't left"))?;
     }
     if conflict.len() > 1 {
         text.push_str(" beside ")?;
@@ -88,6 +86,19 @@ fn add_joined(
     }
     text.push_str(": ")?;
     add_causes(alloc, text, telling, conflict, (node, None), covers)
+}
+
+// A term with its verb, which is given in the singular and in the plural.
+fn add_subject(
+    alloc: Global,
+    text: &mut String,
+    telling: Telling<'_, '_>,
+    term: &Term<'_>,
+    verbs: (&str, &str),
+) -> Result<(), AllocError> {
+    let releases = telling.snapshot.releases(term.node.name);
+    add_term(alloc, text, releases, term.node, &term.places)?;
+    add_verb(alloc, text, releases, &term.places, verbs)
 }
 
 // The terms of a conflict but for the one at a place.
@@ -117,17 +128,17 @@ fn add_need(
     telling: Telling<'_, '_>,
     conflict: &[Term<'_>],
     node: Named<'_>,
-    need: Needing,
+    need: SetNeed,
 ) -> Result<(), AllocError> {
     match need {
-        Needing::Line(place) => {
-            let question = telling.question;
-            let wanted = question.active.as_slice().get(place);
+        SetNeed::Line(place) => {
+            let problem = telling.problem;
+            let wanted = problem.active.as_slice().get(place);
             add_line(text, telling.lines.get(place), wanted)?;
             text.push_str(" needs ")?;
             add_node(text, node)
         }
-        Needing::Term(at) => match conflict.get(at) {
+        SetNeed::Term(at) => match conflict.get(at) {
             Some(term) => add_needing(alloc, text, telling, term, node),
             None => Ok(()),
         },
@@ -142,10 +153,7 @@ fn add_needing(
     term: &Term<'_>,
     node: Named<'_>,
 ) -> Result<(), AllocError> {
-    let releases = telling.snapshot.releases(term.node.name);
-    add_term(alloc, text, releases, term.node, &term.places)?;
-    let many = are_many(alloc, releases, &term.places)?;
-    text.push_str(if many { " need " } else { " needs " })?;
+    add_subject(alloc, text, telling, term, (" needs ", " need "))?;
     let wanted = requirements_of(alloc, telling, term, node)?;
     if wanted.len() > REQUIREMENTS {
         add_node(text, node)?;
@@ -183,9 +191,9 @@ fn add_requirements(
     let Some(release) = telling.snapshot.releases(own.name).get(place) else {
         return Ok(());
     };
-    let question = telling.question;
+    let problem = telling.problem;
     for wanted in release.dependencies() {
-        if counts(&question.environment, own.extra, wanted) && needs(wanted, node) {
+        if does_want(problem, own, wanted, node) {
             let mut text = String::new(alloc);
             add_requirement(&mut text, wanted)?;
             if !texts.iter().any(|other| other.as_str() == text.as_str()) {
@@ -202,7 +210,7 @@ fn add_exhausted(
     text: &mut String,
     telling: Telling<'_, '_>,
     conflict: &[Term<'_>],
-    needed: (Named<'_>, Needing),
+    needed: (Named<'_>, SetNeed),
     covers: &[Cover],
 ) -> Result<(), AllocError> {
     let (node, need) = needed;
@@ -211,8 +219,8 @@ fn add_exhausted(
     }
     text.push_str(", and ")?;
     let but = match need {
-        Needing::Term(at) => Some(at),
-        Needing::Line(_) => None,
+        SetNeed::Term(at) => Some(at),
+        SetNeed::Line(_) => None,
     };
     let others = conflict
         .len()
@@ -244,12 +252,7 @@ fn add_missing(
         );
     }
     write!(text, ", and the index has no package {name}")?;
-    let near = near_names(alloc, telling.snapshot, node.name)?;
-    for (at, other) in near.as_slice().iter().enumerate() {
-        text.push_str(if at == 0 { "; near names: " } else { ", " })?;
-        text.push_str(other.normal())?;
-    }
-    Ok(())
+    add_near_names(alloc, text, telling.snapshot, node.name)
 }
 
 // What excludes the releases of a node, with `; ` between two causes.
@@ -258,7 +261,7 @@ fn add_causes(
     text: &mut String,
     telling: Telling<'_, '_>,
     conflict: &[Term<'_>],
-    at: (Named<'_>, Option<Needing>),
+    at: (Named<'_>, Option<SetNeed>),
     covers: &[Cover],
 ) -> Result<(), AllocError> {
     for (place, cover) in covers.iter().enumerate() {

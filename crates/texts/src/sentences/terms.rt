@@ -13,6 +13,11 @@ pub struct Named<'a> {
 }
 
 impl<'a> Named<'a> {
+    /// The node of a name without an extra.
+    pub fn bare(name: &'a Name) -> Named<'a> {
+        Named { name, extra: None }
+    }
+
     /// Whether both are one node.
     pub fn is(&self, other: Named<'_>) -> bool {
         self.is_on(other.name) && is_same_extra(self.extra, other.extra)
@@ -89,7 +94,8 @@ fn places_of(
     Ok(places)
 }
 
-fn place_of(releases: &[Release], version: &Version, behind: usize) -> Option<usize> {
+/// The place of the release that has a version, which is looked for from a place on first.
+pub fn place_of(releases: &[Release], version: &Version, behind: usize) -> Option<usize> {
     match place_between(releases, version, behind, releases.len()) {
         Some(place) => Some(place),
         None => place_between(releases, version, 0, behind),
