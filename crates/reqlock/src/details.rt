@@ -1,11 +1,10 @@
 // What is told on standard error behind a reply, where that is asked for.
 
-use crate::comparing::change_between;
-use crate::input_files::{InputFault, InputFile};
-use crate::saved_files::path_of;
 use crate::stop::Stop;
-use crate::target_files::TargetFile;
+use crate::subcommands::diff::change_between;
 use edits::{Edit, Environment, Line, Refusal, Snapshot, State, TargetName, Targets};
+use files::target_files::TargetFile;
+use files::{InputFault, InputFile, path_of};
 use journal::{Command, Session};
 use std::alloc::{AllocError, Global};
 use std::fs;
@@ -119,7 +118,7 @@ impl Details {
         let mut text = String::new(alloc);
         if self.is_asked {
             let environments = environments_of(alloc, targets)?;
-            add_lacking(&mut text, lines, environments.as_slice(), snapshot)?;
+            add_lacking(alloc, &mut text, lines, environments.as_slice(), snapshot)?;
         }
         Ok(text)
     }
@@ -210,7 +209,7 @@ impl CallFiles<'_> {
             InputFile::Environment(name) => {
                 Ok(String::from_str(alloc, environment_path(self.targets.as_slice(), name))?)
             }
-            _ => path_of(alloc, self.dir, file),
+            _ => Ok(path_of(alloc, self.dir, file)?),
         }
     }
 }

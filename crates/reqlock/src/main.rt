@@ -1,24 +1,12 @@
 //! `reqlock`: a locker for Python requirements files, with undo and redo.
 #![tactic(auto)]
 
-mod asking;
-mod asking_release;
-mod comparing;
 mod details;
-mod editing;
-mod folder_lock;
-mod freshness;
 mod given_words;
-mod input_files;
-mod looking;
+mod input_fault_text;
 mod program;
-mod rehearsing;
-mod replacing;
-mod saved_files;
-mod showing;
 mod stop;
-mod stopped_save;
-mod target_files;
+mod subcommands;
 
 use crate::given_words::{given_words, report_words};
 use std::process::ExitCode;

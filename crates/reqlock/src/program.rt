@@ -1,20 +1,24 @@
 // The program: what each subcommand does.
 
-use crate::asking::{print_why, print_why_init};
-use crate::asking_release::print_why_not;
-use crate::comparing::print_diff;
 use crate::details::{CallFiles, Details};
-use crate::editing::{edit_once, init, run_batch, step_once, try_commands};
-use crate::folder_lock::{LockFile, lock_to_save};
-use crate::freshness::{print_check, print_outdated};
-use crate::input_files::{InputFault, InputFile};
-use crate::looking::{print_history, print_skipped};
-use crate::rehearsing::{rehearse_edit, rehearse_step};
-use crate::showing::print_shown;
 use crate::stop::{Status, Stop, report};
-use crate::target_files::{TargetFile, target_files};
+use crate::subcommands::batch::{run_batch, try_commands};
+use crate::subcommands::check::print_check;
+use crate::subcommands::diff::print_diff;
+use crate::subcommands::dry_run::{rehearse_edit, rehearse_step};
+use crate::subcommands::edit::{edit_once, step_once};
+use crate::subcommands::init::init;
+use crate::subcommands::log::print_history;
+use crate::subcommands::outdated::print_outdated;
+use crate::subcommands::show::print_shown;
+use crate::subcommands::skipped::print_skipped;
+use crate::subcommands::why::{print_why, print_why_init};
+use crate::subcommands::why_not::print_why_not;
 use commands::request::{Invocation, Question, Saving, Subcommand, request};
+use files::target_files::{TargetFile, target_files};
+use files::{InputFault, InputFile, LockFile, lock_to_save};
 use journal::Command;
+use lists::Text;
 use std::io::{Read, Write};
 use std::rt::Files;
 
@@ -59,7 +63,7 @@ where
         subcommand,
     } = request(rt.alloc(), words)?;
     let index = index_of(&subcommand);
-    let targets = target_files(rt.alloc(), &subcommand)?;
+    let targets = target_files(rt.alloc(), environments_of(&subcommand))?;
     let mut files = CallFiles {
         dir,
         index,
@@ -164,6 +168,16 @@ fn index_of<'a>(subcommand: &Subcommand<'a>) -> Option<&'a str> {
     }
 }
 
+// The values of `--env` of a subcommand that locks new targets; none of any other.
+fn environments_of<'a>(subcommand: &'a Subcommand<'_>) -> &'a [Text] {
+    match subcommand {
+        Subcommand::Init(inputs)
+        | Subcommand::Try(inputs)
+        | Subcommand::Why(Question::Init(inputs, _), _) => inputs.environments.as_slice(),
+        _ => &[],
+    }
+}
+
 // No folder has the empty name, so none of its files can be read; a path made of it would lead to the
 // root folder. `skipped` reads no file of the folder.
 fn refuse_no_folder(dir: &str, subcommand: &Subcommand<'_>) -> Result<(), Stop> {
@@ -188,7 +202,7 @@ where
         | Subcommand::Edit(_, _, Saving::Save)
         | Subcommand::Undo(Saving::Save)
         | Subcommand::Redo(Saving::Save)
-        | Subcommand::Batch(_) => lock_to_save(rt, dir),
+        | Subcommand::Batch(_) => Ok(lock_to_save(rt, dir)?),
         Subcommand::Edit(_, _, Saving::DryRun)
         | Subcommand::Undo(Saving::DryRun)
         | Subcommand::Redo(Saving::DryRun)

@@ -1,16 +1,20 @@
 // Why the program ends before it did what was asked, and how it tells it.
 
-ghost use Rattle.std.specs.Prelude.{◌≡◌};
+ghost use Rattle.std.specs.Prelude.{◌≡◌, ◌⊎◌, IfErr};
 ghost use Rattle.commands.specs.declared.batch.BatchFault.TheVariants as batches;
-ghost use Rattle.reqlock.specs.declared.stop.Stop.TheVariants.{Fault};
+ghost use Rattle.files.specs.Faults.{fault_of};
+ghost use Rattle.reqlock.specs.Statuses.{HasStatus, IsPrinted, stop_of};
+ghost use Rattle.reqlock.specs.declared.stop.Status.TheVariants as statuses;
+ghost use Rattle.reqlock.specs.declared.stop.Stop.TheVariants as stops;
 
-use crate::input_files::{InputFault, InputFile};
+use crate::input_fault_text::InputFaultText;
 use commands::batch::BatchFault;
 use commands::refusal_word;
 use commands::request::{NeededOption, RequestFault};
-use edits::{Refusal, SavedFile, TargetName};
+use edits::{Refusal, TargetName};
+use files::{Fault, InputFault, InputFile};
 use std::alloc::{AllocError, AllocFailed};
-use std::io::{self, ErrorKind, Write};
+use std::io::{ErrorKind, Write};
 
 /// The status that the program ends with.
 #[derive(Clone, Copy, Debug, PartialEq, Eq)]
@@ -50,7 +54,7 @@ pub enum Stop {
 }
 
 impl From<AllocError> for Stop {
-    ghost from_gives = { λ _ stop. stop ≡ Fault batches.OutOfMemory };
+    ghost from_gives = { λ _ stop. stop ≡ stops.Fault batches.OutOfMemory };
 
     fn from(_error: AllocError) -> Stop {
         Stop::Fault(BatchFault::OutOfMemory)
@@ -58,7 +62,7 @@ impl From<AllocError> for Stop {
 }
 
 impl<T: Drop> From<AllocFailed<T>> for Stop {
-    ghost from_gives = { λ _ stop. stop ≡ Fault batches.OutOfMemory };
+    ghost from_gives = { λ _ stop. stop ≡ stops.Fault batches.OutOfMemory };
 
     fn from(_error: AllocFailed<T>) -> Stop {
         Stop::Fault(BatchFault::OutOfMemory)
@@ -66,7 +70,7 @@ impl<T: Drop> From<AllocFailed<T>> for Stop {
 }
 
 impl From<BatchFault> for Stop {
-    ghost from_gives = { λ fault stop. stop ≡ Fault fault };
+    ghost from_gives = { λ fault stop. stop ≡ stops.Fault fault };
 
     fn from(fault: BatchFault) -> Stop {
         Stop::Fault(fault)
@@ -83,54 +87,35 @@ impl From<RequestFault> for Stop {
     }
 }
 
+// A refusal is told as the fault of the file or of the value of `--env` that it is about, where there is one.
 impl From<Refusal> for Stop {
+    ghost from_gives = { λ refusal stop. stop ≡ stop_of (fault_of refusal) };
+
     fn from(refusal: Refusal) -> Stop {
-        match refusal {
-            Refusal::OutOfMemory => Stop::Fault(BatchFault::OutOfMemory),
-            Refusal::FilesDisagree(SavedFile::Requirements) => {
-                Stop::Input(InputFile::Requirements, InputFault::Disagrees)
-            }
-            Refusal::FilesDisagree(SavedFile::Lock(name)) => {
-                Stop::Input(InputFile::Lock(name), InputFault::Disagrees)
-            }
-            Refusal::JournalBroken(line) => {
-                Stop::Input(InputFile::Journal, InputFault::JournalBroken(line))
-            }
-            Refusal::BadTarget => Stop::BadTarget,
-            Refusal::DuplicateTarget(name) => Stop::DuplicateTarget(name),
-            Refusal::NoTarget => Stop::Needed(NeededOption::Environment),
-            refusal => Stop::Refused(refusal),
+        Stop::from(Fault::from(refusal))
+    }
+}
+
+impl From<Fault> for Stop {
+    ghost from_gives = { λ fault stop. stop ≡ stop_of fault };
+
+    fn from(fault: Fault) -> Stop {
+        match fault {
+            Fault::Input(file, fault) => Stop::Input(file, fault),
+            Fault::Unwritten(file) => Stop::Unwritten(file),
+            Fault::BadTarget => Stop::BadTarget,
+            Fault::DuplicateTarget(name) => Stop::DuplicateTarget(name),
+            Fault::NoTarget => Stop::Needed(NeededOption::Environment),
+            Fault::Refused(refusal) => Stop::Refused(refusal),
+            Fault::OutOfMemory => Stop::Fault(BatchFault::OutOfMemory),
         }
     }
 }
 
-/// What was read, or the fault with the file that has it.
-pub fn in_file<T>(file: InputFile, read: Result<T, InputFault>) -> Result<T, Stop> {
-    match read {
-        Ok(value) => Ok(value),
-        Err(InputFault::OutOfMemory) => Err(Stop::Fault(BatchFault::OutOfMemory)),
-        Err(fault) => Err(Stop::Input(file, fault)),
-    }
-}
-
-/// Why a file can't be written.
-pub fn unwritten(file: InputFile, error: &io::Error) -> Stop {
-    match error.kind() {
-        ErrorKind::OutOfMemory => Stop::Fault(BatchFault::OutOfMemory),
-        _ => Stop::Unwritten(file),
-    }
-}
-
-/// Nothing, in the place of what an error kept from us. Only want of memory isn't passed over.
-pub fn passed_over<T>(error: &io::Error) -> Result<Option<T>, Stop> {
-    match error.kind() {
-        ErrorKind::OutOfMemory => Err(Stop::Fault(BatchFault::OutOfMemory)),
-        _ => Ok(None),
-    }
-}
-
 /// Writes all of a text to the output.
-pub fn print<O: Write>(output: &mut O, text: &[u8]) -> Result<(), BatchFault> {
+pub fn print<O: Write>(output: &mut O, text: &[u8]) -> Result<(), BatchFault>
+    ensures { IfErr result (λ fault. fault ≡ batches.Write) }
+{
     match output.write_all(text) {
         Ok(()) => Ok(()),
         Err(_) => Err(BatchFault::Write),
@@ -139,7 +124,9 @@ pub fn print<O: Write>(output: &mut O, text: &[u8]) -> Result<(), BatchFault> {
 
 /// Writes a text that people read to the output, and tells whether all of it went. Who closes the output early,
 /// as `head` does, has read what they wanted, and that is no fault.
-pub fn show<O: Write>(output: &mut O, text: &[u8]) -> Result<bool, BatchFault> {
+pub fn show<O: Write>(output: &mut O, text: &[u8]) -> Result<bool, BatchFault>
+    ensures { IfErr result (λ fault. fault ≡ batches.Write) }
+{
     match output.write_all(text) {
         Ok(()) => Ok(true),
         Err(error) => match error.kind() {
@@ -151,7 +138,9 @@ pub fn show<O: Write>(output: &mut O, text: &[u8]) -> Result<bool, BatchFault> {
 
 /// Tells why the program stops, and gives its status. A text that can't be written to `errors`
 /// changes no status.
-pub fn report<O: Write, E: Write>(stop: &Stop, output: &mut O, errors: &mut E) -> Status {
+pub fn report<O: Write, E: Write>(stop: &Stop, output: &mut O, errors: &mut E) -> Status
+    ensures { HasStatus stop.now result }
+{
     match stop {
         Stop::Usage(error) => report_usage(error, output, errors),
         Stop::Needed(NeededOption::Index) => {
@@ -172,6 +161,7 @@ pub fn report<O: Write, E: Write>(stop: &Stop, output: &mut O, errors: &mut E) -
         Stop::Explained(text) => report_explanation(text.as_str(), output, errors),
         Stop::Stale(text) => report_stale(text.as_str(), output, errors),
         Stop::Input(file, fault) => {
+            let fault = InputFaultText { fault };
             let _ = writeln!(errors, "reqlock: {file}: {fault}");
             Status::InputRefused
         }
@@ -188,7 +178,9 @@ pub fn report<O: Write, E: Write>(stop: &Stop, output: &mut O, errors: &mut E) -
 }
 
 /// Tells a fault of memory or of a stream, and gives its status.
-pub fn report_fault<E: Write>(fault: BatchFault, errors: &mut E) -> Status {
+pub fn report_fault<E: Write>(fault: BatchFault, errors: &mut E) -> Status
+    ensures { result ≡ statuses.Fault }
+{
     let text = match fault {
         BatchFault::Read => "input: read failed",
         BatchFault::Write => "output: write failed",
@@ -199,14 +191,18 @@ pub fn report_fault<E: Write>(fault: BatchFault, errors: &mut E) -> Status {
 }
 
 // The empty name is left out with its space.
-fn report_twice<E: Write>(name: &str, errors: &mut E) -> Status {
+fn report_twice<E: Write>(name: &str, errors: &mut E) -> Status
+    ensures { result ≡ statuses.Usage }
+{
     let space = if name.is_empty() { "" } else { " " };
     let _ = writeln!(errors, "reqlock: --env {name}{space}twice");
     Status::Usage
 }
 
 // Help goes to the output, and is no mistake.
-fn report_usage<O: Write, E: Write>(error: &clap::Error, output: &mut O, errors: &mut E) -> Status {
+fn report_usage<O: Write, E: Write>(error: &clap::Error, output: &mut O, errors: &mut E) -> Status
+    ensures { (result ≡ statuses.Usage) ⊎ IsPrinted statuses.Done result }
+{
     if error.use_stderr() {
         let _ = write!(errors, "{error}");
         return Status::Usage;
@@ -217,7 +213,9 @@ fn report_usage<O: Write, E: Write>(error: &clap::Error, output: &mut O, errors:
     }
 }
 
-fn report_refusal<O: Write, E: Write>(refusal: &Refusal, output: &mut O, errors: &mut E) -> Status {
+fn report_refusal<O: Write, E: Write>(refusal: &Refusal, output: &mut O, errors: &mut E) -> Status
+    ensures { HasStatus (stops.Refused refusal.now) result }
+{
     let word = refusal_word(refusal);
     if writeln!(output, "refused {word}").is_err() {
         return report_fault(BatchFault::Write, errors);
@@ -228,21 +226,27 @@ fn report_refusal<O: Write, E: Write>(refusal: &Refusal, output: &mut O, errors:
     }
 }
 
-fn report_refutation<O: Write, E: Write>(text: &str, output: &mut O, errors: &mut E) -> Status {
+fn report_refutation<O: Write, E: Write>(text: &str, output: &mut O, errors: &mut E) -> Status
+    ensures { IsPrinted statuses.NoSolution result }
+{
     match print(output, text.as_bytes()) {
         Ok(()) => Status::NoSolution,
         Err(fault) => report_fault(fault, errors),
     }
 }
 
-fn report_stale<O: Write, E: Write>(text: &str, output: &mut O, errors: &mut E) -> Status {
+fn report_stale<O: Write, E: Write>(text: &str, output: &mut O, errors: &mut E) -> Status
+    ensures { IsPrinted statuses.Refused result }
+{
     match print(output, text.as_bytes()) {
         Ok(()) => Status::Refused,
         Err(fault) => report_fault(fault, errors),
     }
 }
 
-fn report_explanation<O: Write, E: Write>(text: &str, output: &mut O, errors: &mut E) -> Status {
+fn report_explanation<O: Write, E: Write>(text: &str, output: &mut O, errors: &mut E) -> Status
+    ensures { (result ≡ statuses.Done) ⊎ IsPrinted statuses.NoSolution result }
+{
     match show(output, text.as_bytes()) {
         Ok(true) => Status::NoSolution,
         Ok(false) => Status::Done,

@@ -1,7 +1,7 @@
-// The lock on the folder of the three files, by which calls of the program wait for one another.
+// The lock on the folder of a history, by which calls wait for one another.
 
+use crate::fault::{Fault, passed_over, unwritten};
 use crate::input_files::InputFile;
-use crate::stop::{Stop, passed_over, unwritten};
 use std::fs::{File, OpenFile};
 use std::io::{self, ErrorKind};
 use std::rt::Files;
@@ -31,7 +31,7 @@ impl LockFile for File {
 /// Locks the folder, so that no other call reads or writes in it until what this gives is dropped.
 /// Where there is no folder, or no locks, it stays unlocked. Any other error refuses the save, since
 /// another call could then save at the same time.
-pub fn lock_to_save<R: Files + AllocGlobal>(rt: &R, dir: &str) -> Result<Option<R::File>, Stop>
+pub fn lock_to_save<R: Files + AllocGlobal>(rt: &R, dir: &str) -> Result<Option<R::File>, Fault>
 where
     R::File: LockFile,
 {
@@ -50,7 +50,7 @@ where
 /// Locks the folder, so that no other call writes in it until what this gives is dropped. A folder
 /// that can't be locked is read as it stands: files of two saves don't belong together, which the
 /// journal tells.
-pub fn lock_to_read<R: Files + AllocGlobal>(rt: &R, dir: &str) -> Result<Option<R::File>, Stop>
+pub fn lock_to_read<R: Files + AllocGlobal>(rt: &R, dir: &str) -> Result<Option<R::File>, Fault>
 where
     R::File: LockFile,
 {

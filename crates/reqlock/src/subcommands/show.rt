@@ -1,11 +1,10 @@
 // What `show` prints.
 
-use crate::folder_lock::LockFile;
-use crate::input_files::{InputFile, read_bytes, read_index};
-use crate::looking::{saved_files, saved_session};
-use crate::stop::{Stop, in_file, show};
+use crate::stop::{Stop, show};
 use commands::request::{Format, Shown};
 use edits::{Name, Refusal, State};
+use files::LockFile;
+use files::saved_history::{saved_session, session_over};
 use journal::Session;
 use lists::Text;
 use pep508::Cause;
@@ -43,22 +42,6 @@ where
     };
     show(output, text.as_bytes())?;
     Ok(())
-}
-
-/// The history that the files of the folder stand for, and an index. Both are read before a fault in one is told.
-pub fn session_over<R: Files + AllocGlobal>(
-    rt: &R,
-    dir: &str,
-    index: &str,
-) -> Result<(Session, Snapshot), Stop>
-where
-    R::File: LockFile,
-{
-    let files = saved_files(rt, dir)?;
-    let bytes = in_file(InputFile::Index, read_bytes(rt, index))?;
-    let session = files.open(rt.alloc())?;
-    let snapshot = in_file(InputFile::Index, read_index(rt.alloc(), bytes.as_slice()))?;
-    Ok((session, snapshot))
 }
 
 fn table_text(alloc: Global, session: &Session, format: Format) -> Result<String, AllocError> {

@@ -1,4 +1,4 @@
-// Whether the lock is that of the index at hand, and which of its entries have newer releases there.
+// What `check` prints: whether the files belong together, and whether the lock is that of the index at hand.
 
 ghost use Rattle.std.specs.Prelude.{Err, IfOk, MatchOption, Ok};
 ghost use Rattle.edits.specs.Edits.{EditResult};
@@ -7,41 +7,20 @@ ghost use Rattle.states.specs.Changes.{After};
 ghost use Rattle.states.specs.StateParts.{StateParts};
 ghost use Rattle.states.specs.declared.refusal.Refusal.TheVariants.{NothingChanges};
 
-use crate::folder_lock::LockFile;
-use crate::looking::saved_session;
-use crate::showing::session_over;
-use crate::stop::{Stop, print, show};
+use crate::stop::{Stop, print};
 use commands::ReplyText;
 use commands::request::Format;
-use edits::{Change, Edit, Learning, Refusal, State, edit};
+use edits::{Change, Edit, Refusal, State, edit};
+use files::LockFile;
+use files::saved_history::{saved_session, session_over};
 use journal::{Reply, Session};
+use resolve::RESOLVER;
 use snapshot::Snapshot;
 use std::alloc::{AllocError, Global};
 use std::io::Write;
 use std::rt::Files;
 use texts::check_json::{check_json, current_json};
 use texts::diff_text::diff_text;
-use texts::outdated_text::{outdated_json, outdated_text};
-
-/// Prints the entries of each target that have newer releases in the index, and who holds them back.
-pub fn print_outdated<R: Files + AllocGlobal, O: Write>(
-    rt: &R,
-    dir: &str,
-    index: &str,
-    format: Format,
-    output: &mut O,
-) -> Result<(), Stop>
-where
-    R::File: LockFile,
-{
-    let (session, snapshot) = session_over(rt, dir, index)?;
-    let text = match format {
-        Format::Lines => outdated_text(rt.alloc(), session.state(), &snapshot)?,
-        Format::Json => outdated_json(rt.alloc(), session.state(), &snapshot)?,
-    };
-    show(output, text.as_bytes())?;
-    Ok(())
-}
 
 /// Prints the place of the present state, as the reply of a command that led to it would. Where an index is given,
 /// prints whether a new lock over it would change something, and what.
@@ -123,7 +102,7 @@ fn relock_change(alloc: Global, state: &State, snapshot: &Snapshot) -> Result<Op
         (λ change. (next : StateParts) × EditResult state.now Relock snapshot.now (Ok next)
         × After state.now change next)) }
 {
-    match edit(alloc, state, &Edit::Relock, snapshot, &Learning) {
+    match edit(alloc, state, &Edit::Relock, snapshot, &RESOLVER) {
         Ok(edited) => Ok(Some(edited.change)),
         Err(Refusal::NothingChanges) => Ok(None),
         Err(refusal) => Err(Stop::from(refusal)),

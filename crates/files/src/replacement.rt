@@ -1,9 +1,9 @@
 // Replacing files so that none is ever half written: each is written whole beside its place, under
 // its name and `.new`, and only when all of them stand are they put into their places.
 
+use crate::fault::{Fault, passed_over, unwritten};
 use crate::folder_lock::sync_folder;
 use crate::input_files::InputFile;
-use crate::stop::{Stop, passed_over, unwritten};
 use std::fs::{File, Metadata, OpenFile, OpenOptions};
 use std::io::{ErrorKind, Write};
 use std::os::unix::fs::{MetadataExt, lchown};
@@ -33,7 +33,7 @@ pub struct Places {
 pub fn replace_all<R: Files + AllocGlobal>(
     rt: &R,
     replacements: &[Replacement<'_>],
-) -> Result<(), Stop> {
+) -> Result<(), Fault> {
     let mut staged = Vec::with_capacity(rt.alloc(), replacements.len())?;
     for replacement in replacements {
         match stage(rt, replacement) {
@@ -47,13 +47,13 @@ pub fn replace_all<R: Files + AllocGlobal>(
     put_all(rt, staged.as_slice())
 }
 
-fn put_all<R: Files + AllocGlobal>(rt: &R, staged: &[Places]) -> Result<(), Stop> {
+fn put_all<R: Files + AllocGlobal>(rt: &R, staged: &[Places]) -> Result<(), Fault> {
     for number in 0..staged.len() {
-        if let Err(stop) = put_in_place(rt, &staged[number]) {
+        if let Err(fault) = put_in_place(rt, &staged[number]) {
             if number == 0 {
                 remove_staged(rt, staged);
             }
-            return Err(stop);
+            return Err(fault);
         }
     }
     Ok(())
@@ -67,7 +67,7 @@ fn remove_staged<R: Files>(rt: &R, staged: &[Places]) {
 
 /// Puts what stands beside a file's place into it, and makes that last before another one is put into
 /// its own.
-pub fn put_in_place<R: Files + AllocGlobal>(rt: &R, places: &Places) -> Result<(), Stop> {
+pub fn put_in_place<R: Files + AllocGlobal>(rt: &R, places: &Places) -> Result<(), Fault> {
     match fs::rename(rt, places.beside.as_str(), places.place.as_str()) {
         Ok(()) => {
             sync_names(rt, places.place.as_str());
@@ -110,7 +110,7 @@ pub fn places_at<R: Files + AllocGlobal>(
     rt: &R,
     file: InputFile,
     path: &str,
-) -> Result<Option<Places>, Stop> {
+) -> Result<Option<Places>, Fault> {
     match places_of(rt, file, path) {
         Ok(places) => Ok(Some(places)),
         Err(error) => passed_over(&error),

@@ -1,13 +1,12 @@
-// Edits, undo and redo as they would be, of which nothing is saved.
+// What `--dry-run` prints: an edit, `undo` or `redo` as it would be, of which nothing is saved.
 
-use crate::comparing::change_between;
 use crate::details::Details;
-use crate::editing::applied;
-use crate::folder_lock::LockFile;
-use crate::input_files::{InputFile, read_bytes, read_index};
-use crate::looking::{saved_files, saved_session};
-use crate::stop::{Stop, in_file, print};
+use crate::stop::{Stop, print};
+use crate::subcommands::diff::change_between;
+use crate::subcommands::edit::applied;
 use edits::Edit;
+use files::LockFile;
+use files::saved_history::{saved_session, session_over};
 use journal::{Command, Session};
 use std::io::Write;
 use std::rt::Files;
@@ -26,10 +25,7 @@ pub fn rehearse_edit<R: Files + AllocGlobal, O: Write>(
 where
     R::File: LockFile,
 {
-    let files = saved_files(rt, dir)?;
-    let bytes = in_file(InputFile::Index, read_bytes(rt, index))?;
-    let session = files.open(rt.alloc())?;
-    let snapshot = in_file(InputFile::Index, read_index(rt.alloc(), bytes.as_slice()))?;
+    let (session, snapshot) = session_over(rt, dir, index)?;
     rehearse(
         rt,
         session,

@@ -1,9 +1,12 @@
-// What the program reads, and why an input is refused.
+// The files that a call reads, and why one is refused.
 
-ghost use Rattle.std.specs.Prelude.{◌≡◌};
+ghost use Rattle.std.specs.Fmt.{DisplaysOnOk};
+ghost use Rattle.std.specs.Prelude.{◌≡◌, ◌⊎◌, IfErr, Some};
 ghost use Rattle.lists.specs.Answers.{Answers};
-ghost use Rattle.reqlock.specs.Inputs.{environment_in, index_in, requirements_in};
-ghost use Rattle.reqlock.specs.declared.input_files.InputFault.TheVariants.{OutOfMemory};
+ghost use Rattle.states.specs.TargetNames.{file_name};
+ghost use Rattle.files.specs.FileNames.{environment_name, name_of};
+ghost use Rattle.files.specs.Inputs.{environment_in, index_in, requirements_in};
+ghost use Rattle.files.specs.declared.input_files.InputFault.TheVariants.{OutOfMemory};
 
 use edits::TargetName;
 use pep508::{Cause, Environment, Fault as LineFault, ReqFile};
@@ -11,9 +14,8 @@ use snapshot::{Fault as IndexFault, Snapshot};
 use std::alloc::{AllocError, Global};
 use std::rt::Files;
 use std::{fmt, fs, io};
-use texts::cause_word::cause_word;
 
-/// A file that the program reads. The first three stand in its folder, and are written too.
+/// A file that a call reads. The first three stand in its folder, and are written too.
 #[derive(Debug, Drop)]
 pub enum InputFile {
     Requirements,
@@ -38,23 +40,38 @@ impl Clone for InputFile {
 }
 
 impl fmt::Display for InputFile {
+    ghost output = { λ file. Some (name_of file) };
+
     fn fmt<W: fmt::Write>(&self, f: &mut fmt::Formatter<W>) -> fmt::Result {
         match self {
             InputFile::Requirements => write!(f, "requirements.txt"),
             InputFile::Lock(name) => write_lock_name(f, name.as_str()),
             InputFile::Journal => write!(f, "reqlock.journal"),
             InputFile::Index => write!(f, "index"),
-            InputFile::Environment(name) => write_detail(f, "environment", name.as_str()),
+            InputFile::Environment(name) => write_environment(f, name.as_str()),
         }
     }
 }
 
 // The name of a target's lock file.
-fn write_lock_name<W: fmt::Write>(f: &mut fmt::Formatter<W>, name: &str) -> fmt::Result {
+fn write_lock_name<W: fmt::Write>(f: &mut fmt::Formatter<W>, name: &str) -> fmt::Result
+    ensures { DisplaysOnOk W.write_str_gives f.old result (Some (file_name name.now)) f.new }
+{
     if name.is_empty() {
         write!(f, "pylock.toml")
     } else {
         write!(f, "pylock.{name}.toml")
+    }
+}
+
+// The empty name of a target is left out with its space.
+fn write_environment<W: fmt::Write>(f: &mut fmt::Formatter<W>, name: &str) -> fmt::Result
+    ensures { DisplaysOnOk W.write_str_gives f.old result (Some (environment_name name.now)) f.new }
+{
+    if name.is_empty() {
+        write!(f, "environment")
+    } else {
+        write!(f, "environment {name}")
     }
 }
 
@@ -84,56 +101,10 @@ impl From<AllocError> for InputFault {
     }
 }
 
-impl fmt::Display for InputFault {
-    fn fmt<W: fmt::Write>(&self, f: &mut fmt::Formatter<W>) -> fmt::Result {
-        match self {
-            InputFault::Unreadable => write!(f, "unreadable"),
-            InputFault::Requirements(fault) => write_line_fault(f, *fault),
-            InputFault::Index(fault) => write_index_fault(f, fault),
-            InputFault::Environment(cause) => write_cause(f, *cause),
-            InputFault::Disagrees => write!(f, "files-disagree"),
-            InputFault::JournalBroken(line) => write!(f, "line {line}: journal-broken"),
-            InputFault::OutOfMemory => write!(f, "out-of-memory"),
-        }
-    }
-}
-
-fn write_line_fault<W: fmt::Write>(f: &mut fmt::Formatter<W>, fault: LineFault) -> fmt::Result {
-    let line = fault.line;
-    if line != 0 {
-        write!(f, "line {line}: ")?;
-    }
-    write_cause(f, fault.cause)
-}
-
-fn write_cause<W: fmt::Write>(f: &mut fmt::Formatter<W>, cause: Cause) -> fmt::Result {
-    let detail = match cause {
-        Cause::BadEnvironment(Some(variable)) => variable.name(),
-        _ => "",
-    };
-    write_detail(f, cause_word(cause), detail)
-}
-
-fn write_index_fault<W: fmt::Write>(f: &mut fmt::Formatter<W>, fault: &IndexFault) -> fmt::Result {
-    match fault {
-        IndexFault::NotJson => write!(f, "not-json"),
-        IndexFault::Shape(path) => write_detail(f, "shape", path.as_str()),
-        IndexFault::DuplicatePackage(name) => write_detail(f, "duplicate-package", name.normal()),
-        IndexFault::OutOfMemory => write!(f, "out-of-memory"),
-    }
-}
-
-// An empty detail is left out with its space.
-fn write_detail<W: fmt::Write>(f: &mut fmt::Formatter<W>, word: &str, detail: &str) -> fmt::Result {
-    if detail.is_empty() {
-        write!(f, "{word}")
-    } else {
-        write!(f, "{word} {detail}")
-    }
-}
-
 /// The bytes of a file.
-pub fn read_bytes<R: Files + AllocGlobal>(rt: &R, path: &str) -> Result<Vec<u8>, InputFault> {
+pub fn read_bytes<R: Files + AllocGlobal>(rt: &R, path: &str) -> Result<Vec<u8>, InputFault>
+    ensures { IfErr result (λ fault. (fault ≡ OutOfMemory) ⊎ (fault ≡ InputFault.Unreadable)) }
+{
     match fs::read(rt, path) {
         Ok(bytes) => Ok(bytes),
         Err(error) if error.kind() == io::ErrorKind::OutOfMemory => Err(InputFault::OutOfMemory),

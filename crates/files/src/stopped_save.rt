@@ -1,12 +1,12 @@
 // A save that was stopped between two files, and what is left of it beside the places of the others.
 
+use crate::fault::Fault;
 use crate::input_files::InputFile;
-use crate::replacing::{Places, put_in_place};
+use crate::replacement::{Places, put_in_place};
 use crate::saved_files::{SavedFiles, names_in, places_in, read_in};
-use crate::stop::Stop;
-use commands::batch::RESOLVER;
 use edits::TargetName;
 use journal::{Command, Reply, Session};
+use resolve::RESOLVER;
 use std::alloc::{AllocError, Global};
 use std::collections::BTreeSet;
 use std::fs;
@@ -68,7 +68,7 @@ const LEFT_BESIDE: [(bool, bool); 4] = [(false, true), (false, false), (true, tr
 
 /// Ends a save that was stopped, where the files open with those in place that it left beside. It
 /// answers whether there was one.
-pub fn end_save<R: Files + AllocGlobal>(rt: &R, dir: &str) -> Result<bool, Stop> {
+pub fn end_save<R: Files + AllocGlobal>(rt: &R, dir: &str) -> Result<bool, Fault> {
     for (requirements, journal) in LEFT_BESIDE {
         let beside = Beside::of(rt.alloc(), requirements, journal);
         if let Some(left) = left_with(rt, dir, beside)? {
@@ -81,7 +81,7 @@ pub fn end_save<R: Files + AllocGlobal>(rt: &R, dir: &str) -> Result<bool, Stop>
 
 /// Ends a save that was stopped, for a call that doesn't open the files. What opens as it stands stays,
 /// and so does what nothing makes whole.
-pub fn end_left<R: Files + AllocGlobal>(rt: &R, dir: &str) -> Result<(), Stop> {
+pub fn end_left<R: Files + AllocGlobal>(rt: &R, dir: &str) -> Result<(), Fault> {
     if is_any_left(rt, dir)? && does_not_open(rt, dir)? {
         end_save(rt, dir)?;
     }
@@ -94,7 +94,7 @@ pub fn remove_left<R: Files + AllocGlobal>(
     rt: &R,
     dir: &str,
     session: &Session,
-) -> Result<(), Stop> {
+) -> Result<(), Fault> {
     let mut beside = named_files(rt, dir)?;
     for target in session.state().targets() {
         beside.locks.insert(target.name.clone()?)?;
@@ -105,7 +105,7 @@ pub fn remove_left<R: Files + AllocGlobal>(
     Ok(())
 }
 
-fn is_any_left<R: Files + AllocGlobal>(rt: &R, dir: &str) -> Result<bool, Stop> {
+fn is_any_left<R: Files + AllocGlobal>(rt: &R, dir: &str) -> Result<bool, Fault> {
     for places in all_places(rt, dir, &named_files(rt, dir)?)? {
         if fs::symlink_metadata(rt, places.beside.as_str()).is_ok() {
             return Ok(true);
@@ -116,27 +116,27 @@ fn is_any_left<R: Files + AllocGlobal>(rt: &R, dir: &str) -> Result<bool, Stop> 
 
 // All files that can be left beside: of the locks, those that the journal names, in its place and
 // beside it.
-fn named_files<R: Files + AllocGlobal>(rt: &R, dir: &str) -> Result<Beside, Stop> {
+fn named_files<R: Files + AllocGlobal>(rt: &R, dir: &str) -> Result<Beside, Fault> {
     let mut all = Beside::of(rt.alloc(), true, true);
     for is_beside in [false, true] {
         let journal = Beside::of(rt.alloc(), false, is_beside);
         match read_in(rt, dir, InputFile::Journal, &journal) {
             Ok(journal) => add_names(rt.alloc(), &mut all, journal.as_slice())?,
-            Err(Stop::Input(_file, _fault)) => {}
-            Err(stop) => return Err(stop),
+            Err(Fault::Input(_file, _fault)) => {}
+            Err(fault) => return Err(fault),
         }
     }
     Ok(all)
 }
 
-fn add_names(alloc: Global, beside: &mut Beside, journal: &[u8]) -> Result<(), Stop> {
+fn add_names(alloc: Global, beside: &mut Beside, journal: &[u8]) -> Result<(), Fault> {
     for name in names_in(alloc, journal)?.into_vec() {
         beside.locks.insert(name)?;
     }
     Ok(())
 }
 
-fn put_left<R: Files + AllocGlobal>(rt: &R, dir: &str, left: &Beside) -> Result<(), Stop> {
+fn put_left<R: Files + AllocGlobal>(rt: &R, dir: &str, left: &Beside) -> Result<(), Fault> {
     let found = all_places(rt, dir, left)?;
     for places in found.as_slice() {
         put_in_place(rt, places)?;
@@ -150,7 +150,7 @@ fn all_places<R: Files + AllocGlobal>(
     rt: &R,
     dir: &str,
     beside: &Beside,
-) -> Result<Vec<Places>, Stop> {
+) -> Result<Vec<Places>, Fault> {
     let mut found = Vec::new(rt.alloc());
     for file in beside.files(rt.alloc())? {
         if let Some(places) = places_in(rt, dir, file)? {
@@ -167,7 +167,7 @@ fn left_with<R: Files + AllocGlobal>(
     rt: &R,
     dir: &str,
     beside: Beside,
-) -> Result<Option<Beside>, Stop> {
+) -> Result<Option<Beside>, Fault> {
     let Some((left, session)) = completed(rt, dir, beside)? else {
         return Ok(None);
     };
@@ -186,23 +186,23 @@ fn completed<R: Files + AllocGlobal>(
     rt: &R,
     dir: &str,
     mut beside: Beside,
-) -> Result<Option<(Beside, Session)>, Stop> {
+) -> Result<Option<(Beside, Session)>, Fault> {
     for _ in 0..usize::MAX {
         match open_with(rt, dir, &beside) {
             Ok(session) => return Ok(Some((beside, session))),
-            Err(Stop::Input(file, _fault)) => {
+            Err(Fault::Input(file, _fault)) => {
                 if !add_lock(&mut beside, file)? {
                     return Ok(None);
                 }
             }
-            Err(stop) => return Err(stop),
+            Err(fault) => return Err(fault),
         }
     }
     Ok(None)
 }
 
 // Takes the lock of a fault from beside too. It answers whether it is a lock's, and wasn't taken from there.
-fn add_lock(beside: &mut Beside, file: InputFile) -> Result<bool, Stop> {
+fn add_lock(beside: &mut Beside, file: InputFile) -> Result<bool, Fault> {
     match file {
         InputFile::Lock(name) => Ok(beside.locks.insert(name)?),
         _other => Ok(false),
@@ -210,15 +210,15 @@ fn add_lock(beside: &mut Beside, file: InputFile) -> Result<bool, Stop> {
 }
 
 // Whether the files stand for no history in their places.
-fn does_not_open<R: Files + AllocGlobal>(rt: &R, dir: &str) -> Result<bool, Stop> {
+fn does_not_open<R: Files + AllocGlobal>(rt: &R, dir: &str) -> Result<bool, Fault> {
     match open_with(rt, dir, &Beside::none(rt.alloc())) {
         Ok(_) => Ok(false),
-        Err(Stop::Input(_, _)) => Ok(true),
-        Err(stop) => Err(stop),
+        Err(Fault::Input(_, _)) => Ok(true),
+        Err(fault) => Err(fault),
     }
 }
 
-fn open_with<R: Files + AllocGlobal>(rt: &R, dir: &str, beside: &Beside) -> Result<Session, Stop> {
+fn open_with<R: Files + AllocGlobal>(rt: &R, dir: &str, beside: &Beside) -> Result<Session, Fault> {
     SavedFiles::read_with(rt, dir, beside)?.open(rt.alloc())
 }
 
@@ -227,7 +227,7 @@ fn has_requirements(
     alloc: Global,
     mut session: Session,
     requirements: &[u8],
-) -> Result<bool, Stop> {
+) -> Result<bool, Fault> {
     go_to_end(alloc, &mut session)?;
     for _ in 0..session.steps() {
         if is_present(alloc, &session, requirements)? {
@@ -238,21 +238,21 @@ fn has_requirements(
     is_present(alloc, &session, requirements)
 }
 
-fn go_to_end(alloc: Global, session: &mut Session) -> Result<(), Stop> {
+fn go_to_end(alloc: Global, session: &mut Session) -> Result<(), Fault> {
     for _ in session.cursor()..session.steps() {
         go(alloc, session, &Command::Redo)?;
     }
     Ok(())
 }
 
-fn go(alloc: Global, session: &mut Session, command: &Command<'_>) -> Result<(), Stop> {
+fn go(alloc: Global, session: &mut Session, command: &Command<'_>) -> Result<(), Fault> {
     match session.apply(alloc, command, &RESOLVER) {
-        Reply::Refused(refusal) => Err(Stop::from(refusal)),
+        Reply::Refused(refusal) => Err(Fault::from(refusal)),
         Reply::Done(_) | Reply::Same => Ok(()),
     }
 }
 
-fn is_present(alloc: Global, session: &Session, requirements: &[u8]) -> Result<bool, Stop> {
+fn is_present(alloc: Global, session: &Session, requirements: &[u8]) -> Result<bool, Fault> {
     let text = session.state().lines().bytes(alloc)?;
     Ok(text.as_str().as_bytes() == requirements)
 }

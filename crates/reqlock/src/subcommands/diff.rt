@@ -1,13 +1,13 @@
-// What changed between two places of the history.
+// What `diff` prints: what changed between two places of the history.
 
 ghost use Rattle.std.specs.Prelude.{IfOk};
 ghost use Rattle.journal.specs.Places.{IsBetween};
 
-use crate::folder_lock::LockFile;
-use crate::looking::saved_session;
 use crate::stop::{Stop, show};
 use commands::request::{DiffRange, Format};
 use edits::Change;
+use files::LockFile;
+use files::saved_history::saved_session;
 use journal::Session;
 use std::alloc::Global;
 use std::io::Write;

@@ -1,4 +1,4 @@
-// Questions: why lines have no solution over an index.
+// What `why` prints: why lines have no solution over an index.
 
 ghost use Rattle.std.specs.Prelude.{IfOk, MatchOption};
 ghost use Rattle.search.specs.Conflicts.{IsRefutation};
@@ -7,16 +7,15 @@ ghost use Rattle.problems.specs.Refutations.{same_version};
 ghost use Rattle.problems.specs.Rules.{rules_of};
 ghost use Rattle.problems.specs.Solutions.{HasSolution};
 
-use crate::folder_lock::LockFile;
-use crate::input_files::{InputFile, read_bytes, read_index, read_requirements};
-use crate::looking::saved_files;
-use crate::saved_files::SavedFiles;
-use crate::stop::{Stop, in_file, print};
-use crate::target_files::{TargetFile, read_all, targets_of};
+use crate::stop::{Stop, print};
 use edits::{
     Edit, Learning, Line, Problem, Refutation, SetRefutation, TargetName, check, check_sets,
     problem_after, problems_of_init,
 };
+use files::LockFile;
+use files::first_inputs::{FirstInputs, first_inputs};
+use files::saved_history::session_over;
+use files::target_files::TargetFile;
 use lists::Text;
 use snapshot::Snapshot;
 use std::alloc::{AllocError, Global};
@@ -48,10 +47,7 @@ where
     R::File: LockFile,
 {
     let alloc = rt.alloc();
-    let files = saved_files(rt, dir)?;
-    let bytes = in_file(InputFile::Index, read_bytes(rt, index))?;
-    let session = files.open(alloc)?;
-    let snapshot = in_file(InputFile::Index, read_index(alloc, bytes.as_slice()))?;
+    let (session, snapshot) = session_over(rt, dir, index)?;
     let problems = problem_after(alloc, session.state(), edit, &snapshot)?;
     let lines = session.state().lines().lines();
     let context = context_of(lines, edit, &snapshot, explains);
@@ -70,13 +66,12 @@ pub fn print_why_init<R: Files + AllocGlobal, O: Write>(
     output: &mut O,
 ) -> Result<(), Stop> {
     let alloc = rt.alloc();
-    let files = SavedFiles::requirements_alone(rt, dir)?;
-    let bytes = in_file(InputFile::Index, read_bytes(rt, index))?;
-    let environments = read_all(rt, targets)?;
-    let lines = read_requirements(alloc, files.requirements());
-    let lines = in_file(InputFile::Requirements, lines)?;
-    let snapshot = in_file(InputFile::Index, read_index(alloc, bytes.as_slice()))?;
-    let targets = targets_of(alloc, environments)?;
+    let FirstInputs {
+        files: _,
+        lines,
+        targets,
+        snapshot,
+    } = first_inputs(rt, dir, index, targets)?;
     let edit = match line {
         Some(text) => Edit::Add(Text::copy_of(alloc, text)?),
         None => Edit::Relock,

@@ -1,8 +1,10 @@
 // The values of `--env`: the targets that are to be locked, and the files of their environments.
 
+ghost use Rattle.std.specs.Prelude.{◌≡◌};
+ghost use Rattle.files.specs.FileNames.{parts_of};
+
+use crate::fault::{Fault, in_file};
 use crate::input_files::{InputFile, read_bytes, read_environment};
-use crate::stop::{Stop, in_file};
-use commands::request::{Question, Subcommand};
 use edits::{TargetName, Targets};
 use lists::{Seq, Text};
 use std::alloc::{AllocError, Global};
@@ -53,36 +55,38 @@ pub struct TargetBytes {
     bytes: Vec<u8>,
 }
 
-/// The targets that a subcommand is to lock, in the order of the command line; none where it locks no
-/// new ones. A bad name is told before one that stands twice, and no file has been read.
-pub fn target_files(alloc: Global, subcommand: &Subcommand<'_>) -> Result<Vec<TargetFile>, Stop> {
-    let mut files = Vec::new(alloc);
-    if let Subcommand::Init(inputs)
-    | Subcommand::Try(inputs)
-    | Subcommand::Why(Question::Init(inputs, _), _) = subcommand
-    {
-        for value in inputs.environments.as_slice() {
-            files.push(target_file(alloc, value.as_str())?)?;
-        }
+/// The targets that values of `--env` name, with their files, in the order of the values. A bad name is told
+/// before one that stands twice, and no file has been read.
+pub fn target_files(alloc: Global, values: &[Text]) -> Result<Vec<TargetFile>, Fault> {
+    let mut files = Vec::with_capacity(alloc, values.len())?;
+    for value in values {
+        files.push(target_file(alloc, value.as_str())?)?;
     }
     refuse_twice(alloc, files.as_slice())?;
     Ok(files)
 }
 
-// The first `=` divides the name from the path; without one the name is empty.
-fn target_file(alloc: Global, value: &str) -> Result<TargetFile, Stop> {
-    let (name, path) = value.split_once('=').unwrap_or(("", value));
+// The name and the path: the first `=` divides them, and without one the name is empty.
+fn parts_of(value: &str) -> (&str, &str)
+    ensures name { result.0.now ≡ (parts_of value.now).0 }
+    ensures path { result.1.now ≡ (parts_of value.now).1 }
+{
+    value.split_once('=').unwrap_or(("", value))
+}
+
+fn target_file(alloc: Global, value: &str) -> Result<TargetFile, Fault> {
+    let (name, path) = parts_of(value);
     Ok(TargetFile {
         name: TargetName::parse(alloc, name)?,
         path: Text::copy_of(alloc, path)?,
     })
 }
 
-fn refuse_twice(alloc: Global, files: &[TargetFile]) -> Result<(), Stop> {
+fn refuse_twice(alloc: Global, files: &[TargetFile]) -> Result<(), Fault> {
     let mut names = BTreeSet::new(alloc);
     for file in files {
         if !names.insert(file.name.clone()?)? {
-            return Err(Stop::DuplicateTarget(file.name.clone()?));
+            return Err(Fault::DuplicateTarget(file.name.clone()?));
         }
     }
     Ok(())
@@ -92,7 +96,7 @@ fn refuse_twice(alloc: Global, files: &[TargetFile]) -> Result<(), Stop> {
 pub fn read_all<R: Files + AllocGlobal>(
     rt: &R,
     files: Vec<TargetFile>,
-) -> Result<Vec<TargetBytes>, Stop> {
+) -> Result<Vec<TargetBytes>, Fault> {
     let mut read = Vec::with_capacity(rt.alloc(), files.len())?;
     for TargetFile { name, path } in files {
         let file = InputFile::Environment(name.clone()?);
@@ -103,7 +107,7 @@ pub fn read_all<R: Files + AllocGlobal>(
 }
 
 /// The targets with the environments that the bytes are; faults are told in their order.
-pub fn targets_of(alloc: Global, read: Vec<TargetBytes>) -> Result<Targets, Stop> {
+pub fn targets_of(alloc: Global, read: Vec<TargetBytes>) -> Result<Targets, Fault> {
     let mut targets = Vec::with_capacity(alloc, read.len())?;
     for TargetBytes { name, bytes } in read {
         let file = InputFile::Environment(name.clone()?);

@@ -1,14 +1,13 @@
-// The question why a lock hasn't a release.
+// What `why --not` prints: why a lock hasn't a release.
 
-use crate::asking::{Context, refuted_by_sets, told_text};
-use crate::folder_lock::LockFile;
-use crate::input_files::{InputFile, read_bytes, read_index};
-use crate::looking::saved_files;
-use crate::stop::{Stop, in_file, print};
+use crate::stop::{Stop, print};
+use crate::subcommands::why::{Context, refuted_by_sets, told_text};
 use edits::{
     Cause, Edit, Learning, Line, Name, Problem, Refusal, Resolver, State, Target, problem_after,
     problems_with,
 };
+use files::LockFile;
+use files::saved_history::session_over;
 use lists::Text;
 use pep440::Version;
 use resolve::Answer;
@@ -40,10 +39,7 @@ where
     R::File: LockFile,
 {
     let alloc = rt.alloc();
-    let files = saved_files(rt, dir)?;
-    let bytes = in_file(InputFile::Index, read_bytes(rt, index))?;
-    let session = files.open(alloc)?;
-    let snapshot = in_file(InputFile::Index, read_index(alloc, bytes.as_slice()))?;
+    let (session, snapshot) = session_over(rt, dir, index)?;
     let asking = asking_in(alloc, text, &snapshot)?;
     let told = why_not(alloc, session.state(), &asking, &snapshot)?;
     Ok(print(output, told.as_str().as_bytes())?)

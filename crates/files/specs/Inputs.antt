@@ -1,10 +1,10 @@
--- What the files that the program reads stand for. All of it is reqlock's own rule.
+-- What the files that a call reads stand for. All of it is reqlock's own rule.
 use Rattle.std.specs.Prelude.{ℕ, List, Result, Ok, Err}
 use Rattle.markers.specs.Environment.{Texts, environment_of}
 use Rattle.pep508.specs.Requirement.{file_of}
 use Rattle.snapshot.specs.Packages.{Index as Packages, snapshot_of}
-use Rattle.reqlock.specs.declared.input_files.InputFault.{InputFault}
-use Rattle.reqlock.specs.declared.input_files.InputFault.TheVariants.{Requirements, Index, Environment}
+use Rattle.files.specs.declared.input_files.InputFault.{InputFault}
+use Rattle.files.specs.declared.input_files.InputFault.TheVariants.{Requirements, Index, Environment}
 
 -- what was read, or its fault as that of an input
 abbrev pub as_input : {T E : Type 0} → (E → InputFault) → Result T E → Result T InputFault

@@ -1,13 +1,18 @@
 // The files of the folder: the requirements file, the lock of each target, and the journal.
 
+ghost use Rattle.std.specs.Prelude.{◌≡◌, ◌⊎◌, [], IfOk, Ok, Err, ℕ};
+ghost use Rattle.journal.specs.Opening.{NamesTargets, Opens};
+ghost use Rattle.states.specs.declared.refusal.Refusal.TheVariants.{JournalBroken};
+ghost use Rattle.files.specs.Faults.{TellsFault};
+
+use crate::fault::{Fault, in_file};
 use crate::input_files::{InputFault, InputFile, read_bytes};
-use crate::replacing::{Places, Replacement, places_at, replace_all};
-use crate::stop::{Stop, in_file};
+use crate::replacement::{Places, Replacement, places_at, replace_all};
 use crate::stopped_save::{Beside, end_save, remove_left};
 use edits::{Refusal, TargetName};
 use journal::{Session, targets};
 use lists::Seq;
-use std::alloc::Global;
+use std::alloc::{AllocError, Global};
 use std::collections::BTreeMap;
 use std::rt::Files;
 
@@ -22,19 +27,19 @@ pub struct SavedFiles {
 impl SavedFiles {
     /// Reads the files of a folder: the requirements file first, then the journal, and the locks last,
     /// in the order of the names that the journal has.
-    pub fn read<R: Files + AllocGlobal>(rt: &R, dir: &str) -> Result<SavedFiles, Stop> {
+    pub fn read<R: Files + AllocGlobal>(rt: &R, dir: &str) -> Result<SavedFiles, Fault> {
         SavedFiles::read_with(rt, dir, &Beside::none(rt.alloc()))
     }
 
     /// Reads the files to save others in their place. Where one can't be read, a save may have been
     /// stopped: then that is ended first.
-    pub fn read_to_save<R: Files + AllocGlobal>(rt: &R, dir: &str) -> Result<SavedFiles, Stop> {
+    pub fn read_to_save<R: Files + AllocGlobal>(rt: &R, dir: &str) -> Result<SavedFiles, Fault> {
         match SavedFiles::read(rt, dir) {
-            Err(Stop::Input(file, fault)) => {
+            Err(Fault::Input(file, fault)) => {
                 if end_save(rt, dir)? {
                     SavedFiles::read(rt, dir)
                 } else {
-                    Err(Stop::Input(file, fault))
+                    Err(Fault::Input(file, fault))
                 }
             }
             read => read,
@@ -46,7 +51,7 @@ impl SavedFiles {
     pub fn requirements_alone<R: Files + AllocGlobal>(
         rt: &R,
         dir: &str,
-    ) -> Result<SavedFiles, Stop> {
+    ) -> Result<SavedFiles, Fault> {
         let beside = Beside::none(rt.alloc());
         let requirements = read_in(rt, dir, InputFile::Requirements, &beside)?;
         Ok(SavedFiles {
@@ -61,7 +66,7 @@ impl SavedFiles {
         rt: &R,
         dir: &str,
         beside: &Beside,
-    ) -> Result<SavedFiles, Stop> {
+    ) -> Result<SavedFiles, Fault> {
         let requirements = read_in(rt, dir, InputFile::Requirements, beside)?;
         let journal = read_in(rt, dir, InputFile::Journal, beside)?;
         let mut locks = BTreeMap::new(rt.alloc());
@@ -82,7 +87,10 @@ impl SavedFiles {
     }
 
     /// The history that the files stand for.
-    pub fn open(&self, alloc: Global) -> Result<Session, Stop> {
+    pub fn open(&self, alloc: Global) -> Result<Session, Fault>
+        ensures { TellsFault (Opens self.now.requirements.items self.now.locks.entries
+            self.now.journal.items) result }
+    {
         let requirements = self.requirements.as_slice();
         Ok(Session::open(alloc, requirements, &self.locks, self.journal.as_slice())?)
     }
@@ -93,18 +101,18 @@ impl SavedFiles {
         self,
         rt: &R,
         dir: &str,
-    ) -> Result<(SavedFiles, Session), Stop> {
+    ) -> Result<(SavedFiles, Session), Fault> {
         let (files, session) = match self.open(rt.alloc()) {
             Ok(session) => (self, session),
-            Err(Stop::Input(file, fault)) => {
+            Err(Fault::Input(file, fault)) => {
                 if !end_save(rt, dir)? {
-                    return Err(Stop::Input(file, fault));
+                    return Err(Fault::Input(file, fault));
                 }
                 let files = SavedFiles::read(rt, dir)?;
                 let session = files.open(rt.alloc())?;
                 (files, session)
             }
-            Err(stop) => return Err(stop),
+            Err(fault) => return Err(fault),
         };
         remove_left(rt, dir, &session)?;
         Ok((files, session))
@@ -117,7 +125,7 @@ impl SavedFiles {
         rt: &R,
         dir: &str,
         session: &Session,
-    ) -> Result<(), Stop> {
+    ) -> Result<(), Fault> {
         let alloc = rt.alloc();
         let saved = session.save(alloc)?;
         let mut changed = Vec::new(alloc);
@@ -144,7 +152,7 @@ fn add_changed<'a>(
     file: InputFile,
     old: Option<&[u8]>,
     new: &'a str,
-) -> Result<(), Stop> {
+) -> Result<(), Fault> {
     let bytes = new.as_bytes();
     if old == Some(bytes) {
         return Ok(());
@@ -155,11 +163,14 @@ fn add_changed<'a>(
 
 /// The names of the targets that a journal has. A broken one has none: what is broken is told where it
 /// is opened.
-pub fn names_in(alloc: Global, journal: &[u8]) -> Result<Seq<TargetName>, Stop> {
+pub fn names_in(alloc: Global, journal: &[u8]) -> Result<Seq<TargetName>, Fault>
+    ensures { IfOk result (λ names. NamesTargets journal.now (Ok names)
+        ⊎ ((names ≡ []) × (line : ℕ) × NamesTargets journal.now (Err (JournalBroken line)))) }
+{
     match targets(alloc, journal) {
         Ok(names) => Ok(names),
         Err(Refusal::JournalBroken(_)) => Ok(Seq::new(alloc)),
-        Err(refusal) => Err(Stop::from(refusal)),
+        Err(refusal) => Err(Fault::from(refusal)),
     }
 }
 
@@ -168,20 +179,14 @@ pub fn places_in<R: Files + AllocGlobal>(
     rt: &R,
     dir: &str,
     file: InputFile,
-) -> Result<Option<Places>, Stop> {
+) -> Result<Option<Places>, Fault> {
     let path = path_of(rt.alloc(), dir, &file)?;
     places_at(rt, file, path.as_str())
 }
 
 /// The path of a file of the folder.
-pub fn path_of(alloc: Global, dir: &str, file: &InputFile) -> Result<String, Stop> {
-    match file {
-        InputFile::Lock(name) => {
-            let name = name.file_name(alloc)?;
-            Ok(format!(in alloc; "{dir}/{name}")?)
-        }
-        _ => Ok(format!(in alloc; "{dir}/{file}")?),
-    }
+pub fn path_of(alloc: Global, dir: &str, file: &InputFile) -> Result<String, AllocError> {
+    format!(in alloc; "{dir}/{file}")
 }
 
 /// The bytes of a file, in its place or, where it is among these, beside it.
@@ -190,13 +195,13 @@ pub fn read_in<R: Files + AllocGlobal>(
     dir: &str,
     file: InputFile,
     beside: &Beside,
-) -> Result<Vec<u8>, Stop> {
+) -> Result<Vec<u8>, Fault> {
     if !beside.has(&file) {
         let path = path_of(rt.alloc(), dir, &file)?;
         return in_file(file, read_bytes(rt, path.as_str()));
     }
     match places_in(rt, dir, file.clone()?)? {
         Some(places) => in_file(file, read_bytes(rt, places.beside.as_str())),
-        None => Err(Stop::Input(file, InputFault::Unreadable)),
+        None => Err(Fault::Input(file, InputFault::Unreadable)),
     }
 }

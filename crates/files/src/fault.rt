@@ -1,0 +1,100 @@
+// Why the files of a call can't be read or saved.
+
+ghost use Rattle.std.specs.Prelude.{◌≡◌, ◌⊎◌, IfErr, IfOk, None};
+ghost use Rattle.files.specs.Faults.{fault_of, of_file};
+ghost use Rattle.files.specs.declared.fault.Fault.TheVariants.{OutOfMemory};
+
+use crate::input_files::{InputFault, InputFile};
+use edits::{Refusal, SavedFile, TargetName};
+use std::alloc::{AllocError, AllocFailed};
+use std::io::{self, ErrorKind};
+
+/// Why the files of a call can't be read or saved.
+#[derive(Drop)]
+pub enum Fault {
+    /// This file is refused.
+    Input(InputFile, InputFault),
+    /// This file can't be written.
+    Unwritten(InputFile),
+    /// A target has a bad name.
+    BadTarget,
+    /// Two targets have this name.
+    DuplicateTarget(TargetName),
+    /// There is no target.
+    NoTarget,
+    /// The history refuses what is asked of it, and no file is at fault.
+    Refused(Refusal),
+    OutOfMemory,
+}
+
+impl From<AllocError> for Fault {
+    ghost from_gives = { λ _ fault. fault ≡ OutOfMemory };
+
+    fn from(_error: AllocError) -> Fault {
+        Fault::OutOfMemory
+    }
+}
+
+impl<T: Drop> From<AllocFailed<T>> for Fault {
+    ghost from_gives = { λ _ fault. fault ≡ OutOfMemory };
+
+    fn from(_error: AllocFailed<T>) -> Fault {
+        Fault::OutOfMemory
+    }
+}
+
+// Each refusal is told of the file or of the target that it is about.
+impl From<Refusal> for Fault {
+    ghost from_gives = { λ refusal fault. fault ≡ fault_of refusal };
+
+    fn from(refusal: Refusal) -> Fault {
+        match refusal {
+            Refusal::OutOfMemory => Fault::OutOfMemory,
+            Refusal::FilesDisagree(SavedFile::Requirements) => {
+                Fault::Input(InputFile::Requirements, InputFault::Disagrees)
+            }
+            Refusal::FilesDisagree(SavedFile::Lock(name)) => {
+                Fault::Input(InputFile::Lock(name), InputFault::Disagrees)
+            }
+            Refusal::JournalBroken(line) => {
+                Fault::Input(InputFile::Journal, InputFault::JournalBroken(line))
+            }
+            Refusal::BadTarget => Fault::BadTarget,
+            Refusal::DuplicateTarget(name) => Fault::DuplicateTarget(name),
+            Refusal::NoTarget => Fault::NoTarget,
+            refusal => Fault::Refused(refusal),
+        }
+    }
+}
+
+/// What was read, or the fault with the file that has it.
+pub fn in_file<T>(file: InputFile, read: Result<T, InputFault>) -> Result<T, Fault>
+    ensures { result ≡ of_file file read }
+{
+    match read {
+        Ok(value) => Ok(value),
+        Err(InputFault::OutOfMemory) => Err(Fault::OutOfMemory),
+        Err(fault) => Err(Fault::Input(file, fault)),
+    }
+}
+
+/// Why a file can't be written.
+pub(crate) fn unwritten(file: InputFile, error: &io::Error) -> Fault
+    ensures { (result ≡ OutOfMemory) ⊎ (result ≡ Fault.Unwritten file) }
+{
+    match error.kind() {
+        ErrorKind::OutOfMemory => Fault::OutOfMemory,
+        _ => Fault::Unwritten(file),
+    }
+}
+
+/// Nothing, in the place of what an error kept from us. Only want of memory isn't passed over.
+pub(crate) fn passed_over<T>(error: &io::Error) -> Result<Option<T>, Fault>
+    ensures nothing { IfOk result (λ kept. kept ≡ None) }
+    ensures memory { IfErr result (λ fault. fault ≡ OutOfMemory) }
+{
+    match error.kind() {
+        ErrorKind::OutOfMemory => Err(Fault::OutOfMemory),
+        _ => Ok(None),
+    }
+}

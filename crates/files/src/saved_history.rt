@@ -1,0 +1,69 @@
+// The history that the files of a folder stand for, with an index or without.
+
+use crate::fault::{Fault, in_file};
+use crate::folder_lock::{LockFile, lock_to_read};
+use crate::input_files::{InputFile, read_bytes, read_index};
+use crate::saved_files::SavedFiles;
+use journal::Session;
+use snapshot::Snapshot;
+use std::rt::Files;
+
+/// The files of the folder. Nothing is written to them meanwhile.
+pub fn saved_files<R: Files + AllocGlobal>(rt: &R, dir: &str) -> Result<SavedFiles, Fault>
+where
+    R::File: LockFile,
+{
+    let _lock = lock_to_read(rt, dir)?;
+    SavedFiles::read(rt, dir)
+}
+
+/// The history that the files of the folder stand for. Nothing is written to them meanwhile.
+pub fn saved_session<R: Files + AllocGlobal>(rt: &R, dir: &str) -> Result<Session, Fault>
+where
+    R::File: LockFile,
+{
+    saved_files(rt, dir)?.open(rt.alloc())
+}
+
+/// The same history, and an index. All files are read before a fault in one of them is told.
+pub fn session_over<R: Files + AllocGlobal>(
+    rt: &R,
+    dir: &str,
+    index: &str,
+) -> Result<(Session, Snapshot), Fault>
+where
+    R::File: LockFile,
+{
+    let files = saved_files(rt, dir)?;
+    let bytes = in_file(InputFile::Index, read_bytes(rt, index))?;
+    let session = files.open(rt.alloc())?;
+    let snapshot = in_file(InputFile::Index, read_index(rt.alloc(), bytes.as_slice()))?;
+    Ok((session, snapshot))
+}
+
+/// A history with the files that it was read from, and an index.
+#[derive(Drop)]
+pub struct SavedHistory {
+    pub files: SavedFiles,
+    pub session: Session,
+    pub snapshot: Snapshot,
+}
+
+/// The history that the files of the folder stand for and an index, to save another in their place. A save that
+/// was stopped is ended first. All files are read before a fault in one of them is told.
+pub fn history_to_save<R: Files + AllocGlobal>(
+    rt: &R,
+    dir: &str,
+    index: &str,
+) -> Result<SavedHistory, Fault> {
+    let alloc = rt.alloc();
+    let files = SavedFiles::read_to_save(rt, dir)?;
+    let index = in_file(InputFile::Index, read_bytes(rt, index))?;
+    let (files, session) = files.open_to_save(rt, dir)?;
+    let snapshot = in_file(InputFile::Index, read_index(alloc, index.as_slice()))?;
+    Ok(SavedHistory {
+        files,
+        session,
+        snapshot,
+    })
+}
