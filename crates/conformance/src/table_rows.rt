@@ -2,8 +2,9 @@
 
 use crate::notation::owned;
 use crate::telling::Telling;
+use learning_search::learned_best;
 use lists::Seq;
-use search::{Choice, Requirement, Table, learned_best};
+use search::{Choice, Requirement, Table};
 use std::alloc::Global;
 
 /// The numbers between spaces.
