@@ -1,7 +1,9 @@
-/* Tells which calls a program makes on files, and lets one fail. Built as a shared library and preloaded by test_file_calls.py.
+/* Tells which calls a program makes on files that can change something, and lets one fail. Built as a shared library and preloaded by
+   test_file_calls.py.
 
-   FILE_CALLS_REPORT   the file in which each of these calls is told, in one line: "flock FOLDER", "fsync FILE", "rename FILE", the last
-                       parts of the paths, and for the last the new one
+   FILE_CALLS_REPORT   the file in which each of these calls is told, in one line: its name and the last part of the path, of two paths
+                       the new one; an open is told as "create FILE" where it may make the file, as "open FILE" where it may write or cut
+                       it, and else not at all
    FILE_CALLS_STOP     the program is killed in the place of this call of these, counted from 1
    FILE_CALLS_LOCK     flock fails with this error */
 #define _GNU_SOURCE
@@ -9,10 +11,13 @@
 #include <fcntl.h>
 #include <limits.h>
 #include <signal.h>
+#include <stdarg.h>
+#include <stdbool.h>
 #include <stdio.h>
 #include <stdlib.h>
 #include <string.h>
 #include <sys/file.h>
+#include <sys/stat.h>
 #include <sys/syscall.h>
 #include <unistd.h>
 
@@ -24,7 +29,7 @@ static void tell(const char *call, const char *path) {
     int length = snprintf(line, sizeof line, "%s %s\n", call, slash == NULL ? path : slash + 1);
     if (stop != NULL && ++calls == atol(stop))
         raise(SIGKILL);
-    int file = report == NULL ? -1 : open(report, O_WRONLY | O_CREAT | O_APPEND, 0666);
+    int file = report == NULL ? -1 : (int)syscall(SYS_openat, AT_FDCWD, report, O_WRONLY | O_CREAT | O_APPEND, 0666);
     if (file < 0)
         return;
     syscall(SYS_write, file, line, (size_t)length);
@@ -49,12 +54,59 @@ int flock(int descriptor, int how) {
     return -1;
 }
 
+/* Calls on open files */
+
 int fsync(int descriptor) {
     tell_open("fsync", descriptor);
     return (int)syscall(SYS_fsync, descriptor);
 }
 
+int fdatasync(int descriptor) {
+    tell_open("fdatasync", descriptor);
+    return (int)syscall(SYS_fdatasync, descriptor);
+}
+
+int ftruncate(int descriptor, off_t size) {
+    tell_open("ftruncate", descriptor);
+    return (int)syscall(SYS_ftruncate, descriptor, size);
+}
+
+int fchmod(int descriptor, mode_t mode) {
+    tell_open("fchmod", descriptor);
+    return (int)syscall(SYS_fchmod, descriptor, mode);
+}
+
+/* Calls on paths */
+
+int open(const char *path, int flags, ...) {
+    bool makes = flags & O_CREAT || (flags & O_TMPFILE) == O_TMPFILE;
+    va_list rest;
+    va_start(rest, flags);
+    mode_t mode = makes ? va_arg(rest, mode_t) : 0;
+    va_end(rest);
+    if (makes)
+        tell("create", path);
+    else if ((flags & O_ACCMODE) != O_RDONLY || flags & O_TRUNC)
+        tell("open", path);
+    return (int)syscall(SYS_openat, AT_FDCWD, path, flags, mode);
+}
+
 int rename(const char *old, const char *new) {
     tell("rename", new);
     return (int)syscall(SYS_renameat, AT_FDCWD, old, AT_FDCWD, new);
+}
+
+int unlink(const char *path) {
+    tell("unlink", path);
+    return (int)syscall(SYS_unlinkat, AT_FDCWD, path, 0);
+}
+
+int mkdir(const char *path, mode_t mode) {
+    tell("mkdir", path);
+    return (int)syscall(SYS_mkdirat, AT_FDCWD, path, mode);
+}
+
+int lchown(const char *path, uid_t owner, gid_t group) {
+    tell("lchown", path);
+    return (int)syscall(SYS_fchownat, AT_FDCWD, path, owner, group, AT_SYMLINK_NOFOLLOW);
 }

@@ -80,6 +80,14 @@ class Program(unittest.TestCase):
         done = subprocess.run([PROGRAM, *words], input=text.encode(), capture_output=True, check=False)
         return done.returncode, done.stdout.decode(), done.stderr.decode()
 
+    def unread(self, *words):
+        """The status of a call whose output nobody reads any more, and its standard error."""
+        readings, writings = os.pipe()
+        os.close(readings)
+        done = subprocess.run([self.program, *self.options(), *words], stdout=writings, stderr=subprocess.PIPE, check=False)
+        os.close(writings)
+        return done.returncode, done.stderr
+
     def start(self, *words, folder=None):
         """A call of the program that goes on by itself. Its input is empty."""
         return subprocess.Popen(

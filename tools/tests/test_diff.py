@@ -260,6 +260,22 @@ class Details(Changes):
         asking = f"ask: reqlock {options} why --explain --init\n"
         self.assertEqual(self.details("init", status=3), head + lacking + asking)
 
+    def test_of_names_that_the_index_lacks(self):
+        head = "no versions meet all requirements\nthe index has no release of "
+        packages = ("requests", "1", []), ("flask", "1", [], {"files": []}), ("flasks", "1", [])
+        self.begin(b"requests\n", *packages)
+        self.succeeds("init")
+        for text, lacking in (
+            ("reqeusts", "reqeusts; near names: requests"), ("django", "django"),
+            # a package without a release that can be used has its right name
+            ("flask", "flask"),
+        ):
+            told = self.details("add", text, status=3)
+            self.assertEqual(told.partition("\nask: ")[0], head + lacking)
+        self.begin(b"reqeusts\n", *packages)
+        told = self.details("init", status=3)
+        self.assertEqual(told.partition("\nask: ")[0], head + "reqeusts; near names: requests")
+
     def test_of_files(self):
         self.begin(b"a\n", ("a", "1", []))
         path = self.folder / "reqlock.journal"

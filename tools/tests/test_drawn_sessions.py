@@ -5,15 +5,15 @@ import json
 import unittest
 from collections import Counter
 
-from made.environments import LINUX, OLDER, WINDOWS
+from drawn_files import DrawnFiles
+from made.environments import LINUX
 from made.sessions import Draw
 from places import IS_LONG
-from program import Program
-from rules.edits import History, Refused, begun, is_locked, problems_after, status_of
+from rules.edits import History, Refused, is_locked, problems_after, status_of
 from rules.journals import file_name, opens_in
 from rules.lock_tables import read_lock
-from rules.locks import best_solution, is_refutation, read_index, read_refutation
-from rules.requirements import cut_lines, marker_text, read_line
+from rules.locks import best_solution, is_refutation, read_refutation
+from rules.requirements import marker_text, read_line
 
 SESSIONS = 1000 if IS_LONG else 60
 EDITS = 6
@@ -24,10 +24,9 @@ SEEN = {
 }
 # and with several targets
 SEEN_OF_TARGETS = SEEN | {
-    "1 target", "2 targets", "3 targets", "locks that differ", "a lock that alone changes", "some solution, but not of each",
+    "targets: 1", "targets: 2", "targets: 3", "locks that differ", "a lock that alone changes", "some solution, but not of each",
     "an upgrade of what not each has", "refuted for a second target",
 }
-TARGET_NAMES = "", "linux", "older", "win", "x-1"
 
 
 def names_on(lines):
@@ -39,7 +38,7 @@ def locked_names(state):
     return sorted({name for target in state.targets.values() for name in target.entries})
 
 
-class Sessions(Program):
+class Sessions(DrawnFiles):
     """Each session begins with a drawn index and file. Each command is a process over the files that the last one saved."""
 
     def test_of_a_target_without_a_name(self):
@@ -54,19 +53,17 @@ class Sessions(Program):
             with self.subTest(seed=seed):
                 draw = Draw(seed)
                 self.lock_for(environments(draw, seed))
+                self.seen[f"targets: {len(self.environments)}"] += 1
                 self.play(draw)
         self.assertLessEqual(wanted, set(+self.seen), self.seen)
-
-    def drawn_targets(self, draw, seed):
-        """One target, two or three, in any order of names. Two may have equal environments."""
-        count = seed % 3 + 1
-        self.seen[f"{count} target" + "s" * (count > 1)] += 1
-        return {name: draw.one((LINUX, WINDOWS, OLDER)) for name in draw.random.sample(TARGET_NAMES, count)}
 
     def play(self, draw):
         self.put({})
         self.take_index(draw.index())
-        history = History(self.begun_session(draw))
+        state, refused = self.begun_session(draw)
+        self.seen["refused init"] += refused
+        history = History(state)
+        self.check_files(history)
         for _ in range(EDITS):
             if draw.happens(40):
                 self.take_index(draw.index())
@@ -99,28 +96,6 @@ class Sessions(Program):
         if command[0] == "upgrade" and len(command) > 1:
             has = [all(name in target.entries for name in command[1:]) for target in old.targets.values()]
             self.seen["an upgrade of what not each has"] += not all(has) and is_locked(old, command[1])
-
-    def take_index(self, index):
-        data = json.dumps(index).encode()
-        (self.outside / "index.json").write_bytes(data)
-        self.index = read_index(data)
-
-    def begun_session(self, draw):
-        """The first state that `init` makes of drawn files, which it refuses where they have no solution."""
-        for _ in range(100):
-            text = draw.requirements()
-            self.put({"requirements.txt": text.encode()})
-            try:
-                state = begun(cut_lines(text), self.environments, self.index)
-            except Refused as refused:
-                self.assertEqual(self.told("init"), (3, f"refused {refused.word}\n", ""), text)
-                self.assertEqual(self.files(), {"requirements.txt": text.encode()})
-                self.seen["refused init"] += 1
-                continue
-            self.assertEqual(self.told("init"), (0, "ok 0\n", ""), text)
-            self.check_files(History(state))
-            return state
-        raise AssertionError("no file that was drawn has a solution")
 
     def check_files(self, history):
         """The files are those of the present state of a history."""

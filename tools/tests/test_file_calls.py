@@ -1,8 +1,9 @@
-"""The calls that the program makes on files: in which order a save makes them last, a stop at each of them, and locks that fail.
-file_calls.c is preloaded, which needs a C compiler."""
+"""The calls by which the program changes files: what an edit makes and in which order it makes it last, a stop at each of them, that what
+only reads makes none, and locks that fail. file_calls.c is preloaded, which needs a C compiler."""
 
 import errno
 import os
+import shutil
 import subprocess
 import sys
 import unittest
@@ -14,6 +15,25 @@ from program import Fifty
 import growths  # (it stands in tools/)
 
 SOURCE = TESTS / "file_calls.c"
+EDITS = (
+    ["add", "p02"], ["remove", "p00"], ["constrain", "p00", "<2"], ["upgrade"], ["upgrade", "p00"], ["relock"], ["undo"], ["redo"],
+)
+READINGS = (
+    ["show"], ["show", "p00"], ["show", "--tree"], ["show", "--json"], ["log"], ["log", "--long"], ["log", "--json"], ["diff"],
+    ["diff", "0", "1"], ["diff", "--json"], ["check"], ["check", "--json"], ["check", "--current"], ["outdated"], ["outdated", "--json"],
+    ["why"], ["why", "p02"], ["why", "--constrain", "p00", "<2"], ["why", "--upgrade"], ["why", "--remove", "p00"],
+    ["why", "--not", "p00==1"],
+)
+# what reads no journal, and takes no lock
+UNLOCKED = ["skipped"], ["why", "--init"], ["try"]
+UNMET = ["why", "p02>2"], ["why", "--explain", "p02>2"]
+# the C library's calls that can change files, `write` and its like apart, which need a file that is open
+CHANGING = set(
+    "chmod chown copy_file_range creat creat64 fallocate fallocate64 fchmod fchmodat fchown fchownat fdatasync fdopen fopen fopen64 fsync "
+    "ftruncate ftruncate64 futimens futimes lchown link linkat lutimes mkdir mkdirat mkfifo mkfifoat mknod mknodat mkostemp mkstemp "
+    "mkstemp64 open open64 openat openat64 posix_fallocate remove rename renameat renameat2 rmdir sendfile splice symlink symlinkat "
+    "syscall tmpfile truncate truncate64 unlink unlinkat utime utimensat utimes".split()
+)
 
 
 @unittest.skipUnless(sys.platform == "linux" and growths.compiler(), "there is no C compiler, or no Linux")
@@ -36,14 +56,51 @@ class FileCalls(Fifty):
         calls = self.report.read_text(encoding="utf-8").splitlines() if self.report.exists() else []
         return done.returncode, done.stdout, calls
 
+    @staticmethod
+    def lasting(calls):
+        """The calls that make what was changed last, and the lock."""
+        return [call for call in calls if call.startswith(("flock ", "fsync ", "rename "))]
+
+    @unittest.skipUnless(shutil.which("nm"), "there is no nm")
+    def test_no_call_is_left_unwatched(self):
+        taken = self.symbols("--undefined-only", self.program) & CHANGING
+        self.assertLessEqual(taken, self.symbols("--defined-only", self.library))
+
+    @staticmethod
+    def symbols(kind, path):
+        told = subprocess.run(["nm", "-D", kind, path], capture_output=True, encoding="utf-8", check=True).stdout
+        return {line.split()[-1].partition("@")[0] for line in told.splitlines()}
+
+    def test_an_edit_writes_each_file_beside_its_place(self):
+        self.begin_all()
+        told = self.watched("add", "p01")
+        calls = ["flock folder", *(f"unlink {name}.new" for name in self.names())]
+        for name in self.names():
+            beside = f"{name}.new"
+            owner = [f"lchown {beside}"] * 2
+            calls += [f"open {name}", f"unlink {beside}", f"create {beside}", *owner, f"fchmod {beside}", f"fsync {beside}", "fsync folder"]
+        for name in self.names():
+            calls += [f"rename {name}", "fsync folder"]
+        self.assertEqual(told, (0, "ok 1\n", calls))
+
+    def test_the_first_lock_makes_its_files(self):
+        self.begin(b"# fifty\n", *self.RELEASES)
+        status, output, calls = self.watched("init")
+        self.assertEqual((status, output), (0, "ok 0\n"))
+        for name in self.names()[1:]:
+            told = [call for call in calls if call.split(" ")[1] in (name, f"{name}.new")]
+            self.assertEqual(told[-3:], [f"create {name}.new", f"fsync {name}.new", f"rename {name}"])
+            self.assertNotIn(f"open {name}", told)
+
     def test_all_is_made_last_in_its_order(self):
         self.begin_all()
         written = [[f"fsync {name}.new", "fsync folder"] for name in self.names()]
         put = [[f"rename {name}", "fsync folder"] for name in self.names()]
         for place, name in enumerate((".", self.folder, f"{self.folder}/"), 1):
             with self.subTest(name=name):
-                told = self.watched("add", f"p{place:02}", name=name)
-                self.assertEqual(told, (0, f"ok {place}\n", ["flock folder", *sum(written + put, [])]))
+                status, output, calls = self.watched("add", f"p{place:02}", name=name)
+                self.assertEqual((status, output), (0, f"ok {place}\n"))
+                self.assertEqual(self.lasting(calls), ["flock folder", *sum(written + put, [])])
 
     def test_the_folder_that_a_link_leads_to_is_synced_too(self):
         self.begin_all()
@@ -79,7 +136,7 @@ class FileCalls(Fifty):
         stopped = before | {"requirements.txt": after["requirements.txt"]} | {f"{name}.new": after[name] for name in left}
         for words in ["relock"], ["init"]:
             self.put(stopped)
-            _, _, calls = self.watched(*words)
+            calls = self.watched(*words)[2]
             ending = sum(([f"rename {name}", "fsync folder"] for name in left), [])
             self.assertEqual(calls[1 : len(ending) + 1], ending)
             ended = self.files()
@@ -113,14 +170,31 @@ class FileCalls(Fifty):
             self.assertEqual(self.watched(*words, FILE_CALLS_LOCK=str(errno.ENOMEM)), told)
         self.assertEqual(self.files(), files)
 
-    def test_a_dry_run_only_reads(self):
+    def begin_history(self):
+        """A history with a step before the present place and one behind it."""
         self.begin_all()
-        self.assertEqual(self.call("add", "p00"), (0, "ok 1\n"))
-        for words in ["add", "p01"], ["remove", "p00"], ["constrain", "p00", "<2"], ["upgrade"], ["relock"], ["undo"], ["redo"]:
+        self.plays((["add", "p00<2"], 0, "ok 1\n"), (["add", "p01"], 0, "ok 2\n"), (["undo"], 0, "ok 1\n"))
+
+    def only_reads(self, *words, locks=True):
+        """The status of a call that makes none of the watched calls, or none but the lock, and what it writes."""
+        before = self.files()
+        status, output, calls = self.watched(*words)
+        self.assertEqual((self.files(), calls), (before, ["flock folder"] * locks))
+        return status, output
+
+    def test_a_dry_run_only_reads(self):
+        self.begin_history()
+        for words in EDITS:
             with self.subTest(words=words):
-                before = self.files()
-                self.assertEqual(self.watched(*words, "--dry-run")[2], ["flock folder"])
-                self.assertEqual(self.files(), before)
+                status, output = self.only_reads(*words, "--dry-run")
+                self.assertEqual((status, output.split()[0] in ("ok", "same")), (0, True), output)
+
+    def test_what_is_no_edit_only_reads(self):
+        self.begin_history()
+        for listed, status, locks in (READINGS, 0, True), (UNMET, 3, True), (UNLOCKED, 0, False):
+            for words in listed:
+                with self.subTest(words=words):
+                    self.assertEqual(self.only_reads(*words, locks=locks)[0], status)
 
     def test_a_folder_without_a_name_is_not_locked(self):
         self.begin_all()

@@ -71,7 +71,7 @@ class Printed(Program):
         causes.append(f"the new line ({first}) needs {first}, {left.format(first)} by {COUNT}")
         sentences = [f"No choice of versions meets the new line ({first})."]
         sentences += [f"{number}. {cause}." for number, cause in enumerate(causes, 1)]
-        left_out = [f"{name}: release 1: version bad-version" for name in (*NAMES, "z")]
+        left_out = [f"{name} x: release 1: version bad-version" for name in (*NAMES, "z")]
         self.plays((["why", "--explain", first], 3, "".join(f"{line}\n" for line in sentences + left_out)))
 
 

@@ -4,14 +4,12 @@ program, which ./check builds first."""
 import json
 import unittest
 
-from made.environments import LINUX, OLDER, WINDOWS
+from drawn_files import DrawnFiles
 from made.sessions import Draw
 from places import IS_LONG
 from program import Program
-from rules.edits import History, Refused, begun, edited, problems_after
-from rules.locks import read_index
+from rules.edits import History, Refused, edited, problems_after
 from rules.newer import outdated
-from rules.requirements import cut_lines
 
 SESSIONS = 300 if IS_LONG else 30
 EDITS = 4
@@ -44,7 +42,7 @@ def outdated_text(told):
     return "\n".join(filter(None, map(target_text, told["targets"])))
 
 
-class Outdated(Program):
+class Outdated(DrawnFiles):
     def tells(self, wanted, *more):
         """What is printed, once more by the JSON."""
         self.assertEqual(self.told("outdated"), (0, wanted, ""))
@@ -89,15 +87,14 @@ class Outdated(Program):
         for seed in range(SESSIONS):
             with self.subTest(seed=seed):
                 draw = Draw(seed)
-                names = draw.random.sample(("", "linux", "older", "x-1"), seed % 3 + 1)
-                self.lock_for({name: draw.one((LINUX, WINDOWS, OLDER)) for name in names})
+                self.lock_for(self.drawn_targets(draw, seed))
                 self.play(draw, seen)
         self.assertLessEqual({"held", "free", "none admitted", "absent", "current", "stale", "no-solution"}, seen)
 
     def play(self, draw, seen):
         self.put({})
         self.take_index(draw.index())
-        history = History(self.begun_session(draw))
+        history = History(self.begun_session(draw)[0])
         for _ in range(EDITS):
             self.take_index(draw.index())
             self.check_outdated(history.state(), seen)
@@ -149,24 +146,6 @@ class Outdated(Program):
         found = json.loads(self.told("diff", "--json")[1])
         self.assertEqual({key: found[key] for key in diff}, diff)
         self.put(before)
-
-    def take_index(self, index):
-        data = json.dumps(index).encode()
-        (self.outside / "index.json").write_bytes(data)
-        self.index = read_index(data)
-
-    def begun_session(self, draw):
-        """The first state that `init` makes of drawn files, which it refuses where they have no solution."""
-        for _ in range(100):
-            text = draw.requirements()
-            self.put({"requirements.txt": text.encode()})
-            try:
-                state = begun(cut_lines(text), self.environments, self.index)
-            except Refused:
-                continue
-            self.assertEqual(self.told("init"), (0, "ok 0\n", ""), text)
-            return state
-        raise AssertionError("no file that was drawn has a solution")
 
 
 class Current(Program):

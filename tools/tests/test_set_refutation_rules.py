@@ -3,7 +3,7 @@
 import unittest
 
 from made.releases import problem_in
-from made.set_refutation_rows import LISTS, problem_of
+from made.set_refutation_lists import LISTS, problem_of
 from rules.locks import solutions
 from rules.set_refutations import case_of, is_accepted, read_conflict
 

@@ -67,13 +67,7 @@ class Shell(Program):
     def test_a_reader_that_has_seen_enough(self):
         for words in ["show"], ["log"], ["skipped"], ["why", "--explain", "z"]:
             with self.subTest(words=words):
-                readings, writings = os.pipe()
-                os.close(readings)
-                done = subprocess.run(
-                    [self.program, *self.options(), *words], stdout=writings, stderr=subprocess.PIPE, check=False,
-                )
-                os.close(writings)
-                self.assertEqual((done.returncode, done.stderr), (0, b""))
+                self.assertEqual(self.unread(*words), (0, b""))
 
     def test_no_control_character_reaches_a_terminal(self):
         self.assertEqual(self.call("add", "c\t# \x9b31m"), (0, "ok 1\n"))

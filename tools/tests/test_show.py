@@ -2,19 +2,14 @@
 need the program, which ./check builds first."""
 
 import json
-import os
-import subprocess
 import unittest
 
-from made.environments import LINUX, OLDER, WINDOWS
+from drawn_files import DrawnFiles
 from made.releases import file_of
 from made.sessions import Draw
 from places import IS_LONG
-from program import Program
-from rules.edits import Refused, begun, problems_after
-from rules.locks import read_index
+from rules.edits import problems_after
 from rules.newer import told_entries, tree
-from rules.requirements import cut_lines
 
 STATES = 300 if IS_LONG else 30
 RELEASES = ("a", "1", ["b<2", "c[x]"]), ("b", "1", ["d"]), ("c", "1", ['d>=1; extra=="x"', "d; os_name=='nt'"]), ("d", "1", [])
@@ -46,7 +41,7 @@ def tree_text(targets):
     return "\n".join(filter(None, parts))
 
 
-class Show(Program):
+class Show(DrawnFiles):
     def locks(self, requirements=b"# web\na  # why\nd>=1\n", *releases):
         self.begin(requirements, *(releases or RELEASES))
         self.assertEqual(self.call("init"), (0, "ok 0\n"))
@@ -107,28 +102,22 @@ class Show(Program):
         self.locks()
         for words in ["show", "a"], ["show", "--tree"], ["show", "--json"], ["outdated"], ["outdated", "--json"]:
             with self.subTest(words=words):
-                readings, writings = os.pipe()
-                os.close(readings)
-                done = subprocess.run(
-                    [self.program, *self.options(), *words], stdout=writings, stderr=subprocess.PIPE, check=False,
-                )
-                os.close(writings)
-                self.assertEqual((done.returncode, done.stderr), (0, b""))
+                self.assertEqual(self.unread(*words), (0, b""))
 
     def test_drawn_states(self):
         for seed in range(STATES):
             with self.subTest(seed=seed):
                 draw = Draw(seed)
-                names = draw.random.sample(("", "linux", "older", "x-1"), seed % 3 + 1)
-                self.lock_for({name: draw.one((LINUX, WINDOWS, OLDER)) for name in names})
-                self.check_state(*self.begun_state(draw))
+                self.lock_for(self.drawn_targets(draw, seed))
+                self.take_index(draw.index())
+                self.check_state(self.begun_session(draw)[0])
 
-    def check_state(self, state, index):
+    def check_state(self, state):
         self.check_json(told_entries(state, None), self.bare("show", "--json"))
         rows = [{"target": name, "tree": tree(state.lines, target)} for name, target in state.targets.items()]
         self.check_json({"targets": rows}, self.bare("show", "--tree", "--json"))
         self.assertEqual(self.bare("show", "--tree"), (0, tree_text(rows), ""))
-        problems = problems_after(state, ("relock",), index)[1]
+        problems = problems_after(state, ("relock",), self.index)[1]
         for name in sorted({name for target in state.targets.values() for name in target.entries}):
             for call, known in (self.bare, None), (self.told, problems):
                 wanted = told_entries(state, known, name)
@@ -139,20 +128,6 @@ class Show(Program):
     def check_json(self, wanted, answer):
         status, output, error = answer
         self.assertEqual((status, json.loads(output), error, output.count("\n")), (0, wanted, "", 1))
-
-    def begun_state(self, draw):
-        """The first state that `init` makes of drawn files."""
-        for _ in range(100):
-            data, text = json.dumps(draw.index()).encode(), draw.requirements()
-            (self.outside / "index.json").write_bytes(data)
-            self.put({"requirements.txt": text.encode()})
-            try:
-                state = begun(cut_lines(text), self.environments, read_index(data))
-            except Refused:
-                continue
-            self.assertEqual(self.told("init"), (0, "ok 0\n", ""), text)
-            return state, read_index(data)
-        raise AssertionError("no file that was drawn has a solution")
 
 
 if __name__ == "__main__":

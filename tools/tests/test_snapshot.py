@@ -16,6 +16,18 @@ SCRIPT = TOOLS / "snapshot.py"
 ZEROS = "0" * 64
 
 
+def interrupted(call):
+    """What a call told on standard error that was stopped by the keyboard. A signal that comes just before a read begins is
+    heeded only at the next one, so it is sent again."""
+    for _ in range(12):
+        call.send_signal(signal.SIGINT)
+        try:
+            return call.communicate(timeout=5)[1]
+        except subprocess.TimeoutExpired:
+            continue
+    return None
+
+
 def heed_keyboard():
     """Lets a process be stopped by the keyboard, also where what started it may not be."""
     signal.signal(signal.SIGINT, signal.SIG_DFL)
@@ -361,8 +373,7 @@ class Around(Folder):
         call = subprocess.Popen(command, preexec_fn=heed_keyboard, **streams)
         self.addCleanup(call.kill)
         pipe = open_beside_a_reader(self.folder / "a.json")
-        call.send_signal(signal.SIGINT)
-        _, errors = call.communicate(timeout=60)
+        errors = interrupted(call)
         os.close(pipe)
         self.assertEqual((call.returncode, errors), (130, "snapshot.py: stopped; no snapshot is written\n"))
         self.assertFalse(output.exists())

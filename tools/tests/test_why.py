@@ -18,6 +18,9 @@ SIGNS_TOLD = "b[f-x,e]~=2.0,==2.0,==2.*,!=3,!=3.*,<=2.5,>=2,<2.6,>1"
 # the search meets first that `a` 2 needs what isn't there, on which nothing rests
 CUT_AWAY = ("a", "1", []), ("a", "2", ["aa"]), ("b", "1", ["y"]), ("m", "1", ["a", "b"])
 
+# the search meets first that `x` 4 needs what isn't there, and the last step names that second
+LAST_FIRST = ("x", "1", ["q"]), ("x", "2", ["q"]), ("x", "3", ["q"]), ("x", "4", ["p"])
+
 
 class Why(Program):
     """What `why` prints of problems with a solution and without one. It saves nothing."""
@@ -82,11 +85,18 @@ class Why(Program):
             "2. the new line (a) needs a, and no release of a is left: 1 by 1.\n",
         ),
         (
+            LAST_FIRST, b"", ["--explain", "x"],
+            "No choice of versions meets the new line (x).\n"
+            "1. x 1 to 3 (3 releases) need q, and the index has no package q.\n"
+            "2. x 4 needs p, and the index has no package p.\n"
+            "3. the new line (x) needs x, and no release of x is left: 1 to 3 (3 releases) by 1; 4 by 2.\n",
+        ),
+        (
             LEFT_OUT, b"", ["--explain", "b"],
             "No choice of versions meets the new line (b).\n"
             "1. the only release of b needs c>1, and no release of c is left: 1 doesn't match >1.\n"
             "2. the new line (b) needs b, and no release of b is left: 1 by 1.\n"
-            "b: release 1: requirement 0 url-requirement\n",
+            "b 2: release 1: requirement 0 url-requirement\n",
         ),
     )
 

@@ -1,7 +1,5 @@
 """Every question of `why`, over the built program: of the first lock, of each edit, and why a lock hasn't a release."""
 
-import random
-import re
 import unittest
 
 from made.environments import LINUX
@@ -132,57 +130,6 @@ class Reasons(Program):
         self.begin(b"", ("a", "1", [], {"requires_python": ">=3.99,\u001b<4"}), ("a", "2", [], {"requires_python": " >=3.99\t"}))
         for line in ("a", "a ; python_version > '3'  # \u001b[31m"):
             self.assertNotIn("\u001b", self.call("why", "--init", "--explain", line)[1])
-
-
-class Sentences(Program):
-    """The sentences of drawn problems without a solution."""
-
-    NAMES = "abcde"
-
-    def drawn(self, rng):
-        """The lines and the releases of a small problem, most of which have no solution."""
-
-        def asked(name):
-            sign, version = rng.choice((">=", "<", "==", "!=")), rng.randrange(1, 5)
-            return rng.choice((name, name + "[x]")) + sign + str(version)
-
-        releases = []
-        for name in self.NAMES:
-            for version in range(1, rng.randrange(2, 6)):
-                others = [other for other in self.NAMES if other != name]
-                needs = [asked(other) for other in rng.sample(others, rng.randrange(3))]
-                needs += [asked(other) + ' ; extra == "x"' for other in rng.sample(others, rng.randrange(2))]
-                releases.append((name, str(version), needs))
-        return [asked(name) for name in rng.sample(self.NAMES, rng.randrange(1, 4))], releases
-
-    def check(self, told, lines):
-        """The conclusion names lines of the file, each step cites only steps above it, and each one but the last is cited."""
-        conclusion, *steps = re.split(r"\n(?=[0-9]+\. )", told.rstrip("\n").replace("\n   ", " "))
-        self.assertRegex(conclusion, r"^No choice of versions meets line ")
-        named = {int(number) for number in re.findall(r"\bline ([0-9]+) \(", conclusion)}
-        self.assertTrue(named)
-        for number, line in enumerate(lines, 1):
-            if number in named:
-                self.assertIn(f"line {number} ({line})", conclusion)
-        cited = set()
-        for number, step in enumerate(steps, 1):
-            self.assertTrue(step.startswith(f"{number}. "), step)
-            above = {int(other) for other in re.findall(r"\bby ([0-9]+)\b", step)}
-            self.assertTrue(all(other < number for other in above), step)
-            cited |= above
-            self.assertLessEqual({int(other) for other in re.findall(r"\bline ([0-9]+)\b", step)}, named)
-        self.assertEqual(cited, set(range(1, len(steps))))
-
-    def test_each_step_is_cited_by_one_below_it(self):
-        rng, count = random.Random(7), 0
-        while count < 40:
-            lines, releases = self.drawn(rng)
-            self.begin("".join(f"{line}\n" for line in lines).encode(), *releases)
-            status, told = self.call("why", "--init", "--explain")
-            if status == 3:
-                count += 1
-                with self.subTest(lines=lines, releases=releases):
-                    self.check(told, lines)
 
 
 if __name__ == "__main__":

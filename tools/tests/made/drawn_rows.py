@@ -4,13 +4,13 @@ drawn_rows.py rows|answers. The rows are a part of crates/conformance/stdin, the
 versions is tried."""
 
 import json
-import random
 import sys
 from pathlib import Path
 
 # run as a program it finds the other modules of the tests
 sys.path.insert(0, str(Path(__file__).resolve().parent.parent))
 
+from made.chance import Chance  # noqa: E402
 from made.environments import LINUX  # noqa: E402
 from rules.edits import History, Refused, begun, lines_on  # noqa: E402
 from rules.locks import Problem, best_solution, needed_nodes, read_index  # noqa: E402
@@ -37,15 +37,7 @@ TOLD = {
 }
 
 
-class Draw:
-    """What a seed gives, one thing after the other."""
-
-    def __init__(self, seed):
-        self.random = random.Random(seed)
-
-    def one(self, values):
-        return self.random.choice(values)
-
+class Draw(Chance):
     def requirement(self, names):
         return self.one(names) + self.one(EXTRAS) + self.one(SETS)
 

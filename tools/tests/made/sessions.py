@@ -1,8 +1,7 @@
 """Indexes, requirements files and commands that are drawn from a seed, for tests of sessions. The names are few and the versions
 near each other, so that lines, dependencies and kept versions often meet."""
 
-import random
-
+from made.chance import Chance
 from made.releases import file_of
 
 NAMES = "a", "b-b", "c", "d", "e"
@@ -29,20 +28,12 @@ ENDINGS = [[WHEEL]] * 6 + [[WHEEL, OTHER_WHEEL], [OTHER_WHEEL, ".zip", WHEEL], [
 KINDS = ["add"] * 6 + ["remove"] * 2 + ["constrain"] * 5 + ["upgrade"] * 4 + ["relock"] * 2 + ["undo"] * 4 + ["redo"]
 
 
-class Draw:
-    """What a seed gives, one thing after the other."""
-
+class Draw(Chance):
     def __init__(self, seed, names=NAMES):
-        self.random = random.Random(seed)
+        super().__init__(seed)
         self.names = names
         self.packages = {}
         self.kind = None
-
-    def one(self, values):
-        return self.random.choice(values)
-
-    def happens(self, percent):
-        return self.random.randrange(100) < percent
 
     def name(self, names=()):
         """A name, of these where there are any, in one of its spellings."""

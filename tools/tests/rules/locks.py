@@ -73,22 +73,38 @@ def read_release(release):
     return Release(version, python if python.strip(BLANK) else None, dependencies, release.get("yanked", False), sdist, wheels)
 
 
-def read_releases(releases):
-    """The releases of a package that count, newest first: of equal versions the first one that can be read."""
+def counted(releases):
+    """The releases of a package that count, with their places in its list, by the keys of their versions: of equal versions the first
+    one that can be read."""
     kept = {}
-    for release in releases:
+    for place, release in enumerate(releases):
         try:
             found = read_release(release)
         except Fault:
             continue
-        kept.setdefault(order_key(found.version), found)
-    return [kept[key] for key in sorted(kept, reverse=True)]
+        kept.setdefault(order_key(found.version), (place, found))
+    return kept
+
+
+def read_releases(releases):
+    """The releases of a package that count, newest first."""
+    kept = counted(releases)
+    return [kept[key][1] for key in sorted(kept, reverse=True)]
 
 
 def read_index(data):
     packages = json.loads(data)["packages"]
     releases = {read_name(package["name"]): read_releases(package["releases"]) for package in packages}
     return Index(releases, hashlib.sha256(data).hexdigest())
+
+
+def left_out(data):
+    """The names and places of the releases of an index that don't count."""
+    found = set()
+    for package in json.loads(data)["packages"]:
+        places = {place for place, _ in counted(package["releases"]).values()}
+        found |= {(read_name(package["name"]), place) for place in range(len(package["releases"])) if place not in places}
+    return found
 
 
 # Which releases are admitted
@@ -127,19 +143,36 @@ class Problem:
         python = read_version(self.environment["python_full_version"])
         return release.python is None or matches(read_set(release.python), python)
 
-    def admits(self, requirement, release):
-        """The clauses match and the Python fits. A pre-release has to be asked for, by this requirement or an active line on the
-        name, or be all that there is: no final release that isn't yanked has matching clauses and a Python that fits. A yanked
-        release has to be pinned, by this requirement or an active line on the name."""
-        if not matches(requirement.clauses, release.version) or not self.runs(release):
-            return False
-        asking = [requirement, *(line for line in self.asked if line.name == requirement.name)]
-        if release.is_yanked and not any(map(pins, asking)):
-            return False
-        if not is_pre(release.version) or any(map(names_pre_release, asking)):
+    def asking(self, requirement):
+        """The requirement and the active lines on its name."""
+        return [requirement, *(line for line in self.asked if line.name == requirement.name)]
+
+    def fits(self, requirement, release):
+        return matches(requirement.clauses, release.version) and self.runs(release)
+
+    def takes_yanked(self, requirement):
+        """A yanked release has to be pinned, by this requirement or an active line on the name."""
+        return any(map(pins, self.asking(requirement)))
+
+    def takes_pre(self, requirement):
+        """A pre-release has to be asked for, by this requirement or an active line on the name, or be all that there is: no final
+        release that isn't yanked has matching clauses and a Python that fits."""
+        if any(map(names_pre_release, self.asking(requirement))):
             return True
         finals = [it for it in self.releases[requirement.name] if not is_pre(it.version) and not it.is_yanked]
-        return not any(matches(requirement.clauses, it.version) and self.runs(it) for it in finals)
+        return not any(self.fits(requirement, it) for it in finals)
+
+    def admits(self, requirement, release):
+        """The clauses match and the Python fits, and a yanked release and a pre-release are taken."""
+        if not self.fits(requirement, release) or release.is_yanked and not self.takes_yanked(requirement):
+            return False
+        return not is_pre(release.version) or self.takes_pre(requirement)
+
+    def counting(self, node, place):
+        """The dependencies of a release that count at a node: those whose marker holds with the node's extra."""
+        name, extra = node
+        found = self.releases[name][place].dependencies
+        return [it for it in found if it.marker is None or holds(it.marker, self.environment, extra)]
 
     def need_of(self, requirement):
         releases = self.releases.get(requirement.name, [])
@@ -148,14 +181,11 @@ class Problem:
         return Need(requirement.name, nodes, admitted)
 
     def needs_at(self, node, place):
-        """What the dependencies of a release that count at a node ask for: those whose marker holds with the node's extra."""
+        """What the dependencies of a release that count at a node ask for."""
         if place is None:
             return []
         if (node, place) not in self.needs:
-            name, extra = node
-            found = self.releases[name][place].dependencies
-            counting = [it for it in found if it.marker is None or holds(it.marker, self.environment, extra)]
-            self.needs[node, place] = list(map(self.need_of, counting))
+            self.needs[node, place] = list(map(self.need_of, self.counting(node, place)))
         return self.needs[node, place]
 
 
