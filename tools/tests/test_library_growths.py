@@ -22,8 +22,10 @@ LAST = 40
 AMPLE = 10**12
 REFUSED = "out of memory", "line 0: out of memory", "memory allocation failed"
 
-# Calls that may not take memory, and those that need none: each of the others takes some.
-NEVER = "compare", "state check add x[e]"
+# A call that may not take memory, those that need none, and one that takes some only to be faster, so that it always answers as
+# with ample memory. Each of the others takes some.
+NEVER = ("compare",)
+ALWAYS = ("state check add x[e]",)
 NOTHING = "there is nothing to undo", "there is nothing to redo"
 NEEDS_NONE = "read version 1..0", "whole undo", "whole redo"
 
@@ -159,6 +161,8 @@ class Calls(unittest.TestCase):
             self.assertTrue(self.is_right(scenario, told(run.output), found), (scenario, run))
 
     def is_right(self, scenario, run, ample):
+        if scenario in ALWAYS:
+            return run == ample
         if scenario.startswith(("run ", "runs ")):
             return are_lawful(run, ample, functools.partial(self.without, scenario))
         return is_lawful(run, ample)
