@@ -6,7 +6,7 @@ use Rattle.states.specs.Changes.{After, ChangeParts, ChangesTarget, IsSameTarget
 use Rattle.states.specs.State.{IsState}
 use Rattle.states.specs.declared.target.Target.{Target}
 use Rattle.states.proofs.ChangeFacts.{After-inverse}
-use Rattle.states.proofs.DifferenceFacts.{IsDifference-inverse}
+use Rattle.states.proofs.WholeDifference.{IsDifference-inverse}
 use Rattle.states.proofs.OneOutcome.{After-one}
 use Rattle.journal.specs.Values.{State}
 use Rattle.journal.specs.Changes.{IsStepOf}

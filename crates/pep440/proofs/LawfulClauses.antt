@@ -8,7 +8,7 @@ use Rattle.pep440.specs.declared.specifier.Clause.{Clause}
 use Rattle.pep440.specs.SetGrammar.{IsLawfulClause}
 use Rattle.pep440.specs.Text.{trim_blank}
 use Rattle.pep440.specs.Tied.Sets.{◌>>=◌, clause_of, clauses_from}
-use Rattle.pep440.proofs.ClauseFacts.{read-clause}
+use Rattle.pep440.proofs.ReadIsAClause.{read-clause}
 
 -- a clause that a piece reads as is lawful
 lawful : (k : ℕ) (piece : List ℕ) (c : Clause) → clause_of k piece ≡ Ok c → IsLawfulClause c

@@ -1,7 +1,9 @@
 pub mod EqualVersionsMatchAlike
 pub mod ByteFacts
 pub mod CanonicalFacts
-pub mod ClauseFacts
+pub mod ClauseIsRead
+pub mod OperatorsRead
+pub mod ReadIsAClause
 pub mod CutFacts
 pub mod HeadFacts
 pub mod VersionsReadAsSpelled
@@ -15,8 +17,11 @@ pub mod SetAnswersOnce
 pub mod SetBytes
 pub mod SetFacts
 pub mod ReadIsSpelled
-pub mod SpanFacts
-pub mod TailFacts
+pub mod SpansRead
+pub mod LocalsRead
+pub mod LocalsAreLawful
+pub mod NumbersBehindWords
+pub mod TailsOfParts
 pub mod TextFacts
 pub mod Trims
 pub mod VersionFacts

@@ -9,7 +9,8 @@ use Rattle.pep440.specs.declared.specifier.Clause.{Clause}
 use Rattle.pep440.specs.Version.{fits}
 use Rattle.pep440.specs.SetGrammar.{IsArbitrary, IsClause, PieceAnswers}
 use Rattle.pep440.specs.Tied.Sets.{clause_behind, clause_of, is_arbitrary, operator_of}
-use Rattle.pep440.proofs.ClauseFacts.{behind-fault, clause-large, clause-read, read-clause}
+use Rattle.pep440.proofs.ClauseIsRead.{clause-large, clause-read}
+use Rattle.pep440.proofs.ReadIsAClause.{behind-fault, read-clause}
 
 equal-is : (b : ℕ) → eqb b 61 ≡ true → b ≡ 61
 equal-is b h = grind (arith, nat_tests)

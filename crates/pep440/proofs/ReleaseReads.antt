@@ -9,7 +9,8 @@ use Rattle.pep440.specs.Version.{VersionParts}
 use Rattle.pep440.specs.Grammar.{IsEpoch, IsLead, IsRelease, IsVersionText, value_from}
 use Rattle.pep440.specs.Tied.Reading.{Spans, after_digits, after_lead, after_release, bare_parts, digits_of, epoch_at, epoch_end, numbers_from, parts_in, release_of, release_spans, spans_of, starts_digit}
 use Rattle.pep440.proofs.HeadFacts.{are_digits, digit-no_dot, digit-no_lead, head_is, opens, opens-no_bang, opens-no_digit}
-use Rattle.pep440.proofs.TailFacts.{digits-read, digits-start, opens-starts}
+use Rattle.pep440.proofs.NumbersBehindWords.{digits-read, opens-starts}
+use Rattle.pep440.proofs.TailsOfParts.{digits-start}
 use Rattle.pep440.proofs.SpelledIsRead.{ReleaseTail, release-tail, tail-part}
 
 release-run : (ds rest : List ℕ) → are_digits ds ≡ true → (release_of (ds ++ rest) ≡ ds ++ release_of rest) × (after_release (ds ++ rest) ≡ after_release rest)

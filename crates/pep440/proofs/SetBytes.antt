@@ -13,7 +13,7 @@ use Rattle.pep440.specs.Tied.Sets.{◌>>=◌, clause_of, clauses_from, set_of}
 use Rattle.lists.specs.Spaces.{is_space_or_tab}
 use Rattle.pep440.specs.Text.{pieces, trim_blank, trim_end, trim_front}
 use Rattle.pep440.proofs.ByteFacts.{Covers, all-append, all-weaker, version-pass}
-use Rattle.pep440.proofs.ClauseFacts.{read-clause}
+use Rattle.pep440.proofs.ReadIsAClause.{read-clause}
 
 -- ---- a clause
 

@@ -17,8 +17,9 @@ use Rattle.pep440.specs.Grammar.{IsAlphaWord, IsBetaWord, IsCandidateWord, IsDev
 use Rattle.pep440.specs.Tied.Reading.{after_separator, dev_spans, is_implicit, is_local_from, label_at, local_at, locals_from, locals_of, number_behind, part_of, post_spans, post_word_at, pre_at, pre_of, pre_with, pre_word_at, spans_with, strip_word}
 use Rattle.pep440.proofs.HeadFacts.{are_digits, ends_word, head_is, is_word_start, opens, separator-no_plus, word-no_digit, word-no_plus}
 use Rattle.pep440.proofs.WordFacts.{alpha-read, alpha-starts, beta-read, beta-starts, candidate-read, candidate-starts, dev-read, dev-starts, post-read, post-starts, starts_word}
-use Rattle.pep440.proofs.TailFacts.{DevTail, PostTail, Skips, apart-no_dot, apart-no_implicit, behind, behind-ends_word, dev-tail, digits-read, digits-start, label-front, opens-starts, post-tail, starts_dot_digit, word-after_separator}
-use Rattle.pep440.proofs.SpanFacts.{locals_of-some}
+use Rattle.pep440.proofs.NumbersBehindWords.{Skips, apart-no_dot, apart-no_implicit, behind, behind-ends_word, digits-read, label-front, opens-starts, starts_dot_digit, word-after_separator}
+use Rattle.pep440.proofs.TailsOfParts.{DevTail, PostTail, dev-tail, digits-start, post-tail}
+use Rattle.pep440.proofs.SpansRead.{locals_of-some}
 
 -- ---- local parts
 

@@ -17,7 +17,7 @@ use Rattle.pep440.specs.Tied.Reading.{Spans, fitting, fitting_numbers, locals_of
 use Rattle.pep440.specs.Version.{IsVersion, VersionParts, fits, part_number, pre_number, pre_numbers}
 use Rattle.pep440.specs.Tied.Views.{capped, capped_option, capped_pre, fitting_locals, is_local, part_fits}
 use Rattle.pep440.proofs.ReleaseFacts.{all_fit, all_fit-append}
-use Rattle.pep440.proofs.SpanFacts.{locals-lawful}
+use Rattle.pep440.proofs.LocalsAreLawful.{locals-lawful}
 
 local_numbers : (ps : List LocalPart) → all_fit (filter_map part_number ps) ≡ list_all part_fits ps
 local_numbers [] = refl

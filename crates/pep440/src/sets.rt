@@ -151,7 +151,7 @@ fn has_dot(release: &[u8]) -> bool
     release.iter().any(|byte| *byte == b'.')
 }
 
-#[tactic(auto, using(crate::proofs::SpanFacts::no_locals))]
+#[tactic(auto, using(crate::proofs::SpansRead::no_locals))]
 fn is_release_alone(spans: &SpannedText) -> bool
     ensures { result ≡ is_release_alone (parts_in (span_view spans.now)) }
 {
@@ -159,7 +159,7 @@ fn is_release_alone(spans: &SpannedText) -> bool
 }
 
 // Whether an operator may stand before a version.
-#[tactic(auto, using(crate::proofs::SpanFacts::no_locals, crate::proofs::SpanFacts::dots_numbers))]
+#[tactic(auto, using(crate::proofs::SpansRead::no_locals, crate::proofs::SpansRead::dots_numbers))]
 fn takes(operator: Operator, spans: &SpannedText) -> bool
     ensures { result ≡ takes operator (parts_in (span_view spans.now)) }
 {

@@ -8,5 +8,7 @@ pub mod DepthFacts
 pub mod DateFacts
 pub mod TextFacts
 pub mod KeyFacts
-pub mod ExactFacts
+pub mod FormsAreExact
+pub mod EntriesAreExact
+pub mod LockIsExact
 pub mod LeastFacts

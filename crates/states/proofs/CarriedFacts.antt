@@ -13,7 +13,8 @@ use Rattle.states.specs.declared.change.parts.EntryChange.{EntryChange}
 use Rattle.states.specs.declared.change.parts.Splice.{Splice}
 use Rattle.states.specs.declared.target.Target.{Target}
 use Rattle.states.proofs.CutFacts.{cut}
-use Rattle.states.proofs.ExchangeFacts.{ChangesEntries-one, IsExchangedTo, IsExchangedTo-next, IsExchangedTo-start, IsExchangedTo-stood, joined, rises-left}
+use Rattle.states.proofs.EntriesExchanged.{IsExchangedTo, IsExchangedTo-next, IsExchangedTo-start, IsExchangedTo-stood, joined, rises-left}
+use Rattle.states.proofs.ExchangesHaveOneOutcome.{ChangesEntries-one}
 use Rattle.states.proofs.SplicedFacts.{parts_of}
 use Rattle.states.proofs.TargetChanges.{AreEntryChanges-on}
 

@@ -7,12 +7,18 @@ pub mod CarriedFacts
 pub mod ChangeFacts
 pub mod CutFacts
 pub mod DecideFacts
+pub mod KeptLines
 pub mod DifferenceFacts
+pub mod WholeDifference
 pub mod EndsFacts
+pub mod SplicesBack
 pub mod EntriesByName
 pub mod EntryFacts
 pub mod EntrySearch
-pub mod ExchangeFacts
+pub mod EntryInPlaceOfAnother
+pub mod EntriesExchanged
+pub mod ExchangesHaveOneOutcome
+pub mod EntriesExchangedAt
 pub mod FittingFacts
 pub mod Gathering
 pub mod JoinFacts
@@ -31,6 +37,7 @@ pub mod PythonFacts
 pub mod ReachFacts
 pub mod Released
 pub mod SameFacts
+pub mod SplicedLinesRead
 pub mod SplicedFacts
 pub mod StateFacts
 pub mod TargetChanges

@@ -7,7 +7,7 @@ use Rattle.states.specs.StateParts.{StateParts}
 use Rattle.states.specs.declared.change.parts.DigestChange.{DigestChange}
 use Rattle.states.specs.declared.change.parts.Splice.{Splice}
 use Rattle.states.specs.declared.target.Target.{Target}
-use Rattle.states.proofs.ExchangeFacts.{ChangesEntries-one}
+use Rattle.states.proofs.ExchangesHaveOneOutcome.{ChangesEntries-one}
 use Rattle.states.proofs.SplicedFacts.{parts_of}
 
 -- splices lead to one list of lines

@@ -1,20 +1,13 @@
 -- Lines that splices lead to, as they are put together.
-use Rattle.std.proofs.Common.{◌≡◌, ◌+◌, ◌-◌, ◌≤◌, ◌<◌, ℕ, true, List, [], ◌∷◌, ◌++◌, length, take, drop, get_or, is_ok, refl, sym, ap, ◌∙◌, subst, inl, inr, arith, append_assoc, Option, Some, None, Result, Ok, Err}
-use Rattle.std.proofs.lemmas.Bool.{cases_Bool}
+use Rattle.std.proofs.Common.{◌≡◌, ◌+◌, ◌-◌, ◌≤◌, ◌<◌, ℕ, List, [], ◌∷◌, ◌++◌, length, take, drop, get_or, refl, sym, ap, ◌∙◌, subst, arith, append_assoc, Some, None}
 use Rattle.std.proofs.lemmas.List.{at_drop_all, drop-drop, drop_more, length-append, length-drop, length-take, length-take-le, take-append-drop}
 use Rattle.std.proofs.Math.Seq.{drop-append_seam, take-append_seam, take-length}
 use Rattle.std.proofs.Math.Nat.{min-le_right}
-use Rattle.std.specs.List.{AllByRecursion, concat}
-use Rattle.std.specs.Str.{is_utf8}
-use Rattle.markers.specs.declared.fault.Cause.{Cause}
-use Rattle.markers.specs.declared.fault.Fault.{Fault}
-use Rattle.pep508.specs.Lines.{lines_of}
-use Rattle.pep508.specs.Requirement.{RequirementParts, fault_or, file_of, first_fault, requirement_of, unless}
-use Rattle.pep508.proofs.LinesAreCut.{cut-AreLines}
-use Rattle.pep508.proofs.OneLineMore.{AreLines-file_of}
+use Rattle.std.specs.List.{AllByRecursion}
 use Rattle.states.specs.Changes.{AtSplice, Splices}
 use Rattle.states.specs.Tied.Splicing.{AreSpliced, Reads, StandsAt}
 use Rattle.states.specs.declared.change.parts.Splice.{Splice}
+use Rattle.states.proofs.SplicedLinesRead.{file-reads, all-behind, all-front}
 
 -- lines as far as they are put together: the new lines so far, and the place from which the old ones go on
 pub record IsSplicedTo (all rest : List Splice) (lines : List (List ℕ)) (from : ℕ) (after : List (List ℕ)) : Type 0 where
@@ -133,41 +126,6 @@ pub IsSplicedTo-stops : (all : List Splice) (splice : Splice) (rest : List Splic
 IsSplicedTo-stops all splice rest lines from after stops left = λ new s reads.
     let b = left.back new s in
     stops (stands-from lines from splice rest b.0 left.within b.2)
-
--- ---- new lines
-
-fault-none : (number : ℕ) (read : Result (Option RequirementParts) Cause) (later : Option Fault) → fault_or number read later ≡ None → (is_ok read ≡ true) × (later ≡ None)
-fault-none number (Ok wanted) later none = (refl, none)
-fault-none number (Err cause) later none = cc none
-
-each-reads : (number : ℕ) (lines : List (List ℕ)) → first_fault number lines ≡ None → AllByRecursion Reads lines
-unfolding first_fault
-each-reads number [] none = tt
-each-reads number (line ∷ rest) none =
-    let k = fault-none number (requirement_of line) (first_fault (number + 1) rest) none in
-    (k.0, each-reads (number + 1) rest k.1)
-
-unless-none : (lines found : List (List ℕ)) (fault : Option Fault) → unless lines fault ≡ Ok found → fault ≡ None
-unless-none lines found None e = refl
-unless-none lines found (Some fault) e = cc e
-
--- lines that are read of what they join to read one by one
-pub file-reads : (lines : List (List ℕ)) → file_of (concat lines) ≡ Ok lines → AllByRecursion Reads lines
-file-reads lines reads = elim (cases_Bool (is_utf8 (concat lines))) [
-  | inl utf8 ↦
-      let found = rw utf8 at reads in
-      let cut : lines_of (concat lines) ≡ lines = cut-AreLines lines (AreLines-file_of (concat lines) lines reads) in
-      each-reads 1 lines (subst (λ (l : List (List ℕ)). first_fault 1 l ≡ None) cut (unless-none (lines_of (concat lines)) lines (first_fault 1 (lines_of (concat lines))) found))
-  | inr other ↦ cc (rw other at reads)
-]
-
-all-behind : {X : Type 0} (P : X → Type 0) (xs ys : List X) → AllByRecursion P (xs ++ ys) → AllByRecursion P ys
-all-behind P [] ys all = all
-all-behind P (x ∷ xs) ys all = all-behind P xs ys all.1
-
-all-front : {X : Type 0} (P : X → Type 0) (xs ys : List X) → AllByRecursion P (xs ++ ys) → AllByRecursion P xs
-all-front P [] ys all = tt
-all-front P (x ∷ xs) ys all = (all.0, all-front P xs ys all.1)
 
 -- a splice whose new lines don't read
 pub IsSplicedTo-refused : (all : List Splice) (splice : Splice) (rest : List Splice) (lines : List (List ℕ)) (from : ℕ) (after : List (List ℕ)) → (AllByRecursion Reads splice.new → ⊥)

@@ -1,4 +1,4 @@
-use Rattle.pep440.proofs.ClauseFacts.{bare-spells}
+use Rattle.pep440.proofs.ReadIsAClause.{bare-spells}
 use Rattle.pep440.proofs.ReleaseReads.{spells-read}
 use Rattle.pep440.proofs.laws.a_bare_text_reads_as_its_parts.Goals as goal
 

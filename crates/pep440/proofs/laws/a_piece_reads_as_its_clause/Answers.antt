@@ -1,4 +1,5 @@
-use Rattle.pep440.proofs.ClauseFacts.{clause-read, read-clause}
+use Rattle.pep440.proofs.ClauseIsRead.{clause-read}
+use Rattle.pep440.proofs.ReadIsAClause.{read-clause}
 use Rattle.pep440.proofs.laws.a_piece_reads_as_its_clause.Goals as goal
 
 pub returns-clause-read : goal.returns-clause-read

@@ -1,6 +1,6 @@
 use Rattle.std.proofs.Common.{length}
 use Rattle.pep440.specs.Tied.Reading.{locals_of}
-use Rattle.pep440.proofs.SpanFacts.{PartsSoFar}
+use Rattle.pep440.proofs.LocalsRead.{PartsSoFar}
 use Rattle.pep440.proofs.reading.local_parts.Given as goal
 
 abbrev pub invariant-pieces : goal.invariant-pieces

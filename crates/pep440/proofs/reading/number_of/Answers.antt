@@ -1,5 +1,5 @@
 use Rattle.std.proofs.Common.{sym}
-use Rattle.pep440.proofs.SpanFacts.{number-large}
+use Rattle.pep440.proofs.SpansRead.{number-large}
 use Rattle.pep440.proofs.reading.number_of.Goals as goal
 
 pub returns-in_default : goal.returns-in_default

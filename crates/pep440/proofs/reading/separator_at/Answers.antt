@@ -1,5 +1,5 @@
 use Rattle.std.proofs.Common.{sym, arith, false}
-use Rattle.pep440.proofs.SpanFacts.{local-at, local-one, locals-at, locals-one}
+use Rattle.pep440.proofs.SpansRead.{local-at, local-one, locals-at, locals-one}
 use Rattle.pep440.proofs.reading.separator_at.Goals as goal
 
 pub returns-then-is_separator-clause-some : goal.returns-then-is_separator-clause-some

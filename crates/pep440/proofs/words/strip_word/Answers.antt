@@ -1,6 +1,6 @@
 use Rattle.std.proofs.Common.{◌∙◌, sym, arith}
 use Rattle.std.proofs.lemmas.Grind.{common_steps}
-use Rattle.pep440.proofs.SpanFacts.{strip-short}
+use Rattle.pep440.proofs.SpansRead.{strip-short}
 use Rattle.pep440.proofs.words.strip_word.Goals as goal
 
 pub returns-then-i-text : goal.returns-then-i-text

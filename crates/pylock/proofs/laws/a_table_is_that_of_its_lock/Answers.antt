@@ -1,5 +1,5 @@
 use Rattle.pylock.proofs.BackFacts.{lock-back}
-use Rattle.pylock.proofs.ExactFacts.{lock-is}
+use Rattle.pylock.proofs.LockIsExact.{lock-is}
 use Rattle.pylock.proofs.laws.a_table_is_that_of_its_lock.Goals as goal
 
 pub returns-clause-exact : goal.returns-clause-exact

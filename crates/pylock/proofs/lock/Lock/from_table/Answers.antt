@@ -1,5 +1,5 @@
 use Rattle.toml.specs.View.{table_view}
-use Rattle.pylock.proofs.ExactFacts.{lock-is}
+use Rattle.pylock.proofs.LockIsExact.{lock-is}
 use Rattle.pylock.proofs.lock.Lock.from_table.Goals as goal
 
 pub returns-clause-exact : goal.returns-clause-exact

@@ -1,6 +1,7 @@
 use Rattle.std.proofs.Common.{refl}
 use Rattle.states.proofs.PartFacts.{not-so}
-use Rattle.states.proofs.ExchangeFacts.{IsExchangedAt-done, IsExchangedAt-next, IsExchangedAt-start, IsExchangedAt-stops, rises-left, slice-of}
+use Rattle.states.proofs.EntriesExchanged.{rises-left, slice-of}
+use Rattle.states.proofs.EntriesExchangedAt.{IsExchangedAt-done, IsExchangedAt-next, IsExchangedAt-start, IsExchangedAt-stops}
 use Rattle.states.proofs.change.exchanging.exchanged.Goals as goal
 
 pub loop-change-init : goal.loop-change-init

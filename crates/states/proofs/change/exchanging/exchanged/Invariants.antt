@@ -1,4 +1,4 @@
-use Rattle.states.proofs.ExchangeFacts.{IsExchangedAt}
+use Rattle.states.proofs.EntriesExchangedAt.{IsExchangedAt}
 use Rattle.states.proofs.change.exchanging.exchanged.Given as goal
 
 abbrev pub invariant-loop-change : goal.invariant-loop-change
