@@ -39,10 +39,10 @@ pub fn set_ground_of<'a>(
     if let Some(ground) = refused(problem, conflict) {
         return Some(ground);
     }
-    if let Some(ground) = clashing(problem, conflict) {
+    if let Some(ground) = each_version_completes(earlier, conflict) {
         return Some(ground);
     }
-    if let Some(ground) = each_version_completes(earlier, conflict) {
+    if let Some(ground) = clashing(problem, conflict) {
         return Some(ground);
     }
     exhausted(problem, earlier, conflict)
