@@ -88,7 +88,7 @@ pub(crate) fn with_line(alloc: Global, file: &ReqFile, line: Line) -> Result<Req
 {
     a_file_reads_as_lines();
     lines_may_get_one_more();
-    file.is_lawful();
+    file.recall_invariant();
     Ok(ReqFile::from_lines(lines_with(alloc, file.lines(), line)?))
 }
 

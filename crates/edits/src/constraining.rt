@@ -79,6 +79,6 @@ pub(crate) fn constrained(
     a_line_may_get_specifiers();
     lines_may_be_exchanged();
     let _set = specifiers.text();
-    file.is_lawful();
+    file.recall_invariant();
     Ok(ReqFile::from_lines(lines))
 }

@@ -154,7 +154,7 @@ pub fn edit<R: Resolver>(
         return Err(Refusal::NothingChanges);
     }
     let change = change_between(alloc, state, &edited)?;
-    change.is_lawful();
+    change.recall_invariant();
     Ok(Edited {
         state: edited,
         change,

@@ -100,7 +100,7 @@ pub(crate) fn unlocked(alloc: Global, state: &State, edit: &Edit) -> Result<Seq<
     ensures err { IfErr result (λ refusal. (refusal ≡ OutOfMemory)
         ⊎ (refused_by_locks state.now.targets edit.now ≡ Some refusal)) }
 {
-    state.is_lawful();
+    state.recall_invariant();
     let names = named_in(alloc, state.targets(), edit)?;
     Ok(without_locks(alloc, state.targets(), edit, names.as_slice())?)
 }
@@ -136,6 +136,6 @@ pub(crate) fn all_first(alloc: Global, targets: Targets) -> Result<Seq<Unlocked>
     ensures some { IfOk result (λ all. all ≢ []) }
     ensures rising { IfOk result (λ all. rises (map (λ u. u.name) all) ≡ true) }
 {
-    targets.is_lawful();
+    targets.recall_invariant();
     Ok(each_first(alloc, targets.into_list())?)
 }

@@ -37,6 +37,6 @@ pub(crate) fn removed(alloc: Global, file: &ReqFile, name: &Text) -> Result<ReqF
     let lines = lines_without(alloc, file.lines(), &name)?;
     a_file_reads_as_lines();
     lines_may_be_left_out();
-    file.is_lawful();
+    file.recall_invariant();
     Ok(ReqFile::from_lines(lines))
 }

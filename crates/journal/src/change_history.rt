@@ -64,7 +64,7 @@ impl ChangeHistory {
     pub fn new(alloc: Global, state: State) -> ChangeHistory
         ensures start { result ≡ record { past = starts state; changes = [] } }
     {
-        state.is_lawful();
+        state.recall_invariant();
         let changes = Vec::new(alloc);
         ChangeHistory {
             state,
@@ -123,7 +123,7 @@ impl History for ChangeHistory {
 
     fn push(&mut self, _alloc: Global, edited: Edited) -> Result<(), AllocError> {
         let Edited { state, change } = edited;
-        state.is_lawful();
+        state.recall_invariant();
         let place = put(&mut self.changes, self.cursor, change)?;
         self.state = state;
         self.cursor = place;

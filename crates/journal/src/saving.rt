@@ -148,19 +148,19 @@ fn journal_of<H: History>(alloc: Global, history: &H, header: &Header) -> Result
 }
 
 /// What holds of a target anyway.
-fn is_lawful(target: &Target)
+fn recall_invariant(target: &Target)
     ensures { IsLawfulTarget target.now }
 {
-    target.name.is_lawful();
-    target.environment.is_lawful();
+    target.name.recall_invariant();
+    target.environment.recall_invariant();
 }
 
 /// What holds of targets anyway.
-fn are_lawful(targets: &[Target])
+fn recall_invariants(targets: &[Target])
     ensures { AllByRecursion IsLawfulTarget targets.now }
 {
     for place in 0..targets.len() {
-        is_lawful(&targets[place]);
+        recall_invariant(&targets[place]);
     }
 }
 
@@ -174,9 +174,9 @@ pub(crate) fn files_of<H: History>(alloc: Global, history: &H) -> Result<Saved, 
     a_change_leads_to_one_state();
     a_canonical_text_is_read();
     let state = history.state();
-    state.is_lawful();
+    state.recall_invariant();
     let given = state.targets();
-    are_lawful(given);
+    recall_invariants(given);
     let requirements = state.lines().bytes(alloc)?;
     let Locked { locks, targets } = locked_of(alloc, given)?;
     let header = Header {

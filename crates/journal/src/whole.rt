@@ -56,7 +56,7 @@ impl WholeHistory {
         ensures start { IfOk result
             (λ history. history ≡ record { past = starts state; changes = [] }) }
     {
-        state.is_lawful();
+        state.recall_invariant();
         let mut states = Vec::with_capacity(alloc, 1)?;
         states.push_reserved(state);
         Ok(WholeHistory {
@@ -96,7 +96,7 @@ impl History for WholeHistory {
             self.changes.reserve(1)?;
         }
         let Edited { state, change } = edited;
-        state.is_lawful();
+        state.recall_invariant();
         self.states.truncate(next);
         self.changes.truncate(self.cursor);
         self.states.push_reserved(state);

@@ -212,7 +212,7 @@ impl Environment {
     }
 
     /// What holds of every environment: it has the eleven texts, and each is lawful.
-    pub fn is_lawful(&self)
+    pub fn recall_invariant(&self)
         ensures { IsEnvironment self.now }
     {
         let _values = &self.values;

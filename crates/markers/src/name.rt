@@ -142,7 +142,7 @@ impl Name {
     }
 
     /// What holds of every name: it is in its normal form.
-    pub fn is_lawful(&self)
+    pub fn recall_invariant(&self)
         ensures { is_normal self.now ≡ true }
     {
         let _normal = &self.normal;

@@ -97,7 +97,7 @@ impl SpecifierSet {
     }
 
     /// What holds of every set that was read: each operator takes its version, and numbers fit.
-    pub fn is_lawful(&self)
+    pub fn recall_invariant(&self)
         ensures { AllByRecursion IsLawfulClause self.now }
     {
         let _clauses = self.clauses.as_slice();

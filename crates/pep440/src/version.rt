@@ -117,7 +117,7 @@ impl Version {
     }
 
     /// What holds of every version: the release isn't empty, local words are lawful, numbers fit.
-    pub fn is_lawful(&self)
+    pub fn recall_invariant(&self)
         ensures { IsVersion self.now }
     {
         let _epoch = &self.epoch;

@@ -82,19 +82,19 @@ impl ReqFile {
     }
 
     /// What holds of every file: its bytes read as its lines.
-    pub fn is_lawful(&self)
+    pub fn recall_invariant(&self)
         ensures { file_of (concat self.now) ≡ Ok self.now }
     {
-        are_lawful(self.lines.as_slice());
+        recall_invariants(self.lines.as_slice());
     }
 }
 
 /// What holds of the lines: each of them is lawful.
-fn are_lawful(lines: &[Line])
+fn recall_invariants(lines: &[Line])
     ensures { AllByRecursion IsLine lines.now }
 {
     for line in lines {
-        line.is_lawful();
+        line.recall_invariant();
     }
 }
 

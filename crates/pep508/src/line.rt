@@ -168,7 +168,7 @@ impl Line {
     }
 
     /// What holds of every line: it is UTF-8, and not refused.
-    pub fn is_lawful(&self)
+    pub fn recall_invariant(&self)
         ensures { IsLine self.now }
     {
         let _text = self.shared.as_ref().text.as_str();

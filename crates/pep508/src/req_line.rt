@@ -182,7 +182,7 @@ impl<'a> ReqLine<'a> {
 
     /// What holds of every line that was read: its slices join to a line that isn't refused, and are the
     /// slices of that line.
-    pub fn is_lawful(&self)
+    pub fn recall_invariant(&self)
         ensures reads { cut_line (joined self.now) ≡ Ok self.now }
         ensures cut { IsCut (joined self.now) self.now }
     {

@@ -40,7 +40,7 @@ pub(crate) fn may_be_filled(text: &Option<Text>) -> bool
 fn is_other(own: &Name, name: &Name) -> bool
     ensures { result ≡ is_other own.now name.now }
 {
-    name.is_lawful();
+    name.recall_invariant();
     name.normal() != own.normal()
 }
 

@@ -110,8 +110,8 @@ impl Entry {
           wheels = wheels;
         })) }
     {
-        name.is_lawful();
-        version.is_lawful();
+        name.recall_invariant();
+        version.recall_invariant();
         let python = match checks::python_of(alloc, &requires_python) {
             Ok(python) => python,
             Err(Fault::OutOfMemory) => return Err(AllocError),
@@ -189,7 +189,7 @@ impl Entry {
     }
 
     /// What holds of every entry.
-    pub fn is_lawful(&self)
+    pub fn recall_invariant(&self)
         ensures { IsPackage self.now }
     {
         let _name = &self.shared.as_ref().name;

@@ -48,12 +48,12 @@ impl Model for Lock {
 }
 
 /// What holds of the entries: each of them is lawful.
-fn are_lawful(entries: &[Entry])
+fn recall_invariants(entries: &[Entry])
     ensures { AllByRecursion IsPackage entries.now }
 {
     for place in 0..entries.len() {
         let entry = &entries[place];
-        entry.is_lawful();
+        entry.recall_invariant();
     }
 }
 
@@ -82,7 +82,7 @@ impl Lock {
           entries = entries;
         } }
     {
-        are_lawful(entries.as_slice());
+        recall_invariants(entries.as_slice());
         Lock {
             environment,
             snapshot,
@@ -100,7 +100,7 @@ impl Lock {
           entries = entries;
         } }
     {
-        are_lawful(entries.as_slice());
+        recall_invariants(entries.as_slice());
         self.snapshot = snapshot;
         self.entries = entries;
     }
@@ -141,7 +141,7 @@ impl Lock {
     }
 
     /// What holds of every lock.
-    pub fn is_lawful(&self)
+    pub fn recall_invariant(&self)
         ensures { IsLock self.now }
     {
         let _snapshot = &self.snapshot;

@@ -81,7 +81,7 @@ impl Written for Entry {
 
     #[tactic(auto, unfolding(crate::specs::Tables::package_data))]
     fn to_value(&self, alloc: Global) -> Result<Value, AllocError> {
-        self.is_lawful();
+        self.recall_invariant();
         let mut table = Table::new(alloc);
         let dependencies = some_array(alloc, self.dependencies())?;
         put_some(alloc, &mut table, "dependencies", dependencies)?;
@@ -169,7 +169,7 @@ impl Lock {
         ensures table { IfOk result (λ t. table_view t ≡ table_of self.now) }
         ensures reads_back { IfOk result (λ t. lock_in (table_view t) ≡ Ok self.now) }
     {
-        self.is_lawful();
+        self.recall_invariant();
         a_canonical_text_is_read();
         let table = table_of(alloc, self)?;
         Ok(table)

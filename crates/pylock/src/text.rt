@@ -46,7 +46,7 @@ impl Lock {
             (λ text. parse_document (string_bytes text) ≡ Some (table_of self.now)) }
         ensures reads_back { IfOk result (λ text. lock_in_text (string_bytes text) ≡ Ok self.now) }
     {
-        self.is_lawful();
+        self.recall_invariant();
         a_canonical_text_is_read();
         let table = self.to_table(alloc)?;
         match toml::table_to_string(alloc, &table) {

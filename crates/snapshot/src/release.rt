@@ -147,7 +147,7 @@ impl Release {
     }
 
     /// What holds of every release that can be used.
-    pub fn is_lawful(&self)
+    pub fn recall_invariant(&self)
         ensures { IsRelease self.now }
     {
         let _yanked = &self.yanked;

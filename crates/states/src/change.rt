@@ -116,7 +116,7 @@ impl Change {
     }
 
     /// What holds of every change.
-    pub fn is_lawful(&self)
+    pub fn recall_invariant(&self)
         ensures { IsMinimal self.now }
     {
         let _splices = &self.splices;

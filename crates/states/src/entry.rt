@@ -75,8 +75,8 @@ fn entry_with(
         (λ entry. entry ≡ entry_with (name, version) dependencies (Some release.now)) }
     ensures lawful { IfOk result (λ _. IsRelease release.now) }
 {
-    name.is_lawful();
-    release.is_lawful();
+    name.recall_invariant();
+    release.recall_invariant();
     let python = python_text(alloc, release)?;
     let sdist = sdist_of(alloc, release)?;
     let wheels = wheels_of(alloc, release)?;

@@ -44,7 +44,7 @@ fn in_order(alloc: Global, names: BTreeSet<Name>) -> Result<Seq<Name>, AllocErro
 {
     let mut ordered = Vec::new(alloc);
     for name in names {
-        name.is_lawful();
+        name.recall_invariant();
         ordered.push(name)?;
     }
     Ok(Seq::from_vec(ordered))
@@ -143,7 +143,7 @@ fn lock_for<R: Resolver>(
     match resolver.resolve(alloc, &problem)? {
         Answer::Solution(versions) => {
             let lock = lock_of(alloc, &problem, environment, snapshot, &versions)?;
-            lock.is_lawful();
+            lock.recall_invariant();
             Ok(Some(lock))
         }
         Answer::NoSolution => Ok(None),
@@ -245,7 +245,7 @@ pub fn locked<R: Resolver>(
         let givens : List (List ℕ × ProblemParts) = map (given_for lines snapshot.now) unlocked in
         MatchOption made (HasUnsolved givens) (IsLocked givens lines)) }
 {
-    lines.is_lawful();
+    lines.recall_invariant();
     match targets_for(alloc, &lines, unlocked, snapshot, resolver)? {
         Some(targets) => Ok(Some(State::from_lawful(lines, targets))),
         None => Ok(None),

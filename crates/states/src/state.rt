@@ -124,7 +124,7 @@ impl State {
     }
 
     /// What holds of every state.
-    pub fn is_lawful(&self)
+    pub fn recall_invariant(&self)
         ensures { IsState self.now }
     {
         let _lines = &self.lines;

@@ -52,7 +52,7 @@ fn put(versions: &mut BTreeMap<Name, Version>, entry: &Entry) -> Result<(), Allo
 fn versions_of(alloc: Global, lock: &Lock) -> Result<BTreeMap<Name, Version>, AllocError>
     ensures { IfOk result (λ versions. versions.entries ≡ versions_of lock.now.entries) }
 {
-    lock.is_lawful();
+    lock.recall_invariant();
     let entries = lock.entries();
     let mut versions = BTreeMap::new(alloc);
     for entry in entries {
@@ -66,7 +66,7 @@ impl Target {
     pub fn locked(&self, name: &Name) -> Option<&Version>
         ensures { option_copied result ≡ version_for (versions_of self.now.lock.entries) name.now }
     {
-        self.lock.is_lawful();
+        self.lock.recall_invariant();
         let Some(entry) = entry_on(self.lock.entries(), name) else {
             return None;
         };

@@ -116,7 +116,7 @@ impl TargetName {
     }
 
     /// What holds of every name.
-    pub fn is_lawful(&self)
+    pub fn recall_invariant(&self)
         ensures { is_target_name self.now ≡ true }
     {
         let _text = &self.text;

@@ -102,7 +102,7 @@ impl Targets {
     }
 
     /// What holds of all targets: there is one at least, and names rise.
-    pub fn is_lawful(&self)
+    pub fn recall_invariant(&self)
         ensures some { self.now ≢ [] }
         ensures rising { rises (map (λ p. p.0) self.now) ≡ true }
     {

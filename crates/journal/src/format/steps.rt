@@ -164,7 +164,7 @@ pub(crate) fn change_of_line(alloc: Global, header: &Header, line: &[u8]) -> Res
     } = parts_of_line(alloc, header, line)?;
     match Change::new(splices, entries, digests) {
         Some(change) => {
-            change.is_lawful();
+            change.recall_invariant();
             Ok(change)
         }
         None => Err(Flaw::OtherForm),

@@ -143,7 +143,7 @@ pub(crate) fn present_of(
             Err(Refusal::FilesDisagree(SavedFile::Lock(name)))
         }
         None => {
-            lines.is_lawful();
+            lines.recall_invariant();
             Ok(State::from_lawful(lines, targets))
         }
     }

@@ -69,12 +69,12 @@ fn walk_on(alloc: Global, changes: &[Change], present: &State, number: usize) ->
 }
 
 /// What holds of the changes: each of them is minimal.
-fn are_lawful(changes: &[Change])
+fn recall_invariants(changes: &[Change])
     ensures { AllByRecursion IsMinimal changes.now }
 {
     for place in 0..changes.len() {
         let change = &changes[place];
-        change.is_lawful();
+        change.recall_invariant();
     }
 }
 
@@ -87,8 +87,8 @@ fn walk(alloc: Global, changes: &[Change], present: &State, cursor: usize) -> Re
         (λ _. record { states = states_of present.now changes.now cursor; cursor = cursor })
         (λ e. e) result) }
 {
-    are_lawful(changes);
-    present.is_lawful();
+    recall_invariants(changes);
+    present.recall_invariant();
     walk_back(alloc, &changes[..cursor], present)?;
     walk_on(alloc, &changes[cursor..], present, cursor + 2)?;
     Ok(())

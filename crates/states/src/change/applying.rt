@@ -28,7 +28,7 @@ fn lawful_state(
     let Some(made) = state_of(alloc, lines, targets)? else {
         return Ok(None);
     };
-    made.is_lawful();
+    made.recall_invariant();
     Ok(Some(made))
 }
 

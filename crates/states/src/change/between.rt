@@ -28,8 +28,8 @@ pub fn change_between(alloc: Global, old: &State, new: &State) -> Result<Change,
     ensures change { IfOk result (λ change. After old.now change new.now) }
     ensures one_splice { IfOk result (λ change. length change.splices ≤ 1) }
 {
-    old.is_lawful();
-    new.is_lawful();
+    old.recall_invariant();
+    new.recall_invariant();
     let splices = splices_between(alloc, old.lines().lines(), new.lines().lines())?;
     let entries = targets_between(alloc, old.targets(), new.targets())?;
     let digests = digests_between(old.digest(), new.digest());

@@ -33,11 +33,11 @@ fn are_whole(lines: &[Line]) -> bool
 }
 
 /// What holds of the lines: each of them is lawful.
-fn are_lawful(lines: &[Line])
+fn recall_invariants(lines: &[Line])
     ensures { AllByRecursion IsLine lines.now }
 {
     for line in lines {
-        line.is_lawful();
+        line.recall_invariant();
     }
 }
 
@@ -45,7 +45,7 @@ fn are_lawful(lines: &[Line])
 fn are_lines(lines: &[Line]) -> bool
     ensures { IsTrue result ↔ AreLines lines.now }
 {
-    are_lawful(lines);
+    recall_invariants(lines);
     are_whole(lines)
 }
 

@@ -68,9 +68,9 @@ fn target_with(
 fn moved(alloc: Global, change: &Change, target: &Target) -> Result<Option<Target>, AllocError>
     ensures { IfOk result (IsTheOnly (ChangesTarget change.now target.now)) }
 {
-    change.is_lawful();
+    change.recall_invariant();
     let lock = &target.lock;
-    lock.is_lawful();
+    lock.recall_invariant();
     let Some(digest) = digest_after(change.digests(), lock.snapshot()) else {
         return Ok(None);
     };

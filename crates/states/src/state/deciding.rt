@@ -136,7 +136,7 @@ pub(crate) fn is_lock_for(
 ) -> Result<bool, AllocError>
     ensures { IfOk result (λ is. IsTrue is ↔ IsLockFor lines.now environment.now lock.now) }
 {
-    lock.is_lawful();
+    lock.recall_invariant();
     let entries = lock.entries();
     if !is_named(alloc, environment, lock)? {
         return Ok(false);

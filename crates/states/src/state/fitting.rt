@@ -100,6 +100,6 @@ pub(crate) fn state_of(
     if !do_fit(alloc, &lines, targets.as_slice())? {
         return Ok(None);
     }
-    lines.is_lawful();
+    lines.recall_invariant();
     Ok(Some(State::from_lawful(lines, targets)))
 }

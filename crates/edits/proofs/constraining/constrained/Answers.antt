@@ -12,7 +12,7 @@ returns-in_err-name c =
 
 pub from_lines-requires : goal.from_lines-requires
 from_lines-requires c =
-    let are = c.a_file_reads_as_lines.ensures _ c.args.file.now c.is_lawful.ensures in
+    let are = c.a_file_reads_as_lines.ensures _ c.args.file.now c.recall_invariant.ensures in
     rw (c.in_ok-lines.ensures, c.lines-2.ensures)
     (AreLines-with_set c.a_line_may_get_specifiers.ensures c.lines_may_be_exchanged.ensures c.in_ok-name.name c.in_ok-specifiers.specifiers c.args.file.now
     c.text-set.ensures.reads are)

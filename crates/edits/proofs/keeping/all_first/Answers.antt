@@ -7,9 +7,9 @@ use Rattle.edits.proofs.keeping.all_first.Goals as goal
 pub returns-clause-some : goal.returns-clause-some
 returns-clause-some c =
     let kept = rw c.into_list.ensures at c.in_ok-each_first.ensures in
-    some-kept kept_first c.args.targets c.in_ok-each_first.field-0 kept c.is_lawful.ensures.some
+    some-kept kept_first c.args.targets c.in_ok-each_first.field-0 kept c.recall_invariant.ensures.some
 
 pub returns-clause-rising : goal.returns-clause-rising
 returns-clause-rising c =
     let kept = rw c.into_list.ensures at c.in_ok-each_first.ensures in
-    ap rises (names-first c.args.targets c.in_ok-each_first.field-0 kept) ∙ c.is_lawful.ensures.rising
+    ap rises (names-first c.args.targets c.in_ok-each_first.field-0 kept) ∙ c.recall_invariant.ensures.rising

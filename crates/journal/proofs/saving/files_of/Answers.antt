@@ -17,7 +17,7 @@ returns g c =
     let counted = AreSteps-count _ _ c.steps.ensures.lead in
     let count : c.steps.result ≡ length changes = omega (arith, counted, c.steps.ensures.steps) in
     let given = c.targets-given.ensures in
-    let lawful : AllByRecursion IsLawfulTarget state.targets = rw given at c.are_lawful.ensures in
+    let lawful : AllByRecursion IsLawfulTarget state.targets = rw given at c.recall_invariants.ensures in
     let locked : AreLocked state.targets c.in_ok-locks.field-0 = rw given at c.in_ok-locks.ensures in
     let saved : Saved = record { requirements = c.in_ok-requirements.requirements; locks = c.in_ok-locks.field-0.locks; journal = c.from_string-journal.result } in
     let header = header_for state past.cursor (length changes) saved.requirements saved.locks.entries in

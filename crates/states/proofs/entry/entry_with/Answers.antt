@@ -7,7 +7,7 @@ pub unreachable-requires : goal.unreachable-requires
 unreachable-requires c =
     let made : c.in_ok-entry.field-0 ≡ Some (entry_with (c.args.name, c.args.version) c.args.dependencies (Some c.args.release.now)) =
     rw (c.in_ok-python.ensures, c.in_ok-sdist.ensures, c.in_ok-wheels.ensures) at c.in_ok-entry.ensures
-    ∙ entry-made c.args.name c.args.version c.args.dependencies c.args.release.now c.is_lawful.ensures c.requires c.is_lawful-2.ensures in
+    ∙ entry-made c.args.name c.args.version c.args.dependencies c.args.release.now c.recall_invariant.ensures c.requires c.recall_invariant-2.ensures in
     let none = c.in-None.is in
     cc
 
@@ -15,6 +15,6 @@ pub returns-clause-entry : goal.returns-clause-entry
 returns-clause-entry c =
     let made : c.in_ok-entry.field-0 ≡ Some (entry_with (c.args.name, c.args.version) c.args.dependencies (Some c.args.release.now)) =
     rw (c.in_ok-python.ensures, c.in_ok-sdist.ensures, c.in_ok-wheels.ensures) at c.in_ok-entry.ensures
-    ∙ entry-made c.args.name c.args.version c.args.dependencies c.args.release.now c.is_lawful.ensures c.requires c.is_lawful-2.ensures in
+    ∙ entry-made c.args.name c.args.version c.args.dependencies c.args.release.now c.recall_invariant.ensures c.requires c.recall_invariant-2.ensures in
     let some = c.in-Some.is in
     cc

@@ -12,4 +12,4 @@ returns-in-Solution g c =
     let made = c.in_ok-lock-in-Solution.ensures in
     let entries = rw problem at made.entries in
     let locked = IsLockOf-from given c.in-Solution.versions.entries c.in_ok-lock-in-Solution.lock best entries made.environment made.snapshot in
-    (locked, IsLockFor-from given c.args.lines.now c.in_ok-lock-in-Solution.lock locked refl c.is_lawful.ensures entries.releases c.equal_versions_match_alike.ensures)
+    (locked, IsLockFor-from given c.args.lines.now c.in_ok-lock-in-Solution.lock locked refl c.recall_invariant.ensures entries.releases c.equal_versions_match_alike.ensures)

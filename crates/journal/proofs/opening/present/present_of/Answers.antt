@@ -18,7 +18,7 @@ from_lawful-requires c =
     let lines = c.in_ok-lines.lines in
     let targets = c.in_ok-lines.targets in
     let fits : AllByRecursion (Fits lines (digest_of targets)) targets = search rules in
-    present-state c.args.header.now c.args.requirements.now c.args.locks.now.entries (record { lines = lines; targets = targets }) c.requires.targets c.in_ok-lines.ensures c.is_lawful.ensures fits
+    present-state c.args.header.now c.args.requirements.now c.args.locks.now.entries (record { lines = lines; targets = targets }) c.requires.targets c.in_ok-lines.ensures c.recall_invariant.ensures fits
 
 pub returns-in-None : goal.returns-in-None
 returns-in-None c =

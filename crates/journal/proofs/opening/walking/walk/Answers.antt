@@ -11,6 +11,6 @@ returns c =
     let changes = c.args.changes.now in
     let on : (states : List State) × StatesBehind (n + 2) (drop n changes) c.args.present.now (Ok states) = rw (take_rest changes n) at c.in_ok-walk_on.ensures in
     record {
-      history = is-history n changes c.args.present.now c.requires c.are_lawful.ensures c.is_lawful.ensures c.in_ok-walk_back.ensures on;
-      past = is-past n changes c.args.present.now c.requires c.are_lawful.ensures c.is_lawful.ensures c.in_ok-walk_back.ensures on;
+      history = is-history n changes c.args.present.now c.requires c.recall_invariants.ensures c.recall_invariant.ensures c.in_ok-walk_back.ensures on;
+      past = is-past n changes c.args.present.now c.requires c.recall_invariants.ensures c.recall_invariant.ensures c.in_ok-walk_back.ensures on;
     }

@@ -16,5 +16,5 @@ invariant_of-self-2 c =
       cursor = elim c.if-next-len.branch [ then-next-len+in_ok-reserve+in_ok-reserve-2 w ↦ grind (arith, common_steps) | else-next-len w ↦ grind (arith, common_steps) ];
       count = elim c.if-next-len.branch [ then-next-len+in_ok-reserve+in_ok-reserve-2 w ↦ grind (arith, common_steps) | else-next-len w ↦ grind (arith, common_steps) ];
       steps = rw (states, changes) (AreSteps-pushed c.self.inside.states.items c.self.inside.changes.items c.self.inside.cursor c.args.edited.state c.args.edited.change c.self.invariant.steps (rw (sym c.self.view_is) at c.requires));
-      lawful = rw states (all-append IsState (take (c.self.inside.cursor + 1) c.self.inside.states.items) (c.args.edited.state ∷ []) (all-take IsState (c.self.inside.cursor + 1) c.self.inside.states.items c.self.invariant.lawful) (c.is_lawful.ensures, tt));
+      lawful = rw states (all-append IsState (take (c.self.inside.cursor + 1) c.self.inside.states.items) (c.args.edited.state ∷ []) (all-take IsState (c.self.inside.cursor + 1) c.self.inside.states.items c.self.invariant.lawful) (c.recall_invariant.ensures, tt));
     }

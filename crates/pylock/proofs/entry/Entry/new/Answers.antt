@@ -13,7 +13,7 @@ invariant_of-result c =
       wheels = c.args.wheels;
     } in
     let passed : Passed p c.in-Ok.python = record {
-      name = c.is_lawful.ensures;
+      name = c.recall_invariant.ensures;
       read = c.in-Ok.ensures;
       filled = c.if-is_filled.ensures;
       dependencies = rw c.as_slice.ensures at c.if-are_dependencies.ensures;
@@ -22,7 +22,7 @@ invariant_of-result c =
       file = rw c.as_slice-3.ensures at c.if-has_file.ensures;
     } in
     rw c.in_ok-shared.ensures.ok (record {
-      lawful = record { version = c.is_lawful-2.ensures; parts = package-from p c.in-Ok.python passed };
+      lawful = record { version = c.recall_invariant-2.ensures; parts = package-from p c.in-Ok.python passed };
       read = c.in-Ok.ensures;
     })
 
@@ -37,7 +37,7 @@ returns-then-has_file c =
       wheels = c.args.wheels;
     } in
     let passed : Passed p c.in-Ok.python = record {
-      name = c.is_lawful.ensures;
+      name = c.recall_invariant.ensures;
       read = c.in-Ok.ensures;
       filled = c.if-is_filled.ensures;
       dependencies = rw c.as_slice.ensures at c.if-are_dependencies.ensures;

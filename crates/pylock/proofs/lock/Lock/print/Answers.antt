@@ -19,7 +19,7 @@ returns-in-Ok-clause-reads_back c =
     let table = c.in_ok-table.ensures.table in
     let parsed : parse_document (string_bytes c.in-Ok.text) ≡ Some (table_of c.args.self.now) = c.in-Ok.ensures.reads_back (rw table (lock-depth c.args.self.now)) ∙ ap Some table in
     let utf8 : is_utf8 (string_bytes c.in-Ok.text) ≡ true = rw (← c.as_str.ensures.value) c.is_utf8.ensures in
-    text-back (string_bytes c.in-Ok.text) (table_of c.args.self.now) c.args.self.now utf8 parsed (lock-back c.a_canonical_text_is_read.ensures c.args.self.now c.is_lawful.ensures)
+    text-back (string_bytes c.in-Ok.text) (table_of c.args.self.now) c.args.self.now utf8 parsed (lock-back c.a_canonical_text_is_read.ensures c.args.self.now c.recall_invariant.ensures)
 
 -- `toml` refuses no date of a lock, which has none
 pub unreachable-requires : goal.unreachable-requires

@@ -11,10 +11,10 @@ pub some_array-requires : goal.some_array-requires
 some_array-requires c = all_pass c.dependencies.result.now
 
 pub some_value-requires-2 : goal.some_value-requires-2
-some_value-requires-2 c = rw c.sdist.ensures (sdist_fit c.args.self.now c.is_lawful.ensures.parts)
+some_value-requires-2 c = rw c.sdist.ensures (sdist_fit c.args.self.now c.recall_invariant.ensures.parts)
 
 pub some_array-requires-2 : goal.some_array-requires-2
-some_array-requires-2 c = rw c.wheels.ensures (wheels_fit c.args.self.now c.is_lawful.ensures.parts)
+some_array-requires-2 c = rw c.wheels.ensures (wheels_fit c.args.self.now c.recall_invariant.ensures.parts)
 
 pub returns : goal.returns
 unfolding package_data

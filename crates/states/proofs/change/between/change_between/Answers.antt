@@ -8,4 +8,4 @@ returns-clause-change c =
     let lines = rw (c.lines-2.ensures, c.lines.ensures, c.lines-4.ensures, c.lines-3.ensures) at c.in_ok-splices.ensures.leads in
     let entries = rw (c.targets.ensures, c.targets-2.ensures) at c.in_ok-entries.ensures in
     let digest = rw (c.digest.ensures, c.digest-2.ensures) at c.digests_between-digests.ensures.leads in
-    After-between c.args.old.now c.args.new.now change c.is_lawful.ensures c.is_lawful-2.ensures c.requires lines entries digest
+    After-between c.args.old.now c.args.new.now change c.recall_invariant.ensures c.recall_invariant-2.ensures c.requires lines entries digest

@@ -28,7 +28,7 @@ returns c =
     let reached = rw (c.lines-2.ensures, c.entries-entries.ensures) at c.are_reached.ensures in
     IfOk-onto (λ b. IsTrue b ↔ AllByRecursion (λ (e : EntryParts). Reached (requirements environment lines) lock.entries e.name) lock.entries) (λ b. IsTrue b ↔ IsLockFor lines environment lock) c.are_reached.result
     (λ b k. (
-      (λ h. IsLockFor-from lines environment lock c.is_lawful.ensures (c.in_ok-is_named.ensures.0 c.if-not-branch.false) (closed.0 refl) (met.0 refl) (k.0 h)),
+      (λ h. IsLockFor-from lines environment lock c.recall_invariant.ensures (c.in_ok-is_named.ensures.0 c.if-not-branch.false) (closed.0 refl) (met.0 refl) (k.0 h)),
       (λ is. k.1 (reached-of lines environment lock is)),
     ))
     reached

@@ -2,7 +2,7 @@ use Rattle.std.proofs.Common.{◌≡◌, refl, Ok}
 use Rattle.pep508.specs.Requirement.{cut_line}
 use Rattle.pep508.specs.Slices.{joined, slices_of}
 use Rattle.pep508.proofs.OneCut.{one_cut}
-use Rattle.pep508.proofs.req_line.ReqLine.is_lawful.Goals as goal
+use Rattle.pep508.proofs.req_line.ReqLine.recall_invariant.Goals as goal
 
 pub returns-clause-reads : goal.returns-clause-reads
 returns-clause-reads c =
