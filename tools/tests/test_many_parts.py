@@ -75,6 +75,32 @@ class Printed(Program):
         self.plays((["why", "--explain", first], 3, "".join(f"{line}\n" for line in sentences + left_out)))
 
 
+class Ranges(Program):
+    """Each release of `a` wants four neighbours of `b`, and a line wants an old `c`. What goes with it is found by sets of releases."""
+
+    def begin_ranges(self, first_old):
+        """Releases of `b` from the one with this number down go with any `c`, the others with new ones alone."""
+        releases = []
+        for number in range(1, COUNT + 1):
+            releases.append(("a", f"{number}", [f"b<={number},>{number - 4}"]))
+            releases.append(("b", f"{number}", ["c" if number <= first_old else "c>10"]))
+            releases.append(("c", f"{number}", []))
+        self.begin(b"a\nc<=10\n", *releases)
+
+    def test_the_newest_that_go_together(self):
+        self.begin_ranges(COUNT // 2)
+        self.plays((["init"], 0, "ok 0\n"))
+        entries = read_lock((self.folder / "pylock.toml").read_bytes())[2]
+        self.assertEqual(entries, {"a": entry("a", "63", "b"), "b": entry("b", "60", "c"), "c": entry("c", "10")})
+
+    def test_none_that_go_together_are_told_shortly(self):
+        self.begin_ranges(0)
+        self.plays((["init"], 3, "refused no-solution\n"))
+        status, told = self.call("why", "--init", "--explain")
+        self.assertEqual((status, told.splitlines()[0]), (3, "No choice of versions meets line 1 (a) and line 2 (c<=10)."))
+        self.assertLess(len(told.splitlines()), 12)
+
+
 class Changed(Program):
     """Steps that change more than a hundred entries, undone and redone."""
 

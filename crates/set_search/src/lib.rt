@@ -24,8 +24,6 @@ mod solving;
 mod starting;
 mod state;
 mod term;
-#[cfg(test)]
-mod tests;
 
 pub use crate::following::{Reason, follows};
 pub use crate::refuting::{Step, refutation_of};
