@@ -1,27 +1,18 @@
 -- Splices that are gone over with the places behind them.
-use Rattle.std.proofs.Common.{◌≡◌, ◌+◌, ◌-◌, ◌^◌, ◌≤◌, ◌<◌, ◌&&◌, ℕ, true, List, [], ◌∷◌, Some, None, length, drop, get_or, inl, inr, sym, ap, ◌∙◌, subst, arith, if◌then◌else◌}
-use Rattle.std.proofs.Math.Nat.{min-eq_left, min-eq_right, min-le_left, min-le_right}
-use Rattle.std.proofs.lemmas.Bool.{cases_Bool}
-use Rattle.std.proofs.lemmas.Bool.Decides.{nat_tests}
+use Rattle.std.proofs.Common.{◌≡◌, ◌+◌, ◌-◌, ◌^◌, ◌≤◌, ◌<◌, ◌++◌, append_assoc, append-nil, ℕ, List, [], ◌∷◌, Some, None, length, drop, get_or, sym, ap, ◌∙◌, subst, arith}
 use Rattle.std.proofs.lemmas.List.{at_drop_all, drop_more}
-use Rattle.std.specs.Prelude.{min, nat_lt, slice_get}
+use Rattle.std.specs.Prelude.{slice_get}
 use Rattle.states.specs.Changes.{PlacesFit, RiseFrom, back}
 use Rattle.states.specs.Tied.Ends.{DoRise, ends_of, place_behind}
 use Rattle.states.specs.declared.change.ends.Ends.{Ends}
 use Rattle.states.specs.declared.change.parts.Splice.{Splice}
+use Rattle.states.proofs.PlacesHeld.{IsHeldAt, IsHeldAt-min, held-whole, may_go, may_not}
 
 -- the splices that are left rise behind this place of the old lines, and their places fit
 pub record GoesOn (end added taken : ℕ) (rest : List Splice) : Type 0 where
   pub apart : RiseFrom (end + 1) rest
   pub places : PlacesFit rest
   pub places_back : PlacesFit (back added taken rest)
-
--- a place, as it is held
-pub record IsHeldAt (held place : ℕ) : Type 0 where
-  pub within : held ≤ place
-  pub below : held < 2 ^ 64
-  pub whole : place < 2 ^ 64 → held ≡ place
-  pub most : 2 ^ 64 ≤ place → held + 1 ≡ 2 ^ 64
 
 -- what is left of the splices, given the places behind those that were gone over
 pub record IsLeft (all rest : List Splice) (ends : Ends) : Type 0 where
@@ -34,23 +25,8 @@ pub record IsLeft (all rest : List Splice) (ends : Ends) : Type 0 where
   pub onward : GoesOn end added taken rest → DoRise all
   pub back : DoRise all → GoesOn end added taken rest
 
-IsHeldAt-min : (place : ℕ) → IsHeldAt (min place (2 ^ 64 - 1)) place
-IsHeldAt-min place = record {
-  within = min-le_left place (2 ^ 64 - 1);
-  below = let m = min-le_right place (2 ^ 64 - 1) in omega arith;
-  whole = λ h. min-eq_left (let k : place ≤ 2 ^ 64 - 1 = omega arith in k);
-  most = λ h. let k : 2 ^ 64 - 1 ≤ place = omega arith in let e = min-eq_right k in omega arith;
-}
-
--- a place that is held below the most is held whole
-held-whole : (held place : ℕ) → IsHeldAt held place → held + 1 < 2 ^ 64 → held ≡ place
-held-whole held place is below = elim (cases_Bool (nat_lt place (2 ^ 64))) [
-  | inl fits ↦ is.whole (let h = fits in grind (arith, nat_tests))
-  | inr over ↦ absurd (let most = is.most (let h = over in grind (arith, nat_tests)) in omega arith)
-]
-
 -- behind the first splice
-pub IsLeft-first : (first : Splice) (rest : List Splice) → first.place < 2 ^ 64 → IsLeft (first ∷ rest) rest (ends_of first first.place)
+IsLeft-first : (first : Splice) (rest : List Splice) → first.place < 2 ^ 64 → IsLeft (first ∷ rest) rest (ends_of first first.place)
 IsLeft-first first rest fits =
     let same : first.place + length first.new ≡ first.place + length first.old + (0 + length first.new) - (0 + length first.old) = omega arith in
     record {
@@ -67,22 +43,6 @@ IsLeft-first first rest fits =
       };
       back = λ d. record { apart = d.apart.1; places = d.places.1; places_back = d.places_back.1 };
     }
-
--- what the tests behind a splice say
-may_go : (a b c d : ℕ) (place : ℕ) → (if nat_lt a b && nat_lt c d then Some c else None) ≡ Some place → (a < b) × (c < d) × (c ≡ place)
-may_go a b c d place e = elim (cases_Bool (nat_lt a b)) [
-  | inl above ↦ elim (cases_Bool (nat_lt c d)) [
-    | inl fits ↦ ((let h = above in grind (arith, nat_tests)), (let h = fits in grind (arith, nat_tests)), cc (rw (above, fits) at e))
-    | inr over ↦ cc (rw (above, over) at e)
-  ]
-  | inr below ↦ cc (rw below at e)
-]
-
-may_not : (a b c d : ℕ) → (if nat_lt a b && nat_lt c d then Some c else None) ≡ None → a < b → c < d → ⊥
-may_not a b c d e above fits =
-    let first : nat_lt a b ≡ true = grind (arith, nat_tests) in
-    let second : nat_lt c d ≡ true = grind (arith, nat_tests) in
-    cc (rw (first, second) at e)
 
 -- the place of a splice behind others is that of the splice that leads back
 pub IsLeft-place : (all : List Splice) (splice : Splice) (rest : List Splice) (ends : Ends) (place : ℕ) → splice.place < 2 ^ 64 → place_behind ends splice ≡ Some place
@@ -155,3 +115,48 @@ IsLeft-at all place splice ends within is left = subst (λ (l : List Splice). Is
 -- the end of the splices
 pub IsLeft-end : (all : List Splice) (place : ℕ) (ends : Ends) → length all ≤ place → IsLeft all (drop place all) ends → DoRise all
 IsLeft-end all place ends past left = IsLeft-done all ends (subst (λ (l : List Splice). IsLeft all l ends) (at_drop_all (λ (l : List Splice). l) all place past) left)
+
+-- the splices back as far as they are made, with those that are left
+pub record IsBackTo (all rest : List Splice) (ends : Ends) (made : List Splice) : Type 0 where
+  pub left : IsLeft all rest ends
+  pub whole : made ++ back left.added left.taken rest ≡ back 0 0 all
+
+pub IsBackTo-start : (all : List Splice) (first : Splice) → Some first ≡ slice_get all 0 → first.place < 2 ^ 64
+    → IsBackTo all (drop 1 all) (ends_of first first.place) (record { place = first.place; old = first.new; new = first.old } ∷ [])
+unfolding IsLeft-first
+IsBackTo-start [] first is fits = absurd (cc is)
+IsBackTo-start (s ∷ rest) first is fits =
+    let same : first ≡ s = cc is in
+    let place : first.place ≡ first.place + 0 - 0 = omega arith in
+    subst (λ (t : Splice). IsBackTo (t ∷ rest) rest (ends_of first first.place) (record { place = first.place; old = first.new; new = first.old } ∷ [])) same (record {
+      left = IsLeft-first first rest fits;
+      whole = λ i. record { place = place i; old = first.new; new = first.old } ∷ back (0 + length first.new) (0 + length first.old) rest;
+    })
+
+-- one more splice
+pub IsBackTo-next : (all : List Splice) (at : ℕ) (splice : Splice) (ends : Ends) (place : ℕ) (made : List Splice) → at < length all → splice ≡ get_or all at splice
+    → splice.place < 2 ^ 64 → place_behind ends splice ≡ Some place → IsBackTo all (drop at all) ends made
+    → IsBackTo all (drop (at + 1) all) (ends_of splice place) (made ++ record { place = place; old = splice.new; new = splice.old } ∷ [])
+unfolding IsLeft-next
+IsBackTo-next all at splice ends place made within is fits goes to =
+    let here = subst (λ (l : List Splice). IsBackTo all l ends made) (drop_more all at splice within ∙ ap (λ (t : Splice). t ∷ drop (at + 1) all) (sym is)) to in
+    let moved = IsLeft-place all splice (drop (at + 1) all) ends place fits goes here.left in
+    record {
+      left = IsLeft-next all splice (drop (at + 1) all) ends place fits goes here.left;
+      whole =
+          append_assoc made (record { place = place; old = splice.new; new = splice.old } ∷ []) (back (here.left.added + length splice.new) (here.left.taken + length splice.old) (drop (at + 1) all))
+          ∙ (λ i. made ++ (record { place = moved i; old = splice.new; new = splice.old } ∷ back (here.left.added + length splice.new) (here.left.taken + length splice.old) (drop (at + 1) all)))
+          ∙ here.whole;
+    }
+
+-- there is always a place
+pub IsBackTo-stops : (all : List Splice) (at : ℕ) (splice : Splice) (ends : Ends) (made : List Splice) → at < length all → splice ≡ get_or all at splice
+    → place_behind ends splice ≡ None → IsBackTo all (drop at all) ends made → DoRise all → ⊥
+IsBackTo-stops all at splice ends made within is stops to rise =
+    IsLeft-stops all splice (drop (at + 1) all) ends stops (IsLeft-at all at splice ends within is to.left) rise
+
+-- all splices back
+pub IsBackTo-end : (all : List Splice) (at : ℕ) (ends : Ends) (made : List Splice) → length all ≤ at → IsBackTo all (drop at all) ends made → made ≡ back 0 0 all
+IsBackTo-end all at ends made past to =
+    let done = subst (λ (l : List Splice). IsBackTo all l ends made) (at_drop_all (λ (l : List Splice). l) all at past) to in
+    sym (append-nil made) ∙ done.whole

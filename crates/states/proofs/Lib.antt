@@ -10,8 +10,8 @@ pub mod DecideFacts
 pub mod KeptLines
 pub mod DifferenceFacts
 pub mod WholeDifference
+pub mod PlacesHeld
 pub mod EndsFacts
-pub mod SplicesBack
 pub mod EntriesByName
 pub mod EntryFacts
 pub mod EntrySearch

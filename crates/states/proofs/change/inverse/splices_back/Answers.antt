@@ -1,5 +1,5 @@
 use Rattle.std.proofs.Common.{sym, ◌∙◌, arith}
-use Rattle.states.proofs.SplicesBack.{IsBackTo-end, IsBackTo-next, IsBackTo-start, IsBackTo-stops}
+use Rattle.states.proofs.EndsFacts.{IsBackTo-end, IsBackTo-next, IsBackTo-start, IsBackTo-stops}
 use Rattle.states.proofs.change.inverse.splices_back.Goals as goal
 
 pub loop-place-init : goal.loop-place-init

@@ -1,5 +1,5 @@
 use Rattle.std.proofs.Common.{◌≤◌, drop}
-use Rattle.states.proofs.SplicesBack.{IsBackTo}
+use Rattle.states.proofs.EndsFacts.{IsBackTo}
 use Rattle.states.proofs.change.inverse.splices_back.Given as goal
 
 abbrev pub invariant-loop-place : goal.invariant-loop-place
