@@ -1,5 +1,6 @@
-"""What README.md shows being typed is typed: each indented block that has lines `$ COMMAND` is run by a shell in a copy of the
-repository's examples, and what comes out is what the block shows. It needs the program, which ./check builds first."""
+"""What README.md, docs/SESSIONS.md and docs/RULES.md show being typed is typed: each indented block that has lines `$ COMMAND` is run by
+a shell in a copy of the repository's examples and tools, and what comes out is what the block shows. It needs the program, which
+./check builds first."""
 
 import os
 import re
@@ -15,6 +16,10 @@ from program import Program
 from shown import indented_blocks, printed_by, typed_blocks
 
 
+def copy_tools(folder):
+    shutil.copytree(TOOLS, folder / "tools", ignore=shutil.ignore_patterns("tests", "__pycache__"))
+
+
 class Blocks(unittest.TestCase):
     def test_finds_commands_and_what_they_print(self):
         text = "a\n\n    $ one\n    1\n    $ two\n\n    no command\n\n    $ three\n    3\n    4\n"
@@ -24,14 +29,16 @@ class Blocks(unittest.TestCase):
 @unittest.skipUnless(PROGRAM.exists(), "the program isn't built")
 class Readme(unittest.TestCase):
     def test_each_command_prints_what_is_shown(self):
-        found = typed_blocks((TOP / "README.md").read_text(encoding="utf-8"))
-        self.assertTrue(found)
-        for block in found:
-            with self.subTest(block=block[0][0]), tempfile.TemporaryDirectory() as folder:
-                self.run_block(block, Path(folder))
+        for page in "README.md", "docs/SESSIONS.md", "docs/RULES.md":
+            found = typed_blocks((TOP / page).read_text(encoding="utf-8"))
+            self.assertTrue(found)
+            for block in found:
+                with self.subTest(page=page, block=block), tempfile.TemporaryDirectory() as folder:
+                    self.run_block(block, Path(folder))
 
     def run_block(self, block, folder):
         shutil.copytree(TOP / "examples", folder / "examples")
+        copy_tools(folder)
         printed = printed_by(block, folder, {**os.environ, "PATH": f"{PROGRAM.parent}:{os.environ['PATH']}"})
         self.assertEqual([text.splitlines() for text in printed], [shown for _, shown in block])
 
@@ -46,7 +53,7 @@ class Readme(unittest.TestCase):
             index.add(name, wheel_of(name, "3.0.0", *dependencies))
         with tempfile.TemporaryDirectory() as name:
             folder = Path(name)
-            shutil.copytree(TOOLS, folder / "tools", ignore=shutil.ignore_patterns("tests", "__pycache__"))
+            copy_tools(folder)
             (folder / "requirements.txt").write_bytes(b"Flask\r\n")
             lines = [line.replace("https://index.example/simple/", index.url) for line in block.splitlines()]
             self.assertIn(index.url, lines[1])
