@@ -212,7 +212,7 @@ class Drawn(Program):
             left -= self.play(Draw(seed, NAMES), left)
             if left <= 0:
                 break
-        self.assertEqual(self.seen["dropped", True], 0, "each conflict is needed")
+        self.assertLess(100 * self.seen["dropped", True], self.seen["dropped", False], "hardly a conflict can be spared")
         for case in ("dropped", False), ("changed", True), ("changed", False), ("exchanged", True), ("exchanged", False):
             self.assertGreater(self.seen[case], 0, self.seen)
 

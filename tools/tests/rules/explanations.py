@@ -114,17 +114,18 @@ class Reader:
 
     def sources(self, cause, step, node, keys, need):
         """Who may be meant: who is named; or else what needs the node; or, of a reason that names nobody, also another term or line.
-        Each is given with the conflicts that it makes with the releases."""
+        Each is given with the conflicts that it makes with the releases. Behind them stand the releases themselves, where their own
+        dependencies may be meant."""
         who = cause.told.get("who")
         beside = [(term, [[Term(*node, keys), term]]) for term in step]
         alone = [(line, [[Term(*node, keys)]]) for line in self.lines]
+        itself = [(Term(*node, frozenset([key])), [[Term(*node, frozenset([key]))]]) for key in keys]
         if who is not None:
-            itself = [(Term(*node, frozenset([key])), [[Term(*node, frozenset([key]))]]) for key in keys]
             named = [it for it in alone if it[0].short == who] + [it for it in beside if it[0][:2] == node_of(who)]
             return named, itself if node_of(who) == node else []
         own = [it for it in alone + beside if it[0] is need]
         if cause.kind in ("python", "yanked", "pre", "both"):
-            own += [it for it in beside + alone if it[0] is not need]
+            return own + [it for it in beside + alone if it[0] is not need], itself
         return own, []
 
     def refused(self, cause, step, node, keys, need):
