@@ -36,6 +36,6 @@ pub use crate::not_text::{Wished, add_difference, add_same, add_uncounted};
 pub use crate::plain_text::add_plain;
 pub use crate::refusal_details::{RefusedEdit, add_lacking, add_question, add_refusal_details};
 pub use crate::refutation_text::add_refutation;
-pub use crate::sentences::{Asked, Told, add_sentences};
+pub use crate::sentences::{Asked, Told, add_sentences, narrowed};
 pub use crate::shell_word::add_word;
 pub use crate::target_line::add_target_line;

@@ -4,7 +4,9 @@ pub mod causes;
 pub mod conclusion;
 pub mod covering;
 pub mod grounds;
+pub mod idle_terms;
 pub mod lines;
+pub mod narrowing;
 pub mod runs;
 pub mod steps;
 pub mod telling;
@@ -16,6 +18,7 @@ use crate::sentences::conclusion::add_conclusion;
 use crate::sentences::grounds::grounds_of;
 pub use crate::sentences::lines::Asked;
 use crate::sentences::lines::spoken_lines;
+pub use crate::sentences::narrowing::narrowed;
 use crate::sentences::steps::{number_of, told_steps};
 use crate::sentences::telling::{Telling, add_sentence};
 use crate::sentences::terms::conflicts_of;
@@ -45,7 +48,7 @@ pub fn add_sentences(
 ) -> Result<(), AllocError> {
     let problem = told.problem;
     let lines = spoken_lines(alloc, problem, told.lines, told.asked)?;
-    let conflicts = conflicts_of(alloc, told.snapshot, refutation)?;
+    let conflicts = conflicts_of(alloc, problem, refutation)?;
     let grounds = grounds_of(alloc, problem, refutation.conflicts(), conflicts.as_slice())?;
     let steps = told_steps(alloc, grounds.as_slice())?;
     let telling = Telling {

@@ -21,7 +21,7 @@ use snapshot::Snapshot;
 use std::alloc::{AllocError, Global};
 use std::io::Write;
 use std::rt::Files;
-use texts::{Asked, Told, add_refutation, add_sentences, add_target_line};
+use texts::{Asked, Told, add_refutation, add_sentences, add_target_line, narrowed};
 
 /// What a question was asked of.
 #[derive(Clone, Copy)]
@@ -165,7 +165,7 @@ fn refuted(alloc: Global, problem: &Problem<'_>) -> Result<Option<Refutation>, A
     }
 }
 
-/// The same of sets, which `check_sets` has accepted.
+/// The same of sets, which `check_sets` has accepted: mostly without what its last conflict doesn't rest on.
 pub fn refuted_by_sets(
     alloc: Global,
     problem: &Problem<'_>,
@@ -176,6 +176,10 @@ pub fn refuted_by_sets(
 {
     match Learning.refute_sets(alloc, problem)? {
         Some(refutation) => {
+            let fewer = narrowed(alloc, problem, &refutation)?;
+            if check_sets(problem, &fewer) {
+                return Ok(Some(fewer));
+            }
             if check_sets(problem, &refutation) {
                 return Ok(Some(refutation));
             }

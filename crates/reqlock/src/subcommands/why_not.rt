@@ -87,7 +87,8 @@ fn version_in(alloc: Global, text: &str) -> Result<Version, Refusal> {
     }
 }
 
-// The answer of the first target whose lock has the name and not the release.
+// The answer of the first target whose lock has the name and not the release. A name that is in no lock is
+// refused.
 fn why_not(
     alloc: Global,
     state: &State,
@@ -96,50 +97,35 @@ fn why_not(
 ) -> Result<String, Stop> {
     let present = problem_after(alloc, state, &Edit::Relock, snapshot)?;
     let problems = problems_with(alloc, state, &asking.text, snapshot)?;
-    let Some(place) = first_lacking(alloc, state, asking)? else {
-        return Ok(same_text(alloc, asking)?);
-    };
+    let name = &asking.name;
+    if !state
+        .targets()
+        .iter()
+        .any(|target| target.locked(name).is_some())
+    {
+        return Err(Stop::from(Refusal::NotLocked(Text::copy_of(alloc, name.normal())?)));
+    }
     let context = Context {
         lines: state.lines().lines(),
         asked: Asked::With(&asking.text),
         snapshot,
         explains: true,
     };
-    let Some(target) = state.targets().get(place) else {
-        return Ok(same_text(alloc, asking)?);
-    };
-    let Some((_, before)) = present.as_slice().get(place) else {
-        return Ok(same_text(alloc, asking)?);
-    };
-    let Some((_, problem)) = problems.as_slice().get(place) else {
-        return Ok(same_text(alloc, asking)?);
-    };
-    target_text(alloc, context, asking, target, before, problem)
-}
-
-// The place of the first target whose lock has the name and not the release. A name that is in no lock is
-// refused.
-fn first_lacking(alloc: Global, state: &State, asking: &Asking) -> Result<Option<usize>, Stop> {
-    let mut found = None;
-    let mut is_locked = false;
-    for (place, target) in state.targets().iter().enumerate() {
-        if let Some(locked) = target.locked(&asking.name) {
-            is_locked = true;
-            if found.is_none() && !is_asked(asking, locked) {
-                found = Some(place);
-            }
+    let both = present.as_slice().iter().zip(problems.as_slice());
+    for (target, ((_, before), (_, problem))) in state.targets().iter().zip(both) {
+        if lacks(target, asking) {
+            return target_text(alloc, context, asking, target, before, problem);
         }
     }
-    if !is_locked {
-        return Err(Stop::from(Refusal::NotLocked(Text::copy_of(alloc, asking.name.normal())?)));
-    }
-    Ok(found)
+    Ok(same_text(alloc, asking)?)
 }
 
-fn is_asked(asking: &Asking, locked: &Version) -> bool {
-    match &asking.version {
-        Some(version) => version.cmp(locked).is_eq(),
-        None => false,
+// Whether the lock of a target has the name, and not the release.
+fn lacks(target: &Target, asking: &Asking) -> bool {
+    match (target.locked(&asking.name), &asking.version) {
+        (Some(locked), Some(version)) => !version.cmp(locked).is_eq(),
+        (Some(_), None) => true,
+        (None, _) => false,
     }
 }
 

@@ -4,12 +4,12 @@ use crate::reasons::add_reasons;
 use crate::sentences::covering::Cover;
 use crate::sentences::grounds::Ground;
 use crate::sentences::lines::add_short;
-use crate::sentences::runs::{add_listed, add_node, add_runs, add_verb};
+use crate::sentences::runs::{add_listed, add_node, add_runs, add_verb, are_all};
 use crate::sentences::steps::number_of;
 use crate::sentences::telling::{REQUIREMENTS, Telling, requirements_of};
 use crate::sentences::terms::{Named, Term};
 use crate::sentences::wants::{does_want, refused_at};
-use edits::Requirement;
+use edits::{Release, Requirement};
 use lists::Bits;
 use problems::SetNeed;
 use std::alloc::{AllocError, Global};
@@ -115,12 +115,12 @@ fn add_clash(
     if each_refuses(alloc, telling, beside, node, places)? {
         return add_refused(alloc, text, telling, at, beside, places);
     }
-    add_runs(alloc, text, releases, places)?;
     let own = Term {
         node,
         places: places.clone()?,
     };
     if each_refuses(alloc, telling, &own, beside.node, &beside.places)? {
+        add_runs(alloc, text, releases, places)?;
         add_verb(alloc, text, releases, places, (" needs ", " need "))?;
         let wanted = requirements_of(alloc, telling, &own, Named::bare(beside.node.name))?;
         if wanted.len() <= REQUIREMENTS {
@@ -129,9 +129,24 @@ fn add_clash(
         text.push_str("other releases of ")?;
         return text.push_str(beside.node.name.normal());
     }
-    let verbs = (" doesn't go with ", " don't go with ");
-    add_verb(alloc, text, releases, places, verbs)?;
+    let verbs = ("none goes with ", " doesn't go with ", " don't go with ");
+    add_negated(alloc, text, releases, places, verbs)?;
     add_node(text, beside.node)
+}
+
+// Releases with a verb that denies something of them: of all releases, where there are several, of one or of more.
+fn add_negated(
+    alloc: Global,
+    text: &mut String,
+    releases: &[Release],
+    places: &Bits,
+    verbs: (&str, &str, &str),
+) -> Result<(), AllocError> {
+    if releases.len() > 1 && are_all(alloc, releases, places)? {
+        return text.push_str(verbs.0);
+    }
+    add_runs(alloc, text, releases, places)?;
+    add_verb(alloc, text, releases, places, (verbs.1, verbs.2))
 }
 
 // Whether each release of the term wants something that refuses each of these of the node.
@@ -152,7 +167,7 @@ fn each_refuses(
     Ok(true)
 }
 
-// By what the term wants. Where that is one requirement, the reasons are told.
+// By what the term wants. Where that is one requirement, the reasons are told; where it is a few, these are listed.
 fn add_refused(
     alloc: Global,
     text: &mut String,
@@ -174,13 +189,18 @@ fn add_refused(
         }
     }
     let releases = telling.snapshot.releases(node.name);
-    add_runs(alloc, text, releases, places)?;
-    let verbs = (" doesn't match", " don't match");
-    add_verb(alloc, text, releases, places, verbs)?;
+    let verbs = ("none matches", " doesn't match", " don't match");
+    add_negated(alloc, text, releases, places, verbs)?;
     if own {
         return Ok(());
     }
-    write!(text, " what {of} needs")
+    write!(text, " what {of} needs")?;
+    if texts.len() > REQUIREMENTS {
+        return Ok(());
+    }
+    text.push_str(" (")?;
+    add_listed(text, texts.as_slice(), "or")?;
+    text.push_str(")")
 }
 
 // A requirement by which the first release of the term needs the node.

@@ -12,10 +12,14 @@ pub struct Cover {
     pub places: Bits,
 }
 
-// Whether the conflict has a term on this one's node, and nothing outside of this one.
-fn is_bound(term: &Term<'_>, conflict: &[Term<'_>]) -> bool {
-    conflict.iter().any(|binding| binding.node.is(term.node)
-        && binding.places.lies_within(&term.places))
+/// Whether a term is on the node of an earlier conflict's term, and has nothing outside of it.
+pub fn binds(own: &Term<'_>, term: &Term<'_>) -> bool {
+    own.node.is(term.node) && own.places.lies_within(&term.places)
+}
+
+/// The term of a conflict that binds an earlier one's term.
+pub fn binding<'c, 'a>(term: &Term<'_>, conflict: &'c [Term<'a>]) -> Option<&'c Term<'a>> {
+    conflict.iter().find(|own| binds(own, term))
 }
 
 /// The releases at the node with which the conflict contains the earlier one; nothing where it does with none.
@@ -28,7 +32,7 @@ fn covered_by(
 ) -> Result<Option<Bits>, AllocError> {
     let mut covered = wanted.clone()?;
     for term in old {
-        if !is_bound(term, conflict) {
+        if binding(term, conflict).is_none() {
             if !term.node.is(node) {
                 return Ok(None);
             }

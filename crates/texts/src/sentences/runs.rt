@@ -154,21 +154,18 @@ pub fn add_node(text: &mut String, node: Named<'_>) -> Result<(), AllocError> {
     }
 }
 
-/// A node with these releases of its name.
+/// A node with these releases of its name; where they are all, and several, with a word for all of them.
 pub fn add_term(
     alloc: Global,
     text: &mut String,
     releases: &[Release],
     node: Named<'_>,
     places: &Bits,
+    all: &str,
 ) -> Result<(), AllocError> {
     if are_all(alloc, releases, places)? {
-        let front = if releases.len() == 1 {
-            "the only release of "
-        } else {
-            "every release of "
-        };
-        text.push_str(front)?;
+        let front = if releases.len() == 1 { "the only" } else { all };
+        write!(text, "{front} release of ")?;
         return add_node(text, node);
     }
     add_node(text, node)?;

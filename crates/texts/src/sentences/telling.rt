@@ -6,7 +6,7 @@ use crate::sentences::causes::add_cause;
 use crate::sentences::covering::Cover;
 use crate::sentences::grounds::Ground;
 use crate::sentences::lines::{Spoken, add_line};
-use crate::sentences::runs::{add_listed, add_node, add_term, add_verb};
+use crate::sentences::runs::{add_listed, add_node, add_term, add_verb, are_all};
 use crate::sentences::terms::{Named, Term};
 use crate::sentences::wants::does_want;
 use edits::Snapshot;
@@ -62,7 +62,7 @@ pub fn add_sentence(
         }
         Ground::Line(_, _) | Ground::Clash(_, _) | Ground::Unknown => {
             text.push_str("this can't stand together: ")?;
-            add_others(alloc, text, telling, conflict.as_slice(), None)
+            add_others(alloc, text, telling, conflict.as_slice(), None, "every")
         }
     }
 }
@@ -77,15 +77,37 @@ fn add_joined(
     covers: &[Cover],
 ) -> Result<(), AllocError> {
     let own = conflict.iter().position(|term| term.node.is(node));
+    let is_alone = conflict.len() < 2;
     if let Some(term) = conflict.iter().find(|term| term.node.is(node)) {
-        add_subject(alloc, text, telling, term, (" isn't left", " aren't left"))?;
+        add_excluded(alloc, text, telling, term, is_alone)?;
     }
-    if conflict.len() > 1 {
-        text.push_str(" beside ")?;
-        add_others(alloc, text, telling, conflict, own)?;
+    if !is_alone {
+        add_others(alloc, text, telling, conflict, own, "any")?;
     }
     text.push_str(": ")?;
     add_causes(alloc, text, telling, conflict, (node, None), covers)
+}
+
+// That none of a term's releases is left; or, where others follow, that none goes with them.
+fn add_excluded(
+    alloc: Global,
+    text: &mut String,
+    telling: Telling<'_, '_>,
+    term: &Term<'_>,
+    is_alone: bool,
+) -> Result<(), AllocError> {
+    let releases = telling.snapshot.releases(term.node.name);
+    if releases.len() > 1 && are_all(alloc, releases, &term.places)? {
+        text.push_str("no release of ")?;
+        add_node(text, term.node)?;
+        return text.push_str(if is_alone { " is left" } else { " goes with " });
+    }
+    let verbs = if is_alone {
+        (" isn't left", " aren't left")
+    } else {
+        (" doesn't go with ", " don't go with ")
+    };
+    add_subject(alloc, text, telling, term, verbs)
 }
 
 // A term with its verb, which is given in the singular and in the plural.
@@ -97,24 +119,25 @@ fn add_subject(
     verbs: (&str, &str),
 ) -> Result<(), AllocError> {
     let releases = telling.snapshot.releases(term.node.name);
-    add_term(alloc, text, releases, term.node, &term.places)?;
+    add_term(alloc, text, releases, term.node, &term.places, "every")?;
     add_verb(alloc, text, releases, &term.places, verbs)
 }
 
-// The terms of a conflict but for the one at a place.
+// The terms of a conflict but for the one at a place, with a word for all releases of a name.
 fn add_others(
     alloc: Global,
     text: &mut String,
     telling: Telling<'_, '_>,
     conflict: &[Term<'_>],
     but: Option<usize>,
+    all: &str,
 ) -> Result<(), AllocError> {
     let mut items = Vec::new(alloc);
     for (at, term) in conflict.iter().enumerate() {
         if Some(at) != but {
             let mut item = String::new(alloc);
             let releases = telling.snapshot.releases(term.node.name);
-            add_term(alloc, &mut item, releases, term.node, &term.places)?;
+            add_term(alloc, &mut item, releases, term.node, &term.places, all)?;
             items.push(item)?;
         }
     }
@@ -227,7 +250,7 @@ fn add_exhausted(
         .saturating_sub(if but.is_some() { 1 } else { 0 });
     if others > 0 {
         text.push_str("beside ")?;
-        add_others(alloc, text, telling, conflict, but)?;
+        add_others(alloc, text, telling, conflict, but, "every")?;
         text.push_str(" ")?;
     }
     text.push_str("no release of ")?;

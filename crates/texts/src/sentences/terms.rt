@@ -1,6 +1,6 @@
 // Terms of a set refutation, as sets of releases of an index.
 
-use edits::{Name, Release, SetRefutation, SetTerm, Snapshot};
+use edits::{Name, Problem, Release, SetRefutation, SetTerm};
 use lists::{Bits, Seq};
 use pep440::Version;
 use std::alloc::{AllocError, Global};
@@ -44,27 +44,27 @@ pub struct Term<'a> {
     pub places: Bits,
 }
 
-/// The conflicts of a refutation over the releases of an index. A version that no release has is left out.
+/// The conflicts of a refutation over the releases of a problem. A version that no release has is left out.
 pub fn conflicts_of<'a>(
     alloc: Global,
-    snapshot: &Snapshot,
+    problem: &Problem<'_>,
     refutation: &'a SetRefutation,
 ) -> Result<Vec<Vec<Term<'a>>>, AllocError> {
     let mut conflicts = Vec::new(alloc);
     for conflict in refutation.conflicts() {
-        conflicts.push(terms_of(alloc, snapshot, conflict)?)?;
+        conflicts.push(terms_of(alloc, problem, conflict)?)?;
     }
     Ok(conflicts)
 }
 
 fn terms_of<'a>(
     alloc: Global,
-    snapshot: &Snapshot,
+    problem: &Problem<'_>,
     conflict: &'a Seq<SetTerm>,
 ) -> Result<Vec<Term<'a>>, AllocError> {
     let mut terms = Vec::new(alloc);
     for term in conflict.as_slice() {
-        let releases = snapshot.releases(&term.name);
+        let releases = problem.releases(&term.name);
         terms.push(Term {
             node: Named {
                 name: &term.name,
@@ -111,6 +111,34 @@ fn place_between(releases: &[Release], version: &Version, from: usize, to: usize
         }
     }
     None
+}
+
+/// A conflict with the versions of its releases.
+pub fn told_conflict(
+    alloc: Global,
+    problem: &Problem<'_>,
+    conflict: &[Term<'_>],
+) -> Result<Seq<SetTerm>, AllocError> {
+    let mut terms = Vec::new(alloc);
+    for Term { node, places } in conflict {
+        let mut versions = Vec::new(alloc);
+        let listed = places.places(alloc)?;
+        for place in listed.as_slice() {
+            if let Some(release) = problem.releases(node.name).get(*place) {
+                versions.push(release.version().clone()?)?;
+            }
+        }
+        let extra = match node.extra {
+            Some(extra) => Some(extra.clone()?),
+            None => None,
+        };
+        terms.push(SetTerm {
+            name: node.name.clone()?,
+            extra,
+            versions: Seq::from_vec(versions),
+        })?;
+    }
+    Ok(Seq::from_vec(terms))
 }
 
 /// The places of all releases of a name.
