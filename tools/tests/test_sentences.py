@@ -52,6 +52,8 @@ PLANTED = (
     (">=3.99", ">=3.98"), ("has 3", "has 4"), ("match >=2;", "match >2;"), ("match <2 of a", "match <3 of a"),
     ("match <2 of a", "match <2"), ("of a.", "of d."),
     ("of a.", "of line 2."), ("match <2 of a", "go with a[x]"), ("match <2 of a", "match what d needs"),
+    ("match <2 of a", "match what a needs"), ("match <2 of a", "match what a needs (b<3)"),
+    ("match <2 of a", "match what a needs (b<2 or b<3)"),
     ("is yanked, and no line pins it with ==", "is a yanked pre-release, and the lines don't let in both"),
     # the conclusion
     ("line 2 (a  # why) and line 3 (c).", "line 2 (a  # why)."), ("line 2 (a  # why) and line 3 (c).", "line 3 (c)."),
@@ -136,7 +138,7 @@ class Planted(unittest.TestCase):
 
     def test_other_words_for_the_same_are_accepted(self):
         for old, new in (
-            ("don't match <2 of a", "don't match what a needs"), ("don't match <2 of a", "don't go with a"),
+            ("don't match <2 of a", "don't match what a needs (b<2)"), ("don't match <2 of a", "don't go with a"),
             ("1 doesn't match >=2;", "1 doesn't match;"), ("is left: 1 by 1", "is left: 1\n   by 1"),
         ):
             with self.subTest(old=old, new=new):

@@ -22,6 +22,12 @@ CUT_AWAY = ("a", "1", []), ("a", "2", ["aa"]), ("b", "1", ["y"]), ("m", "1", ["a
 LAST_FIRST = ("x", "1", ["q"]), ("x", "2", ["q"]), ("x", "3", ["q"]), ("x", "4", ["p"])
 
 
+# the search meets `a` first, and nothing rests on it: no release of `c` is what `d` needs
+IDLE = ("a", "1", ["c!=1"]), ("a", "2", ["c!=1"]), ("c", "1", []), ("c", "3", []), ("d", "1", ["c==2"]), ("d", "2", ["c==2"])
+# each release of `d` needs another `c`, and none is there
+OTHERS = ("a", "1", ["c<2"]), ("c", "1", []), ("c", "2", []), ("d", "1", ["c>3"]), ("d", "2", ["c>4"])
+
+
 class Why(Program):
     """What `why` prints of problems with a solution and without one. It saves nothing."""
 
@@ -90,6 +96,18 @@ class Why(Program):
             "1. x 1 to 3 (3 releases) need q, and the index has no package q.\n"
             "2. x 4 needs p, and the index has no package p.\n"
             "3. the new line (x) needs x, and no release of x is left: 1 to 3 (3 releases) by 1; 4 by 2.\n",
+        ),
+        (
+            IDLE, b"a\n", ["--explain", "d"],
+            "No choice of versions meets the new line (d).\n"
+            "1. every release of d needs c==2, and no release of c is left: none matches ==2.\n"
+            "2. the new line (d) needs d, and no release of d is left: every release by 1.\n",
+        ),
+        (
+            OTHERS, b"a\n", ["--explain", "d"],
+            "No choice of versions meets the new line (d).\n"
+            "1. every release of d needs c>3 or c>4, and no release of c is left: none matches.\n"
+            "2. the new line (d) needs d, and no release of d is left: every release by 1.\n",
         ),
         (
             LEFT_OUT, b"", ["--explain", "b"],

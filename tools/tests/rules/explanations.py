@@ -128,9 +128,17 @@ class Reader:
             return own + [it for it in beside + alone if it[0] is not need], itself
         return own, []
 
+    def is_wanted(self, told, source, name):
+        """Whether these are all requirements by which the releases of a term need a name; they are told where they are few."""
+        found = {without_marker(it) for key in source.keys for it in self.requirements_at(source[:2], key, name)}
+        return len(found) > MOST_REQUIREMENTS if told is None else found == set(read_requirements(told))
+
     def refused(self, cause, step, node, keys, need):
         """The conflicts by which releases are excluded for a reason."""
         found, itself = self.sources(cause, step, node, keys, need)
+        if cause.kind == "refused" and cause.told["who"] is not None:
+            found = [it for it in found if self.is_wanted(cause.told["wanted"], it[0], node[0])]
+            itself = itself if self.is_wanted(cause.told["wanted"], Term(*node, keys), node[0]) else []
         holding = [it for it in found if all(self.refuses(cause, it[0], node[0], key) for key in keys)]
         if not holding and itself and all(self.refuses(cause, own, node[0], key) for own, _ in itself for key in own.keys):
             return [conflict for _, conflicts in itself for conflict in conflicts]

@@ -1,7 +1,7 @@
 """What the sentences of `why --explain` say, word by word: a conclusion, and numbered steps, each with the terms that can't be had
-together, what needs a node or which releases aren't left, and what excludes them. Only the words are read here; whether they are true
-is asked in explanations.py. Names of packages and extras begin with a letter here, so that no name reads as a version. A text that
-isn't of these forms is a Fault."""
+together, what needs a node or which releases aren't left or don't go with others, and what excludes them. Only the words are read here;
+whether they are true is asked in explanations.py. Names of packages and extras begin with a letter here, so that no name reads as a
+version. A text that isn't of these forms is a Fault."""
 
 import re
 from typing import NamedTuple
@@ -23,7 +23,7 @@ def listed(item, word):
 
 VERSIONS = rf"(?:[0-9]+ releases between {VERSION} and {VERSION}|{listed(RUN, 'and')}(?: \([0-9]+ releases\))?)"
 RELEASES = rf"(?:every release|{VERSIONS})"
-TERM = rf"(?:every release of {NODE}|the only release of {NODE}|{NODE} {VERSIONS})"
+TERM = rf"(?:(?:every|any|the only) release of {NODE}|{NODE} {VERSIONS})"
 REQUIREMENTS = listed(REQUIREMENT, "or")
 MISSING = rf"the index has no (?:package ({NAME})(?:; near names: {NAME}(?:, {NAME})*)?|release of ({NAME}) that can be used)"
 # who asks: a line, as it is told in short, or each release of a term, which is told by its node
@@ -33,7 +33,8 @@ CAUSES = {
     "step": rf"(?P<releases>{RELEASES}) by (?P<step>[0-9]+)",
     "none": rf"none matches (?P<clause>{CLAUSE})(?: of (?P<who>{WHO}))?",
     "clause": rf"(?P<releases>{RELEASES}) do(?:es)?n't match (?P<clause>{CLAUSE})(?: of (?P<who>{WHO}))?",
-    "refused": rf"(?P<releases>{RELEASES}) do(?:es)?n't match(?: what (?P<who>{NODE}) needs)?",
+    "refused": rf"(?:none matches|(?P<releases>{RELEASES}) do(?:es)?n't match)"
+    rf"(?: what (?P<who>{NODE}) needs(?: \((?P<wanted>{REQUIREMENTS})\))?)?",
     "python": rf"(?P<releases>{RELEASES}) needs? Python (?P<python>.+), the environment has (?P<version>{VERSION})",
     "others": rf"(?P<releases>{RELEASES}) needs? other releases of (?P<name>{NAME})",
     "needs": rf"(?P<releases>{RELEASES}) needs? (?P<requirements>{REQUIREMENTS})",
@@ -41,8 +42,10 @@ CAUSES = {
     "pre": rf"(?P<releases>{RELEASES}) (?:is a pre-release|are pre-releases), "
     "which counts where a line names one or no final release fits",
     "both": rf"(?P<releases>{RELEASES}) (?:is a yanked pre-release|are yanked pre-releases), and the lines don't let in both",
-    "apart": rf"(?P<releases>{RELEASES}) do(?:es)?n't go with (?P<who>{NODE})",
+    "apart": rf"(?:none goes|(?P<releases>{RELEASES}) do(?:es)?n't go) with (?P<who>{NODE})",
 }
+# how a sentence begins that doesn't say who needs a node: with the releases, and that they aren't left or don't go with others
+EXCLUDED = rf"(?:no release of (?P<node>{NODE}) (?:is left|goes with )|(?P<term>{TERM}) (?:(?:isn't|aren't) left|do(?:es)?n't go with ))"
 
 
 class Term(NamedTuple):
@@ -61,9 +64,9 @@ class Cause(NamedTuple):
 
 
 class Step(NamedTuple):
-    """A numbered sentence. Without `need` it says that the releases of the first term aren't left; else that no release of
-    `node` is, which a line needs (its text with what it asks for) or a term, the first one, by these requirements; they are None
-    where each release has some of its own. `missing` says what the index lacks where no release is told of."""
+    """A numbered sentence. Without `need` it says that the releases of the first term aren't left, or don't go with the others; else that
+    no release of `node` is left, which a line needs (its text with what it asks for) or a term, the first one, by these requirements; they
+    are None where each release has some of its own. `missing` says what the index lacks where no release is told of."""
 
     terms: list[Term]
     node: str
@@ -122,9 +125,9 @@ def cut(text):
 
 
 def read_term(text):
-    for front in "every release", "the only release":
+    for front, told in ("every release", "every release"), ("any release", "every release"), ("the only release", "the only release"):
         if text.startswith(f"{front} of "):
-            return Term(text.removeprefix(f"{front} of "), front)
+            return Term(text.removeprefix(f"{front} of "), told)
     node, _, releases = text.partition(" ")
     return Term(node, releases)
 
@@ -139,7 +142,7 @@ def read_cause(text):
         found = re.fullmatch(pattern, text)
         if found:
             told = found.groupdict()
-            return Cause(kind, told.pop("releases", "every release"), told)
+            return Cause(kind, told.pop("releases", None) or "every release", told)
     want(False, f"a cause: {text}")
 
 
@@ -165,11 +168,11 @@ def take_need(words, lines):
 def read_step(text, lines):
     """A sentence; the lines are those that may need something, each with what it asks for."""
     words = Words(text)
-    joined = re.match(rf"{TERM} (?:isn't|aren't) left", text)
-    if joined:
-        terms = [read_term(words.must(TERM))]
-        words.must(" (?:isn't|aren't) left")
-        terms += take_terms(words) if words.take(" beside ") else []
+    excluded = re.match(EXCLUDED, text)
+    if excluded:
+        front = words.must(EXCLUDED)
+        terms = [Term(excluded["node"], "every release") if excluded["node"] else read_term(excluded["term"])]
+        terms += take_terms(words) if front.endswith(" with ") else []
         words.must(": ")
         return Step(terms, terms[0].node, None, None, read_causes(words.rest), None)
     need, terms, needed, requirements = take_need(words, lines)
