@@ -176,7 +176,7 @@ pub fn refuted_by_sets(
 {
     match Learning.refute_sets(alloc, problem)? {
         Some(refutation) => {
-            let fewer = narrowed(alloc, problem, &refutation)?;
+            let fewer = narrowed(alloc, &*problem, &refutation)?;
             if check_sets(problem, &fewer) {
                 return Ok(Some(fewer));
             }

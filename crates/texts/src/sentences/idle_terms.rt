@@ -1,44 +1,28 @@
-// A set refutation without the terms on which no conflict rests.
+// Conflicts without the terms on which they don't rest.
 
 use crate::sentences::covering::{Cover, binds};
-use crate::sentences::grounds::{Ground, grounds_of};
-use crate::sentences::terms::{Term, conflicts_of, told_conflict};
-use edits::{Problem, SetRefutation, SetTerm};
-use lists::Seq;
+use crate::sentences::grounds::Ground;
+use crate::sentences::terms::Term;
 use problems::SetNeed;
 use std::alloc::{AllocError, Global};
 
-/// The refutation with those terms of its conflicts alone on which their own grounds rest, up to the first
-/// conflict that has none left.
+/// The conflicts with those of their terms alone on which their own grounds rest, up to the first one that has
+/// none left.
 pub fn without_idle_terms<'a>(
     alloc: Global,
-    problem: &'a Problem<'_>,
-    refutation: &'a SetRefutation,
-) -> Result<SetRefutation, AllocError> {
-    let conflicts = conflicts_of(alloc, problem, refutation)?;
-    let grounds = grounds_of(alloc, problem, refutation.conflicts(), conflicts.as_slice())?;
-    let told = lean_conflicts(alloc, problem, conflicts.as_slice(), grounds.as_slice())?;
-    Ok(SetRefutation::new(Seq::from_vec(told)))
-}
-
-// The conflicts without their idle terms, up to the first one that has none left.
-fn lean_conflicts<'a>(
-    alloc: Global,
-    problem: &Problem<'_>,
     conflicts: &[Vec<Term<'a>>],
-    grounds: &[Ground<'a>],
-) -> Result<Vec<Seq<SetTerm>>, AllocError> {
+    grounds: &[Ground<'_>],
+) -> Result<Vec<Vec<Term<'a>>>, AllocError> {
     let mut lean = Vec::new(alloc);
-    let mut told = Vec::new(alloc);
     for (conflict, ground) in conflicts.iter().zip(grounds) {
         let terms = busy_terms(alloc, conflict.as_slice(), ground, lean.as_slice())?;
-        told.push(told_conflict(alloc, problem, terms.as_slice())?)?;
-        if terms.is_empty() {
-            return Ok(told);
-        }
+        let is_last = terms.is_empty();
         lean.push(terms)?;
+        if is_last {
+            return Ok(lean);
+        }
     }
-    Ok(told)
+    Ok(lean)
 }
 
 // The terms of a conflict on which its ground rests, over the earlier conflicts without their idle ones.

@@ -18,25 +18,15 @@ struct Share {
 
 /// The refutation without what its last conflict doesn't rest on: without conflicts, and in its conflicts without
 /// terms and without releases. Whether it is a refutation, `check_sets` tells.
-pub fn narrowed(
+pub fn narrowed<'a>(
     alloc: Global,
-    problem: &Problem<'_>,
-    refutation: &SetRefutation,
-) -> Result<SetRefutation, AllocError> {
-    let used = used_of(alloc, problem, refutation)?;
-    let lean = without_idle_terms(alloc, &*problem, &used)?;
-    used_of(alloc, problem, &lean)
-}
-
-// The conflicts on which the last one rests, and in their terms the releases alone that this takes.
-fn used_of(
-    alloc: Global,
-    problem: &Problem<'_>,
-    refutation: &SetRefutation,
+    problem: &'a Problem<'_>,
+    refutation: &'a SetRefutation,
 ) -> Result<SetRefutation, AllocError> {
     let conflicts = conflicts_of(alloc, problem, refutation)?;
     let grounds = grounds_of(alloc, problem, refutation.conflicts(), conflicts.as_slice())?;
-    let kept = kept_conflicts(alloc, problem, conflicts.as_slice(), grounds.as_slice())?;
+    let lean = without_idle_terms(alloc, conflicts.as_slice(), grounds.as_slice())?;
+    let kept = kept_conflicts(alloc, problem, lean.as_slice(), grounds.as_slice())?;
     let mut told = Vec::new(alloc);
     for conflict in kept.as_slice().iter().rev() {
         told.push(told_conflict(alloc, problem, conflict.as_slice())?)?;
@@ -44,7 +34,8 @@ fn used_of(
     Ok(SetRefutation::new(Seq::from_vec(told)))
 }
 
-// The conflicts that are kept, the last one first.
+// What is kept of the conflicts: those on which the last one rests, this first, and in their terms the releases alone
+// that it takes.
 fn kept_conflicts<'a>(
     alloc: Global,
     problem: &'a Problem<'_>,
