@@ -1,12 +1,6 @@
 pub mod BatchLine
-pub mod CommandWords
 pub mod Faults
-pub mod Options
-pub mod Questions
 pub mod Replies
-pub mod Requests
 pub mod Runs
 pub mod Standings
 pub mod Streams
-pub mod Subcommands
-pub mod UsageFaults

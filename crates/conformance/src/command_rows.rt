@@ -3,7 +3,7 @@
 use crate::environment_rows::bytes_of;
 use crate::notation::owned;
 use crate::telling::Telling;
-use commands::request::{
+use command_line::request::{
     DiffRange, Format, Inputs, Invocation, NeededOption, Question, RequestFault, Saving, Shown,
     Subcommand, request,
 };

@@ -2,7 +2,8 @@
 
 use crate::scenarios::data;
 use crate::targets::unnamed;
-use commands::request::{RequestFault, Subcommand, request};
+use command_line::request::{RequestFault, Subcommand, request};
+use commands::{Item, read_item};
 use edits::{Edit, Refusal, State, Target, TargetName, Targets, edit};
 use journal::{Command, Reply, Session};
 use lists::{Seq, Text, trim_end};
@@ -25,6 +26,7 @@ pub fn example(alloc: Global, library: &str) -> Option<String> {
         "pep508" => of_pep508(alloc, &data::environment(alloc)?).ok()?,
         "snapshot" => of_snapshot(alloc, data::index_text(alloc)?.as_bytes()).ok()?,
         "commands" => of_commands(alloc).ok()?,
+        "command_line" => of_command_line(alloc).ok()?,
         _ => over_index(alloc, library)?,
     };
     format!(in alloc; "{is_true}").ok()
@@ -164,7 +166,12 @@ fn of_journal(
     Ok(added == Reply::Done(1) && undone == Reply::Done(0))
 }
 
-fn of_commands(alloc: Global) -> Result<bool, RequestFault> {
+fn of_commands(alloc: Global) -> Result<bool, AllocError> {
+    let asked = read_item(alloc, b"constrain flask >=2,<3", true)?;
+    Ok(matches!(asked, Some(Item::Edit(Edit::Constrain(_, _)))))
+}
+
+fn of_command_line(alloc: Global) -> Result<bool, RequestFault> {
     let words = ["reqlock", "--dir", "web", "undo"];
     let asked = request(alloc, &words)?;
     Ok(asked.dir == "web" && matches!(asked.subcommand, Subcommand::Undo(_)))

@@ -12,8 +12,8 @@ use crate::next_node::Need;
 use indexmap::IndexMap;
 use search::{Decision, Table};
 
-/// A place among what is asked for on a name, and one among the extras there. What stands there is
-/// tested, so that any place is right.
+/// A place among what is asked for on a name, and one among the extras there. It is only a hint: what
+/// stands there is checked before it is used.
 #[derive(Clone, Copy)]
 pub struct Cursor {
     pub name: usize,

@@ -1,7 +1,7 @@
 -- How the program stops, and with which status. All of it is reqlock's own rule.
 use Rattle.std.specs.Prelude.{◌≡◌, ◌⊎◌}
 use Rattle.commands.specs.declared.batch.BatchFault.TheVariants as batches
-use Rattle.commands.specs.declared.usage.NeededOption.TheVariants as options
+use Rattle.command_line.specs.declared.usage.NeededOption.TheVariants as options
 use Rattle.files.specs.declared.fault.Fault.{Fault}
 use Rattle.files.specs.declared.fault.Fault.TheVariants as faults
 use Rattle.reqlock.specs.declared.stop.Status.{Status}

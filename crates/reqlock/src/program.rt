@@ -14,7 +14,7 @@ use crate::subcommands::show::print_shown;
 use crate::subcommands::skipped::print_skipped;
 use crate::subcommands::why::{print_why, print_why_init};
 use crate::subcommands::why_not::print_why_not;
-use commands::request::{Invocation, Question, Saving, Subcommand, request};
+use command_line::request::{Invocation, Question, Saving, Subcommand, request};
 use files::target_files::{TargetFile, target_files};
 use files::{InputFault, InputFile, LockFile, lock_to_save};
 use journal::Command;

@@ -8,9 +8,9 @@ ghost use Rattle.reqlock.specs.declared.stop.Status.TheVariants as statuses;
 ghost use Rattle.reqlock.specs.declared.stop.Stop.TheVariants as stops;
 
 use crate::input_fault_text::InputFaultText;
+use command_line::request::{NeededOption, RequestFault};
 use commands::batch::BatchFault;
 use commands::refusal_word;
-use commands::request::{NeededOption, RequestFault};
 use edits::{Refusal, TargetName};
 use files::{Fault, InputFault, InputFile};
 use std::alloc::{AllocError, AllocFailed};

@@ -8,8 +8,8 @@ ghost use Rattle.states.specs.StateParts.{StateParts};
 ghost use Rattle.states.specs.declared.refusal.Refusal.TheVariants.{NothingChanges};
 
 use crate::stop::{Stop, print};
+use command_line::request::Format;
 use commands::ReplyText;
-use commands::request::Format;
 use edits::{Change, Edit, Refusal, State, edit};
 use files::LockFile;
 use files::saved_history::{saved_session, session_over};

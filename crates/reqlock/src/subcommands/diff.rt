@@ -4,7 +4,7 @@ ghost use Rattle.std.specs.Prelude.{IfOk};
 ghost use Rattle.journal.specs.Places.{IsBetween};
 
 use crate::stop::{Stop, show};
-use commands::request::{DiffRange, Format};
+use command_line::request::{DiffRange, Format};
 use edits::Change;
 use files::LockFile;
 use files::saved_history::saved_session;

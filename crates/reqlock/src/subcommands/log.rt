@@ -1,7 +1,7 @@
 // What `log` prints.
 
 use crate::stop::{Stop, show};
-use commands::request::Format;
+use command_line::request::Format;
 use files::LockFile;
 use files::saved_history::saved_session;
 use std::io::Write;

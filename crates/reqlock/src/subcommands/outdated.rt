@@ -1,7 +1,7 @@
 // What `outdated` prints.
 
 use crate::stop::{Stop, show};
-use commands::request::Format;
+use command_line::request::Format;
 use files::LockFile;
 use files::saved_history::session_over;
 use std::io::Write;

@@ -1,7 +1,7 @@
 // What `show` prints.
 
 use crate::stop::{Stop, show};
-use commands::request::{Format, Shown};
+use command_line::request::{Format, Shown};
 use edits::{Name, Refusal, State};
 use files::LockFile;
 use files::saved_history::{saved_session, session_over};

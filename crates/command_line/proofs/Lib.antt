@@ -1,0 +1,4 @@
+pub mod Arguments
+pub mod Lacking
+pub mod Requests
+pub mod NoGlobals

@@ -1,0 +1,6 @@
+pub mod CommandWords
+pub mod Options
+pub mod Questions
+pub mod Requests
+pub mod Subcommands
+pub mod UsageFaults

@@ -1,0 +1,55 @@
+-- The edit that the words of a command line ask for, and the one that a question of `why` is about. All of it is reqlock's own rule.
+use Rattle.std.specs.Prelude.{ℕ, Bool, false, List, [], ◌∷◌, Option, None, Some, codes, unwrap_or, option_map, if◌then◌else◌, ◌&&◌, ◌||◌, is_some, not, slice_get}
+use Rattle.std.specs.List.{list_any}
+use Rattle.std.specs.Str.{bytes_eq}
+use Rattle.clap.specs.Words.{Row, Text, all_of, first_of}
+use Rattle.edits.specs.declared.request.Edit.{Edit as EditValue}
+use Rattle.edits.specs.declared.request.Edit.TheVariants.{Add, Constrain, Relock, Remove, Upgrade, UpgradeAll}
+use Rattle.command_line.specs.Options.{has_flag}
+
+-- the upgrade of these names, or of all where there are none
+abbrev pub upgrade_with : List Text → EditValue
+upgrade_with [] = UpgradeAll
+upgrade_with (name ∷ names) = Upgrade (name ∷ names)
+
+-- the edit of a subcommand with the texts that clap found: none where the subcommand is no edit, or lacks a text
+abbrev pub edit_of : Text → List Row → Option EditValue
+edit_of name rows =
+    if bytes_eq name (codes "add") then option_map Add (first_of (codes "text") rows) else
+    if bytes_eq name (codes "remove") then option_map Remove (first_of (codes "name") rows) else
+    if bytes_eq name (codes "constrain") then option_map (λ n. Constrain n (unwrap_or (first_of (codes "specifiers") rows) [])) (first_of (codes "name") rows) else
+    if bytes_eq name (codes "upgrade") then Some (upgrade_with (unwrap_or (all_of (codes "names") rows) [])) else
+    if bytes_eq name (codes "relock") then Some Relock else
+    None
+
+-- the constraint of the texts NAME and SPEC; without SPEC the specifiers of the line are taken away
+abbrev pub text_at : List Text → ℕ → Text
+text_at texts place = unwrap_or (slice_get texts place) []
+
+abbrev pub constraint_of : List Text → EditValue
+constraint_of texts = Constrain (text_at texts 0) (text_at texts 1)
+
+-- the edit of `--upgrade [NAME ..]`, `--constrain NAME [SPEC]`, `--remove NAME` or a text, whichever is given, or a new lock
+abbrev pub edit_among : Option (List Text) → Option (List Text) → Option Text → Option Text → EditValue
+edit_among (Some names) constraint removal line = upgrade_with names
+edit_among None (Some texts) removal line = constraint_of texts
+edit_among None None (Some name) line = Remove name
+edit_among None None None (Some line) = Add line
+edit_among None None None None = Relock
+
+-- the edit that a question is about, of what stands behind `why`
+abbrev pub questioned : List Row → EditValue
+questioned rows = edit_among (all_of (codes "upgrade") rows) (all_of (codes "constrain") rows) (first_of (codes "remove") rows) (first_of (codes "text") rows)
+
+abbrev pub is_given : List Row → Text → Bool
+is_given rows id = is_some (all_of id rows)
+
+-- whether two of these are
+abbrev pub has_two : List Bool → Bool
+has_two [] = false
+has_two (one ∷ others) = (one && list_any (λ other. other) others) || has_two others
+
+-- whether two questions stand behind `why`; a text is one, but for that of `--init`
+abbrev pub asks_twice : List Row → Bool
+asks_twice rows = has_two (has_flag rows (codes "init") ∷ is_given rows (codes "constrain") ∷ is_given rows (codes "upgrade") ∷ is_given rows (codes "remove")
+    ∷ is_given rows (codes "not") ∷ (not (has_flag rows (codes "init")) && is_given rows (codes "text")) ∷ [])

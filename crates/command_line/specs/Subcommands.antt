@@ -1,0 +1,89 @@
+-- The subcommand that the words of a command line ask for, by what clap found before it and behind it. All of it is reqlock's own
+-- rule.
+use Rattle.std.specs.Prelude.{◌≡◌, ◌≢◌, ◌<◌, ◌^◌, ℕ, true, false, List, [], Option, None, Some, codes, if◌then◌else◌, IsSomeAnd}
+use Rattle.std.specs.Borrow.{Bor}
+use Rattle.std.specs.Str.Parse.{IsNumeral, digits_value, without_leading_plus}
+use Rattle.clap.specs.Words.{Row, Text, first_of}
+use Rattle.command_line.specs.declared.invocation.DiffRange.{DiffRange}
+use Rattle.command_line.specs.declared.invocation.DiffRange.TheVariants.{LastStep, Since, Between}
+use Rattle.command_line.specs.declared.invocation.Format.{Format as FormatValue}
+use Rattle.command_line.specs.declared.invocation.Format.TheVariants.{Lines, Json}
+use Rattle.command_line.specs.declared.invocation.Inputs.{Inputs}
+use Rattle.command_line.specs.declared.invocation.Question.{Question}
+use Rattle.command_line.specs.declared.invocation.Question.TheVariants as questions
+use Rattle.command_line.specs.declared.invocation.Saving.{Saving as SavingValue}
+use Rattle.command_line.specs.declared.invocation.Saving.TheVariants.{Save, DryRun}
+use Rattle.command_line.specs.declared.invocation.Shown.{Shown}
+use Rattle.command_line.specs.declared.invocation.Shown.TheVariants.{Table, Entry, Tree}
+use Rattle.command_line.specs.declared.invocation.Subcommand.{Subcommand}
+use Rattle.command_line.specs.declared.invocation.Subcommand.TheVariants.{Init, Edit, Undo, Redo, Batch, Try, Show, Log, Diff, Check, Outdated, Skipped, Why}
+use Rattle.command_line.specs.Options.{all_chosen, chosen, has_flag, is_flagged, text_of}
+use Rattle.command_line.specs.Questions.{asks_twice, edit_of, questioned}
+
+-- the index and the environments that are given
+abbrev pub index_of : List Row → List Row → Option Text
+index_of before behind = chosen before behind (codes "index")
+
+abbrev pub environments_of : List Row → List Row → List Text
+environments_of before behind = all_chosen before behind (codes "env")
+
+-- both, each value of `--env` as it stands, and at least one
+abbrev pub HasInputs : List Row → List Row → Inputs → Type 0
+HasInputs before behind inputs = (index_of before behind ≡ Some inputs.index.now) × (inputs.environments ≡ environments_of before behind) × (environments_of before behind ≢ [])
+
+-- whether a step is saved, and how a result is printed
+abbrev pub saving_of : List Row → List Row → SavingValue
+saving_of before behind = if is_flagged before behind (codes "dry-run") then DryRun else Save
+
+abbrev pub format_of : List Row → List Row → FormatValue
+format_of before behind = if is_flagged before behind (codes "json") then Json else Lines
+
+-- what of the lock is printed
+abbrev pub IsShown : List Row → List Row → Shown → Type 0
+IsShown before behind Table = (first_of (codes "name") behind ≡ None) × (has_flag behind (codes "tree") ≡ false)
+IsShown before behind (Entry name over) = (first_of (codes "name") behind ≡ Some name.now) × (has_flag behind (codes "tree") ≡ false) × (text_of over ≡ index_of before behind)
+IsShown before behind Tree = (first_of (codes "name") behind ≡ None) × (has_flag behind (codes "tree") ≡ true)
+
+-- a text that is a number: decimal digits, with a plus in front or none, and what fits a `usize`
+abbrev pub IsPlaceText : Text → Type 0
+IsPlaceText text = IsNumeral 10 (without_leading_plus text) × (digits_value 10 (without_leading_plus text) < 2 ^ 64)
+
+-- the place of the history that a text is
+abbrev pub IsPlace : ℕ → Text → Type 0
+IsPlace place text = IsPlaceText text × (place ≡ digits_value 10 (without_leading_plus text))
+
+-- the places that are compared: FROM and TO, as far as they are given
+abbrev pub IsRange : List Row → DiffRange → Type 0
+IsRange behind LastStep = first_of (codes "from") behind ≡ None
+IsRange behind (Since from) = IsSomeAnd (first_of (codes "from") behind) (IsPlace from) × (first_of (codes "to") behind ≡ None)
+IsRange behind (Between from to) = IsSomeAnd (first_of (codes "from") behind) (IsPlace from) × IsSomeAnd (first_of (codes "to") behind) (IsPlace to)
+
+-- the index over which `check` is asked whether the lock is current
+abbrev pub IsChecked : List Row → List Row → Option (Bor Text) → Type 0
+IsChecked before behind None = has_flag behind (codes "current") ≡ false
+IsChecked before behind (Some over) = (has_flag behind (codes "current") ≡ true) × (index_of before behind ≡ Some over.now)
+
+-- what `why` is asked: about `init`, about a release, or about an edit
+abbrev pub IsQuestion : List Row → List Row → Question → Type 0
+IsQuestion before behind (questions.Init inputs line) = (has_flag behind (codes "init") ≡ true) × HasInputs before behind inputs × (text_of line ≡ first_of (codes "text") behind)
+IsQuestion before behind (questions.Release release over) =
+    (has_flag behind (codes "init") ≡ false) × (first_of (codes "not") behind ≡ Some release.now) × (index_of before behind ≡ Some over.now)
+IsQuestion before behind (questions.Edit edit over) =
+    (has_flag behind (codes "init") ≡ false) × (first_of (codes "not") behind ≡ None) × (edit ≡ questioned behind) × (index_of before behind ≡ Some over.now)
+
+-- a subcommand of this name
+abbrev pub IsAsked : List Row → List Row → Text → Subcommand → Type 0
+IsAsked before behind name (Init inputs) = (name ≡ codes "init") × HasInputs before behind inputs
+IsAsked before behind name (Edit edit over saving) = (edit_of name behind ≡ Some edit) × (index_of before behind ≡ Some over.now) × (saving ≡ saving_of before behind)
+IsAsked before behind name (Undo saving) = (name ≡ codes "undo") × (saving ≡ saving_of before behind)
+IsAsked before behind name (Redo saving) = (name ≡ codes "redo") × (saving ≡ saving_of before behind)
+IsAsked before behind name (Batch over) = (name ≡ codes "batch") × (index_of before behind ≡ Some over.now)
+IsAsked before behind name (Try inputs) = (name ≡ codes "try") × HasInputs before behind inputs
+IsAsked before behind name (Show shown format) = (name ≡ codes "show") × IsShown before behind shown × (format ≡ format_of before behind)
+IsAsked before behind name (Log long format) = (name ≡ codes "log") × (long ≡ has_flag behind (codes "long")) × (format ≡ format_of before behind)
+IsAsked before behind name (Diff range format) = (name ≡ codes "diff") × IsRange behind range × (format ≡ format_of before behind)
+IsAsked before behind name (Check current format) = (name ≡ codes "check") × IsChecked before behind current × (format ≡ format_of before behind)
+IsAsked before behind name (Outdated over format) = (name ≡ codes "outdated") × (index_of before behind ≡ Some over.now) × (format ≡ format_of before behind)
+IsAsked before behind name (Skipped over) = (name ≡ codes "skipped") × (index_of before behind ≡ Some over.now)
+IsAsked before behind name (Why question explains) =
+    (name ≡ codes "why") × (asks_twice behind ≡ false) × IsQuestion before behind question × (explains ≡ has_flag behind (codes "explain"))
