@@ -1,4 +1,2 @@
-pub mod Arguments
 pub mod Lacking
 pub mod Requests
-pub mod NoGlobals

@@ -1,6 +1,6 @@
 -- Lemmas on what clap reads.
 use Rattle.std.proofs.Common.{◌≡◌, ℕ, Bor, true, true≢false, List, [], Option, None, Some, refl, sym, ap, subst, inl, inr, codes}
-use Rattle.std.specs.Prelude.{IsSomeAnd, is_some, option_map, unwrap_or, Box, Result}
+use Rattle.std.specs.Prelude.{is_some, option_map, unwrap_or, Box, Result}
 use Rattle.clap.specs.Words.{App, FailsBy, HasMatchesOf, Row, Text, all_of, HasKind, IsAmong, fault_of, first_of, found_of, is_simple, is_simple_and_free, kind_of, matches_of, rows_of, subcommand_name_of, subcommand_of, subcommand_rows, subcommand_rows_of}
 use Rattle.clap.specs.declared.error.Error.{Error}
 use Rattle.clap.specs.declared.parser.matches.ArgMatches.{ArgMatches}
@@ -9,7 +9,7 @@ use Rattle.clap.specs.declared.parser.matches.SubCommand.{SubCommand}
 use Rattle.std.specs.Box.{box_value}
 use Rattle.command_line.specs.declared.usage.RequestFault.{RequestFault}
 use Rattle.command_line.specs.declared.usage.RequestFault.TheVariants.{Usage, Needed, OutOfMemory}
-use Rattle.command_line.specs.CommandWords.{reqlock_app}
+use Rattle.clap_command.specs.CommandWords.{reqlock_app}
 use Rattle.edits.specs.declared.request.Edit.{Edit}
 use Rattle.edits.specs.declared.request.Edit.TheVariants.{Add, Constrain, Remove}
 use Rattle.command_line.specs.Questions.{edit_of, upgrade_with}
@@ -57,11 +57,6 @@ both_of (Some found) a b first second = λ i. Some (unwrap_or (sym first i) a, u
 pub now_or : (text : Option (Bor (List ℕ))) (other : Bor (List ℕ)) → (unwrap_or text other).now ≡ unwrap_or (option_map (λ s. s.now) text) other.now
 now_or None other = refl
 now_or (Some text) other = refl
-
--- a value that is there and is this one
-pub some_with : {X : Type 0} (found : Option X) (x : X) → IsSomeAnd found (λ y. y ≡ x) → found ≡ Some x
-some_with None x is = absurd is
-some_with (Some y) x is = ap Some is
 
 -- the edit of each name, by its texts
 pub add_is : (name : Text) (rows : List Row) (text : Option Text) → name ≡ codes "add" → text ≡ first_of (codes "text") rows → option_map Add text ≡ edit_of name rows

@@ -1,4 +1,3 @@
-pub mod CommandWords
 pub mod Options
 pub mod Questions
 pub mod Requests

@@ -5,7 +5,7 @@ use Rattle.clap.specs.declared.error.kind.ErrorKind.TheVariants as kinds
 use Rattle.command_line.specs.declared.invocation.Invocation.{Invocation}
 use Rattle.command_line.specs.declared.usage.RequestFault.{RequestFault}
 use Rattle.command_line.specs.declared.usage.RequestFault.TheVariants.{Usage, Needed, OutOfMemory}
-use Rattle.command_line.specs.CommandWords.{reqlock_app}
+use Rattle.clap_command.specs.CommandWords.{reqlock_app}
 use Rattle.command_line.specs.Options.{chosen, has_stray, has_twice, is_flagged}
 use Rattle.command_line.specs.Subcommands.{IsAsked}
 use Rattle.command_line.specs.UsageFaults.{FaultWith, IsLacking}

@@ -9,12 +9,10 @@
 //! ```
 #![tactic(auto)]
 
-mod command_words;
 mod edit_words;
 mod invocation;
 mod options;
 mod question;
 pub mod request;
 mod subcommand;
-mod subcommand_help;
 mod usage;

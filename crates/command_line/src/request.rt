@@ -2,12 +2,11 @@
 
 ghost use Rattle.std.specs.Prelude.{◌≡◌, [], false, map, true, IfOk, IfErr};
 ghost use Rattle.clap.specs.Words.{fault_of, found_of, matches_of, rows_of, subcommand_of, subcommand_rows_of};
-ghost use Rattle.command_line.specs.CommandWords.{reqlock_app};
+ghost use Rattle.clap_command.specs.CommandWords.{reqlock_app};
 ghost use Rattle.command_line.specs.Options.{has_stray, has_twice};
 ghost use Rattle.command_line.specs.Requests.{IsFault, IsRequest};
 ghost use Rattle.command_line.specs.UsageFaults.{FaultWith};
 
-use crate::command_words::command;
 pub use crate::invocation::{
     DiffRange, Format, Inputs, Invocation, Question, Saving, Shown, Subcommand,
 };
@@ -17,6 +16,7 @@ use crate::usage::{fault_of_clap, no_subcommand, stands_twice, unexpected};
 pub use crate::usage::{NeededOption, RequestFault};
 use clap::ArgMatches;
 use clap::error::ErrorKind;
+use clap_command::command;
 use std::alloc::Global;
 use std::convert::AsStr;
 

@@ -2,7 +2,7 @@ use Rattle.std.proofs.Common.{◌∙◌, List, Option, ap, codes, inl, inr, map,
 use Rattle.std.specs.Prelude.{IsSomeAnd, unwrap_or}
 use Rattle.std.proofs.lemmas.Result.{err_from_is_err_and}
 use Rattle.clap.specs.Words.{Row, Text, found_of, matches_of, rows_of}
-use Rattle.command_line.specs.CommandWords.{reqlock_app}
+use Rattle.clap_command.specs.CommandWords.{reqlock_app}
 use Rattle.command_line.specs.Requests.{IsAskedBy}
 use Rattle.command_line.specs.declared.invocation.Invocation.{Invocation}
 use Rattle.command_line.proofs.Requests.{both_of, fault_in, name_in, now_or}
