@@ -18,11 +18,11 @@ use Rattle.states.specs.TargetNames.{is_target_name}
 use Rattle.states.proofs.EntryFacts.{entry-from}
 use Rattle.journal.specs.Values.{State, Target}
 use Rattle.journal.specs.Changes.{AreSteps, IsChange}
-use Rattle.journal.specs.Format.Lines.{has_target, step_in}
-use Rattle.journal.specs.Format.Written.{step_data}
-use Rattle.journal.specs.declared.format.header.Header.{Header}
-use Rattle.journal.specs.declared.format.header.JournalVersion.TheVariants.{Two}
-use Rattle.journal.proofs.StepsBack.{AreDigests, IsDigest, IsEntryOn, IsLawfulChange, ReadsVersions, step-back}
+use Rattle.journal_format.specs.Lines.{has_target, step_in}
+use Rattle.journal_format.specs.Written.{step_data}
+use Rattle.journal_format.specs.declared.header.Header.{Header}
+use Rattle.journal_format.specs.declared.header.JournalVersion.TheVariants.{Two}
+use Rattle.journal_format.proofs.StepsBack.{AreDigests, IsDigest, IsEntryOn, IsLawfulChange, ReadsVersions, step-back}
 
 entry-on : (entries : List EntryParts) (name : List ℕ) (o : Option EntryParts) → AllByRecursion IsPackage entries → entry_on entries name ≡ o → IsEntryOn name o
 entry-on entries name None all at = tt

@@ -11,13 +11,13 @@ use Rattle.lists.specs.Rising.{rises}
 use Rattle.lists.proofs.Members.{Contains-cons_cases, Contains-here, Contains-map_of, Contains-nil, Contains-there}
 use Rattle.states.proofs.EntryFacts.{not-below, rises-above, rises-rest}
 use Rattle.journal.specs.Values.{Target}
-use Rattle.journal.specs.Format.Lines.{has_target}
+use Rattle.journal_format.specs.Lines.{has_target}
 use Rattle.journal.specs.Locks.{LockTexts, is_kept, lock_at, lost_lock, odd_lock, stray_lock}
 use Rattle.journal.specs.LocksWritten.{IsWrittenLock}
 use Rattle.journal.specs.Opening.{TargetsRead}
 use Rattle.journal.specs.Saving.{targets_for}
-use Rattle.journal.specs.declared.format.header.Header.{Header}
-use Rattle.journal.specs.declared.format.header.HeaderTarget.{HeaderTarget}
+use Rattle.journal_format.specs.declared.header.Header.{Header}
+use Rattle.journal_format.specs.declared.header.HeaderTarget.{HeaderTarget}
 
 pub same-bytes : (t : List ℕ) → bytes_eq t t ≡ true
 same-bytes t = (bytes_eq-Decides t t).1 refl

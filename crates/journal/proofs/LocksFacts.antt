@@ -12,7 +12,7 @@ use Rattle.pylock.specs.Reading.{lock_in_text}
 use Rattle.journal.specs.Values.{Target, Refusal, OutOfMemory}
 use Rattle.journal.specs.Locks.{LockTexts, is_kept, lock_at}
 use Rattle.journal.specs.Opening.{IsReadTarget}
-use Rattle.journal.specs.declared.format.header.HeaderTarget.{HeaderTarget}
+use Rattle.journal_format.specs.declared.header.HeaderTarget.{HeaderTarget}
 
 -- a look-up by bytes is the look-up of a map
 lookup-get : (name : List ℕ) (locks : LockTexts) → lock_at locks name ≡ lookup (is_at (slice_cmp nat_cmp name)) locks

@@ -19,25 +19,25 @@ use Rattle.states.specs.StateParts.{digest_of}
 use Rattle.states.specs.TargetNames.{is_target_name}
 use Rattle.journal.specs.Values.{State, Target}
 use Rattle.journal.specs.Changes.{HistoryParts}
-use Rattle.journal.specs.Format.Forms.{json_of}
-use Rattle.journal.specs.Format.Lines.{IsStepLine, are_targets, header_of_line, step_of_line}
-use Rattle.journal.specs.Format.Written.{header_data, line_of, step_data}
+use Rattle.journal_format.specs.Forms.{json_of}
+use Rattle.journal_format.specs.Lines.{IsStepLine, are_targets, header_of_line, step_of_line}
+use Rattle.journal_format.specs.Written.{header_data, line_of, step_data}
 use Rattle.journal.specs.Locks.{LockTexts, odd_lock}
 use Rattle.journal.specs.LocksWritten.{IsLawfulTarget, IsWrittenLock}
 use Rattle.journal.specs.Opening.{Agrees, BeginsWith, Fit, IsAnswer, NamesEnvironment, Opens, Present, StepLines}
 use Rattle.journal.specs.Saving.{IsSaved, OpensAs, header_for, targets_for}
 use Rattle.journal.specs.Tied.{AreWritten, IsWritten}
-use Rattle.journal.specs.declared.format.header.Header.{Header}
+use Rattle.journal_format.specs.declared.header.Header.{Header}
 use Rattle.journal.specs.declared.saving.Saved.{Saved}
 use Rattle.journal.proofs.ChangesRead.{IsRead, Knows, all-known, changes-read}
-use Rattle.journal.proofs.HeaderBack.{IsHeader, IsTarget, header-back}
+use Rattle.journal_format.proofs.HeaderBack.{IsHeader, IsTarget, header-back}
 use Rattle.journal.proofs.Histories.{AreSteps-count}
-use Rattle.journal.proofs.LinesCut.{cut-written}
+use Rattle.journal_format.proofs.LinesCut.{cut-written}
 use Rattle.journal.proofs.LocksAgain.{name-known, names, names-for, none-odd, targets-again}
 use Rattle.journal.proofs.OpensOnce.{opens-once}
 use Rattle.journal.proofs.PresentFacts.{reads_present}
 use Rattle.journal.proofs.StatesAgain.{past-again, state-at}
-use Rattle.journal.proofs.StepsBack.{IsDigest, ReadsVersions}
+use Rattle.journal_format.proofs.StepsBack.{IsDigest, ReadsVersions}
 
 bytes-append : (xs ys : List ℕ) → IsBytes xs → IsBytes ys → IsBytes (xs ++ ys)
 bytes-append [] ys h g i = g i

@@ -5,11 +5,11 @@ use Rattle.pylock.specs.Reading.{lock_in_text}
 use Rattle.states.specs.Changes.{ChangeParts, Leads, inverse}
 use Rattle.states.specs.Laws.{AChangeLeadsToOneState}
 use Rattle.journal.specs.Values.{State, Target, Refusal}
-use Rattle.journal.specs.Format.Lines.{cut_line, header_of_line, step_of_line}
+use Rattle.journal_format.specs.Lines.{cut_line, header_of_line, step_of_line}
 use Rattle.journal.specs.Locks.{LockTexts, odd_lock}
 use Rattle.journal.specs.Opening.{Agrees, Asks, BeginsWith, Finds, Fit, IsAnswer, IsReadTarget, GoesOn, Opens, PastOf, Present, PresentParts, StatesBefore, StatesBehind, StepAt, StepLines, TargetsRead, Then}
-use Rattle.journal.specs.declared.format.header.Header.{Header}
-use Rattle.journal.specs.declared.format.header.HeaderTarget.{HeaderTarget}
+use Rattle.journal_format.specs.declared.header.Header.{Header}
+use Rattle.journal_format.specs.declared.header.HeaderTarget.{HeaderTarget}
 
 -- there is one answer at most
 abbrev pub IsOnce : {A : Type 0} → (Result A Refusal → Type 0) → Type 0

@@ -9,11 +9,11 @@ use Rattle.states.specs.StateParts.{digest_of}
 use Rattle.states.specs.declared.refusal.Refusal.TheVariants.{FilesDisagree, JournalBroken}
 use Rattle.states.specs.declared.refusal.SavedFile.TheVariants.{Lock, Requirements}
 use Rattle.journal.specs.Values.{State, Target, Refusal, OutOfMemory}
-use Rattle.journal.specs.Format.Lines.{are_targets}
+use Rattle.journal_format.specs.Lines.{are_targets}
 use Rattle.journal.specs.Locks.{LockTexts, odd_lock}
 use Rattle.journal.specs.Opening.{Agrees, Asks, Finds, Fit, GoesOn, IsAnswer, IsReadTarget, NamesEnvironment, Present, PresentParts, TargetsRead, Then}
-use Rattle.journal.specs.declared.format.header.Header.{Header}
-use Rattle.journal.specs.declared.format.header.HeaderTarget.{HeaderTarget}
+use Rattle.journal_format.specs.declared.header.Header.{Header}
+use Rattle.journal_format.specs.declared.header.HeaderTarget.{HeaderTarget}
 use Rattle.journal.proofs.StepFacts.{before, before-more}
 use Rattle.journal.proofs.StepsJoined.{all-append}
 

@@ -5,7 +5,7 @@ use Rattle.std.proofs.lemmas.List.{append-nil}
 use Rattle.states.specs.Changes.{ChangeParts}
 use Rattle.states.specs.declared.refusal.Refusal.TheVariants.{JournalBroken}
 use Rattle.journal.specs.Values.{Refusal, OutOfMemory}
-use Rattle.journal.specs.declared.format.header.Header.{Header}
+use Rattle.journal_format.specs.declared.header.Header.{Header}
 use Rattle.journal.specs.Opening.{IsAnswer, GoesOn, StepAt, StepLines}
 
 -- what was read before, and what the rest answers

@@ -1,11 +1,11 @@
 -- Worked values of the definitions.
 use Rattle.std.specs.Prelude.{◌≡◌, ℕ, [], ◌∷◌, List, true, false, Some, codes, refl}
 use Rattle.lists.specs.Rising.{rises}
-use Rattle.journal.specs.Format.Lines.{are_targets}
+use Rattle.journal_format.specs.Lines.{are_targets}
 use Rattle.journal.specs.Locks.{lesser, odd_lock}
-use Rattle.journal.specs.declared.format.header.Header.{Header}
-use Rattle.journal.specs.declared.format.header.HeaderTarget.{HeaderTarget}
-use Rattle.journal.specs.declared.format.header.JournalVersion.TheVariants.{Two}
+use Rattle.journal_format.specs.declared.header.Header.{Header}
+use Rattle.journal_format.specs.declared.header.HeaderTarget.{HeaderTarget}
+use Rattle.journal_format.specs.declared.header.JournalVersion.TheVariants.{Two}
 
 -- a target of this name, in no environment
 abbrev named : List ℕ → HeaderTarget

@@ -8,7 +8,6 @@ pub mod Places
 pub mod Histories
 pub mod Laws
 pub mod Neighbours
-pub mod Format
 pub mod Locks
 pub mod Saving
 pub mod LocksWritten

@@ -13,10 +13,10 @@ use Rattle.states.specs.declared.refusal.SavedFile.TheVariants.{Lock, Requiremen
 use Rattle.journal.specs.Values.{State, Target, Refusal, OutOfMemory}
 use Rattle.journal.specs.Past.{Past}
 use Rattle.journal.specs.Changes.{HistoryParts, parts_of}
-use Rattle.journal.specs.Format.Lines.{IsStepLine, cut_line, header_of_line}
+use Rattle.journal_format.specs.Lines.{IsStepLine, cut_line, header_of_line}
 use Rattle.journal.specs.Locks.{LockTexts, lock_at, odd_lock}
-use Rattle.journal.specs.declared.format.header.Header.{Header}
-use Rattle.journal.specs.declared.format.header.HeaderTarget.{HeaderTarget}
+use Rattle.journal_format.specs.declared.header.Header.{Header}
+use Rattle.journal_format.specs.declared.header.HeaderTarget.{HeaderTarget}
 
 -- ---- tests one after the other
 

@@ -8,12 +8,12 @@ use Rattle.pylock.specs.Tables.{table_of}
 use Rattle.journal.specs.Values.{State, Target, Refusal}
 use Rattle.journal.specs.Past.{present}
 use Rattle.journal.specs.Changes.{AreSteps, HistoryParts}
-use Rattle.journal.specs.Format.Written.{journal_of}
+use Rattle.journal_format.specs.Written.{journal_of}
 use Rattle.journal.specs.Locks.{LockTexts}
 use Rattle.journal.specs.Opening.{Opens}
-use Rattle.journal.specs.declared.format.header.Header.{Header}
-use Rattle.journal.specs.declared.format.header.HeaderTarget.{HeaderTarget}
-use Rattle.journal.specs.declared.format.header.JournalVersion.TheVariants.{Two}
+use Rattle.journal_format.specs.declared.header.Header.{Header}
+use Rattle.journal_format.specs.declared.header.HeaderTarget.{HeaderTarget}
+use Rattle.journal_format.specs.declared.header.JournalVersion.TheVariants.{Two}
 use Rattle.journal.specs.declared.saving.Saved.{Saved}
 
 -- a target as a header has it, with the digest of its lock file

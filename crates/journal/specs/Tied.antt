@@ -6,8 +6,8 @@ use Rattle.serde_json.specs.Data.{Data}
 use Rattle.serde_json.specs.Read.{read}
 use Rattle.serde_json.specs.Written.{compact_text}
 use Rattle.states.specs.Changes.{ChangeParts}
-use Rattle.journal.specs.Format.Written.{header_data, step_data}
-use Rattle.journal.specs.declared.format.header.Header.{Header}
+use Rattle.journal_format.specs.Written.{header_data, step_data}
+use Rattle.journal_format.specs.declared.header.Header.{Header}
 use Rattle.states.specs.declared.refusal.Refusal.TheVariants.{FilesDisagree}
 use Rattle.states.specs.declared.refusal.SavedFile.TheVariants.{Lock}
 use Rattle.journal.specs.Values.{Refusal, OutOfMemory}

@@ -16,7 +16,6 @@
 
 mod change_history;
 mod commands;
-mod format;
 mod history;
 pub mod laws;
 mod opening;

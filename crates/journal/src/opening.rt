@@ -9,11 +9,11 @@ mod steps;
 mod walking;
 
 use crate::change_history::ChangeHistory;
-use crate::format::header::HeaderTarget;
 use crate::opening::present::{Begin, begin_of, present_of};
 use crate::opening::steps::steps_of;
 use crate::opening::walking::history_of;
 use edits::{Refusal, TargetName};
+use journal_format::HeaderTarget;
 use lists::Seq;
 use std::alloc::{AllocError, Global};
 use std::collections::BTreeMap;

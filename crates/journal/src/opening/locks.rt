@@ -8,8 +8,8 @@ ghost use Rattle.journal.specs.Locks.{is_kept, lesser, lost_lock, odd_lock, stra
 ghost use Rattle.journal.specs.Opening.{Found, IsReadTarget, TargetsRead, Tells};
 ghost use Rattle.journal.specs.Tied.{IsClear};
 
-use crate::format::header::{Header, HeaderTarget};
 use edits::{Lock, Refusal, SavedFile, Target, TargetName};
+use journal_format::{Header, HeaderTarget};
 use lists::Seq;
 use pylock::Fault;
 use sha2::{Digest, Sha256};

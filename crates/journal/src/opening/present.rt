@@ -1,19 +1,18 @@
 // The header of a journal, and the present state.
 
-ghost use Rattle.std.specs.Prelude.{◌≡◌, ◌==◌, ◌<◌, IfSome, Ok, length, option_map, position, true};
+ghost use Rattle.std.specs.Prelude.{◌≡◌, Ok, true};
 ghost use Rattle.std.specs.List.{AllByRecursion};
 ghost use Rattle.std.specs.Result.{result_map_both};
 ghost use Rattle.pep508.specs.Requirement.{file_of};
 ghost use Rattle.sha2.specs.Sha256.{sha256};
 ghost use Rattle.states.specs.declared.refusal.Refusal.TheVariants as refusals;
 ghost use Rattle.states.specs.declared.refusal.SavedFile.TheVariants as files;
-ghost use Rattle.journal.specs.Format.Lines.{are_targets, cut_line};
+ghost use Rattle.journal_format.specs.Lines.{are_targets};
 ghost use Rattle.journal.specs.Opening.{BeginsWith, Found, Holds, NamesEnvironment, Present, PresentParts, Tells};
 
-use crate::format::flaw::Flaw;
-use crate::format::header::{Header, header_of_line};
 use crate::opening::locks::{check_locks, targets_of};
 use edits::{Cause, Refusal, ReqFile, SavedFile, State, TargetName};
+use journal_format::{Flaw, Header, cut_line, header_of_line};
 use lists::Seq;
 use sha2::{Digest, Sha256};
 use states::{Target, first_unfit};
@@ -25,24 +24,6 @@ use std::collections::BTreeMap;
 pub(crate) struct Begin<'j> {
     pub(crate) header: Header,
     pub(crate) steps: &'j [u8],
-}
-
-/// The place of the first LF.
-fn place_of_lf(bytes: &[u8]) -> Option<usize>
-    ensures place { result ≡ position (λ b. b == 10) bytes.now }
-    ensures within { IfSome result (λ place. place < length bytes.now) }
-{
-    bytes.iter().position(|byte| *byte == b'\n')
-}
-
-/// The bytes before the first LF, and those behind it.
-pub(crate) fn cut_line(bytes: &[u8]) -> Option<(&[u8], &[u8])>
-    ensures { option_map (λ p. (p.0.now, p.1.now)) result ≡ cut_line bytes.now }
-{
-    match place_of_lf(bytes) {
-        Some(place) => Some((&bytes[..place], &bytes[place + 1..])),
-        None => None,
-    }
 }
 
 /// The header of the journal, and the bytes behind its line.

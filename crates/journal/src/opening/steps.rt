@@ -5,11 +5,8 @@ ghost use Rattle.std.specs.Result.{result_map_both};
 ghost use Rattle.states.specs.declared.refusal.Refusal.TheVariants as refusals;
 ghost use Rattle.journal.specs.Opening.{Found, StepAt, StepLines, Tells};
 
-use crate::format::flaw::Flaw;
-use crate::format::header::Header;
-use crate::format::steps::change_of_line;
-use crate::opening::present::cut_line;
 use edits::{Change, Refusal};
+use journal_format::{Flaw, Header, change_of_line, cut_line};
 use lists::Seq;
 use std::alloc::Global;
 

@@ -1,5 +1,5 @@
 use Rattle.std.proofs.Common.{arith}
-use Rattle.journal.proofs.HeaderFacts.{header-read}
+use Rattle.journal_format.proofs.HeaderFacts.{header-read}
 use Rattle.journal.proofs.StepFacts.{steps-count}
 use Rattle.journal.proofs.opening.opened.Goals as goal
 

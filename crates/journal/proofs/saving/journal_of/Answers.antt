@@ -1,5 +1,5 @@
 use Rattle.std.proofs.Common.{◌≤◌, length, arith, string_bytes}
-use Rattle.journal.specs.Format.Written.{header_data, line_of}
+use Rattle.journal_format.specs.Written.{header_data, line_of}
 use Rattle.journal.proofs.Histories.{AreSteps-count}
 use Rattle.journal.proofs.WrittenFacts.{lines_all, lines_more, written_all, written_more}
 use Rattle.journal.proofs.saving.journal_of.Goals as goal

@@ -1,6 +1,6 @@
 use Rattle.std.proofs.Common.{◌≡◌, ◌++◌, string_bytes, take}
 use Rattle.std.specs.List.{AllByRecursion, flat_map}
-use Rattle.journal.specs.Format.Written.{header_data, line_of, step_data}
+use Rattle.journal_format.specs.Written.{header_data, line_of, step_data}
 use Rattle.journal.specs.Tied.{IsWritten}
 use Rattle.journal.proofs.saving.journal_of.Given as goal
 

@@ -1,5 +1,5 @@
-use Rattle.journal.proofs.Depths.{header-depth}
-use Rattle.journal.proofs.WrittenFacts.{header-plain}
+use Rattle.journal_format.proofs.Depths.{header-depth}
+use Rattle.journal_format.proofs.Floats.{header-plain}
 use Rattle.journal.proofs.saving.push_header.Goals as goal
 
 pub push_line-requires-clause-plain : goal.push_line-requires-clause-plain

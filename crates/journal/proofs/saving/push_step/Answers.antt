@@ -1,5 +1,5 @@
-use Rattle.journal.proofs.Depths.{step-depth}
-use Rattle.journal.proofs.WrittenFacts.{step-plain}
+use Rattle.journal_format.proofs.Depths.{step-depth}
+use Rattle.journal_format.proofs.Floats.{step-plain}
 use Rattle.journal.proofs.saving.push_step.Goals as goal
 
 pub push_line-requires-clause-plain : goal.push_line-requires-clause-plain

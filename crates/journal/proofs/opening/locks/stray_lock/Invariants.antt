@@ -1,6 +1,6 @@
 use Rattle.std.proofs.Common.{◌≡◌}
 use Rattle.std.specs.Prelude.{find, not}
-use Rattle.journal.specs.Format.Lines.{has_target}
+use Rattle.journal_format.specs.Lines.{has_target}
 use Rattle.journal.proofs.opening.locks.stray_lock.Given as goal
 
 abbrev pub invariant-loop-name : goal.invariant-loop-name

@@ -1,8 +1,0 @@
-use Rattle.std.proofs.Common.{◌≡◌, drop}
-use Rattle.serde_json.specs.View.{items_view}
-use Rattle.journal.specs.Format.Forms.{each}
-use Rattle.journal.proofs.FormFacts.{before}
-use Rattle.journal.proofs.format.forms.each.Given as goal
-
-abbrev pub invariant-loop-place : goal.invariant-loop-place
-invariant-loop-place g l = before l.items.items (each g.T.Read.reading (items_view (drop l.place l.values))) ≡ each g.T.Read.reading (items_view l.values)

@@ -1,0 +1,75 @@
+-- The JSON values of a journal's lines nest a few levels deep.
+use Rattle.std.proofs.Common.{ℕ, ◌≤◌, List, [], ◌∷◌, map, Option, Some, None, arith}
+use Rattle.pylock.specs.declared.file.FileEntry.{FileEntry}
+use Rattle.pylock.specs.Packages.{EntryParts}
+use Rattle.states.specs.Changes.{ChangeParts}
+use Rattle.states.specs.declared.change.parts.DigestChange.{DigestChange}
+use Rattle.states.specs.declared.change.parts.EntryChange.{EntryChange}
+use Rattle.states.specs.declared.change.parts.Splice.{Splice}
+use Rattle.serde_json.specs.Data.{Data, depth, items_depth, string}
+use Rattle.serde_json.specs.Read.{max_depth}
+use Rattle.serde_json.specs.View.{items_of}
+use Rattle.journal_format.specs.declared.header.Header.{Header}
+use Rattle.journal_format.specs.declared.header.HeaderTarget.{HeaderTarget}
+use Rattle.journal_format.specs.Written.{digests_data, entry_change_data, entry_data, environment_data, file_data, header_data, nullable, splice_data, step_data, target_data}
+
+module _ {X : Type 0} (form : X → Data) (n : ℕ) (within : (x : X) → depth (form x) ≤ n) where
+  array-depth : (xs : List X) → items_depth (items_of (map form xs)) ≤ n
+  array-depth [] = omega arith
+  array-depth (x ∷ xs) = let first = within x in let rest = array-depth xs in omega (arith, first, rest)
+
+  nullable-depth : (o : Option X) → depth (nullable form o) ≤ n
+  nullable-depth None = omega arith
+  nullable-depth (Some x) = within x
+
+text-depth : (text : List ℕ) → depth (string text) ≤ 0
+text-depth text = omega arith
+
+file-depth : (f : FileEntry) → depth (file_data f) ≤ 1
+unfolding file_data
+file-depth f = omega arith
+
+entry-depth : (p : EntryParts) → depth (entry_data p) ≤ 3
+unfolding entry_data
+entry-depth p =
+    let dependencies = array-depth string 0 text-depth p.dependencies in
+    let python = nullable-depth string 0 text-depth p.requires_python in
+    let sdist = nullable-depth file_data 1 file-depth p.sdist in
+    let wheels = array-depth file_data 1 file-depth p.wheels in
+    omega (arith, dependencies, python, sdist, wheels)
+
+entry_change-depth : (c : EntryChange) → depth (entry_change_data c) ≤ 4
+unfolding entry_change_data
+entry_change-depth c =
+    let old = nullable-depth entry_data 3 entry-depth c.old in
+    let new = nullable-depth entry_data 3 entry-depth c.new in
+    omega (arith, old, new)
+
+splice-depth : (s : Splice) → depth (splice_data s) ≤ 2
+unfolding splice_data
+splice-depth s =
+    let old = array-depth string 0 text-depth s.old in
+    let new = array-depth string 0 text-depth s.new in
+    omega (arith, old, new)
+
+digests-depth : (d : DigestChange) → depth (digests_data d) ≤ 1
+unfolding digests_data
+digests-depth d = omega arith
+
+-- a step nests six levels at most
+pub step-depth : (c : ChangeParts) → depth (step_data c) ≤ max_depth
+unfolding step_data
+step-depth c =
+    let entries = array-depth entry_change_data 4 entry_change-depth c.entries in
+    let splices = array-depth splice_data 2 splice-depth c.splices in
+    let digests = nullable-depth digests_data 1 digests-depth c.digests in
+    omega (arith, entries, splices, digests)
+
+target-depth : (t : HeaderTarget) → depth (target_data t) ≤ 2
+unfolding target_data environment_data
+target-depth t = omega arith
+
+-- a header nests four
+pub header-depth : (h : Header) → depth (header_data h) ≤ max_depth
+unfolding header_data
+header-depth h = let targets = array-depth target_data 2 target-depth h.targets in omega (arith, targets)

@@ -1,0 +1,172 @@
+-- The JSON values of steps are read as what they were written for.
+use Rattle.std.proofs.Common.{◌≡◌, ℕ, true, false, List, [], ◌∷◌, length, map, Option, Some, None, is_some, Result, Ok, refl, subst}
+use Rattle.std.specs.Prelude.{IfSome}
+use Rattle.std.specs.List.{AllByRecursion, list_all}
+use Rattle.std.specs.Str.{bytes_eq}
+use Rattle.std.proofs.lemmas.Bool.{and_parts}
+use Rattle.std.proofs.lemmas.Slice.Eq.{bytes_eq-Decides}
+use Rattle.hex.specs.Hex.{IsBytes, encode_lower}
+use Rattle.hex.proofs.HexLemmas.{decode_sized-encode_lower}
+use Rattle.pep440.specs.Canonical.{canonical}
+use Rattle.pep440.specs.Tied.Reading.{version_of}
+use Rattle.pep440.specs.Version.{IsVersion, VersionParts}
+use Rattle.markers.specs.Names.{is_normal}
+use Rattle.pylock.specs.declared.file.FileEntry.{FileEntry}
+use Rattle.pylock.specs.Packages.{EntryParts, IsPackage, is_other}
+use Rattle.pylock.proofs.PackageFacts.{parts}
+use Rattle.serde_json.specs.Data.{Data, string}
+use Rattle.serde_json.specs.Find.{as_null}
+use Rattle.serde_json.specs.View.{items_of}
+use Rattle.states.specs.Changes.{ChangeParts}
+use Rattle.states.specs.TargetNames.{is_target_name}
+use Rattle.states.specs.declared.change.parts.DigestChange.{DigestChange}
+use Rattle.states.specs.declared.change.parts.EntryChange.{EntryChange}
+use Rattle.states.specs.declared.change.parts.Splice.{Splice}
+use Rattle.journal_format.specs.declared.flaw.Flaw.{Flaw}
+use Rattle.journal_format.specs.declared.header.Header.{Header}
+use Rattle.journal_format.specs.declared.header.JournalVersion.TheVariants.{Two}
+use Rattle.journal_format.specs.Entries.{digest_in, entry_in, file_in, name_in, version_in}
+use Rattle.journal_format.specs.Forms.{each, or_null, text_of}
+use Rattle.journal_format.specs.Lines.{digests_in, entry_change_in, has_target, splice_in, step_in, target_name_in, targeted}
+use Rattle.journal_format.specs.Written.{digest_data, digests_data, entry_change_data, entry_data, file_data, nullable, splice_data, step_data}
+
+same_bytes : (t : List ℕ) → bytes_eq t t ≡ true
+same_bytes t = (bytes_eq-Decides t t).1 refl
+
+module _ {X : Type 0} (form : X → Data) (reading : Data → Result X Flaw) where
+  -- each item of the list is read back
+  abbrev pub Back : List X → Type 0
+  Back = AllByRecursion (λ x. reading (form x) ≡ Ok x)
+
+  pub list-back : (xs : List X) → Back xs → each reading (items_of (map form xs)) ≡ Ok xs
+  unfolding each
+  list-back [] h = refl
+  list-back (x ∷ xs) h = rw (h.0, list-back xs h.1) refl
+
+  pub all-back : (xs : List X) → ((x : X) → reading (form x) ≡ Ok x) → Back xs
+  all-back [] h = tt
+  all-back (x ∷ xs) h = (h x, all-back xs h)
+
+  -- what may be absent is read back, where no value of it is written as null
+  pub nullable-back : (o : Option X) → ((x : X) → is_some (as_null (form x)) ≡ false) → IfSome o (λ x. reading (form x) ≡ Ok x) → or_null reading (nullable form o) ≡ Ok o
+  nullable-back None there h = refl
+  nullable-back (Some x) there h = rw (there x, h) refl
+
+texts-back : (texts : List (List ℕ)) → each text_of (items_of (map string texts)) ≡ Ok texts
+texts-back texts = list-back string text_of texts (all-back string text_of texts (λ _. refl))
+
+name-back : (name : List ℕ) → is_normal name ≡ true → name_in (string name) ≡ Ok name
+unfolding name_in
+name-back name normal = rw normal refl
+
+pub target_name-back : (name : List ℕ) → is_target_name name ≡ true → target_name_in (string name) ≡ Ok name
+unfolding target_name_in
+target_name-back name is = rw is refl
+
+names-back : (own : List ℕ) (names : List (List ℕ)) → list_all (is_other own) names ≡ true → Back string name_in names
+names-back own [] h = tt
+names-back own (n ∷ ns) h =
+    let all = and_parts (is_other own n) (list_all (is_other own) ns) h in
+    (name-back n (and_parts (is_normal n) _ all.0).0, names-back own ns all.1)
+
+file-back : (f : FileEntry) → file_in (file_data f) ≡ Ok f
+unfolding file_in file_data
+file-back f = refl
+
+file-there : (f : FileEntry) → is_some (as_null (file_data f)) ≡ false
+unfolding file_data
+file-there f = refl
+
+sdist-back : (o : Option FileEntry) → IfSome o (λ f. file_in (file_data f) ≡ Ok f)
+sdist-back None = tt
+sdist-back (Some f) = file-back f
+
+python-back : (o : Option (List ℕ)) → IfSome o (λ t. text_of (string t) ≡ Ok t)
+python-back None = tt
+python-back (Some t) = refl
+
+-- the canonical text of a version is read as that version
+abbrev pub ReadsVersions : Type 0
+ReadsVersions = (v : VersionParts) → IsVersion v → version_of (canonical v) ≡ Ok v
+
+version-back : ReadsVersions → (v : VersionParts) → IsVersion v → version_in (string (canonical v)) ≡ Ok v
+unfolding version_in
+version-back reads v h = rw (reads v h, same_bytes (canonical v)) refl
+
+entry-back : ReadsVersions → (p : EntryParts) → IsPackage p → entry_in p.name (entry_data p) ≡ Ok p
+unfolding entry_in entry_data
+entry-back reads p h =
+    let q = parts p h.parts in
+    let dependencies = list-back string name_in p.dependencies (names-back p.name p.dependencies (and_parts _ (list_all (is_other p.name) p.dependencies) q.dependencies).1) in
+    let python = nullable-back string text_of p.requires_python (λ _. refl) (python-back p.requires_python) in
+    let sdist = nullable-back file_data file_in p.sdist file-there (sdist-back p.sdist) in
+    let version = version-back reads p.version h.version in
+    let wheels = list-back file_data file_in p.wheels (all-back file_data file_in p.wheels file-back) in
+    rw (dependencies, python, sdist, version, wheels, h.parts) refl
+
+entry-there : (p : EntryParts) → is_some (as_null (entry_data p)) ≡ false
+unfolding entry_data
+entry-there p = refl
+
+-- what is there of an entry is lawful, and on the name
+abbrev pub IsEntryOn : List ℕ → Option EntryParts → Type 0
+IsEntryOn name o = IfSome o (λ p. IsPackage p × (p.name ≡ name))
+
+entry-on-back : ReadsVersions → (name : List ℕ) (o : Option EntryParts) → IsEntryOn name o → IfSome o (λ p. entry_in name (entry_data p) ≡ Ok p)
+entry-on-back reads name None h = tt
+entry-on-back reads name (Some p) h = subst (λ n. entry_in n (entry_data p) ≡ Ok p) h.1 (entry-back reads p h.0)
+
+-- the entries of a change are lawful, and on its name, which is a normal one; its target is the header's
+pub record IsLawfulChange (header : Header) (c : EntryChange) : Type 0 where
+  pub target : is_target_name c.target ≡ true
+  pub known : has_target header c.target ≡ true
+  pub name : is_normal c.name ≡ true
+  pub old : IsEntryOn c.name c.old
+  pub new : IsEntryOn c.name c.new
+
+module _ (reads : ReadsVersions) (header : Header) (version : header.version ≡ Two) where
+  entry_change-back : (c : EntryChange) → IsLawfulChange header c → entry_change_in header (entry_change_data c) ≡ Ok c
+  unfolding entry_change_in entry_change_data targeted
+  entry_change-back c h =
+      let old = nullable-back entry_data (entry_in c.name) c.old entry-there (entry-on-back reads c.name c.old h.old) in
+      let new = nullable-back entry_data (entry_in c.name) c.new entry-there (entry-on-back reads c.name c.new h.new) in
+      rw (version, target_name-back c.target h.target, h.known, name-back c.name h.name, old, new) refl
+
+  changes-back : (cs : List EntryChange) → AllByRecursion (IsLawfulChange header) cs → Back entry_change_data (entry_change_in header) cs
+  changes-back [] h = tt
+  changes-back (c ∷ cs) h = (entry_change-back c h.0, changes-back cs h.1)
+
+splice-back : (s : Splice) → splice_in (splice_data s) ≡ Ok s
+unfolding splice_in splice_data
+splice-back s = rw (texts-back s.old, texts-back s.new) refl
+
+-- a digest of 32 bytes
+pub record IsDigest (digest : List ℕ) : Type 0 where
+  pub size : length digest ≡ 32
+  pub bytes : IsBytes digest
+
+pub digest-back : (bytes : List ℕ) → IsDigest bytes → digest_in (digest_data bytes) ≡ Ok bytes
+unfolding digest_in
+digest-back bytes h = rw (decode_sized-encode_lower bytes 32 h.size h.bytes, same_bytes (encode_lower bytes)) refl
+
+digests-there : (d : DigestChange) → is_some (as_null (digests_data d)) ≡ false
+unfolding digests_data
+digests-there d = refl
+
+-- both digests of a change
+abbrev pub AreDigests : Option DigestChange → Type 0
+AreDigests o = IfSome o (λ d. IsDigest d.old × IsDigest d.new)
+
+digests-back : (o : Option DigestChange) → AreDigests o → IfSome o (λ d. digests_in (digests_data d) ≡ Ok d)
+unfolding digests_in digests_data
+digests-back None h = tt
+digests-back (Some d) h = rw (digest-back d.old h.0, digest-back d.new h.1) refl
+
+-- a step is read as the change
+pub step-back : ReadsVersions → (header : Header) → header.version ≡ Two → (c : ChangeParts) → AllByRecursion (IsLawfulChange header) c.entries → AreDigests c.digests → step_in header (step_data c) ≡ Ok c
+unfolding step_in step_data
+step-back reads header version c entries digests =
+    let changes = list-back entry_change_data (entry_change_in header) c.entries (changes-back reads header version c.entries entries) in
+    let splices = list-back splice_data splice_in c.splices (all-back splice_data splice_in c.splices splice-back) in
+    let both = nullable-back digests_data digests_in c.digests digests-there (digests-back c.digests digests) in
+    rw (changes, splices, both) refl

@@ -1,0 +1,8 @@
+use Rattle.std.proofs.Common.{◌≡◌, drop}
+use Rattle.serde_json.specs.View.{items_view}
+use Rattle.journal_format.specs.Forms.{each}
+use Rattle.journal_format.proofs.FormFacts.{before}
+use Rattle.journal_format.proofs.forms.each.Given as goal
+
+abbrev pub invariant-loop-place : goal.invariant-loop-place
+invariant-loop-place g l = before l.items.items (each g.T.Read.reading (items_view (drop l.place l.values))) ≡ each g.T.Read.reading (items_view l.values)

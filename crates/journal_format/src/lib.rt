@@ -1,0 +1,17 @@
+//! The format of a journal: a line of JSON for its header, and one for each step. Versions 1 and 2 are read,
+//! version 2 is written.
+#![tactic(auto)]
+
+mod entries;
+mod flaw;
+mod forms;
+mod header;
+mod lines;
+mod steps;
+mod writing;
+
+pub use crate::flaw::Flaw;
+pub use crate::header::{Header, HeaderTarget, JournalVersion, header_of_line};
+pub use crate::lines::cut_line;
+pub use crate::steps::change_of_line;
+pub use crate::writing::{header_value, step_value};
