@@ -36,7 +36,7 @@ def without_layout(code):
 class Examples(unittest.TestCase):
     def test_are_those_that_are_run(self):
         ran = bodies()
-        self.assertEqual(len(ran), 13)
+        self.assertEqual(len(ran), 14)
         for library, body in ran.items():
             self.assertEqual(without_layout(head_of(library)), without_layout(body), library)
 

@@ -39,6 +39,7 @@ fn over_index(alloc: Global, library: &str) -> Option<bool> {
     let environment = data::environment(alloc)?;
     match library {
         "problems" => of_problems(alloc, state.lines(), &environment, &index.now).ok(),
+        "refutations" => of_refutations(alloc, state.lines(), &environment, &index.now).ok(),
         "resolve" => {
             // `a` 2 needs `b-b<2`, and `c` needs `b-b>=2`.
             let lines = ReqFile::read(alloc, "a>=2\nc".as_bytes()).ok()?;
@@ -96,6 +97,18 @@ fn of_snapshot(alloc: Global, bytes: &[u8]) -> Result<bool, snapshot::Fault> {
 }
 
 fn of_problems(
+    alloc: Global,
+    lines: &ReqFile,
+    environment: &Environment,
+    index: &Snapshot,
+) -> Result<bool, AllocError> {
+    let problem = Problem::new(alloc, lines, environment, index, BTreeMap::new(alloc))?;
+    // With no version chosen, the nodes of the active lines are needed, and no others.
+    let nodes = problem.needed(alloc, &BTreeMap::new(alloc))?;
+    Ok(!nodes.as_slice().is_empty())
+}
+
+fn of_refutations(
     alloc: Global,
     lines: &ReqFile,
     environment: &Environment,

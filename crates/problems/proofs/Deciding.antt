@@ -1,5 +1,5 @@
 -- Tests that decide facts, put together.
-use Rattle.std.proofs.Common.{◌≡◌, ◌⊎◌, inl, inr, ◌&&◌, ◌||◌, not, Bool, true, false, List, [], ◌∷◌, Contains, map, filter, refl, sym, ap, subst}
+use Rattle.std.proofs.Common.{◌≡◌, ◌⊎◌, inl, inr, ◌&&◌, ◌||◌, not, Bool, true, false, List, [], ◌∷◌, Some, Contains, find, map, filter, refl, sym, ap, subst}
 use Rattle.std.specs.Bool.{Decides}
 use Rattle.std.specs.List.{list_all, list_any}
 use Rattle.std.proofs.lemmas.Bool.{cases_Bool}
@@ -58,3 +58,14 @@ any-filtered p q (x ∷ xs) = elim (cases_Bool (q x)) [
 pub any-mapped : {X Y : Type 0} (p : Y → Bool) (f : X → Y) (xs : List X) → list_any (λ x. p (f x)) xs ≡ list_any p (map f xs)
 any-mapped p f [] = refl
 any-mapped p f (x ∷ xs) = ap (λ b. p (f x) || b) (any-mapped p f xs)
+
+-- what is found is there, and passes the test
+pub found-is : {X : Type 0} (p : X → Bool) (xs : List X) (x : X) → find p xs ≡ Some x → Contains xs x × (p x ≡ true)
+found-is p [] x e = absurd cc
+found-is p (y ∷ ys) x e = elim (cases_Bool (p y)) [
+  | inl passes ↦
+      let k = rw passes at e in
+      let same : y ≡ x = cc in
+      (subst (λ z. Contains (y ∷ ys) z) same (Contains-here y ys), subst (λ z. p z ≡ true) same passes)
+  | inr fails ↦ let k = found-is p ys x (rw fails at e) in (Contains-there y ys x k.0, k.1)
+]

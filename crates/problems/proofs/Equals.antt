@@ -12,8 +12,7 @@ use Rattle.search.specs.Rules.{IsLawful}
 use Rattle.snapshot.specs.Release.{Release}
 use Rattle.problems.specs.Admission.{admits_release, release_at}
 use Rattle.problems.specs.Problem.{ProblemParts, releases_on}
-use Rattle.problems.specs.Refutations.{same_version}
-use Rattle.problems.specs.Rules.{bare, nodes_of, rules_of, wants_of, with_extra}
+use Rattle.problems.specs.Rules.{bare, nodes_of, rules_of, same_version, wants_of, with_extra}
 use Rattle.problems.specs.declared.node.Node.{Node}
 use Rattle.pep508.specs.Requirement.{RequirementParts}
 use Rattle.lists.proofs.Members.{Contains-cons_cases, Contains-here, Contains-map}

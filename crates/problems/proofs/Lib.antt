@@ -2,14 +2,7 @@ pub mod Admitting
 pub mod Growing
 pub mod Closing
 pub mod Deciding
+pub mod EqualNodes
 pub mod Equals
-pub mod EqualChoices
-pub mod Checked
-pub mod WalkedLists
-pub mod SetsCompleted
-pub mod SetsChecked
-pub mod SetsGrounded
-pub mod Counting
-pub mod Grounded
 pub mod NumbersFound
 pub mod NodesMet

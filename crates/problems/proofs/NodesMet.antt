@@ -16,7 +16,7 @@ use Rattle.problems.specs.Problem.{ProblemParts, releases_on}
 use Rattle.problems.specs.Rules.{counts, rules_of, wants, wants_of}
 use Rattle.problems.specs.declared.node.Node.{Node}
 use Rattle.problems.proofs.Closing.{asked-from}
-use Rattle.problems.proofs.Grounded.{found-is}
+use Rattle.problems.proofs.Deciding.{found-is}
 use Rattle.lists.proofs.Members.{Contains-cons_cases, Contains-filter, Contains-flat_map_of, Contains-nil}
 
 -- a release of a name is one of a package

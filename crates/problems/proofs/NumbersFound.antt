@@ -12,15 +12,14 @@ use Rattle.std.proofs.lemmas.Map.Made.{IsDistinct-from_AllPairs, length-le_from_
 use Rattle.std.proofs.lemmas.Map.Views.{Contains-from_any, list_any-from_Contains}
 use Rattle.std.proofs.lemmas.Map.Text.{is_eq-slice_cmp}
 use Rattle.std.proofs.lemmas.Slice.Eq.{bytes_eq-Decides}
-use Rattle.problems.specs.Tied.ChoiceLaws.{node_total}
-use Rattle.problems.specs.Choices.{node_cmp}
+use Rattle.problems.specs.Tied.NodeLaws.{node_total}
+use Rattle.problems.specs.Nodes.{node_cmp}
 use Rattle.problems.specs.Tied.NodeEquality.{is_node}
 use Rattle.problems.specs.Tied.NodeNumbers.{AreListed, number_at, number_in}
 use Rattle.problems.specs.Tied.Standing.{IsOnce, Stands}
 use Rattle.problems.specs.declared.node.Node.{Node}
 use Rattle.problems.specs.declared.nodes.Numbers.{Numbers}
-use Rattle.problems.proofs.Checked.{node-decides}
-use Rattle.problems.proofs.EqualChoices.{nodes-tied}
+use Rattle.problems.proofs.EqualNodes.{node-decides, nodes-tied}
 use Rattle.problems.proofs.Growing.{Contains-standing}
 use Rattle.lists.proofs.Members.{Contains-cons_cases, Contains-nil}
 

@@ -1,6 +1,6 @@
 -- Which releases a requirement admits. All of it is reqlock's own rule, from the meaning of PEP 440 ("Handling of
 -- pre-releases") and PEP 592 ("Installers"). It depends on lines, environment and index, and on no choice.
-use Rattle.std.specs.Prelude.{ℕ, ◌&&◌, ◌||◌, not, Bool, true, false, List, Option, Some, None, find}
+use Rattle.std.specs.Prelude.{ℕ, ◌&&◌, ◌||◌, not, Bool, true, false, List, [], Option, Some, None, find}
 use Rattle.std.specs.List.{list_any}
 use Rattle.std.specs.Option.{option_map_or}
 use Rattle.std.specs.Ordering.{is_eq}
@@ -69,6 +69,10 @@ has_version version release = is_eq (version_cmp version release.version)
 -- the release of a name with that version
 abbrev pub release_at : ProblemParts → List ℕ → VersionParts → Option Release
 release_at given name version = find (has_version version) (releases_on given name)
+
+-- the dependencies of the release with that version
+abbrev pub dependencies_at : ProblemParts → List ℕ → VersionParts → List RequirementParts
+dependencies_at given name version = option_map_or (λ release. release.dependencies) (release_at given name version) []
 
 -- whether a requirement admits a version: none that is no release's
 abbrev pub admits : ProblemParts → RequirementParts → VersionParts → Bool

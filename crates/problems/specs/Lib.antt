@@ -1,11 +1,8 @@
 pub mod Problem
+pub mod Nodes
 pub mod Admission
 pub mod Reasons
 pub mod Rules
 pub mod Solutions
-pub mod Refutations
-pub mod SetRefutations
-pub mod Choices
-pub mod Grounds
 pub mod Laws
 pub mod Tied

@@ -44,6 +44,10 @@ wants_of environment extra release = filter (counts environment extra) release.d
 abbrev pub wants : ProblemParts → Node → VersionParts → List RequirementParts
 wants given node version = option_map_or (wants_of given.environment node.extra) (release_at given node.name version) []
 
+-- versions are one where neither is less
+abbrev pub same_version : VersionParts → VersionParts → Bool
+same_version v w = is_eq (version_cmp v w)
+
 -- the versions of releases
 abbrev pub versions_of : List Release → List VersionParts
 versions_of releases = map (λ release. release.version) releases

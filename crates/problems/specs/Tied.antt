@@ -1,8 +1,6 @@
 -- What serves proofs alone.
-pub mod Checking
-pub mod ChoiceLaws
 pub mod Growing
 pub mod NodeEquality
+pub mod NodeLaws
 pub mod NodeNumbers
-pub mod SetChecking
 pub mod Standing

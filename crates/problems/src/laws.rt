@@ -4,26 +4,17 @@ ghost use Rattle.std.specs.Prelude.{◌≤◌, ℕ, List, Option, length};
 ghost use Rattle.std.specs.List.{Contains};
 ghost use Rattle.pep440.specs.Version.{VersionParts};
 ghost use Rattle.pep508.specs.Requirement.{RequirementParts};
-ghost use Rattle.search.specs.Conflicts.{IsRefutation, IsVersionEquality, LiesInNone};
+ghost use Rattle.search.specs.Conflicts.{IsVersionEquality};
 ghost use Rattle.search.specs.Rules.{IsLawful};
-ghost use Rattle.search.specs.SetConflicts.{IsSetRefutation, SetLiesInNone};
-ghost use Rattle.search.specs.Solutions.{HasNoSolution, Needed};
+ghost use Rattle.search.specs.Solutions.{Needed};
 ghost use Rattle.snapshot.specs.Release.{Release};
 ghost use Rattle.problems.specs.Tied.Growing.{nodes_met, requirements_met};
 ghost use Rattle.problems.specs.Laws.{AdmissionForgetsKeptVersions};
 ghost use Rattle.problems.specs.Problem.{ProblemParts, releases_on};
-ghost use Rattle.problems.specs.Refutations.{ChoiceParts, same_version};
-ghost use Rattle.problems.specs.SetRefutations.{TermParts};
-ghost use Rattle.problems.specs.Rules.{rules_of, wants};
+ghost use Rattle.problems.specs.Rules.{rules_of, same_version, wants};
 ghost use Rattle.problems.specs.declared.node.Node.{Node};
 
-use crate::node::Node;
-use pep440::Version;
-use pep508::{Name, Requirement};
-pub use search::laws::{
-    the_best_solution_is_unique, what_follows_from_sets_lies_in_no_solution,
-    what_follows_lies_in_no_solution,
-};
+pub use search::laws::the_best_solution_is_unique;
 
 /// Which versions a requirement admits doesn't depend on the versions that an earlier lock has.
 pub fn admission_forgets_kept_versions()
@@ -53,28 +44,3 @@ pub fn what_is_needed_can_be_met()
 pub fn equal_versions_are_alike()
     ensures { (given : ProblemParts) → IsVersionEquality (rules_of given) same_version }
 {}
-
-/// Where a list is a refutation of a problem, the problem has no solution, and each conflict of the
-/// list lies in none.
-pub fn an_accepted_refutation_leaves_no_solution()
-    ensures none { (given : ProblemParts) (conflicts : List (List ChoiceParts))
-        → IsRefutation (rules_of given) same_version conflicts → HasNoSolution (rules_of given) }
-    ensures each { (given : ProblemParts) (conflicts : List (List ChoiceParts))
-        → IsRefutation (rules_of given) same_version conflicts → (conflict : List ChoiceParts)
-        → Contains conflicts conflict → LiesInNone (rules_of given) same_version conflict }
-{
-    what_follows_lies_in_no_solution::<Name, Node, Version, Requirement>();
-}
-
-/// Where a list is a set refutation of a problem, the problem has no solution, and each conflict of
-/// the list lies in none.
-pub fn an_accepted_set_refutation_leaves_no_solution()
-    ensures none { (given : ProblemParts) (conflicts : List (List TermParts))
-        → IsSetRefutation (rules_of given) same_version conflicts
-        → HasNoSolution (rules_of given) }
-    ensures each { (given : ProblemParts) (conflicts : List (List TermParts))
-        → IsSetRefutation (rules_of given) same_version conflicts → (conflict : List TermParts)
-        → Contains conflicts conflict → SetLiesInNone (rules_of given) same_version conflict }
-{
-    what_follows_from_sets_lies_in_no_solution::<Name, Node, Version, Requirement>();
-}

@@ -1,21 +1,16 @@
-//! The problem of a lock: what a solution is, and what shows that there is none.
+//! The problem of a lock: what is asked, and what a solution is.
 //!
-//! Whether a list of conflicts, whoever made it, shows that a problem has no solution:
+//! Whether lines ask for anything in an environment:
 //!
 //! ```rust
 //! let problem = Problem::new(alloc, lines, environment, index, BTreeMap::new(alloc))?;
-//! // A list without conflicts shows nothing.
-//! let nothing = Refutation::new(Seq::from_vec(Vec::new(alloc)));
-//! Ok(!check(&problem, &nothing))
+//! // With no version chosen, the nodes of the active lines are needed, and no others.
+//! let nodes = problem.needed(alloc, &BTreeMap::new(alloc))?;
+//! Ok(!nodes.as_slice().is_empty())
 //! ```
 #![tactic(auto)]
 
 mod admission;
-mod checking;
-mod choice;
-mod cutting;
-mod ground;
-mod grounds;
 mod inadmissible;
 pub mod laws;
 mod needed;
@@ -24,19 +19,7 @@ mod nodes;
 pub mod parts;
 mod problem;
 mod reasons;
-mod refutation;
 mod releases;
-mod set_ground;
-mod set_grounds;
-mod set_refutation;
 
-pub use crate::checking::{check, check_sets};
-pub use crate::choice::Choice;
-pub use crate::ground::{Ground, Need};
-pub use crate::grounds::{completed, ground_of};
 pub use crate::node::Node;
 pub use crate::problem::Problem;
-pub use crate::refutation::Refutation;
-pub use crate::set_ground::{SetGround, SetNeed};
-pub use crate::set_grounds::{set_completed, set_ground_of};
-pub use crate::set_refutation::{SetRefutation, SetTerm};

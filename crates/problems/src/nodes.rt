@@ -87,7 +87,7 @@ impl Model for Nodes {
 }
 
 /// Whether the extra that may be there is the one that is asked for.
-pub(crate) fn is_asked(extra: Option<&Name>, asked: Option<&Name>) -> bool
+pub fn is_asked(extra: Option<&Name>, asked: Option<&Name>) -> bool
     ensures { result ≡ is_asked (option_copied extra.entry) (option_copied asked.entry) }
 {
     match (extra, asked) {

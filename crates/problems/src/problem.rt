@@ -5,11 +5,10 @@ ghost use Rattle.std.specs.List.Sorted.{IsStrictlySortedBy};
 ghost use Rattle.std.specs.Option.{option_copied, option_to_list};
 ghost use Rattle.pep508.specs.Requirement.{requirement_of};
 ghost use Rattle.snapshot.specs.Releases.{newer_cmp};
-ghost use Rattle.problems.specs.Admission.{release_at};
+ghost use Rattle.problems.specs.Admission.{dependencies_at, release_at};
 ghost use Rattle.problems.specs.Problem.{ProblemParts, active_in, releases_on, requirements};
 ghost use Rattle.problems.specs.Rules.{counts};
 ghost use Rattle.problems.specs.Solutions.{AreNeeded, version_for};
-ghost use Rattle.problems.specs.Tied.Checking.{dependencies_at};
 
 use crate::node::Node;
 use crate::{needed, releases};

@@ -12,7 +12,7 @@ use Rattle.pep440.specs.Version.{VersionParts}
 use Rattle.snapshot.specs.Release.{Release}
 use Rattle.snapshot.specs.Releases.{newer_cmp}
 use Rattle.problems.specs.Admission.{has_version}
-use Rattle.problems.specs.Refutations.{same_version}
+use Rattle.problems.specs.Rules.{same_version}
 use Rattle.resolve.specs.Tied.Places.{version_at}
 
 -- what each element of a list meets, the one at a place meets

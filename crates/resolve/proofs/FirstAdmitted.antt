@@ -20,8 +20,7 @@ use Rattle.snapshot.specs.Release.{Release}
 use Rattle.snapshot.specs.Releases.{newer_cmp}
 use Rattle.problems.specs.Admission.{admits, release_at}
 use Rattle.problems.specs.Problem.{ProblemParts, releases_on}
-use Rattle.problems.specs.Refutations.{same_version}
-use Rattle.problems.specs.Rules.{kept_version, preferring, rules_of, versions_of}
+use Rattle.problems.specs.Rules.{kept_version, preferring, rules_of, same_version, versions_of}
 use Rattle.resolve.specs.Tied.Choosing.{IsNewest, IsRefusedBy}
 use Rattle.resolve.proofs.Falling.{same-itself}
 use Rattle.resolve.proofs.Preferring.{lookup-get}

@@ -20,8 +20,7 @@ use Rattle.search.specs.Rules.{IsLawful}
 use Rattle.search.specs.Solutions.{IsBest, Needed, Pin, version_pinned}
 use Rattle.snapshot.specs.Release.{Release}
 use Rattle.lists.proofs.Members.{Contains-map_of}
-use Rattle.problems.specs.Admission.{admits, release_at}
-use Rattle.problems.specs.Tied.Checking.{dependencies_at}
+use Rattle.problems.specs.Admission.{admits, dependencies_at, release_at}
 use Rattle.problems.specs.Tied.Growing.{nodes_met, requirements_met}
 use Rattle.problems.specs.Problem.{ProblemParts}
 use Rattle.problems.specs.Rules.{counts, nodes_of, rules_of, wants, wants_of}

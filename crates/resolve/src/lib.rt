@@ -32,7 +32,8 @@ mod walking;
 
 pub use crate::answer::Answer;
 pub use crate::resolver::{Learning, Plain, RESOLVER, Resolver};
-pub use problems::{
-    Choice, Ground, Need, Node, Problem, Refutation, SetGround, SetNeed, SetRefutation, SetTerm,
-    check, check_sets, completed, ground_of, set_completed, set_ground_of,
+pub use problems::{Node, Problem};
+pub use refutations::{
+    Choice, Ground, Need, Refutation, SetGround, SetNeed, SetRefutation, SetTerm, check,
+    check_sets, completed, ground_of, set_completed, set_ground_of,
 };

@@ -12,8 +12,9 @@ use crate::tabling::Tabled;
 use lists::Seq;
 use pep440::Version;
 use pep508::Name;
+use problems::Problem;
 use problems::parts::copy_of;
-use problems::{Choice, Problem, Refutation};
+use refutations::{Choice, Refutation};
 use search::Decision;
 use std::alloc::{AllocError, Global};
 

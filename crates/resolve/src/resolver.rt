@@ -3,8 +3,7 @@
 ghost use Rattle.std.specs.Prelude.{IfOk, MatchOption};
 ghost use Rattle.search.specs.Conflicts.{IsRefutation};
 ghost use Rattle.search.specs.SetConflicts.{IsSetRefutation};
-ghost use Rattle.problems.specs.Refutations.{same_version};
-ghost use Rattle.problems.specs.Rules.{rules_of};
+ghost use Rattle.problems.specs.Rules.{rules_of, same_version};
 ghost use Rattle.problems.specs.Solutions.{HasSolution};
 ghost use Rattle.resolve.specs.Resolves.{Resolves};
 
@@ -13,8 +12,8 @@ use crate::method::Method;
 use crate::searching::{best, refuted};
 use crate::set_searching::refuted_by_sets;
 use crate::walking::first_walk;
-use problems::parts::cut;
-use problems::{Problem, Refutation, SetRefutation};
+use problems::Problem;
+use refutations::{Refutation, SetRefutation, cut};
 use std::alloc::{AllocError, Global};
 
 /// What finds the best solution of each problem, or tells that it has none.

@@ -2,8 +2,7 @@
 
 ghost use Rattle.std.specs.Prelude.{IfOk, MatchOption};
 ghost use Rattle.search.specs.Conflicts.{IsRefutation};
-ghost use Rattle.problems.specs.Refutations.{same_version};
-ghost use Rattle.problems.specs.Rules.{rules_of};
+ghost use Rattle.problems.specs.Rules.{rules_of, same_version};
 ghost use Rattle.problems.specs.Solutions.{HasSolution};
 ghost use Rattle.resolve.specs.Tied.Pictured.{IsPictured};
 ghost use Rattle.resolve.specs.Resolves.{Resolves};
@@ -16,7 +15,8 @@ use crate::tabling::{Tabled, table_of};
 use learning_search::{Found, learned_or_refuted};
 use pep440::Version;
 use pep508::{Name, Requirement};
-use problems::{Node, Problem, Refutation};
+use problems::{Node, Problem};
+use refutations::Refutation;
 use search::laws;
 use std::alloc::{AllocError, Global};
 

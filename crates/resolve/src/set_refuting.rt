@@ -15,8 +15,9 @@ use crate::tabling::Tabled;
 use lists::Seq;
 use pep440::Version;
 use pep508::Name;
+use problems::Problem;
 use problems::parts::copy_of;
-use problems::{Choice, Problem, Refutation, SetRefutation, SetTerm};
+use refutations::{Choice, Refutation, SetRefutation, SetTerm};
 use set_search::TableTerm;
 use std::alloc::{AllocError, Global};
 

@@ -2,8 +2,7 @@
 
 ghost use Rattle.std.specs.Prelude.{IfOk, MatchOption};
 ghost use Rattle.search.specs.SetConflicts.{IsSetRefutation};
-ghost use Rattle.problems.specs.Refutations.{same_version};
-ghost use Rattle.problems.specs.Rules.{rules_of};
+ghost use Rattle.problems.specs.Rules.{rules_of, same_version};
 ghost use Rattle.problems.specs.Solutions.{HasSolution};
 ghost use Rattle.resolve.specs.Tied.Pictured.{IsPictured};
 
@@ -12,7 +11,8 @@ use crate::set_refuting::{as_sets, set_refutation_of};
 use crate::tabling::{Tabled, table_of};
 use pep440::Version;
 use pep508::{Name, Requirement};
-use problems::{Node, Problem, SetRefutation};
+use problems::{Node, Problem};
+use refutations::SetRefutation;
 use search::laws;
 use set_search::{Found, solved};
 use std::alloc::{AllocError, Global};

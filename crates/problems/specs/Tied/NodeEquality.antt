@@ -1,5 +1,5 @@
 -- Whether nodes are the same, by the bytes of their names.
--- Tied to `IsSameChoice` by the contract of `Choice::is_same`; need not be read.
+-- Tied to `IsWith` by the contract of `Nodes::number_of`; need not be read.
 use Rattle.std.specs.Prelude.{ℕ, ◌&&◌, Bool, true, false, List, Option, Some, None}
 use Rattle.std.specs.Str.{bytes_eq}
 use Rattle.problems.specs.declared.node.Node.{Node}

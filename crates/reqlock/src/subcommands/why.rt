@@ -3,8 +3,7 @@
 ghost use Rattle.std.specs.Prelude.{IfOk, MatchOption};
 ghost use Rattle.search.specs.Conflicts.{IsRefutation};
 ghost use Rattle.search.specs.SetConflicts.{IsSetRefutation};
-ghost use Rattle.problems.specs.Refutations.{same_version};
-ghost use Rattle.problems.specs.Rules.{rules_of};
+ghost use Rattle.problems.specs.Rules.{rules_of, same_version};
 ghost use Rattle.problems.specs.Solutions.{HasSolution};
 
 use crate::stop::{Stop, print};

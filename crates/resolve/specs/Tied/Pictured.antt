@@ -16,9 +16,9 @@ use Rattle.search.specs.declared.parts.Choice.{Choice}
 use Rattle.search.specs.declared.term.Term.{Term}
 use Rattle.snapshot.specs.Releases.{newer_cmp}
 use Rattle.problems.specs.Problem.{ProblemParts, releases_on}
-use Rattle.problems.specs.Refutations.{ChoiceParts, same_version}
-use Rattle.problems.specs.Rules.{bare, rules_of}
-use Rattle.problems.specs.SetRefutations.{TermParts}
+use Rattle.refutations.specs.Refutations.{ChoiceParts}
+use Rattle.problems.specs.Rules.{bare, rules_of, same_version}
+use Rattle.refutations.specs.SetRefutations.{TermParts}
 use Rattle.problems.specs.declared.node.Node.{Node}
 use Rattle.resolve.specs.Tied.Places.{AreCandidates, version_at}
 

@@ -11,7 +11,7 @@ use crate::sentences::terms::{Named, Term};
 use crate::sentences::wants::{does_want, refused_at};
 use edits::{Release, Requirement};
 use lists::Bits;
-use problems::SetNeed;
+use refutations::SetNeed;
 use std::alloc::{AllocError, Global};
 
 /// What excludes releases of a node in a sentence on a conflict: a line, another term, or a sentence above.

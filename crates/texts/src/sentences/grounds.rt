@@ -4,7 +4,8 @@ use crate::sentences::covering::{Cover, covering};
 use crate::sentences::terms::{Named, Term, all_places};
 use edits::SetTerm;
 use lists::Seq;
-use problems::{Problem, SetGround, SetNeed, set_ground_of};
+use problems::Problem;
+use refutations::{SetGround, SetNeed, set_ground_of};
 use std::alloc::{AllocError, Global};
 
 /// Why a conflict follows from those before it, with the earlier ones that are told of it.

@@ -3,7 +3,7 @@
 use crate::sentences::covering::{Cover, binds};
 use crate::sentences::grounds::Ground;
 use crate::sentences::terms::Term;
-use problems::SetNeed;
+use refutations::SetNeed;
 use std::alloc::{AllocError, Global};
 
 /// The conflicts with those of their terms alone on which their own grounds rest, up to the first one that has

@@ -1,7 +1,7 @@
 // Which conflicts of a refutation are told, and by which numbers.
 
 use crate::sentences::grounds::Ground;
-use problems::SetNeed;
+use refutations::SetNeed;
 use std::alloc::{AllocError, Global};
 use std::collections::BTreeSet;
 

@@ -10,7 +10,8 @@ use crate::sentences::runs::{add_listed, add_node, add_term, add_verb, are_all};
 use crate::sentences::terms::{Named, Term};
 use crate::sentences::wants::does_want;
 use edits::Snapshot;
-use problems::{Problem, SetNeed};
+use problems::Problem;
+use refutations::SetNeed;
 use std::alloc::{AllocError, Global};
 
 /// How many different requirements for one node are told.

@@ -4,8 +4,8 @@ use Rattle.search.specs.Known.{AreKnown}
 use Rattle.search.specs.Solutions.{IsBest}
 use Rattle.search.specs.Table.{place_in, rules_of as rules_of_table, places_eq}
 use Rattle.search.specs.declared.conflict.NodeChoice.{NodeChoice}
-use Rattle.problems.specs.Refutations.{ChoiceParts, same_version}
-use Rattle.problems.specs.Rules.{rules_of}
+use Rattle.refutations.specs.Refutations.{ChoiceParts}
+use Rattle.problems.specs.Rules.{rules_of, same_version}
 use Rattle.resolve.specs.Tied.Pictured.{choice_at, picture_of}
 use Rattle.resolve.proofs.PictureOf.{bytes-order}
 use Rattle.resolve.proofs.Solving.{best-solves}

@@ -4,9 +4,8 @@ use Rattle.search.specs.SetConflicts.{IsSetRefutation}
 use Rattle.search.specs.Solutions.{IsBest}
 use Rattle.search.specs.Table.{place_in, rules_of as rules_of_table, places_eq}
 use Rattle.search.specs.declared.term.Term.{Term}
-use Rattle.problems.specs.Refutations.{same_version}
-use Rattle.problems.specs.Rules.{rules_of}
-use Rattle.problems.specs.SetRefutations.{TermParts}
+use Rattle.problems.specs.Rules.{rules_of, same_version}
+use Rattle.refutations.specs.SetRefutations.{TermParts}
 use Rattle.resolve.specs.Tied.Pictured.{picture_of, term_at}
 use Rattle.resolve.proofs.PictureOf.{bytes-order}
 use Rattle.resolve.proofs.Solving.{best-solves}

@@ -1,5 +1,0 @@
-use Rattle.std.proofs.Common.{rules}
-use Rattle.problems.proofs.choice.order.ChoiceOrd.cmp.Goals as goal
-
-pub returns : goal.returns
-returns c = search rules

@@ -1,6 +1,0 @@
-use Rattle.std.proofs.Common.{◌≡◌, None, refl}
-use Rattle.problems.proofs.Grounded.{ground-whole}
-use Rattle.problems.proofs.grounds.ground_of.Goals as goal
-
-pub returns : goal.returns
-returns c = ground-whole _ c.args.problem.now c.args.earlier.now c.args.conflict.now c.found_ground.result refl c.found_ground.ensures

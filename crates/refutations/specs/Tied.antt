@@ -1,0 +1,4 @@
+-- What serves proofs alone.
+pub mod Checking
+pub mod ChoiceLaws
+pub mod SetChecking
