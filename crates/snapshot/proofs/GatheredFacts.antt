@@ -14,6 +14,7 @@ use Rattle.snapshot.specs.Release.{Release}
 use Rattle.snapshot.specs.Releases.{cause_behind, has_version_of, left_out_for, newer_cmp, newest_first, skipped_of, usable_of}
 use Rattle.snapshot.specs.Tied.Gathering.{Gathered, gather_release, kept, left_out, nothing, skipped_at, with_release}
 use Rattle.snapshot.proofs.FirstOfEqualsStays.{newest-first}
+use Rattle.snapshot.proofs.ItemsOneByOne.{fold-last}
 
 -- ---- the releases that are kept
 
@@ -104,11 +105,6 @@ skipped-gathered name g before (o ∷ listed) at kept =
     skipped-gathered name next (before ++ o ∷ []) listed place releases
     ∙ append_assoc g.skipped (skipped_at name g.place o.version g.releases o.release) others
     ∙ ap (λ (l : List Skipped). g.skipped ++ l) (ap (λ (l : List Skipped). l ++ others) here ∙ one-skipped name before o.version o.release others)
-  where
-    fold-last : (step : List Release → Outcome → List Release) (first : List Release) (xs : List Outcome) (x : Outcome)
-        → fold step first (xs ++ x ∷ []) ≡ step (fold step first xs) x
-    fold-last step first [] x = refl
-    fold-last step first (y ∷ ys) x = fold-last step (step first y) ys x
 
 -- ---- the whole list
 

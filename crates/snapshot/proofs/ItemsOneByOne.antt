@@ -19,6 +19,11 @@ gather step so_far read = read >>= λ xs. Ok (fold step so_far xs)
 abbrev pub push : {A : Type 0} → List A → A → List A
 push xs x = xs ++ x ∷ []
 
+-- a fold over one item more
+pub fold-last : {A B : Type 0} (step : B → A → B) (first : B) (xs : List A) (x : A) → fold step first (xs ++ x ∷ []) ≡ step (fold step first xs) x
+fold-last step first [] x = refl
+fold-last step first (y ∷ ys) x = fold-last step (step first y) ys x
+
 -- what pushes one item after another appends them
 fold-push : {A : Type 0} (front xs : List A) → fold push front xs ≡ front ++ xs
 fold-push front [] = sym (append-nil front)

@@ -13,3 +13,6 @@ pub mod GatheredFacts
 pub mod GatherFacts
 pub mod ReleasesFall
 pub mod UsableReleasesAreLawful
+pub mod MeaningFacts
+pub mod ReleaseMeaning
+pub mod GrammarFacts

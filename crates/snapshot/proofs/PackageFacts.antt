@@ -25,7 +25,7 @@ skipped-behind : (front : ReadPackages) (ps : List ReadPackage) → (fold with_p
 skipped-behind front [] = sym (append-nil front.skipped)
 skipped-behind front (p ∷ ps) = skipped-behind (with_package front p) ps ∙ append_assoc front.skipped p.skipped (together ps).skipped
 
-all-together : (ps : List ReadPackage) → fold with_package no_packages ps ≡ together ps
+pub all-together : (ps : List ReadPackage) → fold with_package no_packages ps ≡ together ps
 all-together ps = λ i. record { packages = packages-behind no_packages ps i; skipped = skipped-behind no_packages ps i }
 
 -- putting what is read behind nothing is having it together

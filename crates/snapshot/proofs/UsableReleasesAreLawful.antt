@@ -36,7 +36,7 @@ fits-by true m n e = cc
 fits-by false m n e = absurd cc
 
 -- a size that fits is kept as it is
-fits : (m n : ℕ) → fitting_size m ≡ Some n → fitting_size n ≡ Some n
+pub fits : (m n : ℕ) → fitting_size m ≡ Some n → fitting_size n ≡ Some n
 fits m n e =
     let same : m ≡ n = fits-by _ m n e in
     rw same at e
@@ -79,7 +79,7 @@ digests-by true text digest is e =
     rw same at (digest-lower text is)
 digests-by false text digest is e = absurd cc
 
-digests : (text digest : List ℕ) → digest_in text ≡ Some digest → digest_in digest ≡ Some digest
+pub digests : (text digest : List ℕ) → digest_in text ≡ Some digest → digest_in digest ≡ Some digest
 digests text digest e = digests-by (is_digest text) text digest refl e
 
 digested : (d : Data) (digest : List ℕ) → as_digest d ≡ Some digest → digest_in digest ≡ Some digest

@@ -2,5 +2,6 @@
 pub mod Chosen
 pub mod Gathering
 pub mod Keys
+pub mod Meaning
 pub mod OrderLaws
 pub mod Places

@@ -20,6 +20,7 @@ pub mod laws;
 mod listed;
 mod members;
 mod package;
+mod pass;
 mod python;
 mod release;
 mod shape;

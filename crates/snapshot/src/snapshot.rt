@@ -7,6 +7,7 @@ ghost use Rattle.std.specs.List.Sorted.{IsStrictlySortedBy};
 ghost use Rattle.lists.specs.Answers.{Answers};
 ghost use Rattle.serde_json.specs.View.{view};
 ghost use Rattle.snapshot.specs.Packages.{json_of, releases_of, repeated_names, snapshot_of, unless_repeated};
+ghost use Rattle.snapshot.specs.Tied.Meaning.{packages_in_bytes};
 ghost use Rattle.snapshot.specs.Tied.Places.{ArePlaces};
 ghost use Rattle.snapshot.specs.Releases.{newer_cmp};
 ghost use Rattle.snapshot.specs.Shape.{Gives};
@@ -15,6 +16,7 @@ ghost use Rattle.snapshot.specs.declared.fault.Fault.TheVariants.{OutOfMemory};
 use crate::fault::Fault;
 use crate::package::reading::packages_of;
 use crate::package::{Package, ReadPackages};
+use crate::pass;
 use crate::release::Release;
 use crate::skipped::Skipped;
 use lists::Seq;
@@ -80,6 +82,17 @@ fn json_of(alloc: Global, bytes: &[u8]) -> Result<Value, Fault>
     }
 }
 
+/// The packages that the bytes of a JSON text list. Where one pass can't tell, its JSON value does.
+fn read_packages(alloc: Global, bytes: &[u8]) -> Result<ReadPackages, Fault>
+    ensures { Gives (λ p. p) (packages_in_bytes bytes.now) result }
+{
+    if let Some(read) = pass::packages_of(alloc, bytes) {
+        return Ok(read);
+    }
+    let value = json_of(alloc, bytes)?;
+    packages_of(alloc, value)
+}
+
 /// The place of each package, by its name.
 fn places_of(alloc: Global, packages: &[Package]) -> Result<BTreeMap<String, usize>, Fault>
     ensures distinct { IfOk result (λ _. unless_repeated (repeated_names packages.now) ≡ Ok tt) }
@@ -108,8 +121,7 @@ impl Snapshot {
     pub fn read(alloc: Global, bytes: &[u8]) -> Result<Snapshot, Fault>
         ensures { Answers OutOfMemory (snapshot_of bytes.now) result }
     {
-        let value = json_of(alloc, bytes)?;
-        let read = packages_of(alloc, value)?;
+        let read = read_packages(alloc, bytes)?;
         let places = places_of(alloc, read.packages.as_slice())?;
         let ReadPackages { packages, skipped } = read;
         Ok(Snapshot {

@@ -5,7 +5,7 @@ ghost use Rattle.std.specs.Char.{is_ascii_hexdigit};
 ghost use Rattle.std.specs.List.{list_all};
 ghost use Rattle.serde_json.specs.Find.{get};
 ghost use Rattle.serde_json.specs.View.{items_view, view};
-ghost use Rattle.snapshot.specs.Files.{as_digest, as_filled, as_size, file_of, is_digest};
+ghost use Rattle.snapshot.specs.Files.{as_digest, as_filled, as_size, digest_in, file_of, is_digest};
 ghost use Rattle.snapshot.specs.Shape.{Gives, at_key, below, each_from, object_of, place_path, required};
 
 use crate::fault::Fault;
@@ -53,18 +53,28 @@ fn is_digest(text: &str) -> bool
     text.len() == 64 && are_digits(text)
 }
 
+/// The SHA-256 digest that a text is, in lower case.
+pub(crate) fn digest_in(text: Text) -> Option<Text>
+    ensures { result ≡ digest_in text }
+{
+    if !is_digest(text.as_str()) {
+        return None;
+    }
+    let mut digits = text.into_string();
+    digits.make_ascii_lowercase();
+    Some(Text::from_string(digits))
+}
+
 /// The SHA-256 digest of a file, in lower case.
 fn sha256_of(alloc: Global, found: Option<Value>) -> Result<Text, Fault>
     ensures { Gives (λ digest. digest)
         (at_key (required as_digest) (codes "sha256") (option_map view found)) result }
 {
     let text = text_of(alloc, "sha256", found)?;
-    if !is_digest(text.as_str()) {
-        return Err(misshapen(alloc, "sha256"));
+    match digest_in(text) {
+        Some(digest) => Ok(digest),
+        None => Err(misshapen(alloc, "sha256")),
     }
-    let mut digits = text.into_string();
-    digits.make_ascii_lowercase();
-    Ok(Text::from_string(digits))
 }
 
 /// What an object has at the keys of a file.

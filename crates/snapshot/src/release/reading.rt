@@ -4,7 +4,7 @@ ghost use Rattle.std.specs.Prelude.{◌≡◌, ◌+◌, ◌++◌, IfOk, IsOkUnle
 ghost use Rattle.std.specs.BTreeSet.{insert_key};
 ghost use Rattle.std.specs.List.{list_any};
 ghost use Rattle.serde_json.specs.View.{items_view, view};
-ghost use Rattle.snapshot.specs.Tied.Gathering.{gathered_view, kept_view, gather_release, left_out};
+ghost use Rattle.snapshot.specs.Tied.Gathering.{gathered_view, kept_view, gather_release, left_out, nothing};
 ghost use Rattle.snapshot.specs.Releases.{has_version_of, newer_cmp, release_of, releases_in};
 ghost use Rattle.snapshot.specs.Shape.{Gives, below, place_path};
 ghost use Rattle.snapshot.specs.declared.fault.Fault.TheVariants.{OutOfMemory};
@@ -33,6 +33,18 @@ pub(crate) struct ReadReleases {
 pub(crate) struct Gathering {
     newest: BTreeSet<Newest>,
     skipped: Vec<Skipped>,
+}
+
+impl Gathering {
+    /// No release.
+    pub(crate) fn new(alloc: Global) -> Gathering
+        ensures { gathered_view 0 result ≡ nothing }
+    {
+        Gathering {
+            newest: BTreeSet::new(alloc),
+            skipped: Vec::new(alloc),
+        }
+    }
 }
 
 /// What comes of the release that a value lists.
@@ -80,7 +92,12 @@ fn leave_out(
 
 /// Puts one more release of the package to those before it: into its place, or with its version and the cause
 /// to those that are left out.
-fn add(gathering: &mut Gathering, name: &Name, place: usize, outcome: Outcome) -> Result<(), Fault>
+pub(crate) fn add(
+    gathering: &mut Gathering,
+    name: &Name,
+    place: usize,
+    outcome: Outcome,
+) -> Result<(), Fault>
     ensures kept { OnOk result
         (gathered_view (place + 1) gathering.new
         ≡ gather_release name.now (gathered_view place gathering.old) outcome) }
@@ -108,10 +125,7 @@ fn add(gathering: &mut Gathering, name: &Name, place: usize, outcome: Outcome) -
 fn gathered(alloc: Global, name: &Name, values: Vec<Value>) -> Result<Gathering, Fault>
     ensures { Gives kept_view (releases_in name.now (items_view values.items)) result }
 {
-    let mut gathering = Gathering {
-        newest: BTreeSet::new(alloc),
-        skipped: Vec::new(alloc),
-    };
+    let mut gathering = Gathering::new(alloc);
     for (place, value) in values.into_iter().enumerate() {
         let outcome = release_at_place(alloc, place, value)?;
         add(&mut gathering, name, place, outcome)?;
@@ -130,6 +144,18 @@ fn in_order(alloc: Global, newest: BTreeSet<Newest>) -> Result<Seq<Release>, All
     Ok(Seq::from_vec(releases))
 }
 
+/// The releases that were gone through, each kind in its order.
+pub(crate) fn read_releases(alloc: Global, gathering: Gathering) -> Result<ReadReleases, AllocError>
+    ensures { IfOk result (λ read. read ≡ kept_view gathering) }
+{
+    let Gathering { newest, skipped } = gathering;
+    let releases = in_order(alloc, newest)?;
+    Ok(ReadReleases {
+        releases,
+        skipped: Seq::from_vec(skipped),
+    })
+}
+
 /// The releases of the package that the values list: those that can be used, the newest first, and those
 /// that are left out.
 pub(crate) fn releases_of(
@@ -139,10 +165,6 @@ pub(crate) fn releases_of(
 ) -> Result<ReadReleases, Fault>
     ensures { Gives (λ r. r) (releases_in name.now (items_view values.items)) result }
 {
-    let Gathering { newest, skipped } = gathered(alloc, name, values)?;
-    let releases = in_order(alloc, newest)?;
-    Ok(ReadReleases {
-        releases,
-        skipped: Seq::from_vec(skipped),
-    })
+    let gathering = gathered(alloc, name, values)?;
+    Ok(read_releases(alloc, gathering)?)
 }

@@ -9,7 +9,7 @@ use Rattle.snapshot.proofs.release.reading.gathered.Goals as goal
 pub loop-place-init : goal.loop-place-init
 loop-place-init c =
     let numbered = c.enumerate-place-items.ensures in
-    rw (c.into_iter-place-iterator.ensures.into_iter_gives, numbered.count, numbered.source, c.into_iter.ensures.rest, c.new.ensures.empty, c.new-2.ensures.items) refl
+    rw (c.into_iter-place-iterator.ensures.into_iter_gives, numbered.count, numbered.source, c.into_iter.ensures.rest, c.new-gathering.ensures) refl
 
 pub returns-in_err-outcome : goal.returns-in_err-outcome
 returns-in_err-outcome c =
