@@ -11,9 +11,9 @@ use Rattle.search.proofs.PinnedMaps.{version_pinned-last}
 use Rattle.search.specs.declared.conflict.NodeChoice.{NodeChoice}
 use Rattle.learning_search.specs.declared.partial_solution.PartialSolution.{PartialSolution}
 use Rattle.learning_search.specs.declared.assignment.Assignment.{Assignment}
-use Rattle.learning_search.specs.Tied.AskedRequirements.{AreRowed, IsWatched}
+use Rattle.learning_search.specs.Tied.Demands.{AreRowed, IsWatched}
 use Rattle.learning_search.specs.Tied.Gathering.{choice_at}
-use Rattle.learning_search.specs.Tied.Learned.{decision_of, decisions_of, entry_of, entries_of, with_leader, leaders_assigned, ask_of, asks_by, asks_assigned, asks_of, first_at, IsPartialSolution}
+use Rattle.learning_search.specs.Tied.Learned.{decision_of, decisions_of, entry_of, entries_of, with_leader, leaders_assigned, demand_of, demands_by, demands_assigned, demands_of, first_at, IsPartialSolution}
 use Rattle.search.specs.Rules.{Rules}
 use Rattle.search.specs.Solutions.{Pin, version_pinned}
 use Rattle.search.specs.Table.{TableParts, rules_of, name_of}
@@ -38,14 +38,14 @@ pub leaders-push : (rules : Rules ℕ ℕ ℕ ℕ) (hs : List Assignment) (h : A
 leaders-push rules [] h = refl
 leaders-push rules (g ∷ hs) h = ap (with_leader rules g.queue.leads g) (leaders-push rules hs h) ∙ leader-append g.queue.leads rules g (leaders_assigned rules hs) (with_leader rules h.queue.leads h [])
 
-asks_assigned-push : (rules : Rules ℕ ℕ ℕ ℕ) (hs : List Assignment) (h : Assignment) → asks_assigned rules (hs ++ h ∷ []) ≡ asks_assigned rules hs ++ asks_by rules h
-asks_assigned-push rules [] h = append-nil (asks_by rules h)
-asks_assigned-push rules (g ∷ hs) h = ap (λ xs. asks_by rules g ++ xs) (asks_assigned-push rules hs h) ∙ sym (append_assoc (asks_by rules g) (asks_assigned rules hs) (asks_by rules h))
+demands_assigned-push : (rules : Rules ℕ ℕ ℕ ℕ) (hs : List Assignment) (h : Assignment) → demands_assigned rules (hs ++ h ∷ []) ≡ demands_assigned rules hs ++ demands_by rules h
+demands_assigned-push rules [] h = append-nil (demands_by rules h)
+demands_assigned-push rules (g ∷ hs) h = ap (λ xs. demands_by rules g ++ xs) (demands_assigned-push rules hs h) ∙ sym (append_assoc (demands_by rules g) (demands_assigned rules hs) (demands_by rules h))
 
-pub asks-push : (rules : Rules ℕ ℕ ℕ ℕ) (hs : List Assignment) (h : Assignment) → asks_of rules (hs ++ h ∷ []) ≡ asks_of rules hs ++ asks_by rules h
-asks-push rules hs h = ap (λ xs. map (ask_of None) rules.lines ++ xs) (asks_assigned-push rules hs h) ∙ sym (append_assoc (map (ask_of None) rules.lines) (asks_assigned rules hs) (asks_by rules h))
+pub listed-push : (rules : Rules ℕ ℕ ℕ ℕ) (hs : List Assignment) (h : Assignment) → demands_of rules (hs ++ h ∷ []) ≡ demands_of rules hs ++ demands_by rules h
+listed-push rules hs h = ap (λ xs. map (demand_of None) rules.lines ++ xs) (demands_assigned-push rules hs h) ∙ sym (append_assoc (map (demand_of None) rules.lines) (demands_assigned rules hs) (demands_by rules h))
 
--- a new first choice is put at its name
+-- a new first choice is add at its name
 taken-push : (taken : List (Option (NodeChoice ℕ ℕ))) (ps : List (Pin ℕ (NodeChoice ℕ ℕ))) (p : Pin ℕ (NodeChoice ℕ ℕ)) → p.name < length taken → version_pinned nat_cmp ps p.name ≡ None → ((n : ℕ) → first_at taken n ≡ version_pinned nat_cmp ps n) → (n : ℕ) → first_at (slice_set taken p.name (Some p.version)) n ≡ version_pinned nat_cmp (ps ++ p ∷ []) n
 taken-push taken ps p l none same n = elim (nat_cases p.name n) [
   | inl e ↦ subst (λ m. first_at (slice_set taken p.name (Some p.version)) m ≡ version_pinned nat_cmp (ps ++ p ∷ []) m) e
@@ -62,8 +62,8 @@ taken-pop taken ps p l none same n = elim (nat_cases p.name n) [
 
 -- ---- one choice more
 
-pub partial-push_first : (t : TableParts) (p q : PartialSolution) (h : Assignment) → IsPartialSolution t p → name_of t h.queue.node < length t.candidates → h.queue.leads ≡ true → version_pinned nat_cmp (leaders_assigned (rules_of t) p.assignments.items) (name_of t h.queue.node) ≡ None → q.assignments.items ≡ p.assignments.items ++ h ∷ [] → q.choices.entries ≡ p.choices.entries ++ entry_of h ∷ [] → q.asked.asks.items ≡ p.asked.asks.items ++ asks_by (rules_of t) h → q.taken.items ≡ slice_set p.taken.items (name_of t h.queue.node) (Some (decision_of h)) → AreRowed t q.asked → IsWatched t q.asked q.taken.items (map choice_at q.choices.entries) → IsPartialSolution t q
-partial-push_first t p q h s l leads none assignments choices asks taken rowed watched =
+pub partial-push_first : (t : TableParts) (p q : PartialSolution) (h : Assignment) → IsPartialSolution t p → name_of t h.queue.node < length t.candidates → h.queue.leads ≡ true → version_pinned nat_cmp (leaders_assigned (rules_of t) p.assignments.items) (name_of t h.queue.node) ≡ None → q.assignments.items ≡ p.assignments.items ++ h ∷ [] → q.choices.entries ≡ p.choices.entries ++ entry_of h ∷ [] → q.demands.listed.items ≡ p.demands.listed.items ++ demands_by (rules_of t) h → q.taken.items ≡ slice_set p.taken.items (name_of t h.queue.node) (Some (decision_of h)) → AreRowed t q.demands → IsWatched t q.demands q.taken.items (map choice_at q.choices.entries) → IsPartialSolution t q
+partial-push_first t p q h s l leads none assignments choices listed taken rowed watched =
     let ps : List (Pin ℕ (NodeChoice ℕ ℕ)) = leaders_assigned (rules_of t) p.assignments.items in
     let pin : Pin ℕ (NodeChoice ℕ ℕ) = record { name = name_of t h.queue.node; version = decision_of h } in
     let leaders : leaders_assigned (rules_of t) q.assignments.items ≡ ps ++ pin ∷ [] = ap (leaders_assigned (rules_of t)) assignments ∙ leaders-push (rules_of t) p.assignments.items h ∙ ap (λ b. ps ++ with_leader (rules_of t) b h []) leads in
@@ -71,20 +71,20 @@ partial-push_first t p q h s l leads none assignments choices asks taken rowed w
       choices = choices ∙ ap (λ xs. xs ++ entry_of h ∷ []) s.choices ∙ sym (ap entries_of assignments ∙ entries-push p.assignments.items h);
       room = ap length taken ∙ set-length p.taken.items (name_of t h.queue.node) (Some (decision_of h)) ∙ s.room;
       taken = λ n. ap (λ xs. first_at xs n) taken ∙ taken-push p.taken.items ps pin (subst (λ k. pin.name < k) (sym s.room) l) none s.taken n ∙ ap (λ xs. version_pinned nat_cmp xs n) (sym leaders);
-      asks = asks ∙ ap (λ xs. xs ++ asks_by (rules_of t) h) s.asks ∙ sym (ap (asks_of (rules_of t)) assignments ∙ asks-push (rules_of t) p.assignments.items h);
+      listed = listed ∙ ap (λ xs. xs ++ demands_by (rules_of t) h) s.listed ∙ sym (ap (demands_of (rules_of t)) assignments ∙ listed-push (rules_of t) p.assignments.items h);
       rowed = rowed;
       watched = watched;
     }
 
-pub partial-push_decided : (t : TableParts) (p q : PartialSolution) (h : Assignment) → IsPartialSolution t p → h.queue.leads ≡ false → q.assignments.items ≡ p.assignments.items ++ h ∷ [] → q.choices.entries ≡ p.choices.entries ++ entry_of h ∷ [] → q.asked.asks.items ≡ p.asked.asks.items ++ asks_by (rules_of t) h → q.taken.items ≡ p.taken.items → AreRowed t q.asked → IsWatched t q.asked q.taken.items (map choice_at q.choices.entries) → IsPartialSolution t q
-partial-push_decided t p q h s leads assignments choices asks taken rowed watched =
+pub partial-push_decided : (t : TableParts) (p q : PartialSolution) (h : Assignment) → IsPartialSolution t p → h.queue.leads ≡ false → q.assignments.items ≡ p.assignments.items ++ h ∷ [] → q.choices.entries ≡ p.choices.entries ++ entry_of h ∷ [] → q.demands.listed.items ≡ p.demands.listed.items ++ demands_by (rules_of t) h → q.taken.items ≡ p.taken.items → AreRowed t q.demands → IsWatched t q.demands q.taken.items (map choice_at q.choices.entries) → IsPartialSolution t q
+partial-push_decided t p q h s leads assignments choices listed taken rowed watched =
     let ps : List (Pin ℕ (NodeChoice ℕ ℕ)) = leaders_assigned (rules_of t) p.assignments.items in
     let leaders : leaders_assigned (rules_of t) q.assignments.items ≡ ps = ap (leaders_assigned (rules_of t)) assignments ∙ leaders-push (rules_of t) p.assignments.items h ∙ ap (λ b. ps ++ with_leader (rules_of t) b h []) leads ∙ append-nil ps in
     record {
       choices = choices ∙ ap (λ xs. xs ++ entry_of h ∷ []) s.choices ∙ sym (ap entries_of assignments ∙ entries-push p.assignments.items h);
       room = ap length taken ∙ s.room;
       taken = λ n. ap (λ xs. first_at xs n) taken ∙ s.taken n ∙ ap (λ xs. version_pinned nat_cmp xs n) (sym leaders);
-      asks = asks ∙ ap (λ xs. xs ++ asks_by (rules_of t) h) s.asks ∙ sym (ap (asks_of (rules_of t)) assignments ∙ asks-push (rules_of t) p.assignments.items h);
+      listed = listed ∙ ap (λ xs. xs ++ demands_by (rules_of t) h) s.listed ∙ sym (ap (demands_of (rules_of t)) assignments ∙ listed-push (rules_of t) p.assignments.items h);
       rowed = rowed;
       watched = watched;
     }
@@ -111,20 +111,20 @@ entries-pop new (Some x) hs h e f = snoc-front new (entries_of hs) x (entry_of h
 pub take-length : {X : Type 0} (xs ys : List X) → take (length xs) (xs ++ ys) ≡ xs
 take-length xs ys = take-front xs ys (length xs) (omega arith) ∙ take-whole xs (length xs) (omega arith)
 
-pub asks-length : (t : TableParts) (p : PartialSolution) (hs : List Assignment) (h : Assignment) → IsPartialSolution t p → p.assignments.items ≡ hs ++ h ∷ [] → length p.asked.asks.items ≡ length (asks_of (rules_of t) hs) + length ((rules_of t).wants h.queue.node h.place)
-asks-length t p hs h s assignments =
-    let by : length (asks_by (rules_of t) h) ≡ length ((rules_of t).wants h.queue.node h.place) = length-map ((rules_of t).wants h.queue.node h.place) (ask_of (Some (decision_of h))) in
-    ap length (s.asks ∙ ap (asks_of (rules_of t)) assignments ∙ asks-push (rules_of t) hs h) ∙ length-append (asks_of (rules_of t) hs) (asks_by (rules_of t) h) ∙ ap (λ k. length (asks_of (rules_of t) hs) + k) by
+pub listed-length : (t : TableParts) (p : PartialSolution) (hs : List Assignment) (h : Assignment) → IsPartialSolution t p → p.assignments.items ≡ hs ++ h ∷ [] → length p.demands.listed.items ≡ length (demands_of (rules_of t) hs) + length ((rules_of t).wants h.queue.node h.place)
+listed-length t p hs h s assignments =
+    let by : length (demands_by (rules_of t) h) ≡ length ((rules_of t).wants h.queue.node h.place) = length-map ((rules_of t).wants h.queue.node h.place) (demand_of (Some (decision_of h))) in
+    ap length (s.listed ∙ ap (demands_of (rules_of t)) assignments ∙ listed-push (rules_of t) hs h) ∙ length-append (demands_of (rules_of t) hs) (demands_by (rules_of t) h) ∙ ap (λ k. length (demands_of (rules_of t) hs) + k) by
 
-pub asks-pop : (t : TableParts) (p : PartialSolution) (hs : List Assignment) (h : Assignment) (left : ℕ) → IsPartialSolution t p → p.assignments.items ≡ hs ++ h ∷ [] → left + length ((rules_of t).wants h.queue.node h.place) ≡ length p.asked.asks.items → take left p.asked.asks.items ≡ asks_of (rules_of t) hs
-asks-pop t p hs h left s assignments e =
-    let k : left ≡ length (asks_of (rules_of t) hs) = let l = asks-length t p hs h s assignments in omega arith in
-    ap (λ n. take n p.asked.asks.items) k
-    ∙ ap (take (length (asks_of (rules_of t) hs))) (s.asks ∙ ap (asks_of (rules_of t)) assignments ∙ asks-push (rules_of t) hs h)
-    ∙ take-length (asks_of (rules_of t) hs) (asks_by (rules_of t) h)
+pub listed-pop : (t : TableParts) (p : PartialSolution) (hs : List Assignment) (h : Assignment) (left : ℕ) → IsPartialSolution t p → p.assignments.items ≡ hs ++ h ∷ [] → left + length ((rules_of t).wants h.queue.node h.place) ≡ length p.demands.listed.items → take left p.demands.listed.items ≡ demands_of (rules_of t) hs
+listed-pop t p hs h left s assignments e =
+    let k : left ≡ length (demands_of (rules_of t) hs) = let l = listed-length t p hs h s assignments in omega arith in
+    ap (λ n. take n p.demands.listed.items) k
+    ∙ ap (take (length (demands_of (rules_of t) hs))) (s.listed ∙ ap (demands_of (rules_of t)) assignments ∙ listed-push (rules_of t) hs h)
+    ∙ take-length (demands_of (rules_of t) hs) (demands_by (rules_of t) h)
 
-pub partial-pop_first : (t : TableParts) (p q : PartialSolution) (h : Assignment) → IsPartialSolution t p → p.assignments.items ≡ q.assignments.items ++ h ∷ [] → name_of t h.queue.node < length t.candidates → h.queue.leads ≡ true → version_pinned nat_cmp (leaders_assigned (rules_of t) q.assignments.items) (name_of t h.queue.node) ≡ None → q.choices.entries ≡ entries_of q.assignments.items → q.asked.asks.items ≡ asks_of (rules_of t) q.assignments.items → q.taken.items ≡ slice_set p.taken.items (name_of t h.queue.node) None → AreRowed t q.asked → IsWatched t q.asked q.taken.items (map choice_at q.choices.entries) → IsPartialSolution t q
-partial-pop_first t p q h s assignments l leads none choices asks taken rowed watched =
+pub partial-pop_first : (t : TableParts) (p q : PartialSolution) (h : Assignment) → IsPartialSolution t p → p.assignments.items ≡ q.assignments.items ++ h ∷ [] → name_of t h.queue.node < length t.candidates → h.queue.leads ≡ true → version_pinned nat_cmp (leaders_assigned (rules_of t) q.assignments.items) (name_of t h.queue.node) ≡ None → q.choices.entries ≡ entries_of q.assignments.items → q.demands.listed.items ≡ demands_of (rules_of t) q.assignments.items → q.taken.items ≡ slice_set p.taken.items (name_of t h.queue.node) None → AreRowed t q.demands → IsWatched t q.demands q.taken.items (map choice_at q.choices.entries) → IsPartialSolution t q
+partial-pop_first t p q h s assignments l leads none choices listed taken rowed watched =
     let ps : List (Pin ℕ (NodeChoice ℕ ℕ)) = leaders_assigned (rules_of t) q.assignments.items in
     let pin : Pin ℕ (NodeChoice ℕ ℕ) = record { name = name_of t h.queue.node; version = decision_of h } in
     let leaders : leaders_assigned (rules_of t) p.assignments.items ≡ ps ++ pin ∷ [] = ap (leaders_assigned (rules_of t)) assignments ∙ leaders-push (rules_of t) q.assignments.items h ∙ ap (λ b. ps ++ with_leader (rules_of t) b h []) leads in
@@ -132,20 +132,20 @@ partial-pop_first t p q h s assignments l leads none choices asks taken rowed wa
       choices = choices;
       room = ap length taken ∙ set-length p.taken.items (name_of t h.queue.node) None ∙ s.room;
       taken = λ n. ap (λ xs. first_at xs n) taken ∙ taken-pop p.taken.items ps pin (subst (λ k. pin.name < k) (sym s.room) l) none (λ m. s.taken m ∙ ap (λ xs. version_pinned nat_cmp xs m) leaders) n;
-      asks = asks;
+      listed = listed;
       rowed = rowed;
       watched = watched;
     }
 
-pub partial-pop_decided : (t : TableParts) (p q : PartialSolution) (h : Assignment) → IsPartialSolution t p → p.assignments.items ≡ q.assignments.items ++ h ∷ [] → h.queue.leads ≡ false → q.choices.entries ≡ entries_of q.assignments.items → q.asked.asks.items ≡ asks_of (rules_of t) q.assignments.items → q.taken.items ≡ p.taken.items → AreRowed t q.asked → IsWatched t q.asked q.taken.items (map choice_at q.choices.entries) → IsPartialSolution t q
-partial-pop_decided t p q h s assignments leads choices asks taken rowed watched =
+pub partial-pop_decided : (t : TableParts) (p q : PartialSolution) (h : Assignment) → IsPartialSolution t p → p.assignments.items ≡ q.assignments.items ++ h ∷ [] → h.queue.leads ≡ false → q.choices.entries ≡ entries_of q.assignments.items → q.demands.listed.items ≡ demands_of (rules_of t) q.assignments.items → q.taken.items ≡ p.taken.items → AreRowed t q.demands → IsWatched t q.demands q.taken.items (map choice_at q.choices.entries) → IsPartialSolution t q
+partial-pop_decided t p q h s assignments leads choices listed taken rowed watched =
     let ps : List (Pin ℕ (NodeChoice ℕ ℕ)) = leaders_assigned (rules_of t) q.assignments.items in
     let leaders : leaders_assigned (rules_of t) p.assignments.items ≡ ps = ap (leaders_assigned (rules_of t)) assignments ∙ leaders-push (rules_of t) q.assignments.items h ∙ ap (λ b. ps ++ with_leader (rules_of t) b h []) leads ∙ append-nil ps in
     record {
       choices = choices;
       room = ap length taken ∙ s.room;
       taken = λ n. ap (λ xs. first_at xs n) taken ∙ s.taken n ∙ ap (λ xs. version_pinned nat_cmp xs n) leaders;
-      asks = asks;
+      listed = listed;
       rowed = rowed;
       watched = watched;
     }

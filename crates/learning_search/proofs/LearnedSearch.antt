@@ -186,7 +186,7 @@ pairs-fit rules conflicts before (h ∷ hs) k c d i j = elim (Contains-cons_case
 abbrev pub AllAssigned : Rules ℕ ℕ ℕ ℕ → List Assignment → Type 0
 AllAssigned rules hs = (node : ℕ) → Needed rules (chosen_assigned rules hs) node → (v : ℕ) × Contains (decisions_of hs) (decision node v)
 
--- where each needed node is assigned, all that is asked for is met
+-- where each needed node is assigned, all that is required is met
 learned-complete : (rules : Rules ℕ ℕ ℕ ℕ) (law : IsLawful rules) (conflicts : List (List (NodeChoice ℕ ℕ))) (hs : List Assignment) → IsLearning rules conflicts [] hs → AllAssigned rules hs → IsComplete rules (chosen_assigned rules hs)
 learned-complete rules law conflicts hs l all =
     let chosen : ℕ → Option ℕ = chosen_assigned rules hs in

@@ -3,7 +3,7 @@ use Rattle.std.proofs.Common.{ℕ, suc, List, [], ◌∷◌, ◌++◌, ◌≡◌
 use Rattle.std.proofs.lemmas.List.{get_or_push}
 use Rattle.std.proofs.lemmas.List.Elements.{Contains-get_or, Contains-push_cases}
 use Rattle.std.specs.Ordering.{nat_cmp}
-use Rattle.learning_search.proofs.Asked.{leader-version}
+use Rattle.learning_search.proofs.DemandLists.{leader-version}
 use Rattle.search.proofs.PlacesEquality.{eq-itself}
 use Rattle.learning_search.proofs.Assignments.{decisions-push}
 use Rattle.learning_search.proofs.LearnedSearch.{IsLearning-push, IsLearning-pop, learning-more}
@@ -13,7 +13,7 @@ use Rattle.search.specs.declared.conflict.NodeChoice.{NodeChoice}
 use Rattle.learning_search.specs.declared.partial_solution.PartialSolution.{PartialSolution}
 use Rattle.learning_search.specs.declared.assignment.Assignment.{Assignment}
 use Rattle.learning_search.specs.declared.candidate_queue.CandidateQueue.{CandidateQueue}
-use Rattle.learning_search.specs.Tied.Asking.{Clashes}
+use Rattle.learning_search.specs.Tied.Demanded.{Clashes}
 use Rattle.search.specs.Conflicts.{IsSameChoice, Completes, NeedsNode, Follows, EachFollows, IsRefutation}
 use Rattle.learning_search.specs.Tied.Gathering.{Gathers, IsCompleted, IsWithin, decision}
 use Rattle.search.specs.Known.{IsKnown, AreKnown}

@@ -2,7 +2,7 @@ pub mod Sets
 pub mod Entries
 pub mod Assignments
 pub mod LearnedSearch
-pub mod Asked
+pub mod DemandLists
 pub mod Rows
 pub mod Watching
 pub mod Needs

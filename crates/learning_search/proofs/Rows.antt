@@ -1,4 +1,4 @@
--- What is asked for on each name, and on which names a node may have to be chosen.
+-- What is required on each name, and on which names a node may have to be chosen.
 use Rattle.std.proofs.Common.{ℕ, zero, suc, List, [], ◌∷◌, ◌++◌, ◌≡◌, ◌<◌, ◌≤◌, ◌+◌, ◌-◌, ◌⊎◌, ◌==◌, inl, inr, Contains, length, get_or, take, filter, slice_set, refl, sym, ◌∙◌, ap, subst, arith, Some, None, Option, Bool, true, false, cond, nat_eq, append-nil, length-append, is_some, MatchOption, IfSome, IsSome, ◌↔◌, Bor}
 use Rattle.std.proofs.lemmas.Bool.{eqb-true}
 use Rattle.std.proofs.lemmas.List.Elements.{filter-append, Contains-append_left, Contains-push_cases}
@@ -19,58 +19,58 @@ use Rattle.lists.proofs.Members.{Contains-here, Contains-there, Contains-cons_ca
 use Rattle.search.proofs.Nodes.{take-front}
 use Rattle.search.proofs.Ranges.{name-known, nodes-known}
 use Rattle.search.proofs.TakenFacts.{split-nat}
-use Rattle.learning_search.specs.declared.asked_requirements.AskedRequirements.{AskedRequirements}
-use Rattle.learning_search.specs.declared.asked_requirements.Ask.{Ask}
+use Rattle.learning_search.specs.declared.demands.Demands.{Demands}
+use Rattle.learning_search.specs.declared.demands.Demand.{Demand}
 use Rattle.search.specs.declared.conflict.NodeChoice.{NodeChoice}
-use Rattle.learning_search.specs.Tied.AskedRequirements.{AreRowed, IsListed, asks_on, row_at}
+use Rattle.learning_search.specs.Tied.Demands.{AreRowed, IsListed, demands_on, row_at}
 use Rattle.search.specs.Rules.{Rules}
 use Rattle.search.specs.Table.{TableParts, rules_of, in_range, requirement_at}
 
 -- ---- rows
 
-pub row-set_same : (rows : List (Vec Ask)) (k : ℕ) (row : Vec Ask) → k < length rows → row_at (slice_set rows k row) k ≡ row.items
+pub row-set_same : (rows : List (Vec Demand)) (k : ℕ) (row : Vec Demand) → k < length rows → row_at (slice_set rows k row) k ≡ row.items
 row-set_same [] k row l = absurd (omega arith)
 row-set_same (r ∷ rows) zero row l = refl
 row-set_same (r ∷ rows) (suc k) row l = row-set_same rows k row (omega arith)
 
-pub row-set_other : (rows : List (Vec Ask)) (k n : ℕ) (row : Vec Ask) → (n ≡ k → ⊥) → row_at (slice_set rows k row) n ≡ row_at rows n
+pub row-set_other : (rows : List (Vec Demand)) (k n : ℕ) (row : Vec Demand) → (n ≡ k → ⊥) → row_at (slice_set rows k row) n ≡ row_at rows n
 row-set_other [] k n row h = refl
 row-set_other (r ∷ rows) zero zero row h = absurd (h refl)
 row-set_other (r ∷ rows) zero (suc n) row h = refl
 row-set_other (r ∷ rows) (suc k) zero row h = refl
 row-set_other (r ∷ rows) (suc k) (suc n) row h = row-set_other rows k n row (λ e. h (ap (λ m. suc m) e))
 
-pub row-at : (rows : List (Vec Ask)) (k : ℕ) (d : Vec Ask) → k < length rows → row_at rows k ≡ (get_or rows k d).items
+pub row-at : (rows : List (Vec Demand)) (k : ℕ) (d : Vec Demand) → k < length rows → row_at rows k ≡ (get_or rows k d).items
 row-at [] k d l = absurd (omega arith)
 row-at (r ∷ rows) zero d l = refl
 row-at (r ∷ rows) (suc k) d l = row-at rows k d (omega arith)
 
-pub row-beyond : (rows : List (Vec Ask)) (k : ℕ) → length rows ≤ k → row_at rows k ≡ []
+pub row-beyond : (rows : List (Vec Demand)) (k : ℕ) → length rows ≤ k → row_at rows k ≡ []
 row-beyond [] k l = refl
 row-beyond (r ∷ rows) zero l = absurd (omega arith)
 row-beyond (r ∷ rows) (suc k) l = row-beyond rows k (omega arith)
 
-pub row-empty_push : (rows : List (Vec Ask)) (row : Vec Ask) → row.items ≡ [] → ((n : ℕ) → row_at rows n ≡ []) → (n : ℕ) → row_at (rows ++ row ∷ []) n ≡ []
+pub row-empty_push : (rows : List (Vec Demand)) (row : Vec Demand) → row.items ≡ [] → ((n : ℕ) → row_at rows n ≡ []) → (n : ℕ) → row_at (rows ++ row ∷ []) n ≡ []
 row-empty_push [] row e h zero = e
 row-empty_push [] row e h (suc n) = refl
 row-empty_push (r ∷ rows) row e h zero = h zero
 row-empty_push (r ∷ rows) row e h (suc n) = row-empty_push rows row e (λ m. h (suc m)) n
 
--- ---- what is asked for on a name
+-- ---- what is required on a name
 
 filter-one : {X : Type 0} (p : X → Bool) (x : X) (b : Bool) → p x ≡ b → filter p (x ∷ []) ≡ cond b (x ∷ []) []
 filter-one p x b e = ap (λ c. cond c (x ∷ []) []) e
 
-pub asks_on-own : (rules : Rules ℕ ℕ ℕ ℕ) (asks : List Ask) (ask : Ask) → asks_on rules (rules.name ask.requirement) (asks ++ ask ∷ []) ≡ asks_on rules (rules.name ask.requirement) asks ++ ask ∷ []
-asks_on-own rules asks ask =
-    filter-append (λ (a : Ask). rules.name a.requirement == rules.name ask.requirement) asks (ask ∷ [])
-    ∙ ap (λ xs. asks_on rules (rules.name ask.requirement) asks ++ xs) (filter-one (λ (a : Ask). rules.name a.requirement == rules.name ask.requirement) ask true (eq-itself (rules.name ask.requirement)))
+pub demands_on-own : (rules : Rules ℕ ℕ ℕ ℕ) (listed : List Demand) (demand : Demand) → demands_on rules (rules.name demand.requirement) (listed ++ demand ∷ []) ≡ demands_on rules (rules.name demand.requirement) listed ++ demand ∷ []
+demands_on-own rules listed demand =
+    filter-append (λ (a : Demand). rules.name a.requirement == rules.name demand.requirement) listed (demand ∷ [])
+    ∙ ap (λ xs. demands_on rules (rules.name demand.requirement) listed ++ xs) (filter-one (λ (a : Demand). rules.name a.requirement == rules.name demand.requirement) demand true (eq-itself (rules.name demand.requirement)))
 
-pub asks_on-other : (rules : Rules ℕ ℕ ℕ ℕ) (asks : List Ask) (ask : Ask) (n : ℕ) → (n ≡ rules.name ask.requirement → ⊥) → asks_on rules n (asks ++ ask ∷ []) ≡ asks_on rules n asks
-asks_on-other rules asks ask n d =
-    filter-append (λ (a : Ask). rules.name a.requirement == n) asks (ask ∷ [])
-    ∙ ap (λ xs. asks_on rules n asks ++ xs) (filter-one (λ (a : Ask). rules.name a.requirement == n) ask false (off-of (nat_eq (rules.name ask.requirement) n) (λ t. d (sym (eqb-true (rules.name ask.requirement) n t)))))
-    ∙ append-nil (asks_on rules n asks)
+pub demands_on-other : (rules : Rules ℕ ℕ ℕ ℕ) (listed : List Demand) (demand : Demand) (n : ℕ) → (n ≡ rules.name demand.requirement → ⊥) → demands_on rules n (listed ++ demand ∷ []) ≡ demands_on rules n listed
+demands_on-other rules listed demand n d =
+    filter-append (λ (a : Demand). rules.name a.requirement == n) listed (demand ∷ [])
+    ∙ ap (λ xs. demands_on rules n listed ++ xs) (filter-one (λ (a : Demand). rules.name a.requirement == n) demand false (off-of (nat_eq (rules.name demand.requirement) n) (λ t. d (sym (eqb-true (rules.name demand.requirement) n t)))))
+    ∙ append-nil (demands_on rules n listed)
 
 filter-cond : {X : Type 0} (p : X → Bool) (b : Bool) (x y : X) (xs : List X) → p x ≡ b → Contains (cond b (x ∷ filter p xs) (filter p xs)) y → (Contains (filter p xs) y → Contains xs y × (p y ≡ true)) → Contains (x ∷ xs) y × (p y ≡ true)
 filter-cond p true x y xs e i h = elim (Contains-cons_cases x (filter p xs) y i) [
@@ -91,52 +91,52 @@ pub filter-to : {X : Type 0} (p : X → Bool) (xs : List X) (y : X) → Contains
 filter-to p [] y i t = absurd (Contains-nil y i)
 filter-to p (x ∷ xs) y i t = filter-keep p (p x) x y xs refl t (elim (Contains-cons_cases x xs y i) [ inl e ↦ inl e | inr r ↦ inr (filter-to p xs y r t) ])
 
--- a row has what is asked for on its name, and no more
-pub row-from : (t : TableParts) (asked : AskedRequirements) (n : ℕ) (a : Ask) → AreRowed t asked → Contains (row_at asked.rows.items n) a → Contains asked.asks.items a × ((rules_of t).name a.requirement ≡ n)
-row-from t asked n a h i =
-    let k : Contains asked.asks.items a × (((rules_of t).name a.requirement == n) ≡ true) = filter-from (λ (b : Ask). (rules_of t).name b.requirement == n) asked.asks.items a (subst (λ xs. Contains xs a) (h.rows n) i) in
+-- a row has what is required on its name, and no more
+pub row-from : (t : TableParts) (demands : Demands) (n : ℕ) (a : Demand) → AreRowed t demands → Contains (row_at demands.rows.items n) a → Contains demands.listed.items a × ((rules_of t).name a.requirement ≡ n)
+row-from t demands n a h i =
+    let k : Contains demands.listed.items a × (((rules_of t).name a.requirement == n) ≡ true) = filter-from (λ (b : Demand). (rules_of t).name b.requirement == n) demands.listed.items a (subst (λ xs. Contains xs a) (h.rows n) i) in
     (k.0, eqb-true ((rules_of t).name a.requirement) n k.1)
 
-pub row-to : (t : TableParts) (asked : AskedRequirements) (a : Ask) → AreRowed t asked → Contains asked.asks.items a → Contains (row_at asked.rows.items ((rules_of t).name a.requirement)) a
-row-to t asked a h i = subst (λ xs. Contains xs a) (sym (h.rows ((rules_of t).name a.requirement)))
-    (filter-to (λ (b : Ask). (rules_of t).name b.requirement == (rules_of t).name a.requirement) asked.asks.items a i (eq-itself ((rules_of t).name a.requirement)))
+pub row-to : (t : TableParts) (demands : Demands) (a : Demand) → AreRowed t demands → Contains demands.listed.items a → Contains (row_at demands.rows.items ((rules_of t).name a.requirement)) a
+row-to t demands a h i = subst (λ xs. Contains xs a) (sym (h.rows ((rules_of t).name a.requirement)))
+    (filter-to (λ (b : Demand). (rules_of t).name b.requirement == (rules_of t).name a.requirement) demands.listed.items a i (eq-itself ((rules_of t).name a.requirement)))
 
--- ---- one more is asked for
+-- ---- one more is required
 
-pub rowed-push : (t : TableParts) (old new : AskedRequirements) (ask : Ask) → AreRowed t old → IsListed old.rows.items new.rows.items ((rules_of t).name ask.requirement) ask → ask.requirement < length t.requirements → new.asks.items ≡ old.asks.items ++ ask ∷ [] → AreRowed t new
-rowed-push t old new ask h l k e = record {
+pub rowed-push : (t : TableParts) (old new : Demands) (demand : Demand) → AreRowed t old → IsListed old.rows.items new.rows.items ((rules_of t).name demand.requirement) demand → demand.requirement < length t.requirements → new.listed.items ≡ old.listed.items ++ demand ∷ [] → AreRowed t new
+rowed-push t old new demand h l k e = record {
   room = l.room ∙ h.room;
-  known = λ a i. elim (Contains-push_cases old.asks.items ask a (subst (λ xs. Contains xs a) e i)) [
+  known = λ a i. elim (Contains-push_cases old.listed.items demand a (subst (λ xs. Contains xs a) e i)) [
     | inl x ↦ h.known a x
-    | inr y ↦ subst (λ (b : Ask). b.requirement < length t.requirements) y k
+    | inr y ↦ subst (λ (b : Demand). b.requirement < length t.requirements) y k
   ];
-  rows = λ n. elim (nat_cases n ((rules_of t).name ask.requirement)) [
-    | inl x ↦ subst (λ m. row_at new.rows.items m ≡ asks_on (rules_of t) m new.asks.items) (sym x)
-        (l.own ∙ ap (λ xs. xs ++ ask ∷ []) (h.rows ((rules_of t).name ask.requirement)) ∙ sym (asks_on-own (rules_of t) old.asks.items ask) ∙ ap (asks_on (rules_of t) ((rules_of t).name ask.requirement)) (sym e))
-    | inr d ↦ l.others n d ∙ h.rows n ∙ sym (asks_on-other (rules_of t) old.asks.items ask n d) ∙ ap (asks_on (rules_of t) n) (sym e)
+  rows = λ n. elim (nat_cases n ((rules_of t).name demand.requirement)) [
+    | inl x ↦ subst (λ m. row_at new.rows.items m ≡ demands_on (rules_of t) m new.listed.items) (sym x)
+        (l.own ∙ ap (λ xs. xs ++ demand ∷ []) (h.rows ((rules_of t).name demand.requirement)) ∙ sym (demands_on-own (rules_of t) old.listed.items demand) ∙ ap (demands_on (rules_of t) ((rules_of t).name demand.requirement)) (sym e))
+    | inr d ↦ l.others n d ∙ h.rows n ∙ sym (demands_on-other (rules_of t) old.listed.items demand n d) ∙ ap (demands_on (rules_of t) n) (sym e)
   ];
 }
 
 -- and one less
-pub rowed-pop : (t : TableParts) (old new : AskedRequirements) (ask : Ask) → AreRowed t old → old.asks.items ≡ new.asks.items ++ ask ∷ [] → length new.rows.items ≡ length old.rows.items → ((front : List Ask) → row_at old.rows.items ((rules_of t).name ask.requirement) ≡ front ++ ask ∷ [] → row_at new.rows.items ((rules_of t).name ask.requirement) ≡ front) → ((n : ℕ) → (n ≡ (rules_of t).name ask.requirement → ⊥) → row_at new.rows.items n ≡ row_at old.rows.items n) → AreRowed t new
-rowed-pop t old new ask h e room own others = record {
+pub rowed-pop : (t : TableParts) (old new : Demands) (demand : Demand) → AreRowed t old → old.listed.items ≡ new.listed.items ++ demand ∷ [] → length new.rows.items ≡ length old.rows.items → ((front : List Demand) → row_at old.rows.items ((rules_of t).name demand.requirement) ≡ front ++ demand ∷ [] → row_at new.rows.items ((rules_of t).name demand.requirement) ≡ front) → ((n : ℕ) → (n ≡ (rules_of t).name demand.requirement → ⊥) → row_at new.rows.items n ≡ row_at old.rows.items n) → AreRowed t new
+rowed-pop t old new demand h e room own others = record {
   room = room ∙ h.room;
-  known = λ a i. h.known a (subst (λ xs. Contains xs a) (sym e) (Contains-append_left new.asks.items (ask ∷ []) a i));
-  rows = λ n. elim (nat_cases n ((rules_of t).name ask.requirement)) [
-    | inl x ↦ subst (λ m. row_at new.rows.items m ≡ asks_on (rules_of t) m new.asks.items) (sym x)
-        (own (asks_on (rules_of t) ((rules_of t).name ask.requirement) new.asks.items) (h.rows ((rules_of t).name ask.requirement) ∙ ap (asks_on (rules_of t) ((rules_of t).name ask.requirement)) e ∙ asks_on-own (rules_of t) new.asks.items ask))
-    | inr d ↦ others n d ∙ h.rows n ∙ ap (asks_on (rules_of t) n) e ∙ asks_on-other (rules_of t) new.asks.items ask n d
+  known = λ a i. h.known a (subst (λ xs. Contains xs a) (sym e) (Contains-append_left new.listed.items (demand ∷ []) a i));
+  rows = λ n. elim (nat_cases n ((rules_of t).name demand.requirement)) [
+    | inl x ↦ subst (λ m. row_at new.rows.items m ≡ demands_on (rules_of t) m new.listed.items) (sym x)
+        (own (demands_on (rules_of t) ((rules_of t).name demand.requirement) new.listed.items) (h.rows ((rules_of t).name demand.requirement) ∙ ap (demands_on (rules_of t) ((rules_of t).name demand.requirement)) e ∙ demands_on-own (rules_of t) new.listed.items demand))
+    | inr d ↦ others n d ∙ h.rows n ∙ ap (demands_on (rules_of t) n) e ∙ demands_on-other (rules_of t) new.listed.items demand n d
   ];
 }
 
 filter-nil : {X : Type 0} (p : X → Bool) (xs : List X) → xs ≡ [] → filter p xs ≡ []
 filter-nil p xs e = ap (filter p) e
 
-pub rowed-none : (t : TableParts) (asked : AskedRequirements) → asked.asks.items ≡ [] → length asked.rows.items ≡ length t.candidates → ((n : ℕ) → row_at asked.rows.items n ≡ []) → AreRowed t asked
-rowed-none t asked e room rows = record {
+pub rowed-none : (t : TableParts) (demands : Demands) → demands.listed.items ≡ [] → length demands.rows.items ≡ length t.candidates → ((n : ℕ) → row_at demands.rows.items n ≡ []) → AreRowed t demands
+rowed-none t demands e room rows = record {
   room = room;
   known = λ a i. absurd (Contains-nil a (subst (λ xs. Contains xs a) e i));
-  rows = λ n. rows n ∙ sym (filter-nil (λ (b : Ask). (rules_of t).name b.requirement == n) asked.asks.items e);
+  rows = λ n. rows n ∙ sym (filter-nil (λ (b : Demand). (rules_of t).name b.requirement == n) demands.listed.items e);
 }
 
 -- ---- names to look at
@@ -188,8 +188,8 @@ take-fewer xs ys k e =
     let m : length ys - 1 ≡ length xs - (k + 1) = omega arith in
     ap (λ n. take n ys) m ∙ ap (take (length xs - (k + 1))) e ∙ take-take xs (length xs - (k + 1)) (length xs - k) (omega arith)
 
-pub ask-room : (t : TableParts) → in_range t ≡ true → (r : ℕ) → r < length t.requirements → (rules_of t).name r < length t.candidates
-ask-room t known r l = name-known t known (requirement_at t r).node (nodes-known t known r l (requirement_at t r).node (Contains-here (requirement_at t r).node (requirement_at t r).more))
+pub demand-room : (t : TableParts) → in_range t ≡ true → (r : ℕ) → r < length t.requirements → (rules_of t).name r < length t.candidates
+demand-room t known r l = name-known t known (requirement_at t r).node (nodes-known t known r l (requirement_at t r).node (Contains-here (requirement_at t r).node (requirement_at t r).more))
 
 pub first-member : {X : Type 0} (xs : List X) (x : X) → Some x ≡ slice_get xs 0 → Contains xs x
 first-member [] x e = absurd (cc)
@@ -224,9 +224,9 @@ pub vec-size : {X : Type 0} (v : Vec X) → v.len ≡ length v.items
 vec-size v = v.ok.0
 
 -- what else is known of the names doesn't matter to the rows
-pub rowed-same : (t : TableParts) (old new : AskedRequirements) → AreRowed t old → new.rows.items ≡ old.rows.items → new.asks.items ≡ old.asks.items → AreRowed t new
-rowed-same t old new h rows asks = record {
+pub rowed-same : (t : TableParts) (old new : Demands) → AreRowed t old → new.rows.items ≡ old.rows.items → new.listed.items ≡ old.listed.items → AreRowed t new
+rowed-same t old new h rows listed = record {
   room = ap length rows ∙ h.room;
-  known = λ a i. h.known a (subst (λ xs. Contains xs a) asks i);
-  rows = λ n. ap (λ rs. row_at rs n) rows ∙ h.rows n ∙ ap (asks_on (rules_of t) n) (sym asks);
+  known = λ a i. h.known a (subst (λ xs. Contains xs a) listed i);
+  rows = λ n. ap (λ rs. row_at rs n) rows ∙ h.rows n ∙ ap (demands_on (rules_of t) n) (sym listed);
 }

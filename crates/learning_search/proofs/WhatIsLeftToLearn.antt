@@ -9,8 +9,8 @@ use Rattle.lists.proofs.Members.{Contains-here, Contains-there, Contains-cons_ca
 use Rattle.search.proofs.WhatIsLeft.{digits_left, digits_left-push, digits_left-more, base_of, candidates-counted}
 use Rattle.search.specs.declared.conflict.NodeChoice.{NodeChoice}
 use Rattle.learning_search.specs.declared.partial_solution.PartialSolution.{PartialSolution}
-use Rattle.learning_search.specs.declared.learning.Progress.{Progress}
-use Rattle.learning_search.specs.declared.learning.Progress.TheVariants.{Trying, Solved, Refuted}
+use Rattle.learning_search.specs.declared.learned_search.Progress.{Progress}
+use Rattle.learning_search.specs.declared.learned_search.Progress.TheVariants.{Trying, Solved, Refuted}
 use Rattle.learning_search.specs.declared.assignment.Assignment.{Assignment}
 use Rattle.learning_search.specs.declared.candidate_queue.CandidateQueue.{CandidateQueue}
 use Rattle.learning_search.specs.Tied.Gathering.{decision}

@@ -1,6 +1,6 @@
 -- What serves proofs alone.
-pub mod AskedRequirements
-pub mod Asking
+pub mod Demands
+pub mod Demanded
 pub mod Gathering
 pub mod Learned
 pub mod Learning

@@ -1,23 +1,23 @@
-// A cursor: where to look first among the extras that are asked for on a name.
+// A cursor: where to look first among the extras that are required on a name.
 
 ghost use Rattle.std.specs.Prelude.{◌<◌, ◌∷◌, [], MatchOption, length, map};
 ghost use Rattle.std.specs.List.{Contains};
-ghost use Rattle.learning_search.specs.Tied.Asking.{AreKnownAsks, IsOnDecided};
+ghost use Rattle.learning_search.specs.Tied.Demanded.{AreKnownDemands, IsOnDecided};
 ghost use Rattle.learning_search.specs.Tied.Gathering.{choice_at};
 ghost use Rattle.learning_search.specs.Tied.Learned.{IsFree, first_at};
 ghost use Rattle.search.specs.Table.{rules_of};
 
-use crate::asked_requirements::{Ask, first_on, is_chosen};
-use crate::next_node::Need;
+use crate::demands::{Demand, first_on, is_chosen};
+use crate::next_node::NeededNode;
 use indexmap::IndexMap;
 use search::{Decision, Table};
 
-/// A place among what is asked for on a name, and one among the extras there. It is only a hint: what
+/// A place among what is required on a name, and one among the extras there. It is only a hint: what
 /// stands there is checked before it is used.
 #[derive(Clone, Copy)]
 pub struct Cursor {
     pub name: usize,
-    pub ask: usize,
+    pub demand: usize,
     pub extra: usize,
 }
 
@@ -39,54 +39,68 @@ fn free_from(
     None
 }
 
-/// An extra's node that is asked for on a name that has a version, which is not chosen itself, and
+/// An extra's node that is required on a name that has a version, which is not chosen itself, and
 /// its place among the extras, from a place on.
 fn extra_from(
     table: &Table,
     taken: &[Option<Decision>],
     choices: &IndexMap<usize, usize>,
-    ask: Ask,
+    demand: Demand,
     from: usize,
-) -> Option<(usize, Need)>
-    requires { ask.requirement < length table.now.requirements }
+) -> Option<(usize, NeededNode)>
+    requires { demand.requirement < length table.now.requirements }
     ensures { MatchOption result Unit
         (λ found. IsOnDecided (rules_of table.now) (first_at taken.now)
-        (map choice_at choices.now.entries) (ask ∷ []) found.1) }
+        (map choice_at choices.now.entries) (demand ∷ []) found.1) }
 {
-    first_on(taken, table.name_asked(ask.requirement))?;
-    let asked = table.requirement(ask.requirement);
-    let (at, node) = free_from(choices, asked.more.as_slice(), from)?;
-    Some((at, Need { node, by: ask.by }))
+    first_on(taken, table.name_required(demand.requirement))?;
+    let required = table.requirement(demand.requirement);
+    let (at, node) = free_from(choices, required.more.as_slice(), from)?;
+    Some((
+        at,
+        NeededNode {
+            node,
+            by: demand.by,
+        },
+    ))
 }
 
-/// The place to look from at something that is asked for: the cursor's, where it is the cursor's.
-fn place_at(cursor: Cursor, name: usize, ask: usize) -> usize {
-    if cursor.name == name && cursor.ask == ask {
+/// The place to look from at something that is required: the cursor's, where it is the cursor's.
+fn place_at(cursor: Cursor, name: usize, demand: usize) -> usize {
+    if cursor.name == name && cursor.demand == demand {
         cursor.extra
     } else {
         0
     }
 }
 
-/// A node on a name that has a version, which is asked for and not chosen itself. It is looked for
+/// A node on a name that has a version, which is required and not chosen itself. It is looked for
 /// from the cursor on, which moves to where it is.
 pub fn need_from(
     table: &Table,
     taken: &[Option<Decision>],
     choices: &IndexMap<usize, usize>,
-    row: &[Ask],
+    row: &[Demand],
     name: usize,
     cursor: &mut Cursor,
-) -> Option<Need>
-    requires { AreKnownAsks (length table.now.requirements) row.now }
+) -> Option<NeededNode>
+    requires { AreKnownDemands (length table.now.requirements) row.now }
     ensures { MatchOption result Unit (λ need. IsOnDecided (rules_of table.now) (first_at taken.now) (map
         choice_at choices.now.entries) row.now need) }
 {
-    let start = if cursor.name == name { cursor.ask } else { 0 };
-    for ask in start..row.len() {
-        let from = place_at(*cursor, name, ask);
-        if let Some((extra, need)) = extra_from(table, taken, choices, row[ask], from) {
-            *cursor = Cursor { name, ask, extra };
+    let start = if cursor.name == name {
+        cursor.demand
+    } else {
+        0
+    };
+    for demand in start..row.len() {
+        let from = place_at(*cursor, name, demand);
+        if let Some((extra, need)) = extra_from(table, taken, choices, row[demand], from) {
+            *cursor = Cursor {
+                name,
+                demand,
+                extra,
+            };
             return Some(need);
         }
     }

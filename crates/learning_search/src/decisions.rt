@@ -28,7 +28,7 @@ pub fn has(decisions: &[Decision], decision: Decision) -> bool
     false
 }
 
-/// Puts a decision behind the others, unless it is one of them.
+/// Appends a decision, unless it is there.
 pub fn insert(decisions: &mut Vec<Decision>, decision: Decision) -> Result<(), AllocError>
     ensures { IfOk result
         (λ _. Gathers decisions.old.items decisions.new.items (decision ∷ []) []) }
@@ -39,7 +39,7 @@ pub fn insert(decisions: &mut Vec<Decision>, decision: Decision) -> Result<(), A
     Ok(())
 }
 
-/// Puts one more decision of a conflict behind the others, unless it is the one that is left out.
+/// Appends a decision of a conflict, unless it is there or is the one that is left out.
 fn insert_unless(
     decisions: &mut Vec<Decision>,
     decision: Decision,
@@ -55,7 +55,7 @@ fn insert_unless(
     Ok(())
 }
 
-/// Puts the decisions of a conflict behind the others, all but the one that is left out.
+/// Appends the decisions of a conflict that aren't there, all but the one that is left out.
 pub fn insert_all(
     decisions: &mut Vec<Decision>,
     conflict: &[Decision],

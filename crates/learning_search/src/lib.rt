@@ -5,15 +5,15 @@
 //! may give up; this is the plain program beside it, which never does.
 #![tactic(auto)]
 
-mod asked_requirements;
 mod assignment;
 mod candidate_queue;
 mod conflicts;
 mod cursor;
 mod decisions;
-mod learning;
+mod demands;
+mod learned_search;
 mod next_node;
 mod partial_solution;
 mod refusal;
 
-pub use crate::learning::{Found, learned_best, learned_or_refuted};
+pub use crate::learned_search::{Found, learned_best, learned_or_refuted};

@@ -3,18 +3,18 @@
 ghost use Rattle.std.specs.Prelude.{◌≡◌, ◌<◌, ◌≤◌, ◌++◌, ◌∷◌, [], None, true, MatchOption, length, map, ℕ, List};
 ghost use Rattle.std.specs.List.{Contains};
 ghost use Rattle.search.specs.declared.conflict.NodeChoice.{NodeChoice};
-ghost use Rattle.learning_search.specs.declared.asked_requirements.Ask.{Ask as AskValue};
+ghost use Rattle.learning_search.specs.declared.demands.Demand.{Demand as DemandValue};
 ghost use Rattle.std.specs.BTreeSet.{keys};
-ghost use Rattle.learning_search.specs.Tied.AskedRequirements.{AreRowed, IsWatched};
-ghost use Rattle.learning_search.specs.Tied.Asking.{AreKnownAsks, IsFoundNeed, IsOnDecided, NoneOnDecided};
+ghost use Rattle.learning_search.specs.Tied.Demands.{AreRowed, IsWatched};
+ghost use Rattle.learning_search.specs.Tied.Demanded.{AreKnownDemands, IsFoundNeed, IsOnDecided, NoneOnDecided};
 ghost use Rattle.learning_search.specs.Tied.Gathering.{choice_at, decision};
 ghost use Rattle.learning_search.specs.Tied.Learned.{IsLearning, IsPartialSolution, IsCandidateQueue, decisions_of, chosen_assigned, first_at};
 ghost use Rattle.search.specs.Solutions.{Needed};
-ghost use Rattle.search.specs.Table.{rules_of, asked_nodes, requirement_at, in_range};
+ghost use Rattle.search.specs.Table.{rules_of, required_nodes, requirement_at, in_range};
 
-use crate::asked_requirements::{Ask, AskedRequirements, first_free_of, first_on, row_of};
 use crate::candidate_queue::CandidateQueue;
 use crate::cursor::{Cursor, need_from};
+use crate::demands::{Demand, Demands, first_free_of, first_on, row_of};
 use crate::partial_solution::PartialSolution;
 use indexmap::IndexMap;
 use search::{Decision, Table};
@@ -23,27 +23,30 @@ use std::collections::BTreeSet;
 
 /// A node to choose, and the choice that needs it; nothing where a line does.
 #[derive(Clone, Copy)]
-pub struct Need {
+pub struct NeededNode {
     pub node: usize,
     pub by: Option<Decision>,
 }
 
-/// A node that is asked for on a name that has a version, which is not chosen itself.
+/// A node that is required on a name that has a version, which is not chosen itself.
 fn need_of(
     table: &Table,
     taken: &[Option<Decision>],
     choices: &IndexMap<usize, usize>,
-    ask: Ask,
-) -> Option<Need>
-    requires { ask.requirement < length table.now.requirements }
+    demand: Demand,
+) -> Option<NeededNode>
+    requires { demand.requirement < length table.now.requirements }
     ensures { MatchOption result (NoneOnDecided (rules_of table.now) (first_at taken.now) (map choice_at
-        choices.now.entries) (ask ∷ []))
+        choices.now.entries) (demand ∷ []))
         (λ need. IsOnDecided (rules_of table.now) (first_at taken.now) (map choice_at
-        choices.now.entries) (ask ∷ []) need) }
+        choices.now.entries) (demand ∷ []) need) }
 {
-    first_on(taken, table.name_asked(ask.requirement))?;
-    let node = first_free_of(table, choices, ask.requirement)?;
-    Some(Need { node, by: ask.by })
+    first_on(taken, table.name_required(demand.requirement))?;
+    let node = first_free_of(table, choices, demand.requirement)?;
+    Some(NeededNode {
+        node,
+        by: demand.by,
+    })
 }
 
 /// The first needed node on a name that has a version, which is not chosen itself.
@@ -51,16 +54,16 @@ fn need_on_decided(
     table: &Table,
     taken: &[Option<Decision>],
     choices: &IndexMap<usize, usize>,
-    asks: &[Ask],
-) -> Option<Need>
-    requires { AreKnownAsks (length table.now.requirements) asks.now }
+    listed: &[Demand],
+) -> Option<NeededNode>
+    requires { AreKnownDemands (length table.now.requirements) listed.now }
     ensures { MatchOption result (NoneOnDecided (rules_of table.now) (first_at taken.now) (map choice_at
-        choices.now.entries) asks.now)
+        choices.now.entries) listed.now)
         (λ need. IsOnDecided (rules_of table.now) (first_at taken.now) (map choice_at
-        choices.now.entries) asks.now need) }
+        choices.now.entries) listed.now need) }
 {
-    for ask in asks {
-        if let Some(need) = need_of(table, taken, choices, *ask) {
+    for demand in listed {
+        if let Some(need) = need_of(table, taken, choices, *demand) {
             return Some(need);
         }
     }
@@ -79,52 +82,60 @@ fn last_to_check(names_to_check: &[usize]) -> Option<usize>
 /// none are looked at no more.
 fn next_on_decided(
     table: &Table,
-    asked: &mut AskedRequirements,
+    demands: &mut Demands,
     choices: &IndexMap<usize, usize>,
     taken: &[Option<Decision>],
     cursor: &mut Cursor,
-) -> Option<Need>
-    requires rowed { AreRowed table.now asked.old }
-    requires watched { IsWatched table.now asked.old taken.now (map choice_at
+) -> Option<NeededNode>
+    requires rowed { AreRowed table.now demands.old }
+    requires watched { IsWatched table.now demands.old taken.now (map choice_at
         choices.now.entries) }
-    ensures rowed { AreRowed table.now asked.new }
-    ensures watched { IsWatched table.now asked.new taken.now (map choice_at
+    ensures rowed { AreRowed table.now demands.new }
+    ensures watched { IsWatched table.now demands.new taken.now (map choice_at
         choices.now.entries) }
-    ensures asks { asked.new.asks ≡ asked.old.asks }
+    ensures listed { demands.new.listed ≡ demands.old.listed }
     ensures found { MatchOption result (NoneOnDecided (rules_of table.now) (first_at taken.now) (map
-        choice_at choices.now.entries) asked.new.asks.items)
+        choice_at choices.now.entries) demands.new.listed.items)
         (λ need. IsOnDecided (rules_of table.now) (first_at taken.now) (map choice_at
-        choices.now.entries) asked.new.asks.items need) }
+        choices.now.entries) demands.new.listed.items need) }
 {
-    while let Some(name) = last_to_check(asked.names_to_check.as_slice()) {
-        let row = row_of(asked.rows.as_slice(), name);
+    while let Some(name) = last_to_check(demands.names_to_check.as_slice()) {
+        let row = row_of(demands.rows.as_slice(), name);
         if let Some(need) = need_from(table, taken, choices, row, name, cursor) {
             return Some(need);
         }
         if let Some(need) = need_on_decided(table, taken, choices, row) {
-            cursor.ask = 0;
+            cursor.demand = 0;
             cursor.extra = 0;
             return Some(need);
         }
-        let _ = asked.names_to_check.pop();
+        let _ = demands.names_to_check.pop();
     }
     None
 }
 
 /// The first needed node on a name that has no version.
-fn need_on(table: &Table, taken: &[Option<Decision>], row: &[Ask], name: usize) -> Option<Need>
-    requires { AreKnownAsks (length table.now.requirements) row.now }
+fn need_on(
+    table: &Table,
+    taken: &[Option<Decision>],
+    row: &[Demand],
+    name: usize,
+) -> Option<NeededNode>
+    requires { AreKnownDemands (length table.now.requirements) row.now }
     ensures { MatchOption result (first_at taken.now name ≡ None → row.now ≡ [])
-        (λ need. (first_at taken.now name ≡ None) × (ask : AskValue) × Contains row.now ask
-        × (need.by ≡ ask.by)
-        × Contains (asked_nodes (requirement_at table.now ask.requirement)) need.node) }
+        (λ need. (first_at taken.now name ≡ None) × (demand : DemandValue) × Contains row.now demand
+        × (need.by ≡ demand.by)
+        × Contains (required_nodes (requirement_at table.now demand.requirement)) need.node) }
 {
     if first_on(taken, name).is_some() {
         return None;
     }
-    let ask = *row.first()?;
-    let node = table.requirement(ask.requirement).node;
-    Some(Need { node, by: ask.by })
+    let demand = *row.first()?;
+    let node = table.requirement(demand.requirement).node;
+    Some(NeededNode {
+        node,
+        by: demand.by,
+    })
 }
 
 /// The least of the names that are free.
@@ -139,33 +150,33 @@ fn least_free(free: &BTreeSet<usize>) -> Option<usize>
 /// no more.
 fn next_free(
     table: &Table,
-    asked: &mut AskedRequirements,
+    demands: &mut Demands,
     choices: &IndexMap<usize, usize>,
     taken: &[Option<Decision>],
-) -> Option<Need>
+) -> Option<NeededNode>
     requires table { in_range table.now ≡ true }
-    requires rowed { AreRowed table.now asked.old }
-    requires watched { IsWatched table.now asked.old taken.now (map choice_at
+    requires rowed { AreRowed table.now demands.old }
+    requires watched { IsWatched table.now demands.old taken.now (map choice_at
         choices.now.entries) }
-    ensures rowed { AreRowed table.now asked.new }
-    ensures watched { IsWatched table.now asked.new taken.now (map choice_at
+    ensures rowed { AreRowed table.now demands.new }
+    ensures watched { IsWatched table.now demands.new taken.now (map choice_at
         choices.now.entries) }
-    ensures asks { asked.new.asks ≡ asked.old.asks }
-    ensures found { IsFoundNeed (rules_of table.now) (first_at taken.now) asked.new.asks.items
+    ensures listed { demands.new.listed ≡ demands.old.listed }
+    ensures found { IsFoundNeed (rules_of table.now) (first_at taken.now) demands.new.listed.items
         result }
 {
-    while let Some(name) = least_free(&asked.free) {
-        let row = row_of(asked.rows.as_slice(), name);
+    while let Some(name) = least_free(&demands.free) {
+        let row = row_of(demands.rows.as_slice(), name);
         if let Some(need) = need_on(table, taken, row, name) {
             return Some(need);
         }
-        let _ = asked.free.pop_first();
+        let _ = demands.free.pop_first();
     }
     None
 }
 
 /// The candidates of a node, none of them tried.
-fn queue_of(alloc: Global, need: Need, leads: bool) -> CandidateQueue
+fn queue_of(alloc: Global, need: NeededNode, leads: bool) -> CandidateQueue
     ensures { (result.node ≡ need.node) × (result.by ≡ need.by) × (result.leads ≡ leads)
         × (result.turn ≡ 0) × (result.blame.items ≡ []) }
 {
@@ -202,14 +213,14 @@ pub fn next(
     let taken = partial.taken.as_slice();
     if let Some(need) = next_on_decided(
         table,
-        &mut partial.asked,
+        &mut partial.demands,
         &partial.choices,
         taken,
         cursor,
     ) {
         return Some(queue_of(alloc, need, false));
     }
-    if let Some(need) = next_free(table, &mut partial.asked, &partial.choices, taken) {
+    if let Some(need) = next_free(table, &mut partial.demands, &partial.choices, taken) {
         return Some(queue_of(alloc, need, true));
     }
     None

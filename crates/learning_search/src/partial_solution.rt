@@ -8,10 +8,10 @@ ghost use Rattle.learning_search.specs.Tied.Learned.{IsFree, IsPartialSolution, 
 ghost use Rattle.search.specs.Solutions.{version_pinned};
 ghost use Rattle.search.specs.Table.{rules_of, name_of, in_range};
 
-use crate::asked_requirements::AskedRequirements;
 use crate::assignment::Assignment;
 use crate::candidate_queue::CandidateQueue;
 use crate::decisions::is_same;
+use crate::demands::Demands;
 use indexmap::IndexMap;
 use search::{Decision, Table};
 use std::alloc::{AllocError, Global};
@@ -51,12 +51,12 @@ pub fn is_completed(
 }
 
 /// The choices of a search: each node with its place, in the order made; for each the candidates
-/// tried before it; for each name the first choice on it; and what lines and choices ask for.
+/// tried before it; for each name the first choice on it; and what lines and choices require.
 pub struct PartialSolution {
     pub choices: IndexMap<usize, usize>,
     pub assignments: Vec<Assignment>,
     pub taken: Vec<Option<Decision>>,
-    pub asked: AskedRequirements,
+    pub demands: Demands,
 }
 
 impl Drop for PartialSolution {
@@ -65,7 +65,7 @@ impl Drop for PartialSolution {
             choices: _,
             assignments: _,
             taken: _,
-            asked: _,
+            demands: _,
         } = self;
     }
 }
@@ -116,13 +116,13 @@ impl PartialSolution {
     {
         let choices = IndexMap::new(alloc);
         let taken = vec![in alloc; None; table.name_count()]?;
-        let mut asked = AskedRequirements::new(alloc, table)?;
-        asked.put_all(table, &choices, taken.as_slice(), table.lines(), None)?;
+        let mut demands = Demands::new(alloc, table)?;
+        demands.add_all(table, &choices, taken.as_slice(), table.lines(), None)?;
         Ok(PartialSolution {
             choices,
             assignments: Vec::new(alloc),
             taken,
-            asked,
+            demands,
         })
     }
 
@@ -155,13 +155,13 @@ impl PartialSolution {
         self.assignments.push(Assignment { queue, place })?;
         lead(
             &mut self.taken,
-            &mut self.asked.names_to_check,
+            &mut self.demands.names_to_check,
             table,
             by,
             leads,
         )?;
         let wants = table.wants(node, place);
-        self.asked.put_all(table, &self.choices, self.taken.as_slice(), wants, Some(by))?;
+        self.demands.add_all(table, &self.choices, self.taken.as_slice(), wants, Some(by))?;
         Ok(())
     }
 
@@ -179,15 +179,15 @@ impl PartialSolution {
             return Ok(None);
         };
         let node = assignment.queue.node;
-        self.asked
+        self.demands
             .drop_last(table, table.wants(node, assignment.place).len());
         let _ = self.choices.pop();
         let name = table.name_of(node);
         if assignment.queue.leads {
             set_first(&mut self.taken, table, node, None);
-            self.asked.free.insert(name)?;
+            self.demands.free.insert(name)?;
         } else {
-            self.asked.names_to_check.push(name)?;
+            self.demands.names_to_check.push(name)?;
         }
         Ok(Some(assignment))
     }

@@ -3,21 +3,21 @@
 ghost use Rattle.std.specs.Prelude.{◌≡◌, ◌≢◌, ◌<◌, Some, IfOk, MatchOption, length, ℕ, List, [], true, ◌⊎◌};
 ghost use Rattle.std.specs.List.{Contains};
 ghost use Rattle.search.specs.declared.conflict.NodeChoice.{NodeChoice};
-ghost use Rattle.learning_search.specs.Tied.Asking as spec;
-ghost use Rattle.learning_search.specs.Tied.Asking.{AsksFit, AskClashes, AreKnownAsks, WantedFits, WantedClashes, Clashes};
+ghost use Rattle.learning_search.specs.Tied.Demanded as spec;
+ghost use Rattle.learning_search.specs.Tied.Demanded.{DemandsFit, DemandClashes, AreKnownDemands, WantedFits, WantedClashes, Clashes};
 ghost use Rattle.learning_search.specs.Tied.Learned.{FitsBefore, IsLearning, IsPartialSolution, first_at};
 ghost use Rattle.search.specs.Ranges.{EachBelow};
 ghost use Rattle.search.specs.Table.{rules_of, name_of, in_range};
 
-use crate::asked_requirements::{Ask, first_on, row_of};
 use crate::decisions::insert;
+use crate::demands::{Demand, first_on, row_of};
 use crate::partial_solution::PartialSolution;
 use search::{Decision, Table};
 use std::alloc::{AllocError, Global};
 
-/// The choice that asks for something; for a line the candidate itself.
-fn asker(by: Option<Decision>, candidate: Decision) -> Decision
-    ensures { result ≡ spec.asker by candidate }
+/// The choice that requires something; for a line the candidate itself.
+fn source(by: Option<Decision>, candidate: Decision) -> Decision
+    ensures { result ≡ spec.source by candidate }
 {
     match by {
         None => candidate,
@@ -25,20 +25,20 @@ fn asker(by: Option<Decision>, candidate: Decision) -> Decision
     }
 }
 
-/// The choice with which a candidate clashes for what is asked for: the one that asks, the
+/// The choice with which a candidate clashes for what is required: the one that demands it, the
 /// candidate itself where a line does.
-fn asked_clash(table: &Table, asks: &[Ask], candidate: Decision) -> Option<Decision>
+fn demand_clash(table: &Table, listed: &[Demand], candidate: Decision) -> Option<Decision>
     requires node { candidate.node < length table.now.nodes }
-    requires known { AreKnownAsks (length table.now.requirements) asks.now }
-    ensures { MatchOption result (AsksFit (rules_of table.now) asks.now candidate)
-        (λ other. AskClashes (rules_of table.now) asks.now candidate other) }
+    requires known { AreKnownDemands (length table.now.requirements) listed.now }
+    ensures { MatchOption result (DemandsFit (rules_of table.now) listed.now candidate)
+        (λ other. DemandClashes (rules_of table.now) listed.now candidate other) }
 {
     let name = table.name_of(candidate.node);
-    for ask in asks {
-        if table.name_asked(ask.requirement) == name
-            && !table.does_admit(ask.requirement, candidate.version)
+    for demand in listed {
+        if table.name_required(demand.requirement) == name
+            && !table.does_admit(demand.requirement, candidate.version)
         {
-            return Some(asker(ask.by, candidate));
+            return Some(source(demand.by, candidate));
         }
     }
     None
@@ -58,7 +58,7 @@ fn choice_on(
     ensures other { (rules_of table.now).name requirement ≢ (rules_of table.now).on candidate.node
         → result ≡ first_at taken.now ((rules_of table.now).name requirement) }
 {
-    let name = table.name_asked(requirement);
+    let name = table.name_required(requirement);
     if name == table.name_of(candidate.node) {
         return Some(candidate);
     }
@@ -141,8 +141,11 @@ pub fn clash(table: &Table, partial: &PartialSolution, candidate: Decision) -> O
     if let Some(other) = version_clash(table, taken, candidate) {
         return Some(other);
     }
-    let row = row_of(partial.asked.rows.as_slice(), table.name_of(candidate.node));
-    if let Some(other) = asked_clash(table, row, candidate) {
+    let row = row_of(
+        partial.demands.rows.as_slice(),
+        table.name_of(candidate.node),
+    );
+    if let Some(other) = demand_clash(table, row, candidate) {
         return Some(other);
     }
     let wants = table.wants(candidate.node, candidate.version);

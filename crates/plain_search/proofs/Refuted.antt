@@ -6,7 +6,7 @@ use Rattle.search.proofs.PinnedMaps.{Has-push, Needed-more, next-in_solution, so
 use Rattle.search.specs.declared.parts.Frame.{Frame}
 use Rattle.search.specs.Rules.{Rules, IsLawful}
 use Rattle.search.specs.Solutions.{Needed, IsMet, IsNext, Pin, version_pinned}
-use Rattle.search.specs.Tied.Search.{IsFrame, IsRefuted, AreAsked, Refutes, clash_at, clash_in, pin_at}
+use Rattle.search.specs.Tied.Search.{IsFrame, IsRefuted, AreRequired, Refutes, clash_at, clash_in, pin_at}
 
 -- what is taken contradicts a requirement that counts, so no solution has it
 pub clash-line : {N X V R : Type 0} (rules : Rules N X V R) (taken : List (Pin N V)) (r : R) (w : V) → Contains rules.lines r → version_pinned rules.compare taken (rules.name r) ≡ Some w → rules.admits r w ≡ false → IsRefuted rules taken
@@ -42,11 +42,11 @@ clash_at-true : (rules : Rules ℕ ℕ ℕ ℕ) (r : ℕ) (o : Option ℕ) → c
 clash_at-true rules r None h = absurd (cc)
 clash_at-true rules r (Some w) h = (w, refl, not-true (rules.admits r w) h)
 
--- where something that is asked for clashes, no solution has what is taken
-pub asked-refuted : (rules : Rules ℕ ℕ ℕ ℕ) (taken : List (Pin ℕ ℕ)) (asked : List ℕ) → AreAsked rules (version_pinned rules.compare taken) asked → list_any (clash_in rules (version_pinned rules.compare taken)) asked ≡ true → IsRefuted rules taken
-asked-refuted rules taken asked a h =
+-- where something that is required clashes, no solution has what is taken
+pub required-refuted : (rules : Rules ℕ ℕ ℕ ℕ) (taken : List (Pin ℕ ℕ)) (required : List ℕ) → AreRequired rules (version_pinned rules.compare taken) required → list_any (clash_in rules (version_pinned rules.compare taken)) required ≡ true → IsRefuted rules taken
+required-refuted rules taken required a h =
     let chosen : ℕ → Option ℕ = version_pinned rules.compare taken in
-    let r : (r : ℕ) × Contains asked r × (clash_in rules chosen r ≡ true) = any-true (clash_in rules chosen) asked h in
+    let r : (r : ℕ) × Contains required r × (clash_in rules chosen r ≡ true) = any-true (clash_in rules chosen) required h in
     let w : (w : ℕ) × (chosen (rules.name r.0) ≡ Some w) × (rules.admits r.0 w ≡ false) = clash_at-true rules r.0 (chosen (rules.name r.0)) r.2 in
     elim (a.sound r.0 r.1) [
       | inl l ↦ clash-line rules taken r.0 w.0 l w.1 w.2

@@ -10,7 +10,7 @@ ghost use Rattle.plain_search.specs.Tied.Steps.{IsTried, IsForward, IsStep};
 ghost use Rattle.search.specs.Table.{rules_of, in_range, place_in, IsAscending};
 
 use lists::Seq;
-use search::{Choice, Frame, Front, Table, choices_of};
+use search::{Frame, Front, Table, TableChoice, choices_of};
 use std::alloc::{AllocError, Global};
 
 /// What a step of a search finds.
@@ -123,7 +123,7 @@ fn advance(table: &Table, frames: &mut Vec<Frame>, front: &mut Front) -> Result<
 
 /// The best solution of a table, its choices in the order of their names; nothing where there is
 /// no solution.
-pub fn best(alloc: Global, table: &Table) -> Result<Option<Seq<Choice>>, AllocError>
+pub fn best(alloc: Global, table: &Table) -> Result<Option<Seq<TableChoice>>, AllocError>
     ensures best { IfOk result
         (λ answer. MatchOption answer (HasNoSolution (rules_of table.now))
         (λ choices. IsBest (rules_of table.now) (place_in choices))) }

@@ -5,7 +5,7 @@ use Rattle.lists.proofs.Members.{Contains-cons_cases, Contains-nil, take-whole}
 use Rattle.search.specs.FirstWalk.{IsComplete}
 use Rattle.search.specs.Rules.{Rules, IsLawful}
 use Rattle.search.specs.Solutions.{Needed, by_line, by_dependency}
-use Rattle.search.specs.Tied.Search.{AllFit, AreNeeded, AreAsked, NoneFree, clash_at, clash_in}
+use Rattle.search.specs.Tied.Search.{AllFit, AreNeeded, AreRequired, NoneFree, clash_at, clash_in}
 
 or-false : (a b : Bool) → (a || b) ≡ false → (a ≡ false) × (b ≡ false)
 or-false true b h = absurd (cc)
@@ -26,10 +26,10 @@ clash_at-false rules r None w h e = absurd (cc)
 clash_at-false rules r (Some v) w h e = let k : v ≡ w = cc in subst (λ x. rules.admits r x ≡ true) k (not-false (rules.admits r v) h)
 
 -- where nothing does, all that counts is met as far as it is taken
-pub asked-fits : (rules : Rules ℕ ℕ ℕ ℕ) (chosen : ℕ → Option ℕ) (asked : List ℕ) → AreAsked rules chosen asked → list_any (clash_in rules chosen) asked ≡ false → AllFit rules chosen
-asked-fits rules chosen asked a h = record {
-  lines = λ r i w e. clash_at-false rules r (chosen (rules.name r)) w (any-false (clash_in rules chosen) asked r h (a.whole r (inl i))) e;
-  dependencies = λ node v r n at i w e. clash_at-false rules r (chosen (rules.name r)) w (any-false (clash_in rules chosen) asked r h (a.whole r (inr (node, v, n, at, i)))) e;
+pub required-fits : (rules : Rules ℕ ℕ ℕ ℕ) (chosen : ℕ → Option ℕ) (required : List ℕ) → AreRequired rules chosen required → list_any (clash_in rules chosen) required ≡ false → AllFit rules chosen
+required-fits rules chosen required a h = record {
+  lines = λ r i w e. clash_at-false rules r (chosen (rules.name r)) w (any-false (clash_in rules chosen) required r h (a.whole r (inl i))) e;
+  dependencies = λ node v r n at i w e. clash_at-false rules r (chosen (rules.name r)) w (any-false (clash_in rules chosen) required r h (a.whole r (inr (node, v, n, at, i)))) e;
 }
 
 option_not_none : (o : Option ℕ) → (o ≡ None → ⊥) → (w : ℕ) × (o ≡ Some w)

@@ -1,101 +1,41 @@
--- A walk that takes the first candidate at each name that nothing refuses has the best solution where it meets all that is asked for.
-use Rattle.std.proofs.Common.{List, [], ◌∷◌, ◌++◌, ◌≡◌, ◌⊎◌, inl, inr, true, false, Contains, sym, ◌∙◌, ap, subst, Some, None, Option, append_assoc, append-nil}
-use Rattle.std.proofs.lemmas.List.Elements.{Contains-append_cases, Contains-append_right}
-use Rattle.lists.proofs.Members.{Contains-cons_cases, Contains-here}
-use Rattle.search.proofs.PinnedMaps.{version_pinned-cons_cases, version_pinned-last, Has-front, Has-push, Needed-more, next-in_solution, complete-same, some-inj}
-use Rattle.search.specs.FirstWalk.{IsAskedFor, IsRefused, IsFirst, IsFirstWalk, IsComplete}
+-- A walk that takes the first candidate at each name that nothing refuses is a guided walk, since no solution has what is refused.
+use Rattle.std.proofs.Common.{List, [], ◌∷◌, ◌++◌, ◌≡◌, inl, inr, true, false, sym, ◌∙◌, ap, subst, Some, Option}
+use Rattle.search.proofs.GuidedWalks.{guided-best}
+use Rattle.search.proofs.PinnedMaps.{Needed-more, some-inj}
+use Rattle.search.specs.FirstWalk.{IsRequired, IsRefused, IsFirst, IsFirstWalk, IsComplete}
+use Rattle.search.specs.GuidedWalk.{IsGuidedWalk}
 use Rattle.search.specs.Rules.{Rules, IsLawful}
-use Rattle.search.specs.Solutions.{Pin, IsMet, IsNeededName, Solution, version_pinned, IsNext, IsWalk, Has, IsBetter, IsBest}
+use Rattle.search.specs.Solutions.{Pin, IsMet, Solution, version_pinned, Has, IsBest}
 
-behind-one : {N V : Type 0} (xs : List (Pin N V)) (p : Pin N V) (ys : List (Pin N V)) → (xs ++ p ∷ []) ++ ys ≡ xs ++ p ∷ ys
-behind-one xs p ys = append_assoc xs (p ∷ []) ys
-
-walk-push : {N X V R : Type 0} (rules : Rules N X V R) (before ps : List (Pin N V)) (p : Pin N V) → IsWalk rules before ps → IsNext rules (before ++ ps) p.name → IsWalk rules before (ps ++ p ∷ [])
-walk-push rules before [] p h k = (subst (λ xs. IsNext rules xs p.name) (append-nil before) k, tt)
-walk-push rules before (q ∷ ps) p h k = (h.0, walk-push rules (before ++ q ∷ []) ps p h.1 (subst (λ xs. IsNext rules xs p.name) (sym (behind-one before q ps)) k))
-
--- a solution that has what is taken meets what is asked for there
-asked-met : {N X V R : Type 0} (rules : Rules N X V R) (t : N → Option V) (taken : List (Pin N V)) (r : R) → Solution rules t → Has rules t taken → IsAskedFor rules (version_pinned rules.compare taken) r → IsMet rules t r
-asked-met rules t taken r s has (inl line) = s.lines_met r line
-asked-met rules t taken r s has (inr d) = s.dependencies_met d.0 d.1 r (Needed-more rules (version_pinned rules.compare taken) t has d.0 d.2) (has (rules.on d.0) d.1 d.3) d.4
+-- a solution that has what is taken meets what is required there
+required-met : {N X V R : Type 0} (rules : Rules N X V R) (t : N → Option V) (taken : List (Pin N V)) (r : R) → Solution rules t → Has rules t taken → IsRequired rules (version_pinned rules.compare taken) r → IsMet rules t r
+required-met rules t taken r s has (inl line) = s.lines_met r line
+required-met rules t taken r s has (inr d) = s.dependencies_met d.0 d.1 r (Needed-more rules (version_pinned rules.compare taken) t has d.0 d.2) (has (rules.on d.0) d.1 d.3) d.4
 
 -- so it has no version that is refused
 refused-none : {N X V R : Type 0} (rules : Rules N X V R) (t : N → Option V) (taken : List (Pin N V)) (n : N) (w : V) → Solution rules t → Has rules t taken → t n ≡ Some w → IsRefused rules (version_pinned rules.compare taken) n w → ⊥
 refused-none {N} {X} {V} {R} rules t taken n w s has e bad =
-    let m : IsMet rules t bad.0 = asked-met rules t taken bad.0 s has bad.1 in
+    let m : IsMet rules t bad.0 = required-met rules t taken bad.0 s has bad.1 in
     let v : m.0 ≡ w = some-inj m.0 w (sym m.1 ∙ ap t bad.2 ∙ e) in
     let k : rules.admits bad.0 w ≡ true = subst (λ x. rules.admits bad.0 x ≡ true) v m.2 in
     absurd (let f : rules.admits bad.0 w ≡ false = bad.3 in cc)
 
--- a solution has the pins of the walk, or is worse than what has them
-walk-compare : {N X V R : Type 0} (rules : Rules N X V R) (law : IsLawful rules) (s t : N → Option V) (before ps : List (Pin N V)) → Solution rules t → IsWalk rules [] before → IsFirstWalk rules before ps → Has rules s (before ++ ps) → Has rules t before → Has rules t (before ++ ps) ⊎ IsBetter rules s t
-walk-compare rules law s t before [] sol walk first has had = inl (subst (λ ps. Has rules t ps) (sym (append-nil before)) had)
-walk-compare {N} {X} {V} {R} rules law s t before (p ∷ ps) sol walk first has had =
-    let w : (w : V) × (t p.name ≡ Some w) × Contains (rules.candidates p.name) w = next-in_solution rules law t before p.name sol had first.0.0 in
-    let next_has : Has rules s ((before ++ p ∷ []) ++ ps) = subst (λ qs. Has rules s qs) (sym (behind-one before p ps)) has in
-    let chosen : s p.name ≡ Some p.version = Has-front rules s (before ++ p ∷ []) ps next_has p.name p.version (version_pinned-last rules.compare law.order before p first.0.0.free) in
-    let pin : IsFirst rules (IsRefused rules (version_pinned rules.compare before) p.name) p.name p.version = first.0.1 in
-    elim (Contains-append_cases pin.front (p.version ∷ pin.back) w.0 (subst (λ vs. Contains vs w.0) pin.listed w.2)) [
-      | inl front ↦ absurd (refused-none rules t before p.name w.0 sol had w.1 (pin.before w.0 front))
-      | inr onward ↦ elim (Contains-cons_cases p.version pin.back w.0 onward) [
-        | inl same ↦ elim (walk-compare rules law s t (before ++ p ∷ []) ps sol
-            (walk-push rules [] before p walk first.0.0)
-            first.1 next_has
-            (Has-push rules law.order t before p had (w.1 ∙ ap (λ x. Some x) (sym same)))) [
-              | inl a ↦ inl (subst (λ qs. Has rules t qs) (behind-one before p ps) a)
-              | inr b ↦ inr b
-            ]
-        | inr behind ↦ inr (record {
-          taken = before;
-          walk = walk;
-          had = Has-front rules s before (p ∷ ps) has;
-          had_too = had;
-          name = p.name;
-          next = first.0.0;
-          version = p.version;
-          version_too = w.0;
-          chosen = chosen;
-          chosen_too = w.1;
-          first = (
-            pin.front,
-            pin.back,
-            pin.listed,
-            λ i. refused-none rules t before p.name w.0 sol had w.1 (pin.before w.0 i),
-            λ e. pin.once (subst (λ x. Contains pin.back x) (sym e) behind),
-          );
-        })
-      ]
-    ]
-
-walk-released : {N X V R : Type 0} (rules : Rules N X V R) (law : IsLawful rules) (before ps : List (Pin N V)) → IsFirstWalk rules before ps → (n : N) (v : V) → version_pinned rules.compare ps n ≡ Some v → Contains (rules.candidates n) v
-walk-released rules law before [] h n v e = absurd (cc)
-walk-released {N} {X} {V} {R} rules law before (p ∷ ps) h n v e = elim (version_pinned-cons_cases rules.compare law.order p ps n v e) [
-  | inl a ↦
-      let pin : IsFirst rules (IsRefused rules (version_pinned rules.compare before) p.name) p.name p.version = h.0.1 in
-      let there : Contains (rules.candidates p.name) p.version = subst (λ vs. Contains vs p.version) (sym pin.listed) (Contains-append_right pin.front (p.version ∷ pin.back) p.version (Contains-here p.version pin.back)) in
-      subst (λ x. Contains (rules.candidates n) x) a.1 (subst (λ m. Contains (rules.candidates m) p.version) a.0 there)
-  | inr b ↦ walk-released rules law (before ++ p ∷ []) ps h.1 n v b
-]
-
-walk-needed : {N X V R : Type 0} (rules : Rules N X V R) (law : IsLawful rules) (whole : N → Option V) (before ps : List (Pin N V)) → IsFirstWalk rules before ps → Has rules whole (before ++ ps) → (n : N) (v : V) → version_pinned rules.compare ps n ≡ Some v → IsNeededName rules whole n
-walk-needed rules law whole before [] h has n v e = absurd (cc)
-walk-needed {N} {X} {V} {R} rules law whole before (p ∷ ps) h has n v e = elim (version_pinned-cons_cases rules.compare law.order p ps n v e) [
-  | inl a ↦
-      let k : IsNeededName rules (version_pinned rules.compare before) p.name = h.0.0.needed in
-      (k.0, Needed-more rules (version_pinned rules.compare before) whole (Has-front rules whole before (p ∷ ps) has) k.0 k.1, k.2 ∙ a.0)
-  | inr b ↦ walk-needed rules law whole (before ++ p ∷ []) ps h.1 (subst (λ qs. Has rules whole qs) (sym (behind-one before p ps)) has) n v b
-]
+first-guided : {N X V R : Type 0} (rules : Rules N X V R) (before ps : List (Pin N V)) → IsFirstWalk rules before ps → IsGuidedWalk rules before ps
+first-guided rules before [] h = tt
+first-guided {N} {X} {V} {R} rules before (p ∷ ps) h =
+    let pin : IsFirst rules (IsRefused rules (version_pinned rules.compare before) p.name) p.name p.version = h.0.1 in (
+      (
+        h.0.0,
+        record {
+          front = pin.front;
+          back = pin.back;
+          listed = pin.listed;
+          once = pin.once;
+          before = λ w i t sol has e. refused-none rules t before p.name w sol has e (pin.before w i);
+        },
+      ),
+      first-guided rules (before ++ p ∷ []) ps h.1,
+    )
 
 pub walk-best : {N X V R : Type 0} (rules : Rules N X V R) → IsLawful rules → (ps : List (Pin N V)) → IsFirstWalk rules [] ps → IsComplete rules (version_pinned rules.compare ps) → IsBest rules (version_pinned rules.compare ps)
-walk-best {N} {X} {V} {R} rules law ps h c = record {
-  solution = record {
-    released = walk-released rules law [] ps h;
-    lines_met = c.lines_met;
-    dependencies_met = c.dependencies_met;
-    each_needed = walk-needed rules law (version_pinned rules.compare ps) [] ps h (λ n v e. e);
-  };
-  best = λ t s. elim (walk-compare rules law (version_pinned rules.compare ps) t [] ps s tt h (λ n v e. e) (λ n v e. absurd (let k : None ≡ Some v = e in cc))) [
-    | inl same ↦ inl (complete-same rules law (version_pinned rules.compare ps) t c same s)
-    | inr better ↦ inr better
-  ];
-}
+walk-best rules law ps h c = guided-best rules law ps (first-guided rules [] ps h) c

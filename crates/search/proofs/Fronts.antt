@@ -15,12 +15,12 @@ use Rattle.search.specs.Solutions.{version_pinned}
 use Rattle.search.specs.Tied.Taken.{TakesFirst}
 
 -- before anything is known, nothing has to fit
-pub fit-none : (rules : Rules ℕ ℕ ℕ ℕ) (chosen : ℕ → Option ℕ) (asked : List ℕ) (known_before : KnownBefore) → known_before.asked ≡ 0 → HaveFit rules chosen asked known_before
-fit-none rules chosen asked known_before none r i d = absurd (Contains-take_zero asked r (subst (λ n. Contains (take n asked) r) none i))
+pub fit-none : (rules : Rules ℕ ℕ ℕ ℕ) (chosen : ℕ → Option ℕ) (required : List ℕ) (known_before : KnownBefore) → known_before.required ≡ 0 → HaveFit rules chosen required known_before
+fit-none rules chosen required known_before none r i d = absurd (Contains-take_zero required r (subst (λ n. Contains (take n required) r) none i))
 
 -- what fitted before still fits where its name is another
-pub fit-kept : (rules : Rules ℕ ℕ ℕ ℕ) (old new : ℕ → Option ℕ) (before asked : List ℕ) (known_before : KnownBefore) → take known_before.asked asked ≡ before → list_any (clash_in rules old) before ≡ false → ((n : ℕ) → n ≢ known_before.last_taken → new n ≡ old n) → HaveFit rules new asked known_before
-fit-kept rules old new before asked known_before front h others r i d =
+pub fit-kept : (rules : Rules ℕ ℕ ℕ ℕ) (old new : ℕ → Option ℕ) (before required : List ℕ) (known_before : KnownBefore) → take known_before.required required ≡ before → list_any (clash_in rules old) before ≡ false → ((n : ℕ) → n ≢ known_before.last_taken → new n ≡ old n) → HaveFit rules new required known_before
+fit-kept rules old new before required known_before front h others r i d =
     ap (clash_at rules r) (others (rules.name r) d) ∙ any-false (clash_in rules old) before r h (subst (λ xs. Contains xs r) front i)
 
 -- the map of the frames, with one frame more

@@ -8,6 +8,7 @@ pub mod Nodes
 pub mod Clashes
 pub mod Least
 pub mod Stack
+pub mod GuidedWalks
 pub mod FirstWalks
 pub mod WhatIsLeft
 pub mod TakenFacts

@@ -3,7 +3,7 @@ use Rattle.std.proofs.Common.{ℕ, zero, suc, List, [], ◌∷◌, ◌++◌, ◌
 use Rattle.std.proofs.lemmas.List.Elements.{Contains-append_left, Contains-append_right, Contains-append_cases}
 use Rattle.lists.proofs.Members.{Contains-here, Contains-there, Contains-cons_cases, Contains-nil, Contains-take_suc, Contains-take_zero, take-whole, get_or-any}
 use Rattle.search.proofs.Marks.{Grows-none}
-use Rattle.search.specs.Tied.Nodes.{Nodes, Grows, IsGrown, nodes_asked, nodes_linked, IsClosing}
+use Rattle.search.specs.Tied.Nodes.{Nodes, Grows, IsGrown, nodes_required, nodes_linked, IsClosing}
 use Rattle.search.specs.Rules.{Rules}
 use Rattle.search.specs.Solutions.{Needed, by_line, by_dependency}
 use Rattle.search.specs.Tied.Search.{AreNeeded}
@@ -41,38 +41,38 @@ pub grown-node : (old mid new : Nodes) (xs : List ℕ) (i : ℕ) → i < length 
 grown-node old mid new xs i l g h =
     rw add-one (subst (λ ns. IsGrown old new ns) (sym (take-more xs i (get_or xs i 0) l (get_or-any xs i 0 _ l))) (grown-then old mid new (take i xs) (get_or xs i 0 ∷ []) g h))
 
-nodes_asked-append : (rules : Rules ℕ ℕ ℕ ℕ) (rs ss : List ℕ) → nodes_asked rules (rs ++ ss) ≡ nodes_asked rules rs ++ nodes_asked rules ss
-nodes_asked-append rules [] ss = refl
-nodes_asked-append rules (r ∷ rs) ss = ap (λ zs. rules.nodes r ++ zs) (nodes_asked-append rules rs ss) ∙ sym (append_assoc (rules.nodes r) (nodes_asked rules rs) (nodes_asked rules ss))
+nodes_required-append : (rules : Rules ℕ ℕ ℕ ℕ) (rs ss : List ℕ) → nodes_required rules (rs ++ ss) ≡ nodes_required rules rs ++ nodes_required rules ss
+nodes_required-append rules [] ss = refl
+nodes_required-append rules (r ∷ rs) ss = ap (λ zs. rules.nodes r ++ zs) (nodes_required-append rules rs ss) ∙ sym (append_assoc (rules.nodes r) (nodes_required rules rs) (nodes_required rules ss))
 
 -- one requirement more
-pub grown-asked : (rules : Rules ℕ ℕ ℕ ℕ) (old mid new : Nodes) (rs : List ℕ) (i : ℕ) → i < length rs → IsGrown old mid (nodes_asked rules (take i rs)) → IsGrown mid new (rules.nodes (get_or rs i 0)) → IsGrown old new (nodes_asked rules (take (i + 1) rs))
-grown-asked rules old mid new rs i l g h =
+pub grown-required : (rules : Rules ℕ ℕ ℕ ℕ) (old mid new : Nodes) (rs : List ℕ) (i : ℕ) → i < length rs → IsGrown old mid (nodes_required rules (take i rs)) → IsGrown mid new (rules.nodes (get_or rs i 0)) → IsGrown old new (nodes_required rules (take (i + 1) rs))
+grown-required rules old mid new rs i l g h =
     let r : ℕ = get_or rs i 0 in
-    let k : nodes_asked rules (take (suc i) rs) ≡ nodes_asked rules (take i rs) ++ rules.nodes r = ap (nodes_asked rules) (take-more rs i r l (get_or-any rs i 0 r l)) ∙ nodes_asked-append rules (take i rs) (r ∷ []) ∙ ap (λ zs. nodes_asked rules (take i rs) ++ zs) (append-nil (rules.nodes r)) in
-    rw add-one (subst (λ ns. IsGrown old new ns) (sym k) (grown-then old mid new (nodes_asked rules (take i rs)) (rules.nodes r) g h))
+    let k : nodes_required rules (take (suc i) rs) ≡ nodes_required rules (take i rs) ++ rules.nodes r = ap (nodes_required rules) (take-more rs i r l (get_or-any rs i 0 r l)) ∙ nodes_required-append rules (take i rs) (r ∷ []) ∙ ap (λ zs. nodes_required rules (take i rs) ++ zs) (append-nil (rules.nodes r)) in
+    rw add-one (subst (λ ns. IsGrown old new ns) (sym k) (grown-then old mid new (nodes_required rules (take i rs)) (rules.nodes r) g h))
 
-pub asked-from : (rules : Rules ℕ ℕ ℕ ℕ) (rs : List ℕ) (r node : ℕ) → Contains rs r → Contains (rules.nodes r) node → Contains (nodes_asked rules rs) node
-asked-from rules [] r node h i = absurd (Contains-nil r h)
-asked-from rules (s ∷ rs) r node h i = elim (Contains-cons_cases s rs r h) [
-  | inl e ↦ Contains-append_left (rules.nodes s) (nodes_asked rules rs) node (subst (λ q. Contains (rules.nodes q) node) (sym e) i)
-  | inr k ↦ Contains-append_right (rules.nodes s) (nodes_asked rules rs) node (asked-from rules rs r node k i)
+pub required-from : (rules : Rules ℕ ℕ ℕ ℕ) (rs : List ℕ) (r node : ℕ) → Contains rs r → Contains (rules.nodes r) node → Contains (nodes_required rules rs) node
+required-from rules [] r node h i = absurd (Contains-nil r h)
+required-from rules (s ∷ rs) r node h i = elim (Contains-cons_cases s rs r h) [
+  | inl e ↦ Contains-append_left (rules.nodes s) (nodes_required rules rs) node (subst (λ q. Contains (rules.nodes q) node) (sym e) i)
+  | inr k ↦ Contains-append_right (rules.nodes s) (nodes_required rules rs) node (required-from rules rs r node k i)
 ]
 
-pub asked-to : (rules : Rules ℕ ℕ ℕ ℕ) (rs : List ℕ) (node : ℕ) → Contains (nodes_asked rules rs) node → (r : ℕ) × Contains rs r × Contains (rules.nodes r) node
-asked-to rules [] node h = absurd (Contains-nil node h)
-asked-to rules (r ∷ rs) node h = elim (Contains-append_cases (rules.nodes r) (nodes_asked rules rs) node h) [
+pub required-to : (rules : Rules ℕ ℕ ℕ ℕ) (rs : List ℕ) (node : ℕ) → Contains (nodes_required rules rs) node → (r : ℕ) × Contains rs r × Contains (rules.nodes r) node
+required-to rules [] node h = absurd (Contains-nil node h)
+required-to rules (r ∷ rs) node h = elim (Contains-append_cases (rules.nodes r) (nodes_required rules rs) node h) [
   | inl a ↦ (r, Contains-here r rs, a)
-  | inr b ↦ let k : (q : ℕ) × Contains rs q × Contains (rules.nodes q) node = asked-to rules rs node b in (k.0, Contains-there r rs k.0 k.1, k.2)
+  | inr b ↦ let k : (q : ℕ) × Contains rs q × Contains (rules.nodes q) node = required-to rules rs node b in (k.0, Contains-there r rs k.0 k.1, k.2)
 ]
 
 -- ---- the walk through needed nodes
 
-pub closing-start : (rules : Rules ℕ ℕ ℕ ℕ) (chosen : ℕ → Option ℕ) (nodes : List ℕ) → Grows [] nodes (nodes_asked rules rules.lines) → IsClosing rules chosen nodes 0
+pub closing-start : (rules : Rules ℕ ℕ ℕ ℕ) (chosen : ℕ → Option ℕ) (nodes : List ℕ) → Grows [] nodes (nodes_required rules rules.lines) → IsClosing rules chosen nodes 0
 closing-start rules chosen nodes g = record {
   sound = λ node h. elim (g.only node h) [
     | inl a ↦ absurd (Contains-nil node a)
-    | inr b ↦ let k : (r : ℕ) × Contains rules.lines r × Contains (rules.nodes r) node = asked-to rules rules.lines node b in by_line k.0 node k.1 k.2
+    | inr b ↦ let k : (r : ℕ) × Contains rules.lines r × Contains (rules.nodes r) node = required-to rules rules.lines node b in by_line k.0 node k.1 k.2
   ];
   lines = g.added;
   linked = λ link node h i. absurd (Contains-take_zero nodes link h);
@@ -81,7 +81,7 @@ closing-start rules chosen nodes g = record {
 pub linked-needed : (rules : Rules ℕ ℕ ℕ ℕ) (chosen : ℕ → Option ℕ) (link node : ℕ) (o : Option ℕ) → chosen (rules.on link) ≡ o → Needed rules chosen link → Contains (nodes_linked rules link o) node → Needed rules chosen node
 linked-needed rules chosen link node None e n h = absurd (Contains-nil node h)
 linked-needed rules chosen link node (Some v) e n h =
-    let k : (r : ℕ) × Contains (rules.wants link v) r × Contains (rules.nodes r) node = asked-to rules (rules.wants link v) node h in
+    let k : (r : ℕ) × Contains (rules.wants link v) r × Contains (rules.nodes r) node = required-to rules (rules.wants link v) node h in
     by_dependency link v k.0 node n e k.1 k.2
 
 pub take-front : {X : Type 0} (xs ys : List X) (k : ℕ) → k ≤ length xs → take k (xs ++ ys) ≡ take k xs
@@ -107,11 +107,11 @@ closing-step rules chosen nodes new at link c l is g = record {
 }
 
 closing-whole : (rules : Rules ℕ ℕ ℕ ℕ) (chosen : ℕ → Option ℕ) (nodes : List ℕ) (at : ℕ) → IsClosing rules chosen nodes at → length nodes ≤ at → (node : ℕ) → Needed rules chosen node → Contains nodes node
-closing-whole rules chosen nodes at c l _ (by_line r node h i) = c.lines node (asked-from rules rules.lines r node h i)
+closing-whole rules chosen nodes at c l _ (by_line r node h i) = c.lines node (required-from rules rules.lines r node h i)
 closing-whole rules chosen nodes at c l _ (by_dependency link v r node k e w i) =
     let m : Contains nodes link = closing-whole rules chosen nodes at c l link k in
     c.linked link node (subst (λ xs. Contains xs link) (sym (take-whole nodes at l)) m)
-    (subst (λ o. Contains (nodes_linked rules link o) node) (sym e) (asked-from rules (rules.wants link v) r node w i))
+    (subst (λ o. Contains (nodes_linked rules link o) node) (sym e) (required-from rules (rules.wants link v) r node w i))
 
 pub closing-end : (rules : Rules ℕ ℕ ℕ ℕ) (chosen : ℕ → Option ℕ) (nodes : List ℕ) (at : ℕ) → IsClosing rules chosen nodes at → length nodes ≤ at → AreNeeded rules chosen nodes
 closing-end rules chosen nodes at c l = record { sound = c.sound; whole = closing-whole rules chosen nodes at c l }

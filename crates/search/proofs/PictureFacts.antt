@@ -6,10 +6,10 @@ use Rattle.lists.proofs.Members.{Contains-here, Contains-map, Contains-map_of}
 use Rattle.search.proofs.Ranges.{lines-known, wants-known, nodes-known, name-known}
 use Rattle.search.proofs.PinnedMaps.{some-inj}
 use Rattle.search.proofs.WhatIsLeft.{candidates-named}
-use Rattle.search.specs.Picture.{Picture, IsPicture, name_asked}
+use Rattle.search.specs.Picture.{Picture, IsPicture, name_required}
 use Rattle.search.specs.Rules.{Rules, IsOrder}
 use Rattle.search.specs.Solutions.{Needed, by_line, by_dependency, IsNeededName, IsMet, Solution}
-use Rattle.search.specs.Table.{TableParts, rules_of, requirement_at, name_of, asked_nodes, wants_at, candidates_of, in_range}
+use Rattle.search.specs.Table.{TableParts, rules_of, requirement_at, name_of, required_nodes, wants_at, candidates_of, in_range}
 
 -- what is at a place, if there is a place
 abbrev pub image : {V : Type 0} → (ℕ → V) → Option ℕ → Option V
@@ -39,8 +39,8 @@ candidate-known t n p i = candidates-named t.candidates n (let l = i.1 in omega 
 pub picture-lines : {N X V R : Type 0} (t : TableParts) (picture : Picture N X V R) (rules : Rules N X V R) → IsPicture t picture rules → (r : ℕ) → Contains t.lines r → Contains rules.lines (picture.requirement r)
 picture-lines t picture rules h r i = subst (λ rs. Contains rs (picture.requirement r)) (sym h.lines) (Contains-map_of picture.requirement t.lines r i)
 
-pub picture-nodes : {N X V R : Type 0} (t : TableParts) (picture : Picture N X V R) (rules : Rules N X V R) → IsPicture t picture rules → (r node : ℕ) → r < length t.requirements → Contains (asked_nodes (requirement_at t r)) node → Contains (rules.nodes (picture.requirement r)) (picture.node node)
-picture-nodes t picture rules h r node l i = subst (λ ns. Contains ns (picture.node node)) (sym (h.nodes r l)) (Contains-map_of picture.node (asked_nodes (requirement_at t r)) node i)
+pub picture-nodes : {N X V R : Type 0} (t : TableParts) (picture : Picture N X V R) (rules : Rules N X V R) → IsPicture t picture rules → (r node : ℕ) → r < length t.requirements → Contains (required_nodes (requirement_at t r)) node → Contains (rules.nodes (picture.requirement r)) (picture.node node)
+picture-nodes t picture rules h r node l i = subst (λ ns. Contains ns (picture.node node)) (sym (h.nodes r l)) (Contains-map_of picture.node (required_nodes (requirement_at t r)) node i)
 
 -- a needed node of the table stands for a needed node
 pub needed-up : {N X V R : Type 0} (t : TableParts) (picture : Picture N X V R) (rules : Rules N X V R) → in_range t ≡ true → IsPicture t picture rules → (s : ℕ → Option ℕ) (S : N → Option V) → IsAlike t picture s S → (node : ℕ) → Needed (rules_of t) s node → (node < length t.nodes) × Needed rules S (picture.node node)
@@ -61,8 +61,8 @@ needed-up t picture rules known h s S a _ (by_dependency link v r node n e w i) 
 abbrev pub IsStoodFor : {N X V R : Type 0} → TableParts → Picture N X V R → (ℕ → Option ℕ) → X → Type 0
 IsStoodFor t picture s node = (x : ℕ) × (x < length t.nodes) × (picture.node x ≡ node) × Needed (rules_of t) s x
 
-node-down : {N X V R : Type 0} (t : TableParts) (picture : Picture N X V R) (rules : Rules N X V R) → IsPicture t picture rules → (r : ℕ) (q : R) (node : X) → r < length t.requirements → picture.requirement r ≡ q → Contains (rules.nodes q) node → (x : ℕ) × Contains (asked_nodes (requirement_at t r)) x × (picture.node x ≡ node)
-node-down t picture rules h r q node l e i = Contains-map picture.node (asked_nodes (requirement_at t r)) node (subst (λ ns. Contains ns node) (ap rules.nodes (sym e) ∙ h.nodes r l) i)
+node-down : {N X V R : Type 0} (t : TableParts) (picture : Picture N X V R) (rules : Rules N X V R) → IsPicture t picture rules → (r : ℕ) (q : R) (node : X) → r < length t.requirements → picture.requirement r ≡ q → Contains (rules.nodes q) node → (x : ℕ) × Contains (required_nodes (requirement_at t r)) x × (picture.node x ≡ node)
+node-down t picture rules h r q node l e i = Contains-map picture.node (required_nodes (requirement_at t r)) node (subst (λ ns. Contains ns node) (ap rules.nodes (sym e) ∙ h.nodes r l) i)
 
 -- what the table has at a node that is stood for
 pub record IsChosenAt {N X V R : Type 0} (t : TableParts) (picture : Picture N X V R) (s : ℕ → Option ℕ) (x : ℕ) (v : V) : Type 0 where
@@ -86,31 +86,31 @@ pub needed-down : {N X V R : Type 0} (t : TableParts) (picture : Picture N X V R
 needed-down t picture rules known h s S a _ (by_line q node l i) =
     let r : (r : ℕ) × Contains t.lines r × (picture.requirement r ≡ q) = Contains-map picture.requirement t.lines q (subst (λ rs. Contains rs q) h.lines l) in
     let k : r.0 < length t.requirements = lines-known t known r.0 r.1 in
-    let x : (x : ℕ) × Contains (asked_nodes (requirement_at t r.0)) x × (picture.node x ≡ node) = node-down t picture rules h r.0 q node k r.2 i in
+    let x : (x : ℕ) × Contains (required_nodes (requirement_at t r.0)) x × (picture.node x ≡ node) = node-down t picture rules h r.0 q node k r.2 i in
     (x.0, nodes-known t known r.0 k x.0 x.1, x.2, by_line r.0 x.0 r.1 x.1)
 needed-down t picture rules known h s S a _ (by_dependency link v q node n e w i) =
     let y : IsStoodFor t picture s link = needed-down t picture rules known h s S a link n in
     let c : IsChosenAt t picture s y.0 v = chosen-down t picture rules known h s S a y.0 link v y.1 y.2 e in
     let r : (r : ℕ) × Contains (wants_at t y.0 c.place) r × (picture.requirement r ≡ q) = wanted-down t picture rules h s S a y.0 link v q y.1 y.2 c w in
     let k : r.0 < length t.requirements = wants-known t known y.0 c.place r.0 r.1 in
-    let x : (x : ℕ) × Contains (asked_nodes (requirement_at t r.0)) x × (picture.node x ≡ node) = node-down t picture rules h r.0 q node k r.2 i in
+    let x : (x : ℕ) × Contains (required_nodes (requirement_at t r.0)) x × (picture.node x ≡ node) = node-down t picture rules h r.0 q node k r.2 i in
     (x.0, nodes-known t known r.0 k x.0 x.1, x.2, by_dependency y.0 c.place r.0 x.0 y.3 c.chosen r.1 x.1)
 
-asked-known : (t : TableParts) → in_range t ≡ true → (r : ℕ) → r < length t.requirements → name_asked t r < length t.candidates
-asked-known t known r l = name-known t known (requirement_at t r).node (nodes-known t known r l _ (Contains-here (requirement_at t r).node (requirement_at t r).more))
+required-known : (t : TableParts) → in_range t ≡ true → (r : ℕ) → r < length t.requirements → name_required t r < length t.candidates
+required-known t known r l = name-known t known (requirement_at t r).node (nodes-known t known r l _ (Contains-here (requirement_at t r).node (requirement_at t r).more))
 
 pub met-up : {N X V R : Type 0} (t : TableParts) (picture : Picture N X V R) (rules : Rules N X V R) → in_range t ≡ true → IsPicture t picture rules → (s : ℕ → Option ℕ) (S : N → Option V) → IsAlike t picture s S → (r : ℕ) → r < length t.requirements → IsMet (rules_of t) s r → IsMet rules S (picture.requirement r)
 met-up t picture rules known h s S a r l m = (
-  picture.version (name_asked t r) m.0,
-  ap S (h.asked r l) ∙ a.at (name_asked t r) (asked-known t known r l) ∙ ap (image (picture.version (name_asked t r))) m.1,
-  h.admits r m.0 l (a.released (name_asked t r) m.0 m.1) ∙ m.2,
+  picture.version (name_required t r) m.0,
+  ap S (h.required r l) ∙ a.at (name_required t r) (required-known t known r l) ∙ ap (image (picture.version (name_required t r))) m.1,
+  h.admits r m.0 l (a.released (name_required t r) m.0 m.1) ∙ m.2,
 )
 
 pub met-down : {N X V R : Type 0} (t : TableParts) (picture : Picture N X V R) (rules : Rules N X V R) → in_range t ≡ true → IsPicture t picture rules → (s : ℕ → Option ℕ) (S : N → Option V) → IsAlike t picture s S → (r : ℕ) → r < length t.requirements → IsMet rules S (picture.requirement r) → IsMet (rules_of t) s r
 met-down t picture rules known h s S a r l m =
-    let at : image (picture.version (name_asked t r)) (s (name_asked t r)) ≡ Some m.0 = sym (a.at (name_asked t r) (asked-known t known r l)) ∙ sym (ap S (h.asked r l)) ∙ m.1 in
-    let p : (p : ℕ) × (s (name_asked t r) ≡ Some p) × (picture.version (name_asked t r) p ≡ m.0) = image-some (picture.version (name_asked t r)) (s (name_asked t r)) m.0 at in
-    (p.0, p.1, sym (h.admits r p.0 l (a.released (name_asked t r) p.0 p.1)) ∙ ap (rules.admits (picture.requirement r)) p.2 ∙ m.2)
+    let at : image (picture.version (name_required t r)) (s (name_required t r)) ≡ Some m.0 = sym (a.at (name_required t r) (required-known t known r l)) ∙ sym (ap S (h.required r l)) ∙ m.1 in
+    let p : (p : ℕ) × (s (name_required t r) ≡ Some p) × (picture.version (name_required t r) p ≡ m.0) = image-some (picture.version (name_required t r)) (s (name_required t r)) m.0 at in
+    (p.0, p.1, sym (h.admits r p.0 l (a.released (name_required t r) p.0 p.1)) ∙ ap (rules.admits (picture.requirement r)) p.2 ∙ m.2)
 
 -- a name of the table's order is the name of one number
 pub name-same : {N X V R : Type 0} (t : TableParts) (picture : Picture N X V R) (rules : Rules N X V R) → IsPicture t picture rules → IsOrder rules.compare → (n m : ℕ) → n < length t.candidates → m < length t.candidates → picture.name n ≡ picture.name m → n ≡ m

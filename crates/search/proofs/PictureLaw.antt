@@ -8,7 +8,7 @@ use Rattle.search.proofs.PictureFacts.{image, image-some, image-none, IsAlike, A
 use Rattle.search.proofs.Ranges.{name-known}
 use Rattle.search.proofs.TakenFacts.{IsListed, listed, listed-all, split-nat}
 use Rattle.search.proofs.PinnedMaps.{pin-member, option_cases, some-inj, is_eq-same, is_eq-self, Has-front}
-use Rattle.search.specs.declared.parts.Choice.{Choice}
+use Rattle.search.specs.declared.parts.TableChoice.{TableChoice}
 use Rattle.search.specs.Picture.{Picture, IsPicture, pin_pictured, pictured}
 use Rattle.search.specs.Rules.{Rules, IsOrder}
 use Rattle.search.specs.Solutions.{Needed, IsNeededName, Solution, Pin, version_pinned, IsNext, IsWalk, Has, ComesFirst, IsBetter, IsBest, HasNoSolution}
@@ -185,7 +185,7 @@ same-up {N} {X} {V} t picture s u S U a b c d e m =
 has-own : (t : TableParts) (ps : List (Pin ℕ ℕ)) → Has (rules_of t) (version_pinned nat_cmp ps) ps
 has-own t ps n v e = e
 
-pub picture-best : {N X V R : Type 0} (t : TableParts) (picture : Picture N X V R) (rules : Rules N X V R) → in_range t ≡ true → IsOrder rules.compare → IsPicture t picture rules → (choices : List Choice) → IsBest (rules_of t) (place_in choices) → IsBest rules (version_pinned rules.compare (pictured picture choices))
+pub picture-best : {N X V R : Type 0} (t : TableParts) (picture : Picture N X V R) (rules : Rules N X V R) → in_range t ≡ true → IsOrder rules.compare → IsPicture t picture rules → (choices : List TableChoice) → IsBest (rules_of t) (place_in choices) → IsBest rules (version_pinned rules.compare (pictured picture choices))
 picture-best {N} {X} {V} t picture rules known order h choices best =
     let ps : List (Pin ℕ ℕ) = map pin_of choices in
     let s : ℕ → Option ℕ = version_pinned nat_cmp ps in
@@ -210,7 +210,7 @@ picture-none t picture rules known order h none T sol =
 
 pub picture-none_back : {N X V R : Type 0} (t : TableParts) (picture : Picture N X V R) (rules : Rules N X V R) → in_range t ≡ true → IsOrder rules.compare → IsPicture t picture rules → HasNoSolution rules → HasNoSolution (rules_of t)
 picture-none_back {N} {X} {V} t picture rules known order h none s sol =
-    let cs : (cs : List Choice) × IsListed s (length t.candidates) cs = listed s (length t.candidates) in
+    let cs : (cs : List TableChoice) × IsListed s (length t.candidates) cs = listed s (length t.candidates) in
     let nothing : (n : ℕ) → length t.candidates ≤ n → s n ≡ None = λ n l. elim (option_cases (s n)) [
       | inl e ↦ e
       | inr some ↦ let k : n < length t.candidates = candidate-known t n some.0 (sol.released n some.0 some.1) in absurd (omega arith)

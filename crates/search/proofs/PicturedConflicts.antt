@@ -8,16 +8,16 @@ use Rattle.search.proofs.Ranges.{eq-true, lines-known, wants-known, nodes-known,
 use Rattle.search.specs.declared.conflict.NodeChoice.{NodeChoice}
 use Rattle.search.specs.Conflicts.{IsSameChoice, LineRefuses, ChoicesClash, VersionsDiffer, NeedsNode, Completes, NoneLeft, Follows, EachFollows, IsRefutation}
 use Rattle.search.specs.Known.{IsKnown, AreKnown, choice_pictured, conflict_pictured, conflicts_pictured, AreApart}
-use Rattle.search.specs.Picture.{Picture, IsPicture, name_asked}
+use Rattle.search.specs.Picture.{Picture, IsPicture, name_required}
 use Rattle.search.specs.Rules.{Rules}
 use Rattle.search.specs.Table.{TableParts, rules_of, name_of, wants_at, candidates_of, admits_at, in_range, places_eq}
 
 -- ---- what the rules say of what a known choice stands for
 
-pub named-pictured : {N X V R : Type 0} (t : TableParts) (picture : Picture N X V R) (rules : Rules N X V R) → IsPicture t picture rules → (r : ℕ) (c : NodeChoice ℕ ℕ) → r < length t.requirements → IsKnown t c → name_asked t r ≡ name_of t c.node → rules.name (picture.requirement r) ≡ rules.on (picture.node c.node)
-named-pictured t picture rules h r c l k e = h.asked r l ∙ ap picture.name e ∙ sym (h.on c.node k.0)
+pub named-pictured : {N X V R : Type 0} (t : TableParts) (picture : Picture N X V R) (rules : Rules N X V R) → IsPicture t picture rules → (r : ℕ) (c : NodeChoice ℕ ℕ) → r < length t.requirements → IsKnown t c → name_required t r ≡ name_of t c.node → rules.name (picture.requirement r) ≡ rules.on (picture.node c.node)
+named-pictured t picture rules h r c l k e = h.required r l ∙ ap picture.name e ∙ sym (h.on c.node k.0)
 
-pub admits-pictured : {N X V R : Type 0} (t : TableParts) (picture : Picture N X V R) (rules : Rules N X V R) → IsPicture t picture rules → (r : ℕ) (c : NodeChoice ℕ ℕ) → r < length t.requirements → IsKnown t c → name_asked t r ≡ name_of t c.node → rules.admits (picture.requirement r) (picture.version (name_of t c.node) c.version) ≡ admits_at t r c.version
+pub admits-pictured : {N X V R : Type 0} (t : TableParts) (picture : Picture N X V R) (rules : Rules N X V R) → IsPicture t picture rules → (r : ℕ) (c : NodeChoice ℕ ℕ) → r < length t.requirements → IsKnown t c → name_required t r ≡ name_of t c.node → rules.admits (picture.requirement r) (picture.version (name_of t c.node) c.version) ≡ admits_at t r c.version
 admits-pictured t picture rules h r c l k e =
     subst (λ n. Contains (candidates_of t n) c.version → rules.admits (picture.requirement r) (picture.version n c.version) ≡ admits_at t r c.version) e (h.admits r c.version l) k.1
 

@@ -36,7 +36,7 @@ line-pictured t picture rules known h conflict k f =
       there = Contains-map_of (term_pictured t picture) conflict f.term f.there;
       line = picture.requirement f.line;
       active = picture-lines t picture rules h f.line f.active;
-      named = h.asked f.line l ∙ ap picture.name f.named ∙ sym (h.on f.term.node term.0);
+      named = h.required f.line l ∙ ap picture.name f.named ∙ sym (h.on f.term.node term.0);
       refused = each-pictured t picture f.term (λ w. rules.admits (picture.requirement f.line) w ≡ false)
           (λ v i. admits-pictured t picture rules h f.line (at f.term v) l (known-at t f.term v term i) f.named ∙ f.refused v i);
     }

@@ -3,9 +3,9 @@ use Rattle.std.proofs.Common.{ℕ, zero, suc, List, [], ◌∷◌, ◌≡◌, �
 use Rattle.std.specs.List.{list_all}
 use Rattle.std.proofs.lemmas.Bool.{ltb-true, eqb-true}
 use Rattle.lists.proofs.Members.{Contains-here, Contains-there, Contains-cons_cases, Contains-nil}
-use Rattle.search.specs.declared.parts.Requirement.{Requirement}
+use Rattle.search.specs.declared.parts.TableRequirement.{TableRequirement}
 use Rattle.search.specs.Ranges.{EachBelow}
-use Rattle.search.specs.Table.{TableParts, all_below, is_on, requirement_in_range, in_range, requirement_at, name_of, name_at, asked_nodes, wants_at}
+use Rattle.search.specs.Table.{TableParts, all_below, is_on, requirement_in_range, in_range, requirement_at, name_of, name_at, required_nodes, wants_at}
 
 pub and-both : (a b : Bool) → (a && b) ≡ true → (a ≡ true) × (b ≡ true)
 and-both true b h = (refl, h)
@@ -66,7 +66,7 @@ on-both nodes name node h =
     let k : (nat_lt node (length nodes) ≡ true) × ((name_at nodes node == name) ≡ true) = and-both (nat_lt node (length nodes)) (name_at nodes node == name) h in
     (lt-true node (length nodes) k.0, eq-true (name_at nodes node) name k.1)
 
-requirement-known : (nodes : List ℕ) (r : Requirement) → requirement_in_range nodes r ≡ true → (x : ℕ) → Contains (asked_nodes r) x → (x < length nodes) × (name_at nodes x ≡ name_at nodes r.node)
+requirement-known : (nodes : List ℕ) (r : TableRequirement) → requirement_in_range nodes r ≡ true → (x : ℕ) → Contains (required_nodes r) x → (x < length nodes) × (name_at nodes x ≡ name_at nodes r.node)
 requirement-known nodes r h x i =
     let k : (nat_lt r.node (length nodes) ≡ true) × (list_all (is_on nodes (name_at nodes r.node)) r.more ≡ true) = and-both (nat_lt r.node (length nodes)) (list_all (is_on nodes (name_at nodes r.node)) r.more) h in
     elim (Contains-cons_cases r.node r.more x i) [
@@ -74,10 +74,10 @@ requirement-known nodes r h x i =
       | inr j ↦ on-both nodes (name_at nodes r.node) x (all-at (is_on nodes (name_at nodes r.node)) r.more x k.1 j)
     ]
 
-pub nodes-known : (t : TableParts) → in_range t ≡ true → (r : ℕ) → r < length t.requirements → EachBelow (length t.nodes) (asked_nodes (requirement_at t r))
+pub nodes-known : (t : TableParts) → in_range t ≡ true → (r : ℕ) → r < length t.requirements → EachBelow (length t.nodes) (required_nodes (requirement_at t r))
 nodes-known t h r l x i = (requirement-known t.nodes (requirement_at t r) (all-at (requirement_in_range t.nodes) t.requirements (requirement_at t r) (ranges t h).requirements (at-member t.requirements r _ l)) x i).0
 
-default-own : (nodes : List ℕ) (rs : List Requirement) (r : ℕ) (d : Requirement) → d.more ≡ [] → list_all (requirement_in_range nodes) rs ≡ true → (x : ℕ) → Contains (asked_nodes (get_or rs r d)) x → name_at nodes x ≡ name_at nodes (get_or rs r d).node
+default-own : (nodes : List ℕ) (rs : List TableRequirement) (r : ℕ) (d : TableRequirement) → d.more ≡ [] → list_all (requirement_in_range nodes) rs ≡ true → (x : ℕ) → Contains (required_nodes (get_or rs r d)) x → name_at nodes x ≡ name_at nodes (get_or rs r d).node
 default-own nodes [] r d e h x i = elim (Contains-cons_cases d.node d.more x i) [
   | inl f ↦ ap (name_at nodes) (sym f)
   | inr j ↦ absurd (Contains-nil x (subst (λ ys. Contains ys x) e j))
@@ -86,5 +86,5 @@ default-own nodes (q ∷ rs) zero d e h x i = (requirement-known nodes q (and-bo
 default-own nodes (q ∷ rs) (suc r) d e h x i = default-own nodes rs r d e (and-both (requirement_in_range nodes q) (list_all (requirement_in_range nodes) rs) h).1 x i
 
 -- the nodes of a requirement are on its name, whatever its number
-pub nodes-own : (t : TableParts) → in_range t ≡ true → (r x : ℕ) → Contains (asked_nodes (requirement_at t r)) x → name_of t x ≡ name_of t (requirement_at t r).node
+pub nodes-own : (t : TableParts) → in_range t ≡ true → (r x : ℕ) → Contains (required_nodes (requirement_at t r)) x → name_of t x ≡ name_of t (requirement_at t r).node
 nodes-own t h r x i = default-own t.nodes t.requirements r _ refl (ranges t h).requirements x i

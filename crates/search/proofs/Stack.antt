@@ -90,7 +90,7 @@ search-solution rules law fs h c = record {
   each_needed = search-needed rules law (version_pinned rules.compare (pins_of fs)) [] fs h (λ n v e. e);
 }
 
--- a search whose choices meet all that is asked for has found the best solution
+-- a search whose choices meet all that is required has found the best solution
 pub search-best : (rules : Rules ℕ ℕ ℕ ℕ) (law : IsLawful rules) (fs : List Frame) → IsSearch rules [] fs → IsComplete rules (version_pinned rules.compare (pins_of fs)) → IsBest rules (version_pinned rules.compare (pins_of fs))
 search-best rules law fs h c = record {
   solution = search-solution rules law fs h c;

@@ -10,7 +10,7 @@ use Rattle.search.proofs.PlacesEquality.{off-of}
 use Rattle.search.proofs.Nodes.{take-more}
 use Rattle.search.proofs.Stack.{pins_of-push}
 use Rattle.search.proofs.PinnedMaps.{pin-member, is_eq-same, option_cases, version_pinned-append_some, version_pinned-append_none, version_pinned-last}
-use Rattle.search.specs.declared.parts.Choice.{Choice}
+use Rattle.search.specs.declared.parts.TableChoice.{TableChoice}
 use Rattle.search.specs.declared.parts.Frame.{Frame}
 use Rattle.search.specs.Tied.Search.{pin_at, pins_of, taken_at}
 use Rattle.search.specs.Solutions.{Pin, version_pinned}
@@ -50,22 +50,22 @@ first-more old new fs i f l is h same n = rw add-one (first-step old new f (pins
 -- ---- the choices in the order of their names
 
 -- the choices are what is taken of the names below the bound
-pub record IsListed (chosen : ℕ → Option ℕ) (bound : ℕ) (cs : List Choice) : Type 0 where
-  pub below : (c : Choice) → Contains cs c → c.name < bound
+pub record IsListed (chosen : ℕ → Option ℕ) (bound : ℕ) (cs : List TableChoice) : Type 0 where
+  pub below : (c : TableChoice) → Contains cs c → c.name < bound
   pub same : (n : ℕ) → n < bound → place_in cs n ≡ chosen n
   pub ascending : IsAscending cs
 
-place_in-member : (cs : List Choice) (n v : ℕ) → place_in cs n ≡ Some v → (c : Choice) × Contains cs c × (c.name ≡ n)
+place_in-member : (cs : List TableChoice) (n v : ℕ) → place_in cs n ≡ Some v → (c : TableChoice) × Contains cs c × (c.name ≡ n)
 place_in-member cs n v e =
     let p : (p : Pin ℕ ℕ) × Contains (map pin_of cs) p × (p.name ≡ n) = pin-member nat_cmp nat-order (map pin_of cs) n v e in
-    let c : (c : Choice) × Contains cs c × (pin_of c ≡ p.0) = Contains-map pin_of cs p.0 p.1 in
+    let c : (c : TableChoice) × Contains cs c × (pin_of c ≡ p.0) = Contains-map pin_of cs p.0 p.1 in
     (c.0, c.1, ap (λ (x : Pin ℕ ℕ). x.name) c.2 ∙ p.2)
 
-beyond : (chosen : ℕ → Option ℕ) (bound : ℕ) (cs : List Choice) (n : ℕ) → IsListed chosen bound cs → bound ≤ n → place_in cs n ≡ None
+beyond : (chosen : ℕ → Option ℕ) (bound : ℕ) (cs : List TableChoice) (n : ℕ) → IsListed chosen bound cs → bound ≤ n → place_in cs n ≡ None
 beyond chosen bound cs n h l = elim (option_cases (place_in cs n)) [
   | inl none ↦ none
   | inr some ↦
-      let k : (c : Choice) × Contains cs c × (c.name ≡ n) = place_in-member cs n some.0 some.1 in
+      let k : (c : TableChoice) × Contains cs c × (c.name ≡ n) = place_in-member cs n some.0 some.1 in
       let b : k.0.name < bound = h.below k.0 k.1 in
       let e = k.2 in
       absurd (omega arith)
@@ -78,7 +78,7 @@ listed-start chosen = record {
   ascending = tt;
 }
 
-pub listed-none : (chosen : ℕ → Option ℕ) (bound : ℕ) (cs : List Choice) → IsListed chosen bound cs → chosen bound ≡ None → IsListed chosen (bound + 1) cs
+pub listed-none : (chosen : ℕ → Option ℕ) (bound : ℕ) (cs : List TableChoice) → IsListed chosen bound cs → chosen bound ≡ None → IsListed chosen (bound + 1) cs
 listed-none chosen bound cs h e = record {
   below = λ c i. let k = h.below c i in omega arith;
   same = λ n l. elim (nat_less bound n (omega arith)) [
@@ -88,20 +88,20 @@ listed-none chosen bound cs h e = record {
   ascending = h.ascending;
 }
 
-ascending-push : (cs : List Choice) (c : Choice) → IsAscending cs → ((d : Choice) → Contains cs d → d.name < c.name) → IsAscending (cs ++ c ∷ [])
+ascending-push : (cs : List TableChoice) (c : TableChoice) → IsAscending cs → ((d : TableChoice) → Contains cs d → d.name < c.name) → IsAscending (cs ++ c ∷ [])
 ascending-push [] c h k = (λ d i. absurd (Contains-nil d i), tt)
 ascending-push (b ∷ cs) c h k = (
-  λ d i. elim (Contains-push_cases cs c d i) [ inl a ↦ h.0 d a | inr e ↦ subst (λ (x : Choice). b.name < x.name) e (k b (Contains-here b cs)) ],
+  λ d i. elim (Contains-push_cases cs c d i) [ inl a ↦ h.0 d a | inr e ↦ subst (λ (x : TableChoice). b.name < x.name) e (k b (Contains-here b cs)) ],
   ascending-push cs c h.1 (λ d i. k d (Contains-there b cs d i)),
 )
 
-pub listed-push : (chosen : ℕ → Option ℕ) (bound place : ℕ) (cs : List Choice) → IsListed chosen bound cs → chosen bound ≡ Some place → IsListed chosen (bound + 1) (cs ++ record { name = bound; place = place } ∷ [])
+pub listed-push : (chosen : ℕ → Option ℕ) (bound place : ℕ) (cs : List TableChoice) → IsListed chosen bound cs → chosen bound ≡ Some place → IsListed chosen (bound + 1) (cs ++ record { name = bound; place = place } ∷ [])
 listed-push chosen bound place cs h e =
-    let c : Choice = record { name = bound; place = place } in
+    let c : TableChoice = record { name = bound; place = place } in
     record {
       below = λ d i. elim (Contains-push_cases cs c d i) [
         | inl a ↦ let k = h.below d a in omega arith
-        | inr f ↦ subst (λ (x : Choice). x.name < bound + 1) f (omega arith)
+        | inr f ↦ subst (λ (x : TableChoice). x.name < bound + 1) f (omega arith)
       ];
       same = λ n l. elim (nat_less bound n (omega arith)) [
         | inl low ↦ ap (λ ps. version_pinned nat_cmp ps n) (map-append pin_of cs (c ∷ [])) ∙ version_pinned-other (map pin_of cs) (pin_of c) n (λ f. omega arith) ∙ h.same n low
@@ -121,20 +121,20 @@ split-nat n zero = inr (omega arith)
 split-nat zero (suc bound) = inl (omega arith)
 split-nat (suc n) (suc bound) = elim (split-nat n bound) [ inl a ↦ inl (omega arith) | inr b ↦ inr (omega arith) ]
 
-pub listed-all : (chosen : ℕ → Option ℕ) (bound : ℕ) (cs : List Choice) → IsListed chosen bound cs → ((n : ℕ) → bound ≤ n → chosen n ≡ None) → (n : ℕ) → place_in cs n ≡ chosen n
+pub listed-all : (chosen : ℕ → Option ℕ) (bound : ℕ) (cs : List TableChoice) → IsListed chosen bound cs → ((n : ℕ) → bound ≤ n → chosen n ≡ None) → (n : ℕ) → place_in cs n ≡ chosen n
 listed-all chosen bound cs h none n = elim (split-nat n bound) [
   | inl a ↦ h.same n a
   | inr b ↦ beyond chosen bound cs n h b ∙ sym (none n b)
 ]
 
-pub listed-end : (taken : List (Option ℕ)) (bound : ℕ) (cs : List Choice) → IsListed (taken_at taken) bound cs → length taken ≤ bound → (n : ℕ) → place_in cs n ≡ taken_at taken n
+pub listed-end : (taken : List (Option ℕ)) (bound : ℕ) (cs : List TableChoice) → IsListed (taken_at taken) bound cs → length taken ≤ bound → (n : ℕ) → place_in cs n ≡ taken_at taken n
 listed-end taken bound cs h l = listed-all (taken_at taken) bound cs h (λ n b. none-beyond taken n (omega arith))
 
 -- the choices of any map, as far as the bound
-pub listed : (chosen : ℕ → Option ℕ) (bound : ℕ) → (cs : List Choice) × IsListed chosen bound cs
+pub listed : (chosen : ℕ → Option ℕ) (bound : ℕ) → (cs : List TableChoice) × IsListed chosen bound cs
 listed chosen zero = ([], listed-start chosen)
 listed chosen (suc bound) =
-    let front : (cs : List Choice) × IsListed chosen bound cs = listed chosen bound in
+    let front : (cs : List TableChoice) × IsListed chosen bound cs = listed chosen bound in
     elim (option_cases (chosen bound)) [
       | inl none ↦ (front.0, rw (sym (add-one bound)) (listed-none chosen bound front.0 front.1 none))
       | inr some ↦ (front.0 ++ record { name = bound; place = some.0 } ∷ [], rw (sym (add-one bound)) (listed-push chosen bound some.0 front.0 front.1 some.1))

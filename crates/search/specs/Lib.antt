@@ -5,6 +5,7 @@ pub mod SetConflicts
 pub mod SetsOfChoices
 pub mod Table
 pub mod FirstWalk
+pub mod GuidedWalk
 pub mod Ranges
 pub mod Picture
 pub mod Known

@@ -5,19 +5,19 @@ use Rattle.std.specs.Cmp.{IsTotalOrder}
 use Rattle.std.specs.declared.cmp.Ordering.{Ordering}
 use Rattle.std.specs.declared.cmp.Ordering.TheVariants.{Equal}
 
--- N: names. X: nodes, each a name with an extra or with none. V: versions. R: what a line or a dependency asks for.
+-- N: names. X: nodes, each a name with an extra or with none. V: versions. R: what a line or a dependency requires.
 pub record Rules (N X V R : Type 0) : Type 0 where
-  -- what the active lines ask for
+  -- what the active lines require
   pub lines : List R
   -- the name that a requirement is on
   pub name : R → N
-  -- the nodes that it needs: its name without an extra, and with each extra that it asks for
+  -- the nodes that it needs: its name without an extra, and with each extra that it requires
   pub nodes : R → List X
   -- the name of a node
   pub on : X → N
   -- whether a requirement admits a version of its name
   pub admits : R → V → Bool
-  -- what the release with this version of the node's name asks for at the node: its dependencies that count there
+  -- what the release with this version of the node's name requires at the node: its dependencies that count there
   pub wants : X → V → List R
   -- the versions of a name's candidates, in the order in which they are preferred
   pub candidates : N → List V

@@ -15,7 +15,7 @@ pub data Needed {N X V R : Type 0} (rules : Rules N X V R) (chosen : N → Optio
 abbrev pub IsNeededName : {N X V R : Type 0} → Rules N X V R → (N → Option V) → N → Type 0
 IsNeededName {N} {X} rules chosen n = (node : X) × Needed rules chosen node × (rules.on node ≡ n)
 
--- what r asks for is chosen
+-- what r requires is chosen
 abbrev pub IsMet : {N X V R : Type 0} → Rules N X V R → (N → Option V) → R → Type 0
 IsMet {N} {X} {V} rules chosen r = (v : V) × (chosen (rules.name r) ≡ Some v) × IsTrue (rules.admits r v)
 

@@ -2,8 +2,8 @@
 use Rattle.std.specs.Prelude.{ℕ, List, [], ◌∷◌, Option, Bool, false, ◌<◌, ◌&&◌, ◌==◌, length, nat_lt, map}
 use Rattle.std.specs.List.{Contains, list_all, slice_index_or}
 use Rattle.std.specs.Ordering.{nat_cmp}
-use Rattle.search.specs.declared.parts.Requirement.{Requirement}
-use Rattle.search.specs.declared.parts.Choice.{Choice}
+use Rattle.search.specs.declared.parts.TableRequirement.{TableRequirement}
+use Rattle.search.specs.declared.parts.TableChoice.{TableChoice}
 use Rattle.search.specs.Rules.{Rules}
 use Rattle.search.specs.Solutions.{Pin, version_pinned}
 
@@ -11,7 +11,7 @@ use Rattle.search.specs.Solutions.{Pin, version_pinned}
 pub record TableParts : Type 0 where
   -- the name of each node
   pub nodes : List ℕ
-  pub requirements : List Requirement
+  pub requirements : List TableRequirement
   -- for each name the places of its candidates, in the order in which they are preferred
   pub candidates : List (List ℕ)
   -- for each node, and for each place of a release of its name, the requirements that count there
@@ -19,7 +19,7 @@ pub record TableParts : Type 0 where
   -- the requirements of the active lines
   pub lines : List ℕ
 
-abbrev pub requirement_at : TableParts → ℕ → Requirement
+abbrev pub requirement_at : TableParts → ℕ → TableRequirement
 requirement_at t r = slice_index_or t.requirements r (record { node = 0; more = []; admits = [] })
 
 abbrev pub name_at : List ℕ → ℕ → ℕ
@@ -29,8 +29,8 @@ abbrev pub name_of : TableParts → ℕ → ℕ
 name_of t = name_at t.nodes
 
 -- the nodes that a requirement needs
-abbrev pub asked_nodes : Requirement → List ℕ
-asked_nodes r = r.node ∷ r.more
+abbrev pub required_nodes : TableRequirement → List ℕ
+required_nodes r = r.node ∷ r.more
 
 -- whether a requirement admits the release at a place; none where nothing is said of it
 abbrev pub admits_at : TableParts → ℕ → ℕ → Bool
@@ -48,7 +48,7 @@ abbrev pub rules_of : TableParts → Rules ℕ ℕ ℕ ℕ
 rules_of t = record {
   lines = t.lines;
   name = λ r. name_of t (requirement_at t r).node;
-  nodes = λ r. asked_nodes (requirement_at t r);
+  nodes = λ r. required_nodes (requirement_at t r);
   on = name_of t;
   admits = admits_at t;
   wants = wants_at t;
@@ -69,7 +69,7 @@ abbrev pub is_on : List ℕ → ℕ → ℕ → Bool
 is_on nodes name node = nat_lt node (length nodes) && (name_at nodes node == name)
 
 -- whether a requirement's nodes are in range, and all on one name
-abbrev pub requirement_in_range : List ℕ → Requirement → Bool
+abbrev pub requirement_in_range : List ℕ → TableRequirement → Bool
 requirement_in_range nodes r = nat_lt r.node (length nodes) && list_all (is_on nodes (name_at nodes r.node)) r.more
 
 -- whether each number has something at its place
@@ -80,14 +80,14 @@ in_range t =
     && (list_all (list_all (all_below (length t.requirements))) t.wants
     && all_below (length t.requirements) t.lines))
 
-abbrev pub pin_of : Choice → Pin ℕ ℕ
+abbrev pub pin_of : TableChoice → Pin ℕ ℕ
 pin_of c = record { name = c.name; version = c.place }
 
 -- the map that choices make: at a name, the place of the first choice on it
-abbrev pub place_in : List Choice → ℕ → Option ℕ
+abbrev pub place_in : List TableChoice → ℕ → Option ℕ
 place_in cs = version_pinned nat_cmp (map pin_of cs)
 
 -- each choice is on a greater name than those before it
-abbrev pub IsAscending : List Choice → Type 0
+abbrev pub IsAscending : List TableChoice → Type 0
 IsAscending [] = Unit {0}
-IsAscending (c ∷ cs) = ((d : Choice) → Contains cs d → c.name < d.name) × IsAscending cs
+IsAscending (c ∷ cs) = ((d : TableChoice) → Contains cs d → c.name < d.name) × IsAscending cs

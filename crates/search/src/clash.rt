@@ -1,4 +1,4 @@
-// Whether choices contradict what is asked for, and the next name.
+// Whether choices contradict what is required, and the next name.
 
 ghost use Rattle.std.specs.Prelude.{◌≡◌, ◌≢◌, ◌<◌, MatchOption, length, nat_lt, if◌then◌else◌, true, false};
 ghost use Rattle.std.specs.List.{list_any};
@@ -16,7 +16,7 @@ fn does_clash(table: &Table, taken: &[Option<usize>], requirement: usize) -> boo
     requires { requirement < length table.now.requirements }
     ensures { result ≡ clash_in (rules_of table.now) (taken_at taken.now) requirement }
 {
-    match place_of(taken, table.name_asked(requirement)) {
+    match place_of(taken, table.name_required(requirement)) {
         None => false,
         Some(place) => !table.does_admit(requirement, place),
     }
@@ -35,7 +35,7 @@ fn does_now_clash(
         → clash_in (rules_of table.now) (taken_at taken.now) requirement ≡ false }
     ensures { result ≡ clash_in (rules_of table.now) (taken_at taken.now) requirement }
 {
-    if is_known && table.name_asked(requirement) != name {
+    if is_known && table.name_required(requirement) != name {
         return false;
     }
     does_clash(table, taken, requirement)
@@ -46,19 +46,19 @@ fn does_now_clash(
 pub fn do_any_clash(
     table: &Table,
     taken: &[Option<usize>],
-    asked: &[usize],
+    required: &[usize],
     known_before: KnownBefore,
 ) -> bool
-    requires known { EachBelow (length table.now.requirements) asked.now }
-    requires fit { HaveFit (rules_of table.now) (taken_at taken.now) asked.now known_before }
-    ensures { result ≡ list_any (clash_in (rules_of table.now) (taken_at taken.now)) asked.now }
+    requires known { EachBelow (length table.now.requirements) required.now }
+    requires fit { HaveFit (rules_of table.now) (taken_at taken.now) required.now known_before }
+    ensures { result ≡ list_any (clash_in (rules_of table.now) (taken_at taken.now)) required.now }
 {
-    for at in 0..asked.len() {
+    for at in 0..required.len() {
         if does_now_clash(
             table,
             taken,
-            asked[at],
-            at < known_before.asked,
+            required[at],
+            at < known_before.required,
             known_before.last_taken,
         ) {
             return true;

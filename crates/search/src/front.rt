@@ -9,7 +9,7 @@ ghost use Rattle.search.specs.Tied.Taken.{AreKnownFrames, TakesFirst};
 ghost use Rattle.search.specs.Table.{rules_of};
 
 use crate::clash::{do_any_clash, least_free};
-use crate::needed_nodes::{ask, follow_all, place_of};
+use crate::needed_nodes::{follow_all, place_of, require};
 use crate::node_set::NodeSet;
 use crate::parts::{Frame, KnownBefore};
 use crate::table::Table;
@@ -21,7 +21,7 @@ use std::alloc::{AllocError, Global};
 pub struct Front {
     taken: Vec<Option<usize>>,
     needed: NodeSet,
-    asked: NodeSet,
+    required: NodeSet,
     clashes: bool,
 }
 
@@ -30,7 +30,7 @@ impl Drop for Front {
         let Front {
             taken: _,
             needed: _,
-            asked: _,
+            required: _,
             clashes: _,
         } = self;
     }
@@ -46,30 +46,30 @@ impl Front {
     {
         let taken = taken_of(alloc, table, frames)?;
         let mut needed = NodeSet::new(alloc, table.node_count())?;
-        let mut asked = NodeSet::new(alloc, table.requirement_count())?;
+        let mut required = NodeSet::new(alloc, table.requirement_count())?;
         let known_before = KnownBefore {
             last_taken: 0,
             nodes: 0,
-            asked: 0,
+            required: 0,
         };
-        ask(table, &mut needed, &mut asked, table.lines())?;
+        require(table, &mut needed, &mut required, table.lines())?;
         follow_all(
             table,
             taken.as_slice(),
             &mut needed,
-            &mut asked,
+            &mut required,
             known_before,
         )?;
-        let clashes = do_any_clash(table, taken.as_slice(), asked.as_slice(), known_before);
+        let clashes = do_any_clash(table, taken.as_slice(), required.as_slice(), known_before);
         Ok(Front {
             taken,
             needed,
-            asked,
+            required,
             clashes,
         })
     }
 
-    /// Whether something that is asked for contradicts what is taken.
+    /// Whether something that is required contradicts what is taken.
     pub fn clashes(&self) -> bool
         ensures { result ≡ self.now.clashes }
     {
@@ -106,20 +106,20 @@ impl Front {
         let known_before = KnownBefore {
             last_taken: frame.name,
             nodes: self.needed.len(),
-            asked: self.asked.len(),
+            required: self.required.len(),
         };
         take_frame(&mut self.taken, frame);
         follow_all(
             table,
             self.taken.as_slice(),
             &mut self.needed,
-            &mut self.asked,
+            &mut self.required,
             known_before,
         )?;
         self.clashes = do_any_clash(
             table,
             self.taken.as_slice(),
-            self.asked.as_slice(),
+            self.required.as_slice(),
             known_before,
         );
         Ok(())

@@ -3,6 +3,7 @@
 ghost use Rattle.std.specs.Prelude.{ℕ, ◌≡◌, List, [], Option, Bool, true};
 ghost use Rattle.std.specs.List.{Contains};
 ghost use Rattle.search.specs.FirstWalk.{IsFirstWalk, IsComplete};
+ghost use Rattle.search.specs.GuidedWalk.{IsGuidedWalk};
 ghost use Rattle.search.specs.Conflicts.{IsVersionEquality, LiesInNone, Follows, EachFollows, IsRefutation};
 ghost use Rattle.search.specs.Known.{AreKnown, AreApart, AreKnownSets, conflicts_pictured, sets_pictured};
 ghost use Rattle.search.specs.Picture.{Picture, IsPicture, pictured};
@@ -12,7 +13,7 @@ ghost use Rattle.search.specs.SetsOfChoices.{as_sets};
 ghost use Rattle.search.specs.Solutions.{Pin, Solution, IsBest, IsBetter, HasNoSolution, version_pinned};
 ghost use Rattle.search.specs.Table.{TableParts, in_range, place_in, rules_of, places_eq};
 ghost use Rattle.search.specs.declared.conflict.NodeChoice.{NodeChoice};
-ghost use Rattle.search.specs.declared.parts.Choice.{Choice};
+ghost use Rattle.search.specs.declared.parts.TableChoice.{TableChoice};
 ghost use Rattle.search.specs.declared.term.Term.{Term};
 
 /// There is at most one best solution, and no solution is better.
@@ -23,8 +24,16 @@ pub fn the_best_solution_is_unique<N, X, V, R>()
         → IsBest rules s → Solution rules t → IsBetter rules t s → ⊥ }
 {}
 
-/// Where each pin of a walk has the first candidate of its name that nothing asked for so far
-/// refuses, and the pins meet all that is asked for in the end, they are the best solution.
+/// Where each pin of a walk has the first candidate of its name that some solution may still have,
+/// and the pins meet all that is required in the end, they are the best solution.
+pub fn a_guided_walk_finds_the_best_solution<N, X, V, R>()
+    ensures { (rules : Rules N X V R) → IsLawful rules → (pins : List (Pin N V))
+        → IsGuidedWalk rules [] pins → IsComplete rules (version_pinned rules.compare pins)
+        → IsBest rules (version_pinned rules.compare pins) }
+{}
+
+/// Where each pin of a walk has the first candidate of its name that nothing required so far
+/// refuses, and the pins meet all that is required in the end, they are the best solution.
 pub fn a_first_walk_finds_the_best_solution<N, X, V, R>()
     ensures { (rules : Rules N X V R) → IsLawful rules → (pins : List (Pin N V))
         → IsFirstWalk rules [] pins → IsComplete rules (version_pinned rules.compare pins)
@@ -36,7 +45,7 @@ pub fn a_first_walk_finds_the_best_solution<N, X, V, R>()
 pub fn a_picture_keeps_the_best_solution<N, X, V, R>()
     ensures best { (t : TableParts) (picture : Picture N X V R) (rules : Rules N X V R)
         → in_range t ≡ true → IsOrder rules.compare → IsPicture t picture rules
-        → (choices : List Choice) → IsBest (rules_of t) (place_in choices)
+        → (choices : List TableChoice) → IsBest (rules_of t) (place_in choices)
         → IsBest rules (version_pinned rules.compare (pictured picture choices)) }
     ensures none { (t : TableParts) (picture : Picture N X V R) (rules : Rules N X V R)
         → in_range t ≡ true → IsOrder rules.compare → IsPicture t picture rules

@@ -23,7 +23,7 @@ mod term;
 
 pub use crate::conflict::{Decision, NodeChoice};
 pub use crate::front::Front;
-pub use crate::parts::{Choice, Frame, Requirement};
+pub use crate::parts::{Frame, TableChoice, TableRequirement};
 pub use crate::table::Table;
 pub use crate::taken_places::{choices_of, choices_taken};
 pub use crate::term::Term;

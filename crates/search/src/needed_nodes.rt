@@ -2,10 +2,10 @@
 
 ghost use Rattle.std.specs.Prelude.{◌≡◌, ◌<◌, ◌≤◌, ◌+◌, IfOk, None, length};
 ghost use Rattle.search.specs.Tied.Front.{IsFollowed};
-ghost use Rattle.search.specs.Tied.Nodes.{Extends, IsGrown, nodes_asked, nodes_linked, wants_linked};
+ghost use Rattle.search.specs.Tied.Nodes.{Extends, IsGrown, nodes_required, nodes_linked, wants_linked};
 ghost use Rattle.search.specs.Ranges.{EachBelow};
-ghost use Rattle.search.specs.Tied.Search.{AreNeeded, AreAsked, taken_at};
-ghost use Rattle.search.specs.Table.{rules_of, asked_nodes, requirement_at, name_of};
+ghost use Rattle.search.specs.Tied.Search.{AreNeeded, AreRequired, taken_at};
+ghost use Rattle.search.specs.Table.{rules_of, required_nodes, requirement_at, name_of};
 
 use crate::node_set::NodeSet;
 use crate::parts::KnownBefore;
@@ -27,43 +27,43 @@ fn add_nodes(table: &Table, nodes: &mut NodeSet, requirement: usize) -> Result<(
     requires known { requirement < length table.now.requirements }
     requires room { nodes.old.room ≡ length table.now.nodes }
     ensures { IfOk result
-        (λ _. IsGrown nodes.old nodes.new (asked_nodes (requirement_at table.now requirement))) }
+        (λ _. IsGrown nodes.old nodes.new (required_nodes (requirement_at table.now requirement))) }
 {
-    let asked = table.requirement(requirement);
-    nodes.insert(asked.node)?;
-    nodes.insert_all(asked.more.as_slice())?;
+    let required = table.requirement(requirement);
+    nodes.insert(required.node)?;
+    nodes.insert_all(required.more.as_slice())?;
     Ok(())
 }
 
 /// Adds the nodes that requirements need.
-fn add_asked(table: &Table, nodes: &mut NodeSet, asked: &[usize]) -> Result<(), AllocError>
-    requires known { EachBelow (length table.now.requirements) asked.now }
+fn add_required(table: &Table, nodes: &mut NodeSet, required: &[usize]) -> Result<(), AllocError>
+    requires known { EachBelow (length table.now.requirements) required.now }
     requires room { nodes.old.room ≡ length table.now.nodes }
     ensures { IfOk result
-        (λ _. IsGrown nodes.old nodes.new (nodes_asked (rules_of table.now) asked.now)) }
+        (λ _. IsGrown nodes.old nodes.new (nodes_required (rules_of table.now) required.now)) }
 {
-    for requirement in asked {
+    for requirement in required {
         add_nodes(table, nodes, *requirement)?;
     }
     Ok(())
 }
 
 /// Adds requirements, and the nodes that they need.
-pub fn ask(
+pub fn require(
     table: &Table,
     nodes: &mut NodeSet,
-    asked: &mut NodeSet,
+    required: &mut NodeSet,
     more: &[usize],
 ) -> Result<(), AllocError>
     requires known { EachBelow (length table.now.requirements) more.now }
     requires room { nodes.old.room ≡ length table.now.nodes }
-    requires asked_room { asked.old.room ≡ length table.now.requirements }
+    requires required_room { required.old.room ≡ length table.now.requirements }
     ensures nodes { IfOk result
-        (λ _. IsGrown nodes.old nodes.new (nodes_asked (rules_of table.now) more.now)) }
-    ensures asked { IfOk result (λ _. IsGrown asked.old asked.new more.now) }
+        (λ _. IsGrown nodes.old nodes.new (nodes_required (rules_of table.now) more.now)) }
+    ensures required { IfOk result (λ _. IsGrown required.old required.new more.now) }
 {
-    asked.insert_all(more)?;
-    add_asked(table, nodes, more)?;
+    required.insert_all(more)?;
+    add_required(table, nodes, more)?;
     Ok(())
 }
 
@@ -73,22 +73,22 @@ fn follow(
     table: &Table,
     taken: &[Option<usize>],
     nodes: &mut NodeSet,
-    asked: &mut NodeSet,
+    required: &mut NodeSet,
     node: usize,
 ) -> Result<(), AllocError>
     requires known { node < length table.now.nodes }
     requires room { nodes.old.room ≡ length table.now.nodes }
-    requires asked_room { asked.old.room ≡ length table.now.requirements }
+    requires required_room { required.old.room ≡ length table.now.requirements }
     ensures nodes { IfOk result
         (λ _. IsGrown nodes.old nodes.new (nodes_linked (rules_of table.now) node (taken_at
         taken.now (name_of table.now node)))) }
-    ensures asked { IfOk result
-        (λ _. IsGrown asked.old asked.new (wants_linked (rules_of table.now) node (taken_at
+    ensures required { IfOk result
+        (λ _. IsGrown required.old required.new (wants_linked (rules_of table.now) node (taken_at
         taken.now (name_of table.now node)))) }
 {
     match place_of(taken, table.name_of(node)) {
         None => Ok(()),
-        Some(place) => ask(table, nodes, asked, table.wants(node, place)),
+        Some(place) => require(table, nodes, required, table.wants(node, place)),
     }
 }
 
@@ -98,54 +98,54 @@ fn follow_at(
     table: &Table,
     taken: &[Option<usize>],
     nodes: &mut NodeSet,
-    asked: &mut NodeSet,
+    required: &mut NodeSet,
     known_before: KnownBefore,
     at: usize,
 ) -> Result<(), AllocError>
     requires within { at < length nodes.old.members }
     requires room { nodes.old.room ≡ length table.now.nodes }
-    requires asked_room { asked.old.room ≡ length table.now.requirements }
+    requires required_room { required.old.room ≡ length table.now.requirements }
     requires followed { IsFollowed (rules_of table.now) (taken_at taken.now) nodes.old.members
-        asked.old.members known_before at }
+        required.old.members known_before at }
     ensures grown { IfOk result (λ _. length nodes.old.members ≤ length nodes.new.members) }
     ensures room { IfOk result (λ _. nodes.new.room ≡ nodes.old.room) }
-    ensures asked_room { IfOk result (λ _. asked.new.room ≡ asked.old.room) }
-    ensures kept { IfOk result (λ _. Extends asked.old.members asked.new.members) }
+    ensures required_room { IfOk result (λ _. required.new.room ≡ required.old.room) }
+    ensures kept { IfOk result (λ _. Extends required.old.members required.new.members) }
     ensures followed { IfOk result
         (λ _. IsFollowed (rules_of table.now) (taken_at taken.now) nodes.new.members
-        asked.new.members known_before (at + 1)) }
+        required.new.members known_before (at + 1)) }
 {
     let node = nodes.at(at);
     if at < known_before.nodes && table.name_of(node) != known_before.last_taken {
         return Ok(());
     }
-    follow(table, taken, nodes, asked, node)?;
+    follow(table, taken, nodes, required, node)?;
     Ok(())
 }
 
-/// Adds all that is needed and asked for under what is taken.
+/// Adds all nodes and requirements that are needed under what is taken.
 pub fn follow_all(
     table: &Table,
     taken: &[Option<usize>],
     nodes: &mut NodeSet,
-    asked: &mut NodeSet,
+    required: &mut NodeSet,
     known_before: KnownBefore,
 ) -> Result<(), AllocError>
     requires room { nodes.old.room ≡ length table.now.nodes }
-    requires asked_room { asked.old.room ≡ length table.now.requirements }
+    requires required_room { required.old.room ≡ length table.now.requirements }
     requires followed { IsFollowed (rules_of table.now) (taken_at taken.now) nodes.old.members
-        asked.old.members known_before 0 }
+        required.old.members known_before 0 }
     ensures room { IfOk result (λ _. nodes.new.room ≡ length table.now.nodes) }
-    ensures asked_room { IfOk result (λ _. asked.new.room ≡ length table.now.requirements) }
-    ensures kept { IfOk result (λ _. Extends asked.old.members asked.new.members) }
+    ensures required_room { IfOk result (λ _. required.new.room ≡ length table.now.requirements) }
+    ensures kept { IfOk result (λ _. Extends required.old.members required.new.members) }
     ensures needed { IfOk result
         (λ _. AreNeeded (rules_of table.now) (taken_at taken.now) nodes.new.members) }
-    ensures asked { IfOk result
-        (λ _. AreAsked (rules_of table.now) (taken_at taken.now) asked.new.members) }
+    ensures required { IfOk result
+        (λ _. AreRequired (rules_of table.now) (taken_at taken.now) required.new.members) }
 {
     let mut at = 0;
     while at < nodes.len() {
-        follow_at(table, taken, nodes, asked, known_before, at)?;
+        follow_at(table, taken, nodes, required, known_before, at)?;
         at += 1;
     }
     Ok(())

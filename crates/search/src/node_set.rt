@@ -71,7 +71,7 @@ impl NodeSet {
         self.members[place]
     }
 
-    /// Puts a node behind the members, unless it is one.
+    /// Appends a node, unless it is a member.
     pub fn insert(&mut self, node: usize) -> Result<(), AllocError>
         requires { node < self.old.room }
         ensures { IfOk result (λ _. IsGrown self.old self.new (node ∷ [])) }
@@ -84,7 +84,7 @@ impl NodeSet {
         Ok(())
     }
 
-    /// Puts each of these nodes behind the members, unless it is one.
+    /// Appends each of these nodes, unless it is a member.
     pub fn insert_all(&mut self, nodes: &[usize]) -> Result<(), AllocError>
         requires { EachBelow self.old.room nodes.now }
         ensures { IfOk result (λ _. IsGrown self.old self.new nodes.now) }

@@ -2,20 +2,20 @@
 
 use lists::Seq;
 
-/// What a line or a dependency asks for.
+/// What a line or a dependency requires.
 #[derive(Debug)]
-pub struct Requirement {
+pub struct TableRequirement {
     /// The node of its name without an extra.
     pub node: usize,
-    /// The nodes of its name with the extras that it asks for.
+    /// The nodes of its name with the extras that it requires.
     pub more: Seq<usize>,
     /// For each place of a release of its name, whether it admits the release.
     pub admits: Seq<bool>,
 }
 
-impl Drop for Requirement {
+impl Drop for TableRequirement {
     fn drop(self) {
-        let Requirement {
+        let TableRequirement {
             node: _,
             more: _,
             admits: _,
@@ -25,7 +25,7 @@ impl Drop for Requirement {
 
 /// A name, and the place of the release that is chosen for it.
 #[derive(Debug, Clone, Copy)]
-pub struct Choice {
+pub struct TableChoice {
     pub name: usize,
     pub place: usize,
 }
@@ -43,5 +43,5 @@ pub struct Frame {
 pub struct KnownBefore {
     pub last_taken: usize,
     pub nodes: usize,
-    pub asked: usize,
+    pub required: usize,
 }

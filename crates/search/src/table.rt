@@ -2,10 +2,10 @@
 
 ghost use Rattle.std.specs.Prelude.{◌≡◌, ◌<◌, Some, None, true, length, if◌then◌else◌};
 ghost use Rattle.std.specs.List.{list_all};
-ghost use Rattle.search.specs.Table.{TableParts, requirement_at, name_of, asked_nodes, wants_at, candidates_of, all_below, is_on, requirement_in_range, in_range, admits_at};
+ghost use Rattle.search.specs.Table.{TableParts, requirement_at, name_of, required_nodes, wants_at, candidates_of, all_below, is_on, requirement_in_range, in_range, admits_at};
 ghost use Rattle.search.specs.Ranges.{EachBelow};
 
-use crate::parts::Requirement;
+use crate::parts::TableRequirement;
 use lists::Seq;
 use std::marker::Model;
 
@@ -14,7 +14,7 @@ use std::marker::Model;
 /// A contract sees it as its lists, and `rules_of` those says what rules they stand for.
 pub struct Table {
     nodes: Seq<usize>,
-    requirements: Seq<Requirement>,
+    requirements: Seq<TableRequirement>,
     candidates: Seq<Seq<usize>>,
     wants: Seq<Seq<Seq<usize>>>,
     lines: Seq<usize>,
@@ -70,14 +70,14 @@ fn is_node_on(nodes: &[usize], name: usize, node: usize) -> bool
 }
 
 /// Whether nodes are in range, and on this name.
-fn are_nodes_on(nodes: &[usize], name: usize, asked: &[usize]) -> bool
-    ensures { result ≡ list_all (is_on nodes.now name) asked.now }
+fn are_nodes_on(nodes: &[usize], name: usize, required: &[usize]) -> bool
+    ensures { result ≡ list_all (is_on nodes.now name) required.now }
 {
-    asked.iter().all(|node| is_node_on(nodes, name, *node))
+    required.iter().all(|node| is_node_on(nodes, name, *node))
 }
 
 /// Whether a requirement's nodes are in range, and all on one name.
-fn is_requirement_in_range(nodes: &[usize], requirement: &Requirement) -> bool
+fn is_requirement_in_range(nodes: &[usize], requirement: &TableRequirement) -> bool
     ensures { result ≡ requirement_in_range nodes.now requirement.now }
 {
     requirement.node < nodes.len()
@@ -85,7 +85,7 @@ fn is_requirement_in_range(nodes: &[usize], requirement: &Requirement) -> bool
 }
 
 /// Whether the nodes of all requirements are in range.
-fn are_requirements_in_range(nodes: &[usize], requirements: &[Requirement]) -> bool
+fn are_requirements_in_range(nodes: &[usize], requirements: &[TableRequirement]) -> bool
     ensures { result ≡ list_all (requirement_in_range nodes.now) requirements.now }
 {
     requirements
@@ -124,7 +124,7 @@ impl Table {
     /// than that of `requirements`; the nodes of a requirement are on one name.
     pub fn new(
         nodes: Seq<usize>,
-        requirements: Seq<Requirement>,
+        requirements: Seq<TableRequirement>,
         candidates: Seq<Seq<usize>>,
         wants: Seq<Seq<Seq<usize>>>,
         lines: Seq<usize>,
@@ -196,10 +196,10 @@ impl Table {
     }
 
     /// A requirement.
-    pub fn requirement(&self, requirement: usize) -> &Requirement
+    pub fn requirement(&self, requirement: usize) -> &TableRequirement
         requires { requirement < length self.now.requirements }
         ensures requirement { result.now ≡ requirement_at self.now requirement }
-        ensures known { EachBelow (length self.now.nodes) (asked_nodes (requirement_at self.now
+        ensures known { EachBelow (length self.now.nodes) (required_nodes (requirement_at self.now
             requirement)) }
     {
         let requirements = self.requirements.as_slice();
@@ -207,7 +207,7 @@ impl Table {
     }
 
     /// The name that a requirement is on.
-    pub fn name_asked(&self, requirement: usize) -> usize
+    pub fn name_required(&self, requirement: usize) -> usize
         requires { requirement < length self.now.requirements }
         ensures { result ≡ name_of self.now (requirement_at self.now requirement).node }
     {

@@ -7,7 +7,7 @@ ghost use Rattle.search.specs.Solutions.{version_pinned};
 ghost use Rattle.search.specs.Tied.Taken.{AreKnownFrames, TakesFirst};
 ghost use Rattle.search.specs.Table.{place_in, IsAscending};
 
-use crate::parts::{Choice, Frame};
+use crate::parts::{Frame, TableChoice};
 use crate::table::Table;
 use lists::Seq;
 use std::alloc::{AllocError, Global};
@@ -41,21 +41,25 @@ pub fn taken_of(
 }
 
 /// What is taken, as choices in the order of their names.
-pub fn choices_taken(alloc: Global, taken: &[Option<usize>]) -> Result<Seq<Choice>, AllocError>
+pub fn choices_taken(alloc: Global, taken: &[Option<usize>]) -> Result<Seq<TableChoice>, AllocError>
     ensures same { IfOk result (λ choices. (n : ℕ) → place_in choices n ≡ taken_at taken.now n) }
     ensures ascending { IfOk result (λ choices. IsAscending choices) }
 {
     let mut choices = Vec::new(alloc);
     for name in 0..taken.len() {
         if let Some(place) = taken[name] {
-            choices.push(Choice { name, place })?;
+            choices.push(TableChoice { name, place })?;
         }
     }
     Ok(Seq::from_vec(choices))
 }
 
 /// The choices of a search in the order of their names.
-pub fn choices_of(alloc: Global, table: &Table, frames: &[Frame]) -> Result<Seq<Choice>, AllocError>
+pub fn choices_of(
+    alloc: Global,
+    table: &Table,
+    frames: &[Frame],
+) -> Result<Seq<TableChoice>, AllocError>
     requires { AreKnownFrames (length table.now.candidates) frames.now }
     ensures same { IfOk result (λ choices. (n : ℕ)
         → place_in choices n ≡ version_pinned nat_cmp (pins_of frames.now) n) }

@@ -13,28 +13,28 @@ use Rattle.search.specs.SetConflicts.{EachSetFollows, SetFollows, SetLiesInNone}
 use Rattle.search.specs.Solutions.{IsNext, Needed, by_dependency, Pin, version_pinned}
 use Rattle.search.specs.Table.{TableParts, candidates_of, in_range, name_of, places_eq, rules_of}
 use Rattle.search.specs.Tied.Search.{IsFrame, pins_of, taken_at}
-use Rattle.set_search.specs.declared.left.Left.{Left}
-use Rattle.set_search.specs.Tied.Left.{Cuts, Excludes, Holds, IsCut, IsMarkedToo, Keeps, Needs, mark_at, set_at}
+use Rattle.set_search.specs.declared.domains.Domains.{Domains}
+use Rattle.set_search.specs.Tied.Domains.{Cuts, Excludes, Holds, IsCut, IsMarkedToo, Keeps, Needs, mark_at, set_at}
 use Rattle.set_search.specs.Tied.Replay.{IsTurn}
 
 place-same : (v : ℕ) → places_eq v v ≡ true
 place-same v = grind (arith, nat_eq)
 
-pub keeps-start : (t : TableParts) (left : Left)
-    → ((node : ℕ) → node < length left.sets.items → LiesWithin (candidates_of t (name_of t node)) (set_at left.sets.items node))
-    → ((node : ℕ) → mark_at left.needed.items node ≡ false) → Keeps (rules_of t) [] left
-keeps-start t left all none = record {
+pub keeps-start : (t : TableParts) (domains : Domains)
+    → ((node : ℕ) → node < length domains.sets.items → LiesWithin (candidates_of t (name_of t node)) (set_at domains.sets.items node))
+    → ((node : ℕ) → mark_at domains.needed.items node ≡ false) → Keeps (rules_of t) [] domains
+keeps-start t domains all none = record {
   needed = λ s sol has node e. absurd (let k : false ≡ true = sym (none node) ∙ e in cc);
   kept = λ s sol has node v below n e. all node below v (sol.released (name_of t node) v e);
 }
 
-pub keeps-more : (rules : Rules ℕ ℕ ℕ ℕ) (pins more : List (Pin ℕ ℕ)) (left : Left) → Keeps rules pins left → Keeps rules (pins ++ more) left
-keeps-more rules pins more left k = record {
+pub keeps-more : (rules : Rules ℕ ℕ ℕ ℕ) (pins more : List (Pin ℕ ℕ)) (domains : Domains) → Keeps rules pins domains → Keeps rules (pins ++ more) domains
+keeps-more rules pins more domains k = record {
   needed = λ s sol has. k.needed s sol (Has-front rules s pins more has);
   kept = λ s sol has. k.kept s sol (Has-front rules s pins more has);
 }
 
-pub keeps-cut : (rules : Rules ℕ ℕ ℕ ℕ) (pins : List (Pin ℕ ℕ)) (old new : Left) (node : ℕ) (cut : List ℕ) → IsCut old new node cut → Excludes rules pins node cut → Keeps rules pins old → Keeps rules pins new
+pub keeps-cut : (rules : Rules ℕ ℕ ℕ ℕ) (pins : List (Pin ℕ ℕ)) (old new : Domains) (node : ℕ) (cut : List ℕ) → IsCut old new node cut → Excludes rules pins node cut → Keeps rules pins old → Keeps rules pins new
 keeps-cut rules pins old new node cut c none k = record {
   needed = λ s sol has other e. k.needed s sol has other (subst (λ ms. mark_at ms other ≡ true) c.needed e);
   kept = λ s sol has other v below n e.
@@ -50,7 +50,7 @@ keeps-cut rules pins old new node cut c none k = record {
       ];
 }
 
-pub keeps-mark : (rules : Rules ℕ ℕ ℕ ℕ) (pins : List (Pin ℕ ℕ)) (old new : Left) (node : ℕ) → IsMarkedToo old new node → Needs rules pins node → Keeps rules pins old → Keeps rules pins new
+pub keeps-mark : (rules : Rules ℕ ℕ ℕ ℕ) (pins : List (Pin ℕ ℕ)) (old new : Domains) (node : ℕ) → IsMarkedToo old new node → Needs rules pins node → Keeps rules pins old → Keeps rules pins new
 keeps-mark rules pins old new node m needs k = record {
   needed = λ s sol has other e. elim (m.others other e) [
     | inl same ↦ subst (λ n. Needed rules s n) (sym same) (needs s sol has)
@@ -61,9 +61,9 @@ keeps-mark rules pins old new node m needs k = record {
 }
 
 -- a conflict that lies in no solution excludes what is cut, where all its other terms hold
-pub cut-excludes : (rules : Rules ℕ ℕ ℕ ℕ) → IsLawful rules → (pins : List (Pin ℕ ℕ)) (left : Left) (node : ℕ) (cut : List ℕ) (conflict : List (Term ℕ ℕ))
-    → SetLiesInNone rules places_eq conflict → Cuts left node cut conflict → Keeps rules pins left → Excludes rules pins node cut
-cut-excludes rules law pins left node cut conflict none cuts k s sol has needed v e i = none s sol (λ t there. elim (cuts t there) [
+pub cut-excludes : (rules : Rules ℕ ℕ ℕ ℕ) → IsLawful rules → (pins : List (Pin ℕ ℕ)) (domains : Domains) (node : ℕ) (cut : List ℕ) (conflict : List (Term ℕ ℕ))
+    → SetLiesInNone rules places_eq conflict → Cuts domains node cut conflict → Keeps rules pins domains → Excludes rules pins node cut
+cut-excludes rules law pins domains node cut conflict none cuts k s sol has needed v e i = none s sol (λ t there. elim (cuts t there) [
   | inl held ↦
       let n : Needed rules s t.node = k.needed s sol has t.node held.marked in
       let w : (w : ℕ) × (s (rules.on t.node) ≡ Some w) = Needed-in_solution rules law s sol t.node n in
@@ -90,9 +90,9 @@ walked-excludes t frames taken node place cut same is apart s sol has needed v e
     apart (subst (λ w. Contains cut w) (some-inj v place (sym e ∙ chosen)) i)
 
 -- the first candidate that is left of a node is a frame
-pub frame-left : (t : TableParts) (pins : List (Pin ℕ ℕ)) (left : Left) (node : ℕ) (f : Frame) → Keeps (rules_of t) pins left → IsTurn t left node f.turn → f.name ≡ name_of t node
+pub frame-first : (t : TableParts) (pins : List (Pin ℕ ℕ)) (domains : Domains) (node : ℕ) (f : Frame) → Keeps (rules_of t) pins domains → IsTurn t domains node f.turn → f.name ≡ name_of t node
     → IsNext (rules_of t) pins f.name → get_or (candidates_of t f.name) f.turn f.place ≡ f.place → IsFrame (rules_of t) pins f
-frame-left t pins left node f k turn named next place = record {
+frame-first t pins domains node f k turn named next place = record {
   next = next;
   turn = subst (λ n. f.turn < length (candidates_of t n)) (sym named) turn.within;
   place = place;
@@ -113,10 +113,10 @@ pub follows-none : (t : TableParts) → in_range t ≡ true → (recorded : List
 follows-none t known recorded each conflict = SetFollows-excluded (rules_of t) places_eq (table-lawful t known) (places-equality (rules_of t)) recorded conflict (recorded-none t known recorded each)
 
 -- where each version that is left of a needed node wants another node, that is needed
-pub wanted-needs : (t : TableParts) → in_range t ≡ true → (pins : List (Pin ℕ ℕ)) (left : Left) (by node : ℕ) (places : List ℕ) → Holds left by places
+pub wanted-needs : (t : TableParts) → in_range t ≡ true → (pins : List (Pin ℕ ℕ)) (domains : Domains) (by node : ℕ) (places : List ℕ) → Holds domains by places
     → ((v : ℕ) → Contains places v → (wanted : ℕ) × Contains ((rules_of t).wants by v) wanted × Contains ((rules_of t).nodes wanted) node)
-    → Keeps (rules_of t) pins left → Needs (rules_of t) pins node
-wanted-needs t known pins left by node places held each k s sol has =
+    → Keeps (rules_of t) pins domains → Needs (rules_of t) pins node
+wanted-needs t known pins domains by node places held each k s sol has =
     let n : Needed (rules_of t) s by = k.needed s sol has by held.marked in
     let w : (w : ℕ) × (s (name_of t by) ≡ Some w) = Needed-in_solution (rules_of t) (table-lawful t known) s sol by n in
     let wanted : (wanted : ℕ) × Contains ((rules_of t).wants by w.0) wanted × Contains ((rules_of t).nodes wanted) node = each w.0 (held.within w.0 (k.kept s sol has by w.0 held.below n w.1)) in

@@ -2,7 +2,7 @@
 use Rattle.std.proofs.Common.{ℕ, List, [], ◌∷◌, ◌++◌, ◌≡◌, Option, true, false, get_or, refl, sym, ◌∙◌, ap, subst}
 use Rattle.std.specs.List.{list_any}
 use Rattle.std.specs.Ordering.{nat_cmp}
-use Rattle.search.proofs.Clashes.{asked-fits, fits-complete}
+use Rattle.search.proofs.Clashes.{required-fits, fits-complete}
 use Rattle.search.proofs.Fronts.{same-push}
 use Rattle.search.proofs.Least.{least-next}
 use Rattle.search.proofs.Stack.{IsSearch-push, pins_of-push, search-best}
@@ -12,13 +12,13 @@ use Rattle.search.specs.declared.parts.Frame.{Frame}
 use Rattle.search.specs.Solutions.{IsBest, IsNext, version_pinned}
 use Rattle.search.specs.Table.{TableParts, candidates_of, in_range, name_of, rules_of}
 use Rattle.search.specs.Tied.Front.{IsFront, IsFrontOf}
-use Rattle.search.specs.Tied.Search.{AreAsked, AreNeeded, IsLeastFree, IsSearch, NoneFree, clash_in, pin_at, pins_of, taken_at}
+use Rattle.search.specs.Tied.Search.{AreRequired, AreNeeded, IsLeastFree, IsSearch, NoneFree, clash_in, pin_at, pins_of, taken_at}
 use Rattle.search.specs.Tied.Taken.{TakesFirst}
-use Rattle.set_search.specs.declared.left.Left.{Left}
-use Rattle.set_search.specs.declared.replaying.Replay.{Replay}
-use Rattle.set_search.specs.Tied.Left.{Keeps}
+use Rattle.set_search.specs.declared.domains.Domains.{Domains}
+use Rattle.set_search.specs.declared.replay.Replay.{Replay}
+use Rattle.set_search.specs.Tied.Domains.{Keeps}
 use Rattle.set_search.specs.Tied.Replay.{IsReplay, IsTurn}
-use Rattle.set_search.proofs.Kept.{frame-left, keeps-more}
+use Rattle.set_search.proofs.Kept.{frame-first, keeps-more}
 
 map-same : (t : TableParts) (fs : List Frame) (front : Front) → IsFrontOf t fs front → taken_at front.taken.items ≡ version_pinned nat_cmp (pins_of fs)
 map-same t fs front h = λ i n. h.same n i
@@ -36,23 +36,23 @@ pub front-best : (t : TableParts) → in_range t ≡ true → (fs : List Frame) 
     → NoneFree (rules_of t) (taken_at front.taken.items) front.needed.members → IsBest (rules_of t) (version_pinned nat_cmp (pins_of fs))
 front-best t known fs front search h fits none =
     let map : ℕ → Option ℕ = version_pinned nat_cmp (pins_of fs) in
-    let asked : AreAsked (rules_of t) map front.asked.members = subst (λ (s : ℕ → Option ℕ). AreAsked (rules_of t) s front.asked.members) (map-same t fs front h) h.stands.asked in
-    let clash : list_any (clash_in (rules_of t) map) front.asked.members ≡ false = subst (λ (s : ℕ → Option ℕ). list_any (clash_in (rules_of t) s) front.asked.members ≡ false) (map-same t fs front h) (sym h.stands.clashes ∙ fits) in
+    let required : AreRequired (rules_of t) map front.required.members = subst (λ (s : ℕ → Option ℕ). AreRequired (rules_of t) s front.required.members) (map-same t fs front h) h.stands.required in
+    let clash : list_any (clash_in (rules_of t) map) front.required.members ≡ false = subst (λ (s : ℕ → Option ℕ). list_any (clash_in (rules_of t) s) front.required.members ≡ false) (map-same t fs front h) (sym h.stands.clashes ∙ fits) in
     search-best (rules_of t) (table-lawful t known) fs search
-    (fits-complete (rules_of t) (table-lawful t known) map front.needed.members (needed t fs front h) (asked-fits (rules_of t) map front.asked.members asked clash)
+    (fits-complete (rules_of t) (table-lawful t known) map front.needed.members (needed t fs front h) (required-fits (rules_of t) map front.required.members required clash)
     (subst (λ (s : ℕ → Option ℕ). NoneFree (rules_of t) s front.needed.members) (map-same t fs front h) none))
 
 -- a name more is walked
-pub replay-push : (t : TableParts) → in_range t ≡ true → (old new : Replay) (node : ℕ) (f : Frame) → IsReplay t old → IsTurn t old.left node f.turn → f.name ≡ name_of t node
+pub replay-push : (t : TableParts) → in_range t ≡ true → (old new : Replay) (node : ℕ) (f : Frame) → IsReplay t old → IsTurn t old.domains node f.turn → f.name ≡ name_of t node
     → IsNext (rules_of t) (pins_of old.frames.items) f.name → get_or (candidates_of t f.name) f.turn f.place ≡ f.place
-    → new.frames.items ≡ old.frames.items ++ f ∷ [] → new.left ≡ old.left → IsFront t new.front → TakesFirst old.front.taken.items new.front.taken.items f → IsReplay t new
-replay-push t known old new node f replay turn named next place pushed left front takes = record {
+    → new.frames.items ≡ old.frames.items ++ f ∷ [] → new.domains ≡ old.domains → IsFront t new.front → TakesFirst old.front.taken.items new.front.taken.items f → IsReplay t new
+replay-push t known old new node f replay turn named next place pushed domains front takes = record {
   search = subst (λ (fs : List Frame). IsSearch (rules_of t) [] fs) (sym pushed)
-      (IsSearch-push (rules_of t) (table-lawful t known) [] old.frames.items f replay.search (frame-left t (pins_of old.frames.items) old.left node f replay.keeps turn named next place));
+      (IsSearch-push (rules_of t) (table-lawful t known) [] old.frames.items f replay.search (frame-first t (pins_of old.frames.items) old.domains node f replay.keeps turn named next place));
   front = record {
     stands = front;
     same = λ n. same-push old.front.taken.items new.front.taken.items old.frames.items f takes replay.front.same n ∙ ap (λ (fs : List Frame). version_pinned nat_cmp (pins_of fs) n) (sym pushed);
   };
-  keeps = subst (λ (l : Left). Keeps (rules_of t) (pins_of new.frames.items) l) (sym left)
-      (subst (λ ps. Keeps (rules_of t) ps old.left) (sym (ap pins_of pushed ∙ pins_of-push old.frames.items f)) (keeps-more (rules_of t) (pins_of old.frames.items) (pin_at f ∷ []) old.left replay.keeps));
+  keeps = subst (λ (l : Domains). Keeps (rules_of t) (pins_of new.frames.items) l) (sym domains)
+      (subst (λ ps. Keeps (rules_of t) ps old.domains) (sym (ap pins_of pushed ∙ pins_of-push old.frames.items f)) (keeps-more (rules_of t) (pins_of old.frames.items) (pin_at f ∷ []) old.domains replay.keeps));
 }

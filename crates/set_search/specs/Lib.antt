@@ -1,3 +1,2 @@
-pub mod Found
-pub mod GuidedWalk
+pub mod SetVerdict
 pub mod Tied

@@ -1,4 +1,4 @@
 -- What serves proofs alone.
 pub mod Covers
-pub mod Left
+pub mod Domains
 pub mod Replay

@@ -4,12 +4,12 @@ use Rattle.std.specs.Prelude.{ℕ, List, [], ◌∷◌, ◌++◌, Option, Some, 
 use Rattle.std.specs.List.{Contains, slice_index_or}
 use Rattle.std.specs.Ordering.{nat_cmp}
 use Rattle.search.specs.declared.conflict.NodeChoice.{NodeChoice}
-use Rattle.learning_search.specs.declared.asked_requirements.Ask.{Ask}
+use Rattle.learning_search.specs.declared.demands.Demand.{Demand}
 use Rattle.learning_search.specs.declared.partial_solution.PartialSolution.{PartialSolution}
 use Rattle.search.specs.declared.parts.Frame.{Frame}
 use Rattle.learning_search.specs.declared.assignment.Assignment.{Assignment}
 use Rattle.learning_search.specs.declared.candidate_queue.CandidateQueue.{CandidateQueue}
-use Rattle.learning_search.specs.Tied.AskedRequirements.{AreRowed, IsWatched}
+use Rattle.learning_search.specs.Tied.Demands.{AreRowed, IsWatched}
 use Rattle.learning_search.specs.Tied.Gathering.{IsCompleted, choice_at, decision}
 use Rattle.search.specs.Rules.{Rules}
 use Rattle.search.specs.Tied.Search.{pins_of}
@@ -99,19 +99,19 @@ IsLearning rules conflicts before (h ∷ hs) = IsAssignment rules conflicts befo
 
 -- ---- what the lists of a search hold
 
-abbrev pub ask_of : Option (NodeChoice ℕ ℕ) → ℕ → Ask
-ask_of by r = record { requirement = r; by = by }
+abbrev pub demand_of : Option (NodeChoice ℕ ℕ) → ℕ → Demand
+demand_of by r = record { requirement = r; by = by }
 
-abbrev pub asks_by : Rules ℕ ℕ ℕ ℕ → Assignment → List Ask
-asks_by rules h = map (ask_of (Some (decision_of h))) (rules.wants h.queue.node h.place)
+abbrev pub demands_by : Rules ℕ ℕ ℕ ℕ → Assignment → List Demand
+demands_by rules h = map (demand_of (Some (decision_of h))) (rules.wants h.queue.node h.place)
 
-abbrev pub asks_assigned : Rules ℕ ℕ ℕ ℕ → List Assignment → List Ask
-asks_assigned rules [] = []
-asks_assigned rules (h ∷ hs) = asks_by rules h ++ asks_assigned rules hs
+abbrev pub demands_assigned : Rules ℕ ℕ ℕ ℕ → List Assignment → List Demand
+demands_assigned rules [] = []
+demands_assigned rules (h ∷ hs) = demands_by rules h ++ demands_assigned rules hs
 
--- what lines ask for, and then what the choices do
-abbrev pub asks_of : Rules ℕ ℕ ℕ ℕ → List Assignment → List Ask
-asks_of rules hs = map (ask_of None) rules.lines ++ asks_assigned rules hs
+-- what lines require, and then what the choices do
+abbrev pub demands_of : Rules ℕ ℕ ℕ ℕ → List Assignment → List Demand
+demands_of rules hs = map (demand_of None) rules.lines ++ demands_assigned rules hs
 
 abbrev pub entry_of : Assignment → ℕ × ℕ
 entry_of h = (h.queue.node, h.place)
@@ -127,9 +127,9 @@ pub record IsPartialSolution (t : TableParts) (p : PartialSolution) : Type 0 whe
   pub choices : p.choices.entries ≡ entries_of p.assignments.items
   pub room : length p.taken.items ≡ length t.candidates
   pub taken : (n : ℕ) → first_at p.taken.items n ≡ version_pinned nat_cmp (leaders_assigned (rules_of t) p.assignments.items) n
-  pub asks : p.asked.asks.items ≡ asks_of (rules_of t) p.assignments.items
-  pub rowed : AreRowed t p.asked
-  pub watched : IsWatched t p.asked p.taken.items (map choice_at p.choices.entries)
+  pub listed : p.demands.listed.items ≡ demands_of (rules_of t) p.assignments.items
+  pub rowed : AreRowed t p.demands
+  pub watched : IsWatched t p.demands p.taken.items (map choice_at p.choices.entries)
 
 -- the last choice is at a node of the table; where it leads, its name had no choice before
 abbrev pub LastIsNew : TableParts → List Assignment → Type 0

@@ -4,8 +4,8 @@ use Rattle.std.specs.Prelude.{ℕ, List, [], ◌∷◌, ◌++◌, Option, Some, 
 use Rattle.std.specs.List.{Contains}
 use Rattle.search.specs.declared.conflict.NodeChoice.{NodeChoice}
 use Rattle.learning_search.specs.declared.partial_solution.PartialSolution.{PartialSolution}
-use Rattle.learning_search.specs.declared.learning.Progress.{Progress}
-use Rattle.learning_search.specs.declared.learning.Progress.TheVariants.{Trying, Solved, Refuted}
+use Rattle.learning_search.specs.declared.learned_search.Progress.{Progress}
+use Rattle.learning_search.specs.declared.learned_search.Progress.TheVariants.{Trying, Solved, Refuted}
 use Rattle.learning_search.specs.declared.assignment.Assignment.{Assignment}
 use Rattle.learning_search.specs.declared.candidate_queue.CandidateQueue.{CandidateQueue}
 use Rattle.search.specs.Conflicts.{EachFollows, IsRefutation}

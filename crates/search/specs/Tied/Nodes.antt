@@ -38,16 +38,16 @@ pub record IsGrown (old new : Nodes) (wanted : List ℕ) : Type 0 where
   pub room : new.room ≡ old.room
 
 -- the nodes that requirements need
-abbrev pub nodes_asked : Rules ℕ ℕ ℕ ℕ → List ℕ → List ℕ
-nodes_asked rules [] = []
-nodes_asked rules (r ∷ rs) = rules.nodes r ++ nodes_asked rules rs
+abbrev pub nodes_required : Rules ℕ ℕ ℕ ℕ → List ℕ → List ℕ
+nodes_required rules [] = []
+nodes_required rules (r ∷ rs) = rules.nodes r ++ nodes_required rules rs
 
 -- the nodes that a node leads to, with this release of its name
 abbrev pub nodes_linked : Rules ℕ ℕ ℕ ℕ → ℕ → Option ℕ → List ℕ
 nodes_linked rules node None = []
-nodes_linked rules node (Some place) = nodes_asked rules (rules.wants node place)
+nodes_linked rules node (Some place) = nodes_required rules (rules.wants node place)
 
--- what this release of a node's name asks for there
+-- what this release of a node's name requires there
 abbrev pub wants_linked : Rules ℕ ℕ ℕ ℕ → ℕ → Option ℕ → List ℕ
 wants_linked rules node None = []
 wants_linked rules node (Some place) = rules.wants node place
@@ -55,5 +55,5 @@ wants_linked rules node (Some place) = rules.wants node place
 -- the walk through needed nodes, as far as the first `at` nodes have been followed
 pub record IsClosing (rules : Rules ℕ ℕ ℕ ℕ) (chosen : ℕ → Option ℕ) (nodes : List ℕ) (at : ℕ) : Type 0 where
   pub sound : (node : ℕ) → Contains nodes node → Needed rules chosen node
-  pub lines : (node : ℕ) → Contains (nodes_asked rules rules.lines) node → Contains nodes node
+  pub lines : (node : ℕ) → Contains (nodes_required rules rules.lines) node → Contains nodes node
   pub linked : (link node : ℕ) → Contains (take at nodes) link → Contains (nodes_linked rules link (chosen (rules.on link))) node → Contains nodes node

@@ -1,8 +1,9 @@
 -- What a backtracking search keeps true of its choices.
 -- Tied to `IsBest` by the contracts of the searches; need not be read.
-use Rattle.std.specs.Prelude.{ℕ, List, [], ◌∷◌, ◌++◌, Option, Some, None, ◌≡◌, ◌<◌, ◌≤◌, ◌⊎◌, Bool, true, false, not, take, length}
+use Rattle.std.specs.Prelude.{ℕ, List, [], ◌∷◌, ◌++◌, Option, Some, None, ◌≡◌, ◌<◌, ◌≤◌, Bool, true, false, not, take, length}
 use Rattle.std.specs.List.{Contains, slice_index_or}
 use Rattle.search.specs.declared.parts.Frame.{Frame}
+use Rattle.search.specs.FirstWalk.{IsRequired}
 use Rattle.search.specs.Rules.{Rules}
 use Rattle.search.specs.Solutions.{Needed, Solution, IsNext, Has, Pin}
 
@@ -45,14 +46,10 @@ pub record AreNeeded (rules : Rules ℕ ℕ ℕ ℕ) (chosen : ℕ → Option �
   pub sound : (node : ℕ) → Contains nodes node → Needed rules chosen node
   pub whole : (node : ℕ) → Needed rules chosen node → Contains nodes node
 
--- r is asked for by a line, or counts at a needed node
-abbrev pub IsAsked : Rules ℕ ℕ ℕ ℕ → (ℕ → Option ℕ) → ℕ → Type 0
-IsAsked rules chosen r = Contains rules.lines r ⊎ ((node : ℕ) × (v : ℕ) × Needed rules chosen node × (chosen (rules.on node) ≡ Some v) × Contains (rules.wants node v) r)
-
--- the requirements that are asked for, and no others
-pub record AreAsked (rules : Rules ℕ ℕ ℕ ℕ) (chosen : ℕ → Option ℕ) (asked : List ℕ) : Type 0 where
-  pub sound : (r : ℕ) → Contains asked r → IsAsked rules chosen r
-  pub whole : (r : ℕ) → IsAsked rules chosen r → Contains asked r
+-- what is required, and nothing else
+pub record AreRequired (rules : Rules ℕ ℕ ℕ ℕ) (chosen : ℕ → Option ℕ) (required : List ℕ) : Type 0 where
+  pub sound : (r : ℕ) → Contains required r → IsRequired rules chosen r
+  pub whole : (r : ℕ) → IsRequired rules chosen r → Contains required r
 
 -- each of the nodes has a name that is taken
 abbrev pub NoneFree : Rules ℕ ℕ ℕ ℕ → (ℕ → Option ℕ) → List ℕ → Type 0

@@ -5,19 +5,19 @@ use Rattle.std.specs.List.{Contains}
 use Rattle.search.specs.Table.{TableParts, candidates_of, name_of, rules_of}
 use Rattle.search.specs.Tied.Front.{IsFrontOf}
 use Rattle.search.specs.Tied.Search.{IsSearch, pins_of}
-use Rattle.set_search.specs.declared.left.Left.{Left}
-use Rattle.set_search.specs.declared.replaying.Replay.{Replay}
-use Rattle.set_search.specs.Tied.Left.{Keeps, mark_at, set_at}
+use Rattle.set_search.specs.declared.domains.Domains.{Domains}
+use Rattle.set_search.specs.declared.replay.Replay.{Replay}
+use Rattle.set_search.specs.Tied.Domains.{Keeps, mark_at, set_at}
 
 -- behind the frames before no solution has a candidate in front of a frame's, and what is left is what solutions with all of them have
 pub record IsReplay (t : TableParts) (replay : Replay) : Type 0 where
   pub search : IsSearch (rules_of t) [] replay.frames.items
   pub front : IsFrontOf t replay.frames.items replay.front
-  pub keeps : Keeps (rules_of t) (pins_of replay.frames.items) replay.left
+  pub keeps : Keeps (rules_of t) (pins_of replay.frames.items) replay.domains
 
 -- the node is marked, and of the candidates of its name so many in front aren't left there
-pub record IsTurn (t : TableParts) (left : Left) (node turn : ℕ) : Type 0 where
-  pub marked : mark_at left.needed.items node ≡ true
-  pub below : node < length left.sets.items
+pub record IsTurn (t : TableParts) (domains : Domains) (node turn : ℕ) : Type 0 where
+  pub marked : mark_at domains.needed.items node ≡ true
+  pub below : node < length domains.sets.items
   pub within : turn < length (candidates_of t (name_of t node))
-  pub passed : (v : ℕ) → Contains (take turn (candidates_of t (name_of t node))) v → Contains (set_at left.sets.items node) v → ⊥
+  pub passed : (v : ℕ) → Contains (take turn (candidates_of t (name_of t node))) v → Contains (set_at domains.sets.items node) v → ⊥

@@ -7,10 +7,10 @@ use Rattle.search.specs.Table.{rules_of}
 use Rattle.learning_search.proofs.next_node.need_on_decided.Goals as goal
 
 pub need_of-requires : goal.need_of-requires
-need_of-requires c = c.requires _ (at-member c.args.asks.now c.loop-ask.ask-index _ c.loop-ask-test.true)
+need_of-requires c = c.requires _ (at-member c.args.listed.now c.loop-demand.demand-index _ c.loop-demand-test.true)
 
-pub loop-ask-preserved : goal.loop-ask-preserved
-loop-ask-preserved c = decided-more (rules_of c.args.table.now) (first_at c.args.taken.now) (map choice_at c.args.choices.now.entries) c.args.asks.now c.loop-ask.ask-index _ c.loop-ask-test.true c.loop-ask.invariant c.in_default.ensures
+pub loop-demand-preserved : goal.loop-demand-preserved
+loop-demand-preserved c = decided-more (rules_of c.args.table.now) (first_at c.args.taken.now) (map choice_at c.args.choices.now.entries) c.args.listed.now c.loop-demand.demand-index _ c.loop-demand-test.true c.loop-demand.invariant c.in_default.ensures
 
 pub returns : goal.returns
-returns c = decided-end (rules_of c.args.table.now) (first_at c.args.taken.now) (map choice_at c.args.choices.now.entries) c.args.asks.now c.loop-ask.ask-index c.loop-ask-test.false c.loop-ask.invariant
+returns c = decided-end (rules_of c.args.table.now) (first_at c.args.taken.now) (map choice_at c.args.choices.now.entries) c.args.listed.now c.loop-demand.demand-index c.loop-demand-test.false c.loop-demand.invariant

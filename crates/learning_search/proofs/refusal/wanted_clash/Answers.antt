@@ -1,6 +1,6 @@
-use Rattle.learning_search.proofs.Asked.{each-more, each-end}
+use Rattle.learning_search.proofs.DemandLists.{each-more, each-end}
 use Rattle.search.proofs.Ranges.{at-member}
-use Rattle.learning_search.specs.Tied.Asking.{WantedFits}
+use Rattle.learning_search.specs.Tied.Demanded.{WantedFits}
 use Rattle.learning_search.specs.Tied.Learned.{first_at}
 use Rattle.search.specs.Table.{rules_of}
 use Rattle.learning_search.proofs.refusal.wanted_clash.Goals as goal

@@ -1,6 +1,6 @@
 use Rattle.std.proofs.Common.{take, ℕ}
 use Rattle.std.specs.List.{Contains}
-use Rattle.learning_search.specs.Tied.Asking.{WantedFits}
+use Rattle.learning_search.specs.Tied.Demanded.{WantedFits}
 use Rattle.learning_search.specs.Tied.Learned.{first_at}
 use Rattle.search.specs.Table.{rules_of}
 use Rattle.learning_search.proofs.refusal.wanted_clash.Given as goal

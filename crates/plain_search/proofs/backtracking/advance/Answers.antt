@@ -1,15 +1,15 @@
 use Rattle.std.proofs.Common.{ℕ, Option, List, Bool, ◌≡◌, true, false, refl, sym, ◌∙◌, subst}
 use Rattle.std.specs.List.{list_any}
 use Rattle.std.specs.Ordering.{nat_cmp}
-use Rattle.search.proofs.Clashes.{asked-fits, fits-complete}
-use Rattle.plain_search.proofs.Refuted.{asked-refuted}
+use Rattle.search.proofs.Clashes.{required-fits, fits-complete}
+use Rattle.plain_search.proofs.Refuted.{required-refuted}
 use Rattle.search.proofs.Least.{least-next}
 use Rattle.search.proofs.WhatIsLeft.{table-lawful}
 use Rattle.search.specs.declared.front.Front.{Front}
 use Rattle.search.specs.declared.parts.Frame.{Frame}
 use Rattle.plain_search.specs.declared.backtracking.Step.TheVariants.{Complete, Entered, Refuted}
 use Rattle.search.specs.Tied.Front.{IsFrontOf}
-use Rattle.search.specs.Tied.Search.{pins_of, AreNeeded, AreAsked, NoneFree, IsLeastFree, clash_in, taken_at}
+use Rattle.search.specs.Tied.Search.{pins_of, AreNeeded, AreRequired, NoneFree, IsLeastFree, clash_in, taken_at}
 use Rattle.search.specs.Solutions.{version_pinned}
 use Rattle.search.specs.Table.{TableParts, rules_of}
 use Rattle.plain_search.proofs.backtracking.advance.Goals as goal
@@ -21,16 +21,16 @@ map-same t fs front h = λ i n. h.same n i
 needed : (t : TableParts) (fs : List Frame) (front : Front) → IsFrontOf t fs front → AreNeeded (rules_of t) (version_pinned nat_cmp (pins_of fs)) front.needed.members
 needed t fs front h = subst (λ (s : ℕ → Option ℕ). AreNeeded (rules_of t) s front.needed.members) (map-same t fs front h) h.stands.needed
 
-asked : (t : TableParts) (fs : List Frame) (front : Front) → IsFrontOf t fs front → AreAsked (rules_of t) (version_pinned nat_cmp (pins_of fs)) front.asked.members
-asked t fs front h = subst (λ (s : ℕ → Option ℕ). AreAsked (rules_of t) s front.asked.members) (map-same t fs front h) h.stands.asked
+required : (t : TableParts) (fs : List Frame) (front : Front) → IsFrontOf t fs front → AreRequired (rules_of t) (version_pinned nat_cmp (pins_of fs)) front.required.members
+required t fs front h = subst (λ (s : ℕ → Option ℕ). AreRequired (rules_of t) s front.required.members) (map-same t fs front h) h.stands.required
 
-clash : (t : TableParts) (fs : List Frame) (front : Front) (h : IsFrontOf t fs front) (b : Bool) → front.clashes ≡ b → list_any (clash_in (rules_of t) (version_pinned nat_cmp (pins_of fs))) front.asked.members ≡ b
-clash t fs front h b e = subst (λ (s : ℕ → Option ℕ). list_any (clash_in (rules_of t) s) front.asked.members ≡ b) (map-same t fs front h) (sym h.stands.clashes ∙ e)
+clash : (t : TableParts) (fs : List Frame) (front : Front) (h : IsFrontOf t fs front) (b : Bool) → front.clashes ≡ b → list_any (clash_in (rules_of t) (version_pinned nat_cmp (pins_of fs))) front.required.members ≡ b
+clash t fs front h b e = subst (λ (s : ℕ → Option ℕ). list_any (clash_in (rules_of t) s) front.required.members ≡ b) (map-same t fs front h) (sym h.stands.clashes ∙ e)
 
 pub returns-then-clashes-clause-step : goal.returns-then-clashes-clause-step
 returns-then-clashes-clause-step c =
     let t : TableParts = c.args.table.now in let fs : List Frame = c.args.frames.now.items in let front : Front = c.args.front.now in
-    (refl, asked-refuted (rules_of t) (pins_of fs) front.asked.members (asked t fs front c.requires.stands) (clash t fs front c.requires.stands true (sym c.clashes.ensures ∙ c.if-clashes.true)))
+    (refl, required-refuted (rules_of t) (pins_of fs) front.required.members (required t fs front c.requires.stands) (clash t fs front c.requires.stands true (sym c.clashes.ensures ∙ c.if-clashes.true)))
 
 pub returns-then-clashes-clause-stands : goal.returns-then-clashes-clause-stands
 returns-then-clashes-clause-stands c = λ e. absurd (let k : Refuted ≡ Entered = e in cc)
@@ -53,7 +53,7 @@ returns-in-None-clause-step c =
     let map : ℕ → Option ℕ = version_pinned nat_cmp (pins_of fs) in (
       refl,
       fits-complete (rules_of t) (table-lawful t c.requires.known) map front.needed.members (needed t fs front c.requires.stands)
-          (asked-fits (rules_of t) map front.asked.members (asked t fs front c.requires.stands) (clash t fs front c.requires.stands false (sym c.clashes.ensures ∙ c.if-clashes.false)))
+          (required-fits (rules_of t) map front.required.members (required t fs front c.requires.stands) (clash t fs front c.requires.stands false (sym c.clashes.ensures ∙ c.if-clashes.false)))
           (subst (λ (s : ℕ → Option ℕ). NoneFree (rules_of t) s front.needed.members) (map-same t fs front c.requires.stands) c.in-None.ensures),
     )
 

@@ -7,11 +7,11 @@ use Rattle.search.proofs.needed_nodes.follow_all.Given as goal
 
 abbrev pub invariant-loop-at : goal.invariant-loop-at
 invariant-loop-at l = record {
-  followed : IsFollowed (rules_of l.table) (taken_at l.taken) l.nodes.members l.asked.members l.known_before l.at;
+  followed : IsFollowed (rules_of l.table) (taken_at l.taken) l.nodes.members l.required.members l.known_before l.at;
   within : l.at ≤ length l.nodes.members;
   room : l.nodes.room ≡ length l.table.nodes;
-  kept : Extends l.fn.asked.members l.asked.members;
-  asked_room : l.asked.room ≡ length l.table.requirements;
+  kept : Extends l.fn.required.members l.required.members;
+  required_room : l.required.room ≡ length l.table.requirements;
 }
 
 -- the nodes that have not been followed, at most

@@ -4,7 +4,7 @@ use Rattle.search.proofs.Fronts.{fit-kept}
 use Rattle.search.proofs.Walks.{followed-more, extends-front}
 use Rattle.search.specs.Tied.Front.{IsFront}
 use Rattle.search.specs.Ranges.{EachBelow}
-use Rattle.search.specs.Tied.Search.{taken_at, clash_in, AreNeeded, AreAsked}
+use Rattle.search.specs.Tied.Search.{taken_at, clash_in, AreNeeded, AreRequired}
 use Rattle.search.specs.Tied.Taken.{TakesFirst}
 use Rattle.search.specs.Table.{rules_of}
 use Rattle.search.proofs.front.Front.enter.Goals as goal
@@ -19,28 +19,28 @@ follow_all-requires-clause-room c =
     let f : IsFront c.args.table.now c.args.self.now = c.requires.front in
     f.needed_room
 
-pub follow_all-requires-clause-asked_room : goal.follow_all-requires-clause-asked_room
-follow_all-requires-clause-asked_room c =
+pub follow_all-requires-clause-required_room : goal.follow_all-requires-clause-required_room
+follow_all-requires-clause-required_room c =
     let f : IsFront c.args.table.now c.args.self.now = c.requires.front in
-    f.asked_room
+    f.required_room
 
 pub follow_all-requires-clause-followed : goal.follow_all-requires-clause-followed
 follow_all-requires-clause-followed c =
     let f : IsFront c.args.table.now c.args.self.now = c.requires.front in
     let k : TakesFirst c.args.self.now.taken.items c.take_frame.new.taken.items c.args.frame = c.take_frame.ensures in
-    followed-more (rules_of c.args.table.now) (taken_at c.args.self.now.taken.items) (taken_at c.as_slice.result.now) c.args.self.now.needed.members c.args.self.now.asked.members (record { last_taken = c.args.frame.name; nodes = c.len.result; asked = c.len-2.result }) c.len.ensures.len f.needed f.asked
+    followed-more (rules_of c.args.table.now) (taken_at c.args.self.now.taken.items) (taken_at c.as_slice.result.now) c.args.self.now.needed.members c.args.self.now.required.members (record { last_taken = c.args.frame.name; nodes = c.len.result; required = c.len-2.result }) c.len.ensures.len f.needed f.required
     (λ n v e. ap (λ (ts : List (Option ℕ)). taken_at ts n) c.as_slice.ensures.value ∙ k.kept n v e)
     (λ n d. ap (λ (ts : List (Option ℕ)). taken_at ts n) c.as_slice.ensures.value ∙ k.others n d)
 
 pub do_any_clash-self-requires-clause-known : goal.do_any_clash-self-requires-clause-known
-do_any_clash-self-requires-clause-known c = subst (λ room. EachBelow room c.as_slice-3.result.now) c.in_ok-follow_all.ensures.asked_room c.as_slice-3.ensures.within
+do_any_clash-self-requires-clause-known c = subst (λ room. EachBelow room c.as_slice-3.result.now) c.in_ok-follow_all.ensures.required_room c.as_slice-3.ensures.within
 
 pub do_any_clash-self-requires-clause-fit : goal.do_any_clash-self-requires-clause-fit
 do_any_clash-self-requires-clause-fit c =
     let f : IsFront c.args.table.now c.args.self.now = c.requires.front in
     let k : TakesFirst c.args.self.now.taken.items c.take_frame.new.taken.items c.args.frame = c.take_frame.ensures in
-    fit-kept (rules_of c.args.table.now) (taken_at c.args.self.now.taken.items) (taken_at c.as_slice-2.result.now) c.args.self.now.asked.members c.as_slice-3.result.now (record { last_taken = c.args.frame.name; nodes = c.len.result; asked = c.len-2.result })
-    (extends-front c.args.self.now.asked.members c.as_slice-3.result.now c.len-2.result
+    fit-kept (rules_of c.args.table.now) (taken_at c.args.self.now.taken.items) (taken_at c.as_slice-2.result.now) c.args.self.now.required.members c.as_slice-3.result.now (record { last_taken = c.args.frame.name; nodes = c.len.result; required = c.len-2.result })
+    (extends-front c.args.self.now.required.members c.as_slice-3.result.now c.len-2.result
     (c.in_ok-follow_all.ensures.kept.0, c.as_slice-3.ensures.members ∙ c.in_ok-follow_all.ensures.kept.1) c.len-2.ensures.len)
     (sym f.clashes ∙ c.requires.fits)
     (λ n d. ap (λ (ts : List (Option ℕ)). taken_at ts n) c.as_slice-2.ensures.value ∙ k.others n d)
@@ -52,9 +52,9 @@ returns-clause-front c =
     record {
       room = k.room ∙ f.room;
       needed_room = c.in_ok-follow_all.ensures.room;
-      asked_room = c.in_ok-follow_all.ensures.asked_room;
+      required_room = c.in_ok-follow_all.ensures.required_room;
       needed = subst (λ (ts : List (Option ℕ)). AreNeeded (rules_of c.args.table.now) (taken_at ts) c.follow_all.new.nodes.members) c.as_slice.ensures.value c.in_ok-follow_all.ensures.needed;
-      asked = subst (λ (ts : List (Option ℕ)). AreAsked (rules_of c.args.table.now) (taken_at ts) c.follow_all.new.asked.members) c.as_slice.ensures.value c.in_ok-follow_all.ensures.asked;
+      required = subst (λ (ts : List (Option ℕ)). AreRequired (rules_of c.args.table.now) (taken_at ts) c.follow_all.new.required.members) c.as_slice.ensures.value c.in_ok-follow_all.ensures.required;
       clashes = subst₂ (λ (ts : List (Option ℕ)) (rs : List ℕ). c.do_any_clash-self.result ≡ list_any (clash_in (rules_of c.args.table.now) (taken_at ts)) rs) c.as_slice-2.ensures.value c.as_slice-3.ensures.members c.do_any_clash-self.ensures;
     }
 

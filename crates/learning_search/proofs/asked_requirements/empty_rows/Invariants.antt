@@ -1,9 +1,0 @@
-use Rattle.std.proofs.Common.{ℕ, [], length, ◌≡◌}
-use Rattle.learning_search.specs.Tied.AskedRequirements.{row_at}
-use Rattle.learning_search.proofs.asked_requirements.empty_rows.Given as goal
-
-abbrev pub invariant-loop : goal.invariant-loop
-invariant-loop l = record {
-  size : length l.rows.items ≡ l.counter;
-  empty : (n : ℕ) → row_at l.rows.items n ≡ [];
-}

@@ -1,5 +1,0 @@
-use Rattle.search.proofs.Ranges.{at-member}
-use Rattle.learning_search.proofs.asked_requirements.first_free.Goals as goal
-
-pub returns-then-not-is_chosen : goal.returns-then-not-is_chosen
-returns-then-not-is_chosen c = (at-member c.args.nodes.now c.loop-node.node-index 0 c.loop-node-test.true, c.is_chosen.ensures.free c.if-not-is_chosen.true)
