@@ -4,7 +4,7 @@ use Rattle.std.proofs.lemmas.Bool.{cases_Bool}
 use Rattle.std.specs.List.{list_any}
 use Rattle.pep508.specs.Lines.{AreLines}
 use Rattle.pep508.specs.Parts.{IsEnding, ended}
-use Rattle.edits.specs.Adding.{last_ended, with_line, usual_ending}
+use Rattle.edits.specs.Addition.{last_ended, with_line, usual_ending}
 
 -- the last line alone gets the ending
 pub last_ended-push : (ending : List ℕ) (lines : List (List ℕ)) (line : List ℕ) → last_ended ending (lines ++ line ∷ []) ≡ lines ++ ended ending line ∷ []

@@ -5,10 +5,10 @@ use Rattle.markers.specs.declared.fault.Cause.{Cause}
 use Rattle.pep508.specs.Lines.{AreLines}
 use Rattle.pep508.specs.Requirement.{IsSpecifier, MayStandFor, RequirementParts, requirement_of}
 use Rattle.pep508.specs.Slices.{joined, slices_of, with_version}
-use Rattle.edits.specs.Asking.{asked, is_on, wanted_of}
-use Rattle.edits.specs.Naming.{line_with, with_set_on}
+use Rattle.edits.specs.Required.{if_read, is_on, required_by}
+use Rattle.edits.specs.LinesOnName.{line_with, with_set_on}
 
--- a line that asks for something may stand for itself with other specifiers, and lines may be exchanged so
+-- a line that requires something may stand for itself with other specifiers, and lines may be exchanged so
 abbrev pub MayGetSpecifiers : Type 0
 MayGetSpecifiers = (line specifiers : List ℕ) (wanted : RequirementParts) → requirement_of line ≡ Ok (Some wanted) → IsSpecifier specifiers
     → MayStandFor line (joined (with_version specifiers (slices_of line)))
@@ -17,20 +17,20 @@ abbrev pub MayBeExchanged : Type 0
 MayBeExchanged = (change : List ℕ → List ℕ) (lines : List (List ℕ)) → AreLines lines
     → ((line : List ℕ) → Contains lines line → (change line ≡ line) ⊎ MayStandFor line (change line)) → AreLines (map change lines)
 
--- a line on a name asks for something
-asks : (name : List ℕ) (read : Result (Option RequirementParts) Cause) → is_on name (asked read) ≡ true → (wanted : RequirementParts) × (read ≡ Ok (Some wanted))
-asks name (Ok None) on = cc
-asks name (Ok (Some wanted)) on = (wanted, refl)
-asks name (Err cause) on = cc
+-- a line on a name requires something
+required : (name : List ℕ) (read : Result (Option RequirementParts) Cause) → is_on name (if_read read) ≡ true → (wanted : RequirementParts) × (read ≡ Ok (Some wanted))
+required name (Ok None) on = cc
+required name (Ok (Some wanted)) on = (wanted, refl)
+required name (Err cause) on = cc
 
-pub asks_on : (name line : List ℕ) → is_on name (wanted_of line) ≡ true → (wanted : RequirementParts) × (requirement_of line ≡ Ok (Some wanted))
-asks_on name line on = asks name (requirement_of line) on
+pub required-on : (name line : List ℕ) → is_on name (required_by line) ≡ true → (wanted : RequirementParts) × (requirement_of line ≡ Ok (Some wanted))
+required-on name line on = required name (requirement_of line) on
 
--- a line stays, or asks for something with its specifiers
+-- a line stays, or requires something with its specifiers
 stays : MayGetSpecifiers → (name specifiers line : List ℕ) → IsSpecifier specifiers
     → (line_with name specifiers line ≡ line) ⊎ MayStandFor line (line_with name specifiers line)
-stays get name specifiers line set = elim (cases_Bool (is_on name (wanted_of line))) [
-  | inl on ↦ let found = asks_on name line on in inr (rw on (get line specifiers found.0 found.1 set))
+stays get name specifiers line set = elim (cases_Bool (is_on name (required_by line))) [
+  | inl on ↦ let found = required-on name line on in inr (rw on (get line specifiers found.0 found.1 set))
   | inr other ↦ inl (rw other refl)
 ]
 

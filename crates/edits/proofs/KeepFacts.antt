@@ -3,16 +3,17 @@ use Rattle.std.proofs.Common.{◌≡◌, ◌≢◌, ◌∙◌, ℕ, List, [], �
 use Rattle.markers.specs.Environment.{Texts}
 use Rattle.snapshot.specs.Packages.{Index}
 use Rattle.problems.specs.Problem.{ProblemParts}
-use Rattle.states.specs.Locking.{given_for, given_of}
-use Rattle.states.specs.declared.locking.Unlocked.{Unlocked}
+use Rattle.states.specs.Locks.{given_for, given_of}
+use Rattle.states.specs.Pool.{PoolParts, whole}
+use Rattle.states.specs.declared.locks.Unlocked.{Unlocked}
 use Rattle.states.specs.declared.target.Target.{Target}
 use Rattle.edits.specs.Edits.{first_problem, problem_for}
-use Rattle.edits.specs.Keeping.{Kept, kept_first, kept_for, kept_of}
+use Rattle.edits.specs.KeptVersions.{Kept, kept_first, kept_for, kept_of}
 use Rattle.edits.specs.declared.request.Edit.{Edit}
 
 -- the problem of a name, an environment and versions that are kept
-abbrev given_from : List (List ℕ) → Index → Kept → List ℕ × ProblemParts
-given_from lines index kept = (kept.0, given_of lines kept.1.0 index kept.1.1)
+abbrev given_from : List (List ℕ) → PoolParts → Kept → List ℕ × ProblemParts
+given_from lines pool kept = (kept.0, given_of lines kept.1.0 pool kept.1.1)
 
 -- a function of the parts is one after the other
 module _ {A B C : Type 0} (f : B → C) (g : A → B) (h : A → C) (is : (x : A) → h x ≡ f (g x)) where
@@ -20,22 +21,22 @@ module _ {A B C : Type 0} (f : B → C) (g : A → B) (h : A → C) (is : (x : A
   through [] = refl
   through (x ∷ xs) = ap (λ (y : C). y ∷ map h xs) (is x) ∙ ap (λ (l : List C). f (g x) ∷ l) (through xs)
 
-given-parts : (lines : List (List ℕ)) (index : Index) (all : List Unlocked) → map (given_for lines index) all ≡ map (given_from lines index) (map kept_of all)
-given-parts lines index all = through (given_from lines index) kept_of (given_for lines index) (λ u. refl) all
+given-parts : (lines : List (List ℕ)) (pool : PoolParts) (all : List Unlocked) → map (given_for lines pool) all ≡ map (given_from lines pool) (map kept_of all)
+given-parts lines pool all = through (given_from lines pool) kept_of (given_for lines pool) (λ u. refl) all
 
 -- the problems of targets that an edit leaves
-pub givens-after : (lines : List (List ℕ)) (edit : Edit) (index : Index) (targets : List Target) (all : List Unlocked) → map kept_of all ≡ map (kept_for edit) targets
-    → map (given_for lines index) all ≡ map (problem_for lines edit index) targets
-givens-after lines edit index targets all kept =
-    given-parts lines index all ∙ ap (map (given_from lines index)) kept
-    ∙ sym (through (given_from lines index) (kept_for edit) (problem_for lines edit index) (λ t. refl) targets)
+pub givens-after : (lines : List (List ℕ)) (edit : Edit) (pool : PoolParts) (targets : List Target) (all : List Unlocked) → map kept_of all ≡ map (kept_for edit) targets
+    → map (given_for lines pool) all ≡ map (problem_for lines edit pool) targets
+givens-after lines edit pool targets all kept =
+    given-parts lines pool all ∙ ap (map (given_from lines pool)) kept
+    ∙ sym (through (given_from lines pool) (kept_for edit) (problem_for lines edit pool) (λ t. refl) targets)
 
 -- the problems of named environments at the beginning
-pub givens-first : (lines : List (List ℕ)) (index : Index) (targets : List (List ℕ × Texts)) (all : List Unlocked) → map kept_of all ≡ map kept_first targets
-    → map (given_for lines index) all ≡ map (first_problem lines index) targets
-givens-first lines index targets all kept =
-    given-parts lines index all ∙ ap (map (given_from lines index)) kept
-    ∙ sym (through (given_from lines index) kept_first (first_problem lines index) (λ t. refl) targets)
+pub givens-first : (lines : List (List ℕ)) (index : Index) (pool : PoolParts) (targets : List (List ℕ × Texts)) (all : List Unlocked) → pool ≡ whole index → map kept_of all ≡ map kept_first targets
+    → map (given_for lines pool) all ≡ map (first_problem lines index) targets
+givens-first lines index pool targets all is kept =
+    ap (λ p. map (given_for lines p) all) is ∙ given-parts lines (whole index) all ∙ ap (map (given_from lines (whole index))) kept
+    ∙ sym (through (given_from lines (whole index)) kept_first (first_problem lines index) (λ t. refl) targets)
 
 name-parts : (all : List Unlocked) → map (λ u. u.name) all ≡ map (λ (k : Kept). k.0) (map kept_of all)
 name-parts all = through (λ (k : Kept). k.0) kept_of (λ u. u.name) (λ u. refl) all

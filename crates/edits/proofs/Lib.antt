@@ -2,6 +2,7 @@ pub mod Additions
 pub mod ChangedLines
 pub mod EditFacts
 pub mod KeepFacts
+pub mod KeepLaws
 pub mod LinesOnName
 pub mod NamesRead
 pub mod Refusals

@@ -2,7 +2,7 @@
 use Rattle.std.proofs.Common.{◌≡◌, ◌≢◌, inl, inr, ℕ, Bool, true, false, List, Some, Ok, Err, refl, sym, ap, if◌then◌else◌, eqb}
 use Rattle.std.proofs.lemmas.Bool.{cases_Bool, eqb-true}
 use Rattle.markers.specs.Names.{is_name, normal_of}
-use Rattle.edits.specs.Naming.{count_on}
+use Rattle.edits.specs.LinesOnName.{count_on}
 use Rattle.edits.specs.Refused.{refused_count, refused_name}
 use Rattle.states.specs.declared.refusal.Refusal.TheVariants.{Ambiguous, BadText}
 

@@ -4,7 +4,7 @@ use Rattle.pep508.specs.Parts.{comment_place, has_odd}
 use Rattle.pep508.specs.Requirement.{asked_in, requirement_of, wanted_by}
 use Rattle.pep508.specs.Slices.{slices_with}
 use Rattle.markers.specs.Names.{normal_of}
-use Rattle.edits.specs.Adding.{asked_by, line_number, with_line}
+use Rattle.edits.specs.Addition.{line_number, requirement_in, with_line}
 
 -- an added line ends as the first line with an ending does, and a last line without one gets it
 ending_row : with_line (codes "# web\r\n" ∷ codes "B_b >=1 # pin\r\n" ∷ codes "a" ∷ []) (codes "c") ≡ codes "# web\r\n" ∷ codes "B_b >=1 # pin\r\n" ∷ codes "a\r\n" ∷ codes "c\r\n" ∷ []
@@ -13,11 +13,11 @@ ending_row = refl
 empty_row : with_line [] (codes "c") ≡ codes "c\n" ∷ []
 empty_row = refl
 
--- a text with an LF can't be a line, nor can one that asks for nothing
-asked_row : asked_by (codes "c\n") ≡ None
-asked_row = refl
+-- a text with an LF can't be a line, nor can one that requires nothing
+line_feed_row : requirement_in (codes "c\n") ≡ None
+line_feed_row = refl
 
-comment_row : asked_by (codes "# c") ≡ None
+comment_row : requirement_in (codes "# c") ≡ None
 unfolding requirement_of wanted_by comment_place has_odd
 comment_row = refl
 

@@ -9,11 +9,12 @@ use Rattle.pep440.specs.Version.{VersionParts}
 use Rattle.pep508.specs.Parts.{trim}
 use Rattle.snapshot.specs.Packages.{Index}
 use Rattle.problems.specs.Problem.{ProblemParts}
+use Rattle.states.specs.Pool.{PoolParts, whole}
 use Rattle.states.specs.StateParts.{StateParts}
-use Rattle.states.specs.Locking.{HasUnsolved, IsLocked, given_of, versions_of}
+use Rattle.states.specs.Locks.{HasUnsolved, IsLocked, given_of, versions_of}
 use Rattle.states.specs.declared.target.Target.{Target}
-use Rattle.edits.specs.Adding.{with_line}
-use Rattle.edits.specs.Naming.{with_set_on, without_line}
+use Rattle.edits.specs.Addition.{with_line}
+use Rattle.edits.specs.LinesOnName.{with_set_on, without_line}
 use Rattle.edits.specs.Refused.{refused_by_lines, refused_by_locks}
 use Rattle.edits.specs.declared.request.Edit.{Edit}
 use Rattle.edits.specs.declared.request.Edit.TheVariants.{Add, Constrain, Remove, Upgrade, UpgradeAll}
@@ -34,7 +35,7 @@ Locks old givens lines (Err refusal) =
 
 -- the problem that a history begins with in a named environment: no version is kept
 abbrev pub first_problem : List (List ℕ) → Index → List ℕ × Texts → List ℕ × ProblemParts
-first_problem lines index target = (target.0, given_of lines target.1 index [])
+first_problem lines index target = (target.0, given_of lines target.1 (whole index) [])
 
 -- what a history of these lines begins with in named environments: there is no old state
 abbrev pub InitResult : List (List ℕ) → List (List ℕ × Texts) → Index → Result StateParts Refusal → Type 0
@@ -62,13 +63,13 @@ kept_pins pins UpgradeAll = []
 kept_pins pins edit = pins
 
 -- the problem whose best solution an edit locks for a target, under its name: that of the lines after the edit in the target's
--- environment over the index, with the versions that the edit keeps of the target's own lock
-abbrev pub problem_for : List (List ℕ) → Edit → Index → Target → List ℕ × ProblemParts
-problem_for lines edit index target = (target.name, given_of lines target.environment index (kept_pins (versions_of target.lock.entries) edit))
+-- environment over the index, with the versions that the edit keeps of the target's own lock, alone or before others
+abbrev pub problem_for : List (List ℕ) → Edit → PoolParts → Target → List ℕ × ProblemParts
+problem_for lines edit pool target = (target.name, given_of lines target.environment pool (kept_pins (versions_of target.lock.entries) edit))
 
 -- the problems of an edit, one for each target
-abbrev pub problems_after : StateParts → Edit → Index → List (List ℕ × ProblemParts)
-problems_after state edit index = map (problem_for (lines_after state.lines edit) edit index) state.targets
+abbrev pub problems_after : StateParts → Edit → PoolParts → List (List ℕ × ProblemParts)
+problems_after state edit pool = map (problem_for (lines_after state.lines edit) edit pool) state.targets
 
 -- this is answered where a refusal applies, and else what else is
 abbrev pub Unless : Option Refusal → (Result StateParts Refusal → Type 0) → Result StateParts Refusal → Type 0
@@ -77,6 +78,6 @@ Unless None otherwise answer = otherwise answer
 
 -- what an edit answers, memory aside: the first refusal that lines and locks give, else what the edited lines lead to by the
 -- problems of the targets
-abbrev pub EditResult : StateParts → Edit → Index → Result StateParts Refusal → Type 0
-EditResult state edit index answer =
-    Unless (refusal_of state edit) (Locks (Some state) (problems_after state edit index) (lines_after state.lines edit)) answer
+abbrev pub EditResult : StateParts → Edit → PoolParts → Result StateParts Refusal → Type 0
+EditResult state edit pool answer =
+    Unless (refusal_of state edit) (Locks (Some state) (problems_after state edit pool) (lines_after state.lines edit)) answer

@@ -1,7 +1,8 @@
-pub mod Asking
-pub mod Adding
-pub mod Naming
+pub mod Required
+pub mod Addition
+pub mod LinesOnName
 pub mod Refused
 pub mod Edits
-pub mod Keeping
+pub mod KeptVersions
 pub mod Questions
+pub mod Laws

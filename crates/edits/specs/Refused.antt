@@ -5,16 +5,16 @@ use Rattle.markers.specs.Names.{is_name, normal_of}
 use Rattle.pep508.specs.Requirement.{RequirementParts}
 use Rattle.pylock.specs.Packages.{EntryParts}
 use Rattle.problems.specs.Solutions.{version_for}
-use Rattle.states.specs.Locking.{versions_of}
+use Rattle.states.specs.Locks.{versions_of}
 use Rattle.states.specs.declared.target.Target.{Target}
-use Rattle.edits.specs.Adding.{asked_by, line_number}
-use Rattle.edits.specs.Naming.{count_on, is_specifier}
+use Rattle.edits.specs.Addition.{line_number, requirement_in}
+use Rattle.edits.specs.LinesOnName.{count_on, is_specifier}
 use Rattle.edits.specs.declared.request.Edit.{Edit}
 use Rattle.edits.specs.declared.request.Edit.TheVariants.{Add, Constrain, Remove, Upgrade}
 use Rattle.states.specs.declared.refusal.Refusal.{Refusal}
 use Rattle.states.specs.declared.refusal.Refusal.TheVariants.{AlreadyPresent, Ambiguous, BadText, NotLocked, NotPresent}
 
--- of an added line, given what it asks for: its name may not be that of a line that is there
+-- of an added line, given what it requires: its name may not be that of a line that is there
 abbrev pub refused_addition : List (List ℕ) → Option RequirementParts → Option Refusal
 refused_addition lines None = Some BadText
 refused_addition lines (Some wanted) = option_map AlreadyPresent (line_number wanted.name lines)
@@ -33,7 +33,7 @@ refused_constraint lines name specifiers = if is_specifier specifiers then refus
 
 -- the first refusal that the lines give
 abbrev pub refused_by_lines : List (List ℕ) → Edit → Option Refusal
-refused_by_lines lines (Add text) = refused_addition lines (asked_by text)
+refused_by_lines lines (Add text) = refused_addition lines (requirement_in text)
 refused_by_lines lines (Remove name) = refused_name lines name
 refused_by_lines lines (Constrain name specifiers) = refused_constraint lines name specifiers
 refused_by_lines lines edit = None

@@ -4,26 +4,27 @@
 //!
 //! ```rust
 //! let line = Text::copy_of(alloc, "d  # new")?;
-//! let edited = edit(alloc, state, &Edit::Add(line), index, &Learning)?;
+//! let edited = edit(alloc, state, &Edit::Add(line), &Pool::whole(index), &Learning)?;
 //! let back = edited.change.inverse(alloc)?;
 //! Ok(back.apply(alloc, &edited.state)?.is_some())
 //! ```
 #![tactic(auto)]
 
-mod adding;
-mod asking;
-mod constraining;
-mod editing;
-mod keeping;
+mod addition;
+mod constraint;
+mod edit_result;
+mod kept_versions;
 pub mod laws;
-mod naming;
-mod removing;
+mod lines_on_name;
+mod questions;
+mod removal;
 mod request;
-mod upgrading;
+mod upgrade;
 
-pub use crate::asking::{problems_of_init, problems_with};
-pub use crate::editing::{edit, init, problem_after};
+pub use crate::edit_result::{edit, init, problem_after};
+pub use crate::questions::{problems_of_init, problems_with};
 pub use crate::request::{Edit, Edited};
+pub use changes::{Change, DigestChange, EntryChange, Splice, difference};
 pub use pep508::{Cause, Environment, Fault, Line, Name, ReqFile, Requirement};
 pub use pylock::{Entry, FileEntry, Lock};
 pub use resolve::{
@@ -31,7 +32,4 @@ pub use resolve::{
     check, check_sets, completed, ground_of,
 };
 pub use snapshot::{Release, Snapshot};
-pub use states::{
-    Change, DigestChange, EntryChange, Refusal, SavedFile, Splice, State, Target, TargetName,
-    Targets, difference, first_unfit,
-};
+pub use states::{Pool, Refusal, SavedFile, State, Target, TargetName, Targets, first_unfit};

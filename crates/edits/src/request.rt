@@ -1,7 +1,8 @@
-// What is asked of a state, and what it leads to.
+// Edits of a state, and what an accepted one leads to.
 
+use changes::Change;
 use lists::{Seq, Text};
-use states::{Change, State};
+use states::State;
 
 /// An edit of the requirements file. Names, lines and specifiers are texts that are read when the edit
 /// is made.
@@ -13,7 +14,7 @@ pub enum Edit {
     /// Takes out the one line of the name, with its ending.
     Remove(Text),
     /// Puts specifiers, the second text, in the place of those in the one line of the name, the first
-    /// text. They have no parentheses; where they are blank, the line asks for every version.
+    /// text. They have no parentheses; where they are blank, the line admits every version.
     Constrain(Text, Text),
     /// Drops the locked versions of these names and resolves again.
     Upgrade(Seq<Text>),

@@ -27,7 +27,7 @@ pub record IsClosing (given : ProblemParts) (chosen : List ℕ → Option Versio
   pub linked : (link node : Node) → Contains (take at nodes) link → Contains (nodes_linked given link (chosen link.name)) node → Contains nodes node
 
 -- a look-up by bytes is the look-up of a map
-lookup-get : {X : Type 0} (name : List ℕ) (entries : List (List ℕ × X)) → lookup (bytes_eq name) entries ≡ lookup (is_at (slice_cmp nat_cmp name)) entries
+pub lookup-get : {X : Type 0} (name : List ℕ) (entries : List (List ℕ × X)) → lookup (bytes_eq name) entries ≡ lookup (is_at (slice_cmp nat_cmp name)) entries
 lookup-get name entries = ap (λ (t : List ℕ → Bool). lookup t entries) (λ i x. sym (is_eq-slice_cmp name x) i)
 
 -- a node leads nowhere where its name has no version

@@ -2,7 +2,9 @@ pub mod Admitting
 pub mod Growing
 pub mod Closing
 pub mod Deciding
+pub mod Eligible
 pub mod EqualNodes
 pub mod Equals
+pub mod KeepingAll
 pub mod NumbersFound
 pub mod NodesMet

@@ -1,5 +1,5 @@
 -- What a resolver is given.
-use Rattle.std.specs.Prelude.{ℕ, List, [], ◌∷◌, Option, Some, None, Result, Ok, Err, if◌then◌else◌}
+use Rattle.std.specs.Prelude.{ℕ, Bool, List, [], ◌∷◌, Option, Some, None, Result, Ok, Err, if◌then◌else◌}
 use Rattle.std.specs.List.{flat_map}
 use Rattle.pep440.specs.Version.{VersionParts}
 use Rattle.pep508.specs.Requirement.{RequirementParts, is_active, requirement_of}
@@ -8,12 +8,14 @@ use Rattle.markers.specs.declared.fault.Cause.{Cause}
 use Rattle.snapshot.specs.Packages.{Index, releases_of}
 use Rattle.snapshot.specs.Release.{Release}
 
--- the requirements of the active lines, the environment, the index, and the versions that an earlier lock has
+-- the requirements of the active lines, the environment, the index, the versions that an earlier lock has, and whether none counts
+-- beside them
 pub record ProblemParts : Type 0 where
   pub active : List RequirementParts
   pub environment : Texts
   pub index : Index
   pub kept : List (List ℕ × VersionParts)
+  pub only_kept : Bool
 
 -- a requirement that counts in an environment, as a list of one or of none
 abbrev pub counted_in : Texts → Option RequirementParts → List RequirementParts

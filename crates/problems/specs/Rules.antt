@@ -1,8 +1,8 @@
 -- The rules that a problem stands for.
-use Rattle.std.specs.Prelude.{ℕ, not, Bool, true, List, [], ◌∷◌, map, filter, Option, Some, None}
+use Rattle.std.specs.Prelude.{ℕ, ◌&&◌, not, Bool, true, List, [], ◌∷◌, map, filter, Option, Some, None, is_some, if◌then◌else◌}
 use Rattle.std.specs.Cmp.Lexicographic.{slice_cmp}
 use Rattle.std.specs.Map.{lookup}
-use Rattle.std.specs.Option.{option_and_then, option_map, option_map_or}
+use Rattle.std.specs.Option.{option_and_then, option_map, option_map_or, option_to_list}
 use Rattle.std.specs.Ordering.{is_eq, nat_cmp}
 use Rattle.std.specs.Str.{bytes_eq}
 use Rattle.pep440.specs.Order.{version_cmp}
@@ -61,9 +61,14 @@ preferring (Some kept) versions = kept ∷ filter (λ version. not (is_eq (versi
 abbrev pub kept_version : ProblemParts → List ℕ → Option VersionParts
 kept_version given name = option_and_then (λ version. option_map (λ release. release.version) (release_at given name version)) (lookup (bytes_eq name) given.kept)
 
--- the candidates of a name: the kept one, where the index has it, and then from newest to oldest
+-- whether a version is kept for a name, and no other counts beside it
+abbrev pub is_held : ProblemParts → List ℕ → Bool
+is_held given name = given.only_kept && is_some (lookup (bytes_eq name) given.kept)
+
+-- the candidates of a name: the kept one, where the index has it, and then from newest to oldest; of a name that is held, the kept
+-- one alone
 abbrev pub candidates : ProblemParts → List ℕ → List VersionParts
-candidates given name = preferring (kept_version given name) (versions_of (releases_on given name))
+candidates given name = if is_held given name then option_to_list (kept_version given name) else preferring (kept_version given name) (versions_of (releases_on given name))
 
 -- what a solution has to meet; names are ordered by their bytes
 abbrev pub rules_of : ProblemParts → Rules (List ℕ) Node VersionParts RequirementParts

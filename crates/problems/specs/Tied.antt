@@ -1,4 +1,5 @@
 -- What serves proofs alone.
+pub mod Eligible
 pub mod Growing
 pub mod NodeEquality
 pub mod NodeLaws

@@ -9,16 +9,39 @@ ghost use Rattle.search.specs.Rules.{IsLawful};
 ghost use Rattle.search.specs.Solutions.{Needed};
 ghost use Rattle.snapshot.specs.Release.{Release};
 ghost use Rattle.problems.specs.Tied.Growing.{nodes_met, requirements_met};
-ghost use Rattle.problems.specs.Laws.{AdmissionForgetsKeptVersions};
+ghost use Rattle.problems.specs.Laws.{AKeptVersionIsThatOfItsRelease, AdmissionForgetsKeptVersions, BestKeepsAll, NeedsForgetKeptVersions, SolutionsKeepAll};
 ghost use Rattle.problems.specs.Problem.{ProblemParts, releases_on};
 ghost use Rattle.problems.specs.Rules.{rules_of, same_version, wants};
 ghost use Rattle.problems.specs.declared.node.Node.{Node};
 
 pub use search::laws::the_best_solution_is_unique;
 
-/// Which versions a requirement admits doesn't depend on the versions that an earlier lock has.
+/// Which versions a requirement admits doesn't depend on the versions that an earlier lock has, nor on
+/// whether others count beside them.
 pub fn admission_forgets_kept_versions()
     ensures law { AdmissionForgetsKeptVersions }
+{}
+
+/// Nor do the nodes that are needed with chosen versions.
+pub fn needs_forget_kept_versions()
+    ensures { NeedsForgetKeptVersions }
+{}
+
+/// The version of the release that is kept equals the one that an earlier lock has.
+pub fn a_kept_version_is_that_of_its_release()
+    ensures { AKeptVersionIsThatOfItsRelease }
+{}
+
+/// Where no other version counts beside a kept one, the solutions are those among all that keep the version
+/// of each name that they have and for which one is kept. So a version that is kept for a name that
+/// nothing needs stands in the way of none.
+pub fn solutions_without_others_keep_all()
+    ensures { SolutionsKeepAll }
+{}
+
+/// Where the best of all solutions keeps all versions, it is the best of these too.
+pub fn the_best_solution_that_keeps_all_stays_the_best()
+    ensures { BestKeepsAll }
 {}
 
 /// The rules of a problem are lawful: names are ordered by their bytes, each requirement needs a node, and

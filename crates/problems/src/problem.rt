@@ -1,14 +1,15 @@
 // Problems.
 
-ghost use Rattle.std.specs.Prelude.{◌≡◌, IfOk};
+ghost use Rattle.std.specs.Prelude.{◌≡◌, IfOk, false};
 ghost use Rattle.std.specs.List.Sorted.{IsStrictlySortedBy};
 ghost use Rattle.std.specs.Option.{option_copied, option_to_list};
 ghost use Rattle.pep508.specs.Requirement.{requirement_of};
 ghost use Rattle.snapshot.specs.Releases.{newer_cmp};
 ghost use Rattle.problems.specs.Admission.{dependencies_at, release_at};
 ghost use Rattle.problems.specs.Problem.{ProblemParts, active_in, releases_on, requirements};
-ghost use Rattle.problems.specs.Rules.{counts};
+ghost use Rattle.problems.specs.Rules.{counts, is_held};
 ghost use Rattle.problems.specs.Solutions.{AreNeeded, version_for};
+ghost use Rattle.problems.specs.Tied.Eligible.{eligible};
 
 use crate::node::Node;
 use crate::{needed, releases};
@@ -21,12 +22,13 @@ use std::collections::BTreeMap;
 use std::marker::Model;
 
 /// What a resolver is given: the requirements of the active lines of a file in an environment, an index,
-/// and the versions that an earlier lock has.
+/// the versions that an earlier lock has, and whether none counts beside them.
 pub struct Problem<'a> {
     pub active: Seq<Requirement>,
     pub environment: Environment,
     pub snapshot: &'a Snapshot,
     pub kept: BTreeMap<Name, Version>,
+    pub only_kept: bool,
 }
 
 impl<'a> Drop for Problem<'a> {
@@ -36,6 +38,7 @@ impl<'a> Drop for Problem<'a> {
             environment: _,
             snapshot: _,
             kept: _,
+            only_kept: _,
         } = self;
     }
 }
@@ -54,6 +57,7 @@ impl<'a> Model for Problem<'a> {
       environment = q.environment;
       index = q.snapshot.now;
       kept = q.kept.entries;
+      only_kept = q.only_kept;
     } };
 }
 
@@ -89,7 +93,7 @@ fn requirements(
 
 impl<'a> Problem<'a> {
     /// The problem of the active lines in the environment over the index, with the versions that are
-    /// kept of an earlier lock.
+    /// kept of an earlier lock; others count beside them.
     pub fn new(
         alloc: Global,
         lines: &ReqFile,
@@ -105,6 +109,7 @@ impl<'a> Problem<'a> {
                   environment.now;
               index = snapshot.now;
               kept = kept.entries;
+              only_kept = false;
             }) }
     {
         let active = requirements(alloc, environment, lines.lines())?;
@@ -114,7 +119,36 @@ impl<'a> Problem<'a> {
             environment,
             snapshot,
             kept,
+            only_kept: false,
         })
+    }
+
+    /// The same problem; whether none counts beside a version that is kept.
+    pub fn with_only_kept(self, only_kept: bool) -> Problem<'a>
+        ensures { result
+            ≡ record {
+              active = self.entry.active;
+              environment =
+                  self.entry.environment;
+              index = self.entry.index;
+              kept = self.entry.kept;
+              only_kept = only_kept;
+            } }
+    {
+        let Problem {
+            active,
+            environment,
+            snapshot,
+            kept,
+            only_kept: _,
+        } = self;
+        Problem {
+            active,
+            environment,
+            snapshot,
+            kept,
+            only_kept,
+        }
     }
 
     /// The releases of a name, newest first.
@@ -130,6 +164,30 @@ impl<'a> Problem<'a> {
         ensures { option_copied result ≡ release_at self.now name.now version.now }
     {
         releases::release_at(self.releases(name), version)
+    }
+
+    /// Whether a version is kept for a name, and none counts beside it.
+    pub fn is_held(&self, name: &Name) -> bool
+        ensures { result ≡ is_held self.now name.now }
+    {
+        match self.kept.get(name) {
+            Some(_version) => self.only_kept,
+            None => false,
+        }
+    }
+
+    /// The releases of a name whose versions are its candidates: where a version is kept and none
+    /// counts beside it, the release that has it, else all.
+    pub fn eligible(&self, name: &Name) -> &[Release]
+        ensures { result.now ≡ eligible self.now name.now }
+    {
+        let releases = self.releases(name);
+        if self.only_kept {
+            if let Some(version) = self.kept.get(name) {
+                return releases::with_version(releases, version);
+            }
+        }
+        releases
     }
 
     /// The dependencies of the release with that version; none where the index has no such release.

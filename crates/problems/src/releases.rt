@@ -1,13 +1,14 @@
 // Releases by their versions, and the dependencies of them that count.
 
 ghost use Rattle.std.specs.Prelude.{◌≡◌, find};
-ghost use Rattle.std.specs.Option.{option_copied};
+ghost use Rattle.std.specs.Option.{option_copied, option_to_list};
 ghost use Rattle.problems.specs.Admission.{has_version};
 ghost use Rattle.problems.specs.Rules.{counts};
 
 use pep440::Version;
 use pep508::{Environment, Name, Requirement};
 use snapshot::Release;
+use std::slice;
 
 /// Whether a release has a version that equals this one.
 pub fn has_version(version: &Version, release: &Release) -> bool
@@ -23,6 +24,16 @@ pub(crate) fn release_at<'a>(releases: &'a [Release], version: &Version) -> Opti
     releases
         .iter()
         .find(|release| has_version(version, release))
+}
+
+/// The same alone.
+pub(crate) fn with_version<'a>(releases: &'a [Release], version: &Version) -> &'a [Release]
+    ensures { result.now ≡ option_to_list (find (has_version version.now) releases.now) }
+{
+    match release_at(releases, version) {
+        Some(release) => slice::from_ref(release),
+        None => &[],
+    }
 }
 
 /// Whether a dependency counts where its release is asked for with an extra or none.

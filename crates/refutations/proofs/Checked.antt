@@ -3,7 +3,7 @@ use Rattle.std.proofs.Common.{◌≡◌, ◌⊎◌, inl, inr, ◌<◌, not, ℕ,
 use Rattle.std.specs.Bool.{Decides}
 use Rattle.std.specs.List.{list_all, list_any}
 use Rattle.std.specs.Map.{lookup}
-use Rattle.std.specs.Option.{option_and_then}
+use Rattle.std.specs.Option.{option_and_then, option_to_list}
 use Rattle.std.specs.Ordering.{is_eq}
 use Rattle.std.specs.Str.{bytes_eq}
 use Rattle.std.proofs.lemmas.Bool.{cases_Bool}
@@ -15,15 +15,16 @@ use Rattle.search.specs.Conflicts.{ChoicesClash, Completes, EachFollows, Follows
 use Rattle.snapshot.specs.Release.{Release}
 use Rattle.problems.specs.Admission.{admits, has_version}
 use Rattle.refutations.specs.Tied.Checking.{completes, differ, is_same, is_within, none_left, refuses}
+use Rattle.problems.specs.Tied.Eligible.{eligible}
 use Rattle.problems.specs.Tied.NodeEquality.{is_node}
 use Rattle.problems.specs.Problem.{ProblemParts, releases_on}
 use Rattle.refutations.specs.Refutations.{ChoiceParts}
-use Rattle.problems.specs.Rules.{candidates, kept_version, nodes_of, preferring, rules_of, same_version, versions_of, wants}
+use Rattle.problems.specs.Rules.{candidates, is_held, kept_version, nodes_of, preferring, rules_of, same_version, versions_of, wants}
 use Rattle.problems.specs.declared.node.Node.{Node}
 use Rattle.problems.proofs.Deciding.{IsThere, decides-all, decides-any, decides-both, decides-either, decides-itself, decides-not, decides-onto, there-more}
 use Rattle.problems.proofs.EqualNodes.{node-decides}
 use Rattle.problems.proofs.Equals.{same-onward}
-use Rattle.lists.proofs.Members.{Contains-cons_cases, Contains-filter, Contains-filter_of, Contains-here, Contains-map, Contains-map_of, Contains-there}
+use Rattle.lists.proofs.Members.{Contains-cons_cases, Contains-filter, Contains-filter_of, Contains-here, Contains-map, Contains-map_of, Contains-nil, Contains-there}
 
 -- ---- two choices
 
@@ -111,7 +112,7 @@ found-released test (r ∷ rs) version e = elim (cases_Bool (test r)) [
   | inr fails ↦ there-more (λ (release : Release). release.version ≡ version) r rs (found-released test rs version (rw fails at e))
 ]
 
-pub kept-released : (releases : List Release) (kept : Option VersionParts) (version : VersionParts)
+kept-released : (releases : List Release) (kept : Option VersionParts) (version : VersionParts)
     → option_and_then (λ v. option_map (λ (release : Release). release.version) (find (has_version v) releases)) kept ≡ Some version → IsReleased releases version
 kept-released releases None version e = absurd cc
 kept-released releases (Some v) version e = found-released (has_version v) releases version e
@@ -119,7 +120,7 @@ kept-released releases (Some v) version e = found-released (has_version v) relea
 mapped-released : (releases : List Release) (version : VersionParts) → Contains (versions_of releases) version → IsReleased releases version
 mapped-released releases version there = let k = Contains-map (λ (release : Release). release.version) releases version there in record { item = k.0; there = k.1; is = k.2 }
 
-pub preferring-released : (releases : List Release) (kept : Option VersionParts) (version : VersionParts) → ((v : VersionParts) → kept ≡ Some v → IsReleased releases v)
+preferring-released : (releases : List Release) (kept : Option VersionParts) (version : VersionParts) → ((v : VersionParts) → kept ≡ Some v → IsReleased releases v)
     → Contains (preferring kept (versions_of releases)) version → IsReleased releases version
 preferring-released releases None version known there = mapped-released releases version there
 preferring-released releases (Some v) version known there =
@@ -130,7 +131,7 @@ preferring-released releases (Some v) version known there =
     ]
 
 -- what holds with each candidate holds with each release, where it doesn't tell equal versions apart
-pub preferring-all : (releases : List Release) (kept : Option VersionParts) (P : VersionParts → Type 0) → ((v w : VersionParts) → same_version v w ≡ true → P v → P w)
+preferring-all : (releases : List Release) (kept : Option VersionParts) (P : VersionParts → Type 0) → ((v w : VersionParts) → same_version v w ≡ true → P v → P w)
     → ((v : VersionParts) → Contains (preferring kept (versions_of releases)) v → P v) → (release : Release) → Contains releases release → P release.version
 preferring-all releases None P alike each release there = each release.version (Contains-map_of (λ (r : Release). r.version) releases release there)
 preferring-all releases (Some v) P alike each release there =
@@ -141,20 +142,63 @@ preferring-all releases (Some v) P alike each release there =
       | inr apart ↦ each release.version (Contains-there v (filter others (versions_of releases)) release.version (Contains-filter_of others (versions_of releases) release.version listed (ap not apart)))
     ]
 
+-- the release that is kept, alone
+alone-released : (found : Option Release) (version : VersionParts) → Contains (option_to_list (option_map (λ (release : Release). release.version) found)) version → IsReleased (option_to_list found) version
+alone-released None version there = absurd (Contains-nil version there)
+alone-released (Some release) version there = mapped-released (release ∷ []) version there
+
+held-released : (releases : List Release) (kept : Option VersionParts) (version : VersionParts)
+    → Contains (option_to_list (option_and_then (λ v. option_map (λ (release : Release). release.version) (find (has_version v) releases)) kept)) version
+    → IsReleased (option_to_list (option_and_then (λ v. find (has_version v) releases) kept)) version
+held-released releases None version there = absurd (Contains-nil version there)
+held-released releases (Some v) version there = alone-released (find (has_version v) releases) version there
+
+alone-all : (found : Option Release) (P : VersionParts → Type 0) → ((v : VersionParts) → Contains (option_to_list (option_map (λ (release : Release). release.version) found)) v → P v)
+    → (release : Release) → Contains (option_to_list found) release → P release.version
+alone-all None P each release there = absurd (Contains-nil release there)
+alone-all (Some one) P each release there = each release.version (Contains-map_of (λ (r : Release). r.version) (one ∷ []) release there)
+
+held-all : (releases : List Release) (kept : Option VersionParts) (P : VersionParts → Type 0)
+    → ((v : VersionParts) → Contains (option_to_list (option_and_then (λ w. option_map (λ (release : Release). release.version) (find (has_version w) releases)) kept)) v → P v)
+    → (release : Release) → Contains (option_to_list (option_and_then (λ w. find (has_version w) releases) kept)) release → P release.version
+held-all releases None P each release there = absurd (Contains-nil release there)
+held-all releases (Some v) P each release there = alone-all (find (has_version v) releases) P each release there
+
+-- a candidate is the version of an eligible release
+pub candidate-eligible : (given : ProblemParts) (name : List ℕ) (version : VersionParts) → Contains (candidates given name) version → IsReleased (eligible given name) version
+candidate-eligible given name version there =
+    let releases : List Release = releases_on given name in
+    let kept : Option VersionParts = lookup (bytes_eq name) given.kept in
+    elim (cases_Bool (is_held given name)) [
+      | inl held ↦ rw held (held-released releases kept version (rw held at there))
+      | inr free ↦ rw free (preferring-released releases (kept_version given name) version (kept-released releases kept) (rw free at there))
+    ]
+
+-- what holds with each candidate holds with each eligible release, where it doesn't tell equal versions apart
+pub eligible-all : (given : ProblemParts) (name : List ℕ) (P : VersionParts → Type 0) → ((v w : VersionParts) → same_version v w ≡ true → P v → P w)
+    → ((v : VersionParts) → Contains (candidates given name) v → P v) → (release : Release) → Contains (eligible given name) release → P release.version
+eligible-all given name P alike each release there =
+    let releases : List Release = releases_on given name in
+    let kept : Option VersionParts = lookup (bytes_eq name) given.kept in
+    elim (cases_Bool (is_held given name)) [
+      | inl held ↦ held-all releases kept P (rw held at each) release (rw held at there)
+      | inr free ↦ preferring-all releases (kept_version given name) P alike (rw free at each) release (rw free at there)
+    ]
+
 -- with each candidate the conflict contains an earlier one
 abbrev IsExhausted : ProblemParts → List (List ChoiceParts) → List ChoiceParts → Node → Type 0
 IsExhausted given earlier conflict node = (v : VersionParts) → Contains (candidates given node.name) v → Completes same_version earlier conflict (record { node = node; version = v })
 
 pub exhausted-decides : (given : ProblemParts) (earlier : List (List ChoiceParts)) (conflict : List ChoiceParts) (node : Node) → Decides (none_left given earlier conflict node) (IsExhausted given earlier conflict node)
 exhausted-decides given earlier conflict node =
-    let releases : List Release = releases_on given node.name in
+    let releases : List Release = eligible given node.name in
     let with : VersionParts → ChoiceParts = λ v. record { node = node; version = v } in
     decides-onto (none_left given earlier conflict node)
     (decides-all (λ release. completes earlier conflict (with release.version)) (λ release. Completes same_version earlier conflict (with release.version)) releases (λ release. completes-decides earlier conflict (with release.version)))
     (λ each v there.
-    let k : IsReleased releases v = preferring-released releases (kept_version given node.name) v (kept-released releases (lookup (bytes_eq node.name) given.kept)) there in
+    let k : IsReleased releases v = candidate-eligible given node.name v there in
     subst (λ w. Completes same_version earlier conflict (with w)) k.is (each k.item k.there))
-    (preferring-all releases (kept_version given node.name) (λ v. Completes same_version earlier conflict (with v)) (completes-alike earlier conflict node))
+    (eligible-all given node.name (λ v. Completes same_version earlier conflict (with v)) (completes-alike earlier conflict node))
 
 -- a line needs a node with none left, or a choice of the conflict does
 abbrev IsExhaustedFor : ProblemParts → List (List ChoiceParts) → List ChoiceParts → RequirementParts → Type 0

@@ -2,7 +2,6 @@
 use Rattle.std.proofs.Common.{◌≡◌, ◌∙◌, ◌⊎◌, inl, inr, ◌<◌, ◌+◌, ◌&&◌, ◌||◌, not, ℕ, zero, suc, Bool, true, false, List, [], ◌∷◌, ◌++◌, Option, Some, None, Contains, drop, get_or, length, take, ap, arith, refl, sym, subst, append_assoc, append-nil}
 use Rattle.std.specs.Bool.{Decides}
 use Rattle.std.specs.List.{list_all, list_any}
-use Rattle.std.specs.Map.{lookup}
 use Rattle.std.specs.Str.{bytes_eq}
 use Rattle.std.proofs.lemmas.List.{at_drop_more}
 use Rattle.std.proofs.lemmas.Slice.Eq.{bytes_eq-Decides}
@@ -12,13 +11,14 @@ use Rattle.search.specs.SetConflicts.{CompletesSet, EachSetFollows, LineRefusesS
 use Rattle.snapshot.specs.Release.{Release}
 use Rattle.problems.specs.Admission.{admits}
 use Rattle.refutations.specs.Tied.Checking.{differ, refuses}
+use Rattle.problems.specs.Tied.Eligible.{eligible}
 use Rattle.problems.specs.Tied.NodeEquality.{is_node}
-use Rattle.problems.specs.Problem.{ProblemParts, releases_on}
-use Rattle.problems.specs.Rules.{candidates, kept_version, nodes_of, rules_of, same_version, wants}
+use Rattle.problems.specs.Problem.{ProblemParts}
+use Rattle.problems.specs.Rules.{candidates, nodes_of, rules_of, same_version, wants}
 use Rattle.refutations.specs.SetRefutations.{TermParts}
 use Rattle.refutations.specs.Tied.SetChecking.{clash_onward, completes, each_needs, each_refuses_all, is_left_out, needs, none_left, none_left_behind, pair_clashes, refuses_all, refuses_at, terms_clash}
 use Rattle.problems.specs.declared.node.Node.{Node}
-use Rattle.refutations.proofs.Checked.{IsReleased, differ-decides, kept-released, preferring-all, preferring-released, refuses-decides}
+use Rattle.refutations.proofs.Checked.{IsReleased, candidate-eligible, differ-decides, eligible-all, refuses-decides}
 use Rattle.problems.proofs.EqualNodes.{node-decides}
 use Rattle.problems.proofs.Deciding.{IsThere, decides-all, decides-any, decides-both, decides-either, decides-itself, decides-not, decides-onto}
 use Rattle.problems.proofs.Equals.{apart-back}
@@ -133,13 +133,13 @@ IsExhausted given earlier conflict node = (v : VersionParts) → Contains (candi
 
 exhausted-decides : (given : ProblemParts) (earlier : List (List TermParts)) (conflict : List TermParts) (node : Node) → Decides (none_left given earlier conflict node) (IsExhausted given earlier conflict node)
 exhausted-decides given earlier conflict node =
-    let releases : List Release = releases_on given node.name in
+    let releases : List Release = eligible given node.name in
     decides-onto (none_left given earlier conflict node)
     (decides-all (λ release. completes earlier conflict node release.version) (λ release. CompletesSet same_version earlier conflict node release.version) releases (λ release. completes-decides earlier conflict node release.version))
     (λ each v there.
-    let k : IsReleased releases v = preferring-released releases (kept_version given node.name) v (kept-released releases (lookup (bytes_eq node.name) given.kept)) there in
+    let k : IsReleased releases v = candidate-eligible given node.name v there in
     subst (λ w. CompletesSet same_version earlier conflict node w) k.is (each k.item k.there))
-    (preferring-all releases (kept_version given node.name) (λ v. CompletesSet same_version earlier conflict node v) (completes-alike earlier conflict node))
+    (eligible-all given node.name (λ v. CompletesSet same_version earlier conflict node v) (completes-alike earlier conflict node))
 
 needs-decides : (wanted : RequirementParts) (node : Node) → Decides (needs wanted node) (Contains (nodes_of wanted) node)
 needs-decides wanted node = decides-onto (needs wanted node)

@@ -28,7 +28,7 @@ fn mark(marks: &mut [bool], place: usize) {
     }
 }
 
-/// Marks for each release at the node an earlier conflict that the conflict contains with it.
+/// Marks for each candidate at the node an earlier conflict that the conflict contains with it.
 fn mark_completed(
     marks: &mut [bool],
     problem: &Problem<'_>,
@@ -38,7 +38,7 @@ fn mark_completed(
     name: &Name,
     extra: Option<&Name>,
 ) {
-    for release in problem.releases(name) {
+    for release in problem.eligible(name) {
         if let Some(place) = completed_at(
             earlier,
             Some(hints),

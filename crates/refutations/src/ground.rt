@@ -12,8 +12,8 @@ pub enum Ground<'a> {
     ChoicesClash(&'a Choice, &'a Requirement, &'a Choice),
     /// The choices are two versions for one name.
     VersionsDiffer(&'a Choice, &'a Choice),
-    /// The node, a name with an extra or with none, is needed, and with each release of the name the
-    /// conflict contains an earlier one.
+    /// The node, a name with an extra or with none, is needed, and with each candidate of the name
+    /// the conflict contains an earlier one.
     NoneLeft(Need<'a>, &'a Name, Option<&'a Name>),
 }
 

@@ -12,8 +12,8 @@ pub enum SetGround<'a> {
     TermsClash(usize, usize),
     /// With each version of the term at the place the conflict contains an earlier one.
     EachVersion(usize),
-    /// The node, a name with an extra or with none, is needed, and with each release of the name the
-    /// conflict contains an earlier one.
+    /// The node, a name with an extra or with none, is needed, and with each candidate of the name
+    /// the conflict contains an earlier one.
     NoneLeft(SetNeed, &'a Name, Option<&'a Name>),
 }
 

@@ -8,7 +8,7 @@ use Rattle.std.specs.Cmp.Lexicographic.{slice_cmp}
 use Rattle.std.specs.List.{AllByRecursion, list_all}
 use Rattle.std.specs.List.Sorted.{IsStrictlySortedBy}
 use Rattle.std.specs.Map.{lookup}
-use Rattle.std.specs.Option.{option_map}
+use Rattle.std.specs.Option.{option_map, option_to_list}
 use Rattle.std.specs.Ordering.{is_eq, nat_cmp}
 use Rattle.lists.proofs.Members.{Contains-cons_cases, Contains-filter, Contains-here, Contains-map, Contains-nil, Contains-there}
 use Rattle.pep440.specs.Order.{version_cmp}
@@ -20,10 +20,10 @@ use Rattle.snapshot.specs.Release.{Release}
 use Rattle.snapshot.specs.Releases.{newer_cmp}
 use Rattle.problems.specs.Admission.{admits, release_at}
 use Rattle.problems.specs.Problem.{ProblemParts, releases_on}
-use Rattle.problems.specs.Rules.{kept_version, preferring, rules_of, same_version, versions_of}
+use Rattle.problems.specs.Rules.{is_held, kept_version, preferring, rules_of, same_version, versions_of}
 use Rattle.resolve.specs.Tied.Choosing.{IsNewest, IsRefusedBy}
 use Rattle.resolve.proofs.Falling.{same-itself}
-use Rattle.resolve.proofs.Preferring.{lookup-get}
+use Rattle.resolve.proofs.Preferring.{free-candidates, held-candidates, lookup-get}
 
 -- where not all admit, one doesn't
 pub refused-by : (given : ProblemParts) (asks : List RequirementParts) (version : VersionParts) → list_all (λ wanted. admits given wanted version) asks ≡ false → IsRefusedBy given asks version
@@ -105,36 +105,45 @@ newest-found given name asks r fall e =
     }
 
 -- no version is kept: the candidates are the releases
-pub first-newest : (given : ProblemParts) (name : List ℕ) (asks : List RequirementParts) (version : VersionParts) → kept_version given name ≡ None → IsNewest given name asks version
+pub first-newest : (given : ProblemParts) (name : List ℕ) (asks : List RequirementParts) (version : VersionParts) → kept_version given name ≡ None → is_held given name ≡ false → IsNewest given name asks version
     → IsFirst (rules_of given) (IsRefusedBy given asks) name version
-first-newest given name asks version none n = record {
+first-newest given name asks version none free n = record {
   front = n.front;
   back = n.back;
-  listed = ap (λ kept. preferring kept (versions_of (releases_on given name))) none ∙ n.listed;
+  listed = free-candidates given name free ∙ ap (λ kept. preferring kept (versions_of (releases_on given name))) none ∙ n.listed;
   once = n.once;
   before = n.before;
 }
 
 -- the kept version is admitted
 pub first-kept : (given : ProblemParts) (name : List ℕ) (asks : List RequirementParts) (version : VersionParts) → kept_version given name ≡ Some version → IsFirst (rules_of given) (IsRefusedBy given asks) name version
-first-kept given name asks version some =
-    let other : VersionParts → Bool = λ v. not (is_eq (version_cmp version v)) in
-    record {
-      front = [];
-      back = filter other (versions_of (releases_on given name));
-      listed = ap (λ kept. preferring kept (versions_of (releases_on given name))) some;
-      once = λ i.
-          let k : other version ≡ true = (Contains-filter other (versions_of (releases_on given name)) version i).1 in
-          let f : is_eq (version_cmp version version) ≡ true = same-itself version in
-          let g : not (is_eq (version_cmp version version)) ≡ false = rw f refl in
-          absurd cc;
-      before = λ w i. absurd (Contains-nil w i);
-    }
+first-kept given name asks version some = elim (cases_Bool (is_held given name)) [
+  | inl held ↦ record {
+    front = [];
+    back = [];
+    listed = held-candidates given name held ∙ ap option_to_list some;
+    once = Contains-nil version;
+    before = λ w i. absurd (Contains-nil w i);
+  }
+  | inr free ↦
+      let other : VersionParts → Bool = λ v. not (is_eq (version_cmp version v)) in
+      record {
+        front = [];
+        back = filter other (versions_of (releases_on given name));
+        listed = free-candidates given name free ∙ ap (λ kept. preferring kept (versions_of (releases_on given name))) some;
+        once = λ i.
+            let k : other version ≡ true = (Contains-filter other (versions_of (releases_on given name)) version i).1 in
+            let f : is_eq (version_cmp version version) ≡ true = same-itself version in
+            let g : not (is_eq (version_cmp version version)) ≡ false = rw f refl in
+            absurd cc;
+        before = λ w i. absurd (Contains-nil w i);
+      }
+]
 
 -- the kept version is refused
-pub first-behind : (given : ProblemParts) → IsVersionEquality (rules_of given) same_version → (name : List ℕ) (asks : List RequirementParts) (kept version : VersionParts) → kept_version given name ≡ Some kept → list_all (λ wanted. admits given wanted kept) asks ≡ false → IsNewest given name asks version
+pub first-behind : (given : ProblemParts) → IsVersionEquality (rules_of given) same_version → (name : List ℕ) (asks : List RequirementParts) (kept version : VersionParts) → kept_version given name ≡ Some kept → list_all (λ wanted. admits given wanted kept) asks ≡ false → is_held given name ≡ false → IsNewest given name asks version
     → IsFirst (rules_of given) (IsRefusedBy given asks) name version
-first-behind given equal name asks kept version some refused n =
+first-behind given equal name asks kept version some refused free n =
     let other : VersionParts → Bool = λ v. not (is_eq (version_cmp kept v)) in
     let apart : other version ≡ true = elim (cases_Bool (is_eq (version_cmp kept version))) [
       | inl one ↦ absurd (let k : list_all (λ wanted. admits given wanted kept) asks ≡ true = admit-alike given equal asks kept version one ∙ n.admitted in cc)
@@ -144,7 +153,7 @@ first-behind given equal name asks kept version some refused n =
     record {
       front = kept ∷ filter other n.front;
       back = filter other n.back;
-      listed = ap (λ k. preferring k (versions_of (releases_on given name))) some ∙ ap (λ vs. kept ∷ filter other vs) n.listed
+      listed = free-candidates given name free ∙ ap (λ k. preferring k (versions_of (releases_on given name))) some ∙ ap (λ vs. kept ∷ filter other vs) n.listed
           ∙ ap (λ vs. kept ∷ vs) (filter-append other n.front (version ∷ n.back) ∙ ap (λ vs. filter other n.front ++ vs) here);
       once = λ i. n.once (Contains-filter other n.back version i).0;
       before = λ w i. elim (Contains-cons_cases kept (filter other n.front) w i) [

@@ -6,8 +6,8 @@ use Rattle.std.proofs.lemmas.List.{take_all}
 use Rattle.std.proofs.lemmas.Option.{get_or_from_slice_get, slice_get-get_or}
 use Rattle.std.proofs.lemmas.Slice.Zip.{all_zipped_more}
 use Rattle.pep508.specs.Requirement.{RequirementParts}
-use Rattle.search.specs.Table.{asked_nodes}
-use Rattle.search.specs.declared.parts.Requirement.{Requirement as Entry}
+use Rattle.search.specs.Table.{required_nodes}
+use Rattle.search.specs.declared.parts.TableRequirement.{TableRequirement as Entry}
 use Rattle.problems.specs.Admission.{admits_release}
 use Rattle.problems.specs.Tied.Growing.{requirements_met}
 use Rattle.problems.specs.Problem.{ProblemParts, releases_on}
@@ -20,7 +20,7 @@ use Rattle.resolve.proofs.Asking.{map-more}
 use Rattle.resolve.proofs.Standing.{AllStand-longer, AllZip-more_same, AllZip-weaker, Stands-longer, length-longer, longer-same, longer-then, take-longer}
 
 IsEntry-longer : (given : ProblemParts) (old new : List Node) → IsLonger old new → (entry : Entry) (wanted : RequirementParts) → IsEntry given old entry wanted → IsEntry given new entry wanted
-IsEntry-longer given old new longer entry wanted is = record { numbers = AllStand-longer old new (asked_nodes entry) (nodes_of wanted) longer is.numbers; admitted = is.admitted }
+IsEntry-longer given old new longer entry wanted is = record { numbers = AllStand-longer old new (required_nodes entry) (nodes_of wanted) longer is.numbers; admitted = is.admitted }
 
 pub entries-more : (given : ProblemParts) (old new : Gathered) (entry : Entry) (wanted : RequirementParts) → AreEntries given old → IsLonger old.nodes new.nodes → IsEntry given new.nodes entry wanted
     → new.asked ≡ old.asked ++ wanted ∷ [] → new.entries ≡ old.entries ++ entry ∷ [] → Contains (requirements_met given) wanted → ((node : Node) → Contains new.nodes node → Contains old.nodes node ⊎ Contains (nodes_of wanted) node) → AreEntries given new

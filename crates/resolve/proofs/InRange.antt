@@ -5,7 +5,7 @@ use Rattle.std.proofs.lemmas.Option.{slice_get_within}
 use Rattle.std.specs.List.{AllZip, list_all}
 use Rattle.pep508.specs.Requirement.{RequirementParts}
 use Rattle.search.specs.Table.{TableParts, all_below, in_range, is_on, name_of, requirement_in_range}
-use Rattle.search.specs.declared.parts.Requirement.{Requirement as Entry}
+use Rattle.search.specs.declared.parts.TableRequirement.{TableRequirement as Entry}
 use Rattle.problems.specs.Problem.{ProblemParts, releases_on}
 use Rattle.problems.specs.Rules.{bare, wants_of, with_extra}
 use Rattle.problems.specs.Tied.Standing.{AllStand, Stands}

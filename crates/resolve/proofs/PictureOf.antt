@@ -8,9 +8,9 @@ use Rattle.std.specs.List.Sorted.{IsStrictlySortedBy}
 use Rattle.std.specs.Option.{option_map_or}
 use Rattle.std.specs.Ordering.{nat_cmp}
 use Rattle.pep508.specs.Requirement.{RequirementParts}
-use Rattle.search.specs.Picture.{name_asked}
+use Rattle.search.specs.Picture.{name_required}
 use Rattle.search.specs.Rules.{IsOrder}
-use Rattle.search.specs.Table.{TableParts, candidates_of, name_of, asked_nodes, requirement_at}
+use Rattle.search.specs.Table.{TableParts, candidates_of, name_of, required_nodes, requirement_at}
 use Rattle.snapshot.specs.Release.{Release}
 use Rattle.snapshot.specs.Releases.{newer_cmp}
 use Rattle.problems.specs.Admission.{admits, admits_release, has_version}
@@ -118,7 +118,7 @@ module _ (given : ProblemParts) (g : Gathered) (names : List (List ℕ)) (t : Ta
   listed-at n within = AllZip-at (IsListed given) t.candidates names n (candidates_of t n) (name_at names n) is.listed
       (slice_get-get_or t.candidates n [] (subst (λ k. n < k) (sym name-count) within)) (slice_get-get_or names n [] within)
 
-  asked-named : (r : ℕ) → r < length t.requirements → Stands names (name_asked t r) (get_or g.asked r no_wanted).name
+  asked-named : (r : ℕ) → r < length t.requirements → Stands names (name_required t r) (get_or g.asked r no_wanted).name
   asked-named r within = node-named (requirement_at t r).node (bare (get_or g.asked r no_wanted).name) (entry-at r within).numbers.0
 
   named-as : (n : ℕ) (name : List ℕ) → Stands names n name → name ≡ name_at names n
@@ -129,14 +129,14 @@ module _ (given : ProblemParts) (g : Gathered) (names : List (List ℕ)) (t : Ta
     asked = g.asked;
     pictured = record {
       lines = AllStand-map g.asked t.lines given.active no_wanted is.lines;
-      asked = λ r within. named-as (name_asked t r) (get_or g.asked r no_wanted).name (asked-named r within);
-      nodes = λ r within. AllStand-map g.nodes (asked_nodes (requirement_at t r)) (nodes_of (get_or g.asked r no_wanted)) (bare []) (entry-at r within).numbers;
+      required = λ r within. named-as (name_required t r) (get_or g.asked r no_wanted).name (asked-named r within);
+      nodes = λ r within. AllStand-map g.nodes (required_nodes (requirement_at t r)) (nodes_of (get_or g.asked r no_wanted)) (bare []) (entry-at r within).numbers;
       on = λ k within. named-as (name_of t k) (get_or g.nodes k (bare [])).name (node-named k (get_or g.nodes k (bare [])) (node-stands k within));
       admits = λ r place within h.
           let wanted = get_or g.asked r no_wanted in
           let at = asked-named r within in
-          let l = listed-at (name_asked t r) (slice_get_within names (name_asked t r) wanted.name at) in
-          admits-named given wanted (name_at names (name_asked t r)) place (named-as (name_asked t r) wanted.name at) l.fall (l.candidates.within place h)
+          let l = listed-at (name_required t r) (slice_get_within names (name_required t r) wanted.name at) in
+          admits-named given wanted (name_at names (name_required t r)) place (named-as (name_required t r) wanted.name at) l.fall (l.candidates.within place h)
           ∙ ap (λ bs. get_or bs place false) (sym (entry-at r within).admitted);
       wants = λ k place within h.
           let node = get_or g.nodes k (bare []) in

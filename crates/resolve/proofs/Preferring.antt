@@ -1,5 +1,5 @@
 -- The candidates of a name, by the places of its releases.
-use Rattle.std.proofs.Common.{◌≡◌, ℕ, zero, suc, ◌+◌, ◌<◌, ◌≤◌, Bool, true, false, cond, not, List, [], ◌∷◌, ◌++◌, Option, Some, None, IfSome, find, length, take, map, get_or, inl, inr, ltb, arith, refl, ap, sym, ◌∙◌, subst, append-nil, Contains, option_map}
+use Rattle.std.proofs.Common.{◌≡◌, ℕ, zero, suc, ◌+◌, ◌<◌, ◌≤◌, Bool, true, false, cond, not, List, [], ◌∷◌, ◌++◌, Option, Some, None, IfSome, find, length, take, map, get_or, inl, inr, if◌then◌else◌, ltb, arith, refl, ap, sym, ◌∙◌, subst, append-nil, Contains, option_map}
 use Rattle.std.specs.Prelude.{nat_eq, slice_get}
 use Rattle.std.specs.Cmp.{tied_itself}
 use Rattle.std.specs.Cmp.Lexicographic.{slice_cmp}
@@ -23,7 +23,7 @@ use Rattle.snapshot.specs.Release.{Release}
 use Rattle.snapshot.specs.Releases.{newer_cmp}
 use Rattle.problems.specs.Admission.{has_version}
 use Rattle.problems.specs.Problem.{ProblemParts, releases_on}
-use Rattle.problems.specs.Rules.{kept_version, preferring, versions_of}
+use Rattle.problems.specs.Rules.{candidates, is_held, kept_version, preferring, versions_of}
 use Rattle.resolve.specs.Tied.Places.{AreCandidates, version_at}
 use Rattle.resolve.proofs.Falling.{version_at-tie}
 
@@ -114,13 +114,35 @@ preferring-kept rs kept places place within same h = record {
     not-false true e = refl
     not-false false e = sym e
 
+-- the candidates of a name that isn't held, and of one that is
+pub free-candidates : (given : ProblemParts) (name : List ℕ) → is_held given name ≡ false → candidates given name ≡ preferring (kept_version given name) (versions_of (releases_on given name))
+free-candidates given name free = ap (λ (held : Bool). if held then option_to_list (kept_version given name) else preferring (kept_version given name) (versions_of (releases_on given name))) free
+
+pub held-candidates : (given : ProblemParts) (name : List ℕ) → is_held given name ≡ true → candidates given name ≡ option_to_list (kept_version given name)
+held-candidates given name held = ap (λ (held : Bool). if held then option_to_list (kept_version given name) else preferring (kept_version given name) (versions_of (releases_on given name))) held
+
+alone-versions : (rs : List Release) (kept : Option ℕ) → map (version_at rs) (option_to_list kept) ≡ option_to_list (option_map (version_at rs) kept)
+alone-versions rs None = refl
+alone-versions rs (Some place) = refl
+
+alone-within : (rs : List Release) (kept : Option ℕ) → IfSome kept (λ place. place < length rs) → (place : ℕ) → Contains (option_to_list kept) place → place < length rs
+alone-within rs kept known = (preferring-start rs kept known).within
+
+-- the place of the kept release alone
+pub held-place : (given : ProblemParts) (name : List ℕ) (kept : Option ℕ) → is_held given name ≡ true → option_map (version_at (releases_on given name)) kept ≡ kept_version given name
+    → IfSome kept (λ place. place < length (releases_on given name)) → AreCandidates given name (option_to_list kept)
+held-place given name kept held is known = record {
+  versions = alone-versions (releases_on given name) kept ∙ ap option_to_list is ∙ sym (held-candidates given name held);
+  within = alone-within (releases_on given name) kept known;
+}
+
 -- the places of all releases
-pub preferring-all : (given : ProblemParts) (name : List ℕ) (kept : Option ℕ) (places : List ℕ) (so_far : ℕ) → option_map (version_at (releases_on given name)) kept ≡ kept_version given name
+pub preferring-all : (given : ProblemParts) (name : List ℕ) (kept : Option ℕ) (places : List ℕ) (so_far : ℕ) → is_held given name ≡ false → option_map (version_at (releases_on given name)) kept ≡ kept_version given name
     → length (releases_on given name) ≤ so_far → IsPreferring (releases_on given name) kept places so_far → AreCandidates given name places
-preferring-all given name kept places so_far is whole h =
+preferring-all given name kept places so_far free is whole h =
     let vs : List VersionParts = versions_of (releases_on given name) in
     let long = length-map (releases_on given name) (λ r. r.version) in
     record {
-      versions = h.versions ∙ ap (preferring (option_map (version_at (releases_on given name)) kept)) (take_all so_far vs (omega arith)) ∙ ap (λ o. preferring o vs) is;
+      versions = h.versions ∙ ap (preferring (option_map (version_at (releases_on given name)) kept)) (take_all so_far vs (omega arith)) ∙ ap (λ o. preferring o vs) is ∙ sym (free-candidates given name free);
       within = h.within;
     }

@@ -11,7 +11,7 @@ use Rattle.search.specs.Known.{IsKnownTerm}
 use Rattle.search.specs.Picture.{pictured}
 use Rattle.search.specs.Solutions.{IsBest, version_pinned}
 use Rattle.search.specs.Table.{IsAscending, TableParts, name_of, place_in, rules_of as rules_of_table}
-use Rattle.search.specs.declared.parts.Choice.{Choice}
+use Rattle.search.specs.declared.parts.TableChoice.{TableChoice}
 use Rattle.search.specs.declared.term.Term.{Term}
 use Rattle.snapshot.specs.Release.{Release}
 use Rattle.problems.specs.Problem.{ProblemParts, releases_on}
@@ -50,7 +50,7 @@ version-read given name place rs release within listed read =
     sym (ap (λ l. version_at l place) (sym listed) ∙ version_at-get rs place release (slice_get_read rs (length rs) place release refl inside read))
 
 -- what the code puts at a name
-pub put-as : (given : ProblemParts) (names : List (List ℕ)) (choice : Choice) (name key : List ℕ) (rs : List Release) (release : Release) (v : Version) (old new : BTreeMap (List ℕ) Version) → IsKnown given names choice
+pub put-as : (given : ProblemParts) (names : List (List ℕ)) (choice : TableChoice) (name key : List ℕ) (rs : List Release) (release : Release) (v : Version) (old new : BTreeMap (List ℕ) Version) → IsKnown given names choice
     → name ≡ get_or names choice.name name → rs ≡ releases_on given name → release ≡ get_or rs choice.place release → key ≡ name → v ≡ release.version
     → Updates (slice_cmp nat_cmp) old new key (Some v) → Updates (slice_cmp nat_cmp) old new (name_at names choice.name) (Some (version_at (releases_on given (name_at names choice.name)) choice.place))
 put-as given names choice name key rs release v old new known named listed placed keyed versioned updates =
@@ -66,7 +66,7 @@ drop-at (y ∷ ys) zero x within is = ap (λ z. z ∷ ys) (sym is)
 drop-at (y ∷ ys) (suc n) x within is = drop-at ys n x (omega arith) is
 
 -- one choice more, in front of those that were put
-pub put-more : (given : ProblemParts) (names : List (List ℕ)) (choices : List Choice) (n : ℕ) (choice : Choice) (old new : BTreeMap (List ℕ) Version) → n < length choices → choice ≡ get_or choices n choice
+pub put-more : (given : ProblemParts) (names : List (List ℕ)) (choices : List TableChoice) (n : ℕ) (choice : TableChoice) (old new : BTreeMap (List ℕ) Version) → n < length choices → choice ≡ get_or choices n choice
     → ((name : List ℕ) → version_for old.entries name ≡ chosen given names (drop (suc n) choices) name)
     → Updates (slice_cmp nat_cmp) old new (name_at names choice.name) (Some (version_at (releases_on given (name_at names choice.name)) choice.place))
     → (name : List ℕ) → version_for new.entries name ≡ chosen given names (drop n choices) name
@@ -77,22 +77,22 @@ put-more given names choices n choice old new within is before updates name =
     ∙ sym (ap (λ cs. chosen given names cs name) (drop-at choices n choice within is))
 
 -- of choices that ascend each is the first on its name
-ascending-place : (choices : List Choice) → IsAscending choices → (choice : Choice) → Contains choices choice → place_in choices choice.name ≡ Some choice.place
+ascending-place : (choices : List TableChoice) → IsAscending choices → (choice : TableChoice) → Contains choices choice → place_in choices choice.name ≡ Some choice.place
 ascending-place [] up choice h = absurd (omega arith)
 ascending-place (c ∷ cs) up choice (zero, _, is) = let e : c ≡ choice = is in
-    ap (λ o. cond (is_eq o) (Some c.place) (place_in cs choice.name)) (ap (λ (d : Choice). nat_cmp c.name d.name) (sym e) ∙ tied_itself nat_cmp_total c.name) ∙ ap (λ (d : Choice). Some d.place) e
+    ap (λ o. cond (is_eq o) (Some c.place) (place_in cs choice.name)) (ap (λ (d : TableChoice). nat_cmp c.name d.name) (sym e) ∙ tied_itself nat_cmp_total c.name) ∙ ap (λ (d : TableChoice). Some d.place) e
 ascending-place (c ∷ cs) up choice (suc k, within, is) =
     let there : Contains cs choice = (k, omega arith, is) in
     ap (λ o. cond (is_eq o) (Some c.place) (place_in cs choice.name)) (nat_cmp-less c.name choice.name (up.0 choice there)) ∙ ascending-place cs up.1 choice there
 
 -- the choices of a solution are releases that are there
-pub best-known : (given : ProblemParts) (names : List (List ℕ)) (nodes : List Node) (t : TableParts) (choices : List Choice) → IsPictured given names nodes t → IsBest (rules_of_table t) (place_in choices) → IsAscending choices → AreKnown given names choices
+pub best-known : (given : ProblemParts) (names : List (List ℕ)) (nodes : List Node) (t : TableParts) (choices : List TableChoice) → IsPictured given names nodes t → IsBest (rules_of_table t) (place_in choices) → IsAscending choices → AreKnown given names choices
 best-known given names nodes t choices is best up choice h =
     let there = best.solution.released choice.name choice.place (ascending-place choices up choice h) in
     (subst (λ n. choice.name < n) is.counted (within-member t.candidates choice.name choice.place there), is.within choice.name choice.place there)
 
 -- the best solution of the table stands for that of the problem
-pub best-same : (given : ProblemParts) (names : List (List ℕ)) (choices : List Choice) (nodes : List Node) (asked : List RequirementParts) (versions : List (List ℕ × Version)) → ((name : List ℕ) → version_for versions name ≡ chosen given names choices name)
+pub best-same : (given : ProblemParts) (names : List (List ℕ)) (choices : List TableChoice) (nodes : List Node) (asked : List RequirementParts) (versions : List (List ℕ × Version)) → ((name : List ℕ) → version_for versions name ≡ chosen given names choices name)
     → IsBest (rules_of given) (version_pinned (slice_cmp nat_cmp) (pictured (picture_of given names nodes asked) choices)) → IsBest (rules_of given) (version_for versions)
 best-same given names choices nodes asked versions same best = subst (λ (s : List ℕ → Option Version). IsBest (rules_of given) s) (λ i name. sym (same name) i) best
 

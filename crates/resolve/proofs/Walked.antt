@@ -9,7 +9,7 @@ use Rattle.std.proofs.lemmas.Bool.{cases_Bool}
 use Rattle.std.proofs.lemmas.Cmp.{tied_itself}
 use Rattle.std.proofs.lemmas.List.Elements.{Contains-append_cases, Contains-append_left, Contains-append_right, Contains-push_cases}
 use Rattle.lists.proofs.Members.{Contains-cons_cases, Contains-flat_map, Contains-flat_map_of, Contains-here, Contains-nil, Contains-there}
-use Rattle.search.specs.FirstWalk.{IsAskedFor, IsFirst, IsFirstWalk, IsRefused, IsComplete}
+use Rattle.search.specs.FirstWalk.{IsRequired, IsFirst, IsFirstWalk, IsRefused, IsComplete}
 use Rattle.search.specs.Rules.{IsLawful, Rules}
 use Rattle.search.specs.Solutions.{IsMet, IsNeededName, IsNext, Needed, Pin, by_dependency, by_line, version_pinned}
 use Rattle.resolve.specs.Tied.Walking.{AreFollowed, IsHeld, IsWalked}
@@ -23,12 +23,12 @@ needed-more rules p q h _ (by_dependency link v r node k e w i) = by_dependency 
 named-more : {N X V R : Type 0} (rules : Rules N X V R) (p q : N → Option V) → ((n : N) (v : V) → p n ≡ Some v → q n ≡ Some v) → (n : N) → IsNeededName rules p n → IsNeededName rules q n
 named-more rules p q h n k = (k.0, needed-more rules p q h k.0 k.1, k.2)
 
-asked-more : {N X V R : Type 0} (rules : Rules N X V R) (p q : N → Option V) → ((n : N) (v : V) → p n ≡ Some v → q n ≡ Some v) → (r : R) → IsAskedFor rules p r → IsAskedFor rules q r
+asked-more : {N X V R : Type 0} (rules : Rules N X V R) (p q : N → Option V) → ((n : N) (v : V) → p n ≡ Some v → q n ≡ Some v) → (r : R) → IsRequired rules p r → IsRequired rules q r
 asked-more rules p q h r (inl line) = inl line
 asked-more rules p q h r (inr d) = inr (d.0, d.1, needed-more rules p q h d.0 d.2, h (rules.on d.0) d.1 d.3, d.4)
 
 -- the nodes of what is asked for are needed
-asked-needed : {N X V R : Type 0} (rules : Rules N X V R) (chosen : N → Option V) (r : R) (node : X) → IsAskedFor rules chosen r → Contains (rules.nodes r) node → Needed rules chosen node
+asked-needed : {N X V R : Type 0} (rules : Rules N X V R) (chosen : N → Option V) (r : R) (node : X) → IsRequired rules chosen r → Contains (rules.nodes r) node → Needed rules chosen node
 asked-needed rules chosen r node (inl line) i = by_line r node line i
 asked-needed rules chosen r node (inr d) i = by_dependency d.0 d.1 r node d.2 d.3 d.4 i
 
@@ -81,7 +81,7 @@ held-left rules chosen waiting followed old new h x (inr (inr left)) = h x left
 
 -- what is left may change where all of it is held and what comes is asked for
 walked-left : {N X V R : Type 0} (rules : Rules N X V R) (chosen : N → Option V) (waiting : N → Option (List R)) (followed : List X) (old new : List R) → IsWalked rules chosen waiting followed old
-    → ((x : R) → Contains old x → IsHeld rules chosen waiting followed new x) → ((x : R) → Contains new x → IsAskedFor rules chosen x) → IsWalked rules chosen waiting followed new
+    → ((x : R) → Contains old x → IsHeld rules chosen waiting followed new x) → ((x : R) → Contains new x → IsRequired rules chosen x) → IsWalked rules chosen waiting followed new
 walked-left rules chosen waiting followed old new w h asked = record {
   pins = w.pins;
   same = w.same;
@@ -169,7 +169,7 @@ walked-wait {N} {X} {V} {R} rules law chosen waiting waiting_new followed r left
         | inr later ↦ inr (inr later)
       ]
     ] in
-    let asked : IsAskedFor rules chosen r = w.asked r (Contains-here r left) in
+    let asked : IsRequired rules chosen r = w.asked r (Contains-here r left) in
     let apart : (n : N) (rs : List R) → waiting_new n ≡ Some rs → ((rules.name r ≡ n) × (rs ≡ old ++ r ∷ [])) ⊎ (waiting n ≡ Some rs) = λ n rs e. elim (cases_Bool (is_eq (rules.compare (rules.name r) n))) [
       | inl one ↦ let same : rules.name r ≡ n = tied-same rules law (rules.name r) n one in inl (same, some-inj rs (old ++ r ∷ []) (sym e ∙ sym (ap waiting_new same) ∙ own))
       | inr other ↦ inr (sym (ap (λ b. cond b (Some (old ++ r ∷ [])) (waiting n)) other) ∙ sym (updates n) ∙ e)
@@ -189,7 +189,7 @@ walked-wait {N} {X} {V} {R} rules law chosen waiting waiting_new followed r left
             | inl some ↦ let k = w.waits (rules.name r) old x some before in (k.0 ∙ mine.0, k.1)
             | inr empty ↦ absurd (Contains-nil x (subst (λ ys. Contains ys x) empty before))
           ]
-          | inr this ↦ (subst (λ y. rules.name y ≡ n) (same-way r x this) mine.0, subst (λ y. IsAskedFor rules chosen y) (same-way r x this) asked)
+          | inr this ↦ (subst (λ y. rules.name y ≡ n) (same-way r x this) mine.0, subst (λ y. IsRequired rules chosen y) (same-way r x this) asked)
         ]
         | inr others ↦ w.waits n rs x others i
       ];
@@ -260,7 +260,7 @@ walked-take {N} {X} {V} {R} rules law chosen chosen_new waiting waiting_new foll
       | inr other ↦ updates m ∙ ap (λ b. cond b (Some v) (chosen m)) other ∙ e
     ] in
     let member : (r : R) × Contains rs r = w.some n rs row in
-    let own : (rules.name member.0 ≡ n) × IsAskedFor rules chosen member.0 = w.waits n rs member.0 row member.1 in
+    let own : (rules.name member.0 ≡ n) × IsRequired rules chosen member.0 = w.waits n rs member.0 row member.1 in
     let node : (x : X) × Contains (rules.nodes member.0) x = law.some member.0 in
     let needed : IsNeededName rules chosen n = (node.0, asked-needed rules chosen member.0 node.0 own.1 node.1, law.own member.0 node.0 node.1 ∙ own.0) in
     let below : (m : N) → IsNeededName rules chosen m → chosen m ≡ None → rules.compare n m ≢ Greater = λ m k free.
@@ -283,8 +283,8 @@ walked-take {N} {X} {V} {R} rules law chosen chosen_new waiting waiting_new foll
       once = first.once;
       before = λ u i.
           let k : (r : R) × Contains rs r × (rules.admits r u ≡ false) = first.before u i in
-          let a : (rules.name k.0 ≡ n) × IsAskedFor rules chosen k.0 = w.waits n rs k.0 row k.1 in
-          (k.0, subst (λ c. IsAskedFor rules c k.0) along a.1, a.0, k.2);
+          let a : (rules.name k.0 ≡ n) × IsRequired rules chosen k.0 = w.waits n rs k.0 row k.1 in
+          (k.0, subst (λ c. IsRequired rules c k.0) along a.1, a.0, k.2);
     } in
     let held : (x : R) → IsHeld rules chosen waiting followed [] x → IsHeld rules chosen_new waiting_new followed rs x = λ x h. elim h [
       | inl met ↦ inl (met.0, grows (rules.name x) met.0 met.1, met.2, met.3)

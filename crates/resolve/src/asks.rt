@@ -64,7 +64,7 @@ impl<'q> Asks<'q> {
         Ok(asks)
     }
 
-    /// Puts the dependencies behind that count with an extra or none.
+    /// Appends the dependencies that count with an extra or none.
     pub(crate) fn push_counted(
         &mut self,
         environment: &Environment,

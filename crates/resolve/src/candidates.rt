@@ -49,7 +49,7 @@ fn first_place(alloc: Global, room: usize, kept: Option<usize>) -> Result<Vec<us
 }
 
 /// The places of a name's candidates, in the order in which they are preferred: the release that has the
-/// version kept for the name, and then the others from newest to oldest.
+/// version kept for the name, and then, unless none counts beside it, the others from newest to oldest.
 pub(crate) fn candidates(
     alloc: Global,
     problem: &Problem<'_>,
@@ -59,6 +59,9 @@ pub(crate) fn candidates(
 {
     let releases = problem.releases(name);
     let kept = kept_place(problem, name);
+    if problem.is_held(name) {
+        return Ok(Seq::from_vec(first_place(alloc, 1, kept)?));
+    }
     let mut places = first_place(alloc, releases.len(), kept)?;
     for place in 0..releases.len() {
         if Some(place) != kept {

@@ -1,11 +1,11 @@
 // The first candidate that is admitted.
 
-ghost use Rattle.std.specs.Prelude.{◌≡◌, IfSome, find};
+ghost use Rattle.std.specs.Prelude.{◌≡◌, IfSome, false, find};
 ghost use Rattle.std.specs.List.{list_all};
 ghost use Rattle.std.specs.Option.{option_copied, option_map};
 ghost use Rattle.search.specs.FirstWalk.{IsFirst};
 ghost use Rattle.problems.specs.Admission.{admits};
-ghost use Rattle.problems.specs.Rules.{kept_version, rules_of};
+ghost use Rattle.problems.specs.Rules.{is_held, kept_version, rules_of};
 ghost use Rattle.resolve.specs.Tied.Choosing.{IsNewest, IsRefusedBy};
 
 use crate::asks::Asks;
@@ -38,14 +38,18 @@ fn first<'q>(problem: &Problem<'_>, asks: &Asks<'_>, releases: &'q [Release]) ->
         .find(|release| asks.admit(problem, release.version()))
 }
 
-/// The newest version of a name that all admit.
+/// The newest version of a name that all admit, where others count beside the kept one.
 fn newest_admitted<'q>(
     problem: &'q Problem<'_>,
     name: &Name,
     asks: &Asks<'_>,
 ) -> Option<&'q Version>
-    ensures { IfSome result (λ version. IsNewest problem.now name.now asks.now version.now) }
+    ensures { IfSome result (λ version. (is_held problem.now name.now ≡ false)
+        × IsNewest problem.now name.now asks.now version.now) }
 {
+    if problem.is_held(name) {
+        return None;
+    }
     match first(problem, asks, problem.releases(name)) {
         None => None,
         Some(release) => Some(release.version()),

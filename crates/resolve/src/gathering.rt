@@ -16,7 +16,7 @@ use pep508::{Name, Requirement};
 use problems::laws::what_is_needed_can_be_met;
 use problems::parts::{Nodes, admissions, counts};
 use problems::{Node, Problem};
-use search::Requirement as Entry;
+use search::TableRequirement as Entry;
 use snapshot::Release;
 use std::alloc::{AllocError, Global};
 use std::marker::Model;

@@ -7,8 +7,8 @@ ghost use Rattle.search.specs.Table.{IsAscending, place_in, rules_of};
 use learning_search::learned_best;
 use lists::Seq;
 use plain_search::best;
-use search::{Choice, Table};
-use set_search::{Found, solved};
+use search::{Table, TableChoice};
+use set_search::{SetVerdict, solved};
 use std::alloc::{AllocError, Global};
 
 /// A way to search a table. Each finds the same.
@@ -20,7 +20,7 @@ pub(crate) enum Method {
 
 /// What the search over sets of versions finds; where it gives up, what the search finds that learns
 /// from conflicts of single versions.
-fn learned(alloc: Global, table: &Table) -> Result<Option<Seq<Choice>>, AllocError>
+fn learned(alloc: Global, table: &Table) -> Result<Option<Seq<TableChoice>>, AllocError>
     ensures best { IfOk result
         (λ answer. MatchOption answer (HasNoSolution (rules_of table.now))
         (λ choices. IsBest (rules_of table.now) (place_in choices))) }
@@ -28,9 +28,9 @@ fn learned(alloc: Global, table: &Table) -> Result<Option<Seq<Choice>>, AllocErr
         (λ answer. MatchOption answer Unit (λ choices. IsAscending choices)) }
 {
     match solved(alloc, table)? {
-        Found::Best(choices) => Ok(Some(choices)),
-        Found::Refuted(_) => Ok(None),
-        Found::GaveUp => learned_best(alloc, table),
+        SetVerdict::Best(choices) => Ok(Some(choices)),
+        SetVerdict::Refuted(_) => Ok(None),
+        SetVerdict::GaveUp => learned_best(alloc, table),
     }
 }
 
@@ -41,7 +41,7 @@ impl Method {
         self,
         alloc: Global,
         table: &Table,
-    ) -> Result<Option<Seq<Choice>>, AllocError>
+    ) -> Result<Option<Seq<TableChoice>>, AllocError>
         ensures best { IfOk result
             (λ answer. MatchOption answer (HasNoSolution (rules_of table.now))
             (λ choices. IsBest (rules_of table.now) (place_in choices))) }

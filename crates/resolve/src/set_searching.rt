@@ -14,7 +14,7 @@ use pep508::{Name, Requirement};
 use problems::{Node, Problem};
 use refutations::SetRefutation;
 use search::laws;
-use set_search::{Found, solved};
+use set_search::{SetVerdict, solved};
 use std::alloc::{AllocError, Global};
 
 /// A refutation by conflicts of single versions as one of sets, or nothing where there is a solution.
@@ -51,13 +51,13 @@ fn refuted_by_sets_in(
     let table = &tabled.table;
     let _count = table.name_count();
     match solved(alloc, table)? {
-        Found::Best(_) => Ok(None),
-        Found::Refuted(conflicts) => {
+        SetVerdict::Best(_) => Ok(None),
+        SetVerdict::Refuted(conflicts) => {
             let conflicts = conflicts.as_slice();
             let refutation = set_refutation_of(alloc, problem, tabled, conflicts)?;
             Ok(Some(refutation))
         }
-        Found::GaveUp => refuted_singly_in(alloc, problem, tabled),
+        SetVerdict::GaveUp => refuted_singly_in(alloc, problem, tabled),
     }
 }
 

@@ -12,7 +12,7 @@ ghost use Rattle.resolve.specs.Tied.Places.{version_at};
 use pep440::Version;
 use pep508::Name;
 use problems::Problem;
-use search::Choice;
+use search::TableChoice;
 use std::alloc::{AllocError, Global};
 use std::collections::BTreeMap;
 
@@ -20,7 +20,7 @@ use std::collections::BTreeMap;
 fn put(
     problem: &Problem<'_>,
     names: &[Name],
-    choice: Choice,
+    choice: TableChoice,
     versions: &mut BTreeMap<Name, Version>,
 ) -> Result<(), AllocError>
     requires { IsKnown problem.now names.now choice }
@@ -40,7 +40,7 @@ pub(crate) fn versions_of(
     alloc: Global,
     problem: &Problem<'_>,
     names: &[Name],
-    choices: &[Choice],
+    choices: &[TableChoice],
 ) -> Result<BTreeMap<Name, Version>, AllocError>
     requires { AreKnown problem.now names.now choices.now }
     ensures { IfOk result (λ versions. (name : List ℕ)

@@ -7,7 +7,7 @@ use Rattle.std.specs.Option.{IsSome}
 use Rattle.pep440.specs.Version.{VersionParts}
 use Rattle.pylock.specs.Packages.{EntryParts}
 use Rattle.problems.specs.Solutions.{version_for}
-use Rattle.states.specs.Locking.{versions_of}
+use Rattle.states.specs.Locks.{versions_of}
 use Rattle.lists.proofs.Members.{Contains-map, Contains-map_of}
 
 -- an entry of a name, with its version

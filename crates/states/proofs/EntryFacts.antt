@@ -8,7 +8,7 @@ use Rattle.std.specs.Str.{bytes_eq}
 use Rattle.pylock.specs.Locks.{are_entries}
 use Rattle.pylock.specs.Order.{rises}
 use Rattle.pylock.specs.Packages.{EntryParts}
-use Rattle.states.specs.Changes.{entry_on}
+use Rattle.states.specs.State.{entry_on}
 use Rattle.lists.proofs.Members.{Contains-cons_cases, Contains-here, Contains-map_of, Contains-nil, Contains-there}
 
 -- an entry that is found is one of the entries, on its name

@@ -1,17 +1,16 @@
 -- An entry that is searched by halves, since names rise.
-use Rattle.std.proofs.Common.{◌≡◌, ◌<◌, ◌≤◌, ◌+◌, ◌⊎◌, ℕ, zero, suc, Bool, true, false, ltb, List, [], ◌∷◌, Contains, Ordering, Option, Some, None, Less, Equal, Greater, length, get_or, refl, sym, ap, ◌∙◌, subst, inl, inr, arith}
+use Rattle.std.proofs.Common.{◌≡◌, ◌<◌, ◌≤◌, ◌+◌, ◌⊎◌, ℕ, zero, suc, true, List, [], ◌∷◌, Contains, Ordering, Option, Some, None, Less, Equal, Greater, length, get_or, refl, sym, ap, ◌∙◌, subst, inl, inr, arith}
 use Rattle.std.proofs.lemmas.Bool.{and_parts}
-use Rattle.std.proofs.lemmas.List.Sorted.{IsPartitionedBy-ltb, searchable_from_sorted}
+use Rattle.std.proofs.lemmas.List.Sorted.{searchable_from_sorted}
 use Rattle.std.proofs.lemmas.Map.Lookups.{exact_bytes}
 use Rattle.std.specs.Cmp.{tied_itself}
 use Rattle.std.specs.Cmp.Lexicographic.{nat_list_cmp_total, slice_cmp}
-use Rattle.std.specs.List.Sorted.{IsNonDecreasingBy, IsPartitionPoint, IsPartitionedBy}
+use Rattle.std.specs.List.Sorted.{IsNonDecreasingBy, IsPartitionPoint}
 use Rattle.std.specs.Ordering.{is_lt, nat_cmp, ordering_index, ordering_reverse}
 use Rattle.lists.specs.Rising.{rises}
 use Rattle.pylock.specs.Locks.{are_entries}
 use Rattle.pylock.specs.Packages.{EntryParts}
-use Rattle.states.specs.Changes.{entry_on}
-use Rattle.states.specs.Tied.Exchanging.{count_below}
+use Rattle.states.specs.State.{entry_on}
 use Rattle.states.proofs.EntryFacts.{entry-from, entry-there, less-of}
 
 -- two numbers stand in one order or the other
@@ -67,26 +66,3 @@ none-at entries name place (Some e) parts found = let k = entry-from entries nam
 pub none-on : (entries : List EntryParts) (name : List ℕ) (place : ℕ) → are_entries entries ≡ true
     → (IsNonDecreasingBy (λ e. ordering_index (stands name e)) entries → IsPartitionPoint (λ e. stands name e ≡ Less) (λ e. stands name e ≡ Greater) entries place) → None ≡ entry_on entries name
 none-on entries name place rise point = none-at entries name place (entry_on entries name) (point (searchable entries name rise)) refl
-
--- ---- entries below a name
-
-index-below : (o : Ordering) → ltb (ordering_index o) 1 ≡ is_lt o
-index-below Less = refl
-index-below Equal = refl
-index-below Greater = refl
-
--- those below a name stand in front of the others
-pub parted : (entries : List EntryParts) (name : List ℕ) → are_entries entries ≡ true → IsPartitionedBy (λ e. is_lt (stands name e)) entries
-parted entries name rise = subst (λ (p : EntryParts → Bool). IsPartitionedBy p entries) (λ i e. index-below (stands name e) i)
-    (IsPartitionedBy-ltb (λ (e : EntryParts). ordering_index (stands name e)) entries 1 (searchable entries name rise))
-
--- and are as many as stand in front
-pub count-at : (name : List ℕ) (entries : List EntryParts) (place : ℕ) → place ≤ length entries
-    → IsPartitionPoint (λ e. is_lt (stands name e) ≡ true) (λ e. is_lt (stands name e) ≡ false) entries place → place ≡ count_below name entries
-count-at name [] place within parts = omega (arith, within)
-count-at name (e ∷ rest) zero within parts =
-    let here : is_lt (slice_cmp nat_cmp e.name name) ≡ false = parts.1 0 e (omega arith) (omega arith) in
-    rw here refl
-count-at name (e ∷ rest) (suc place) within parts =
-    let here : is_lt (slice_cmp nat_cmp e.name name) ≡ true = parts.0 0 e (omega arith) (omega arith) in
-    rw here (ap suc (count-at name rest place (omega arith) (λ k d low high. parts.0 (suc k) d (omega arith) (omega arith), λ k d low high. parts.1 (suc k) d (omega arith) (omega arith))))

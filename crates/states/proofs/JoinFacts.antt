@@ -5,7 +5,7 @@ use Rattle.pylock.specs.Locks.{LockParts}
 use Rattle.lists.proofs.Members.{map-append}
 use Rattle.states.specs.State.{IsOfParts, IsState}
 use Rattle.states.specs.StateParts.{StateParts}
-use Rattle.states.specs.Tied.Joining.{HaveParts}
+use Rattle.states.specs.Tied.JoinedTargets.{HaveParts}
 use Rattle.states.specs.declared.target.Target.{Target}
 
 -- a target's name and environment
@@ -13,37 +13,37 @@ abbrev pub pair_of : Target → List ℕ × Texts
 pair_of t = (t.name, t.environment)
 
 -- what is made has the first pairs and locks, as many of each; the rest is left
-pub record IsJoining (pairs : List (List ℕ × Texts)) (locks : List LockParts) (rest_pairs : List (List ℕ × Texts)) (rest_locks : List LockParts) (made : List Target) : Type 0 where
+pub record IsJoined (pairs : List (List ℕ × Texts)) (locks : List LockParts) (rest_pairs : List (List ℕ × Texts)) (rest_locks : List LockParts) (made : List Target) : Type 0 where
   pub pairs_are : map pair_of made ++ rest_pairs ≡ pairs
   pub locks_are : map (λ t. t.lock) made ++ rest_locks ≡ locks
   pub long : length rest_pairs ≡ length rest_locks
 
-pub joining-start : (pairs : List (List ℕ × Texts)) (locks : List LockParts) → length pairs ≡ length locks → IsJoining pairs locks pairs locks []
-joining-start pairs locks long = record { pairs_are = refl; locks_are = refl; long = long }
+pub joined-start : (pairs : List (List ℕ × Texts)) (locks : List LockParts) → length pairs ≡ length locks → IsJoined pairs locks pairs locks []
+joined-start pairs locks long = record { pairs_are = refl; locks_are = refl; long = long }
 
 seam : {X : Type 0} (xs : List X) (x : X) (more : List X) → (xs ++ x ∷ []) ++ more ≡ xs ++ x ∷ more
 seam [] x more = refl
 seam (y ∷ xs) x more = ap (λ l. y ∷ l) (seam xs x more)
 
-pub joining-next : (pairs : List (List ℕ × Texts)) (locks : List LockParts) (rest_pairs : List (List ℕ × Texts)) (rest_locks : List LockParts) (made : List Target) (t : Target)
-    → IsJoining pairs locks (pair_of t ∷ rest_pairs) (t.lock ∷ rest_locks) made → IsJoining pairs locks rest_pairs rest_locks (made ++ t ∷ [])
-joining-next pairs locks rest_pairs rest_locks made t so = record {
+pub joined-next : (pairs : List (List ℕ × Texts)) (locks : List LockParts) (rest_pairs : List (List ℕ × Texts)) (rest_locks : List LockParts) (made : List Target) (t : Target)
+    → IsJoined pairs locks (pair_of t ∷ rest_pairs) (t.lock ∷ rest_locks) made → IsJoined pairs locks rest_pairs rest_locks (made ++ t ∷ [])
+joined-next pairs locks rest_pairs rest_locks made t so = record {
   pairs_are = ap (λ (l : List (List ℕ × Texts)). l ++ rest_pairs) (map-append pair_of made (t ∷ [])) ∙ seam (map pair_of made) (pair_of t) rest_pairs ∙ so.pairs_are;
   locks_are = ap (λ (l : List LockParts). l ++ rest_locks) (map-append (λ (u : Target). u.lock) made (t ∷ [])) ∙ seam (map (λ (u : Target). u.lock) made) t.lock rest_locks ∙ so.locks_are;
   long = let long = so.long in omega (arith, long);
 }
 
-pub joining-short : (pairs : List (List ℕ × Texts)) (locks : List LockParts) (p : List ℕ × Texts) (rest_pairs : List (List ℕ × Texts)) (rest_locks : List LockParts) (made : List Target)
-    → IsJoining pairs locks (p ∷ rest_pairs) rest_locks made → length rest_locks ≡ 0 → ⊥
-joining-short pairs locks p rest_pairs rest_locks made so none = let long = so.long in absurd (omega (arith, long, none))
+pub joined-short : (pairs : List (List ℕ × Texts)) (locks : List LockParts) (p : List ℕ × Texts) (rest_pairs : List (List ℕ × Texts)) (rest_locks : List LockParts) (made : List Target)
+    → IsJoined pairs locks (p ∷ rest_pairs) rest_locks made → length rest_locks ≡ 0 → ⊥
+joined-short pairs locks p rest_pairs rest_locks made so none = let long = so.long in absurd (omega (arith, long, none))
 
 no-more : {X : Type 0} (xs : List X) → length xs ≡ 0 → xs ≡ []
 no-more [] none = refl
 no-more (x ∷ xs) none = absurd (omega (arith, none))
 
-pub joining-ends : (pairs : List (List ℕ × Texts)) (locks : List LockParts) (rest_pairs : List (List ℕ × Texts)) (rest_locks : List LockParts) (made : List Target)
-    → IsJoining pairs locks rest_pairs rest_locks made → length rest_pairs ≡ 0 → HaveParts pairs locks made
-joining-ends pairs locks rest_pairs rest_locks made so none = record {
+pub joined-ends : (pairs : List (List ℕ × Texts)) (locks : List LockParts) (rest_pairs : List (List ℕ × Texts)) (rest_locks : List LockParts) (made : List Target)
+    → IsJoined pairs locks rest_pairs rest_locks made → length rest_pairs ≡ 0 → HaveParts pairs locks made
+joined-ends pairs locks rest_pairs rest_locks made so none = record {
   pairs_are = sym (append-nil (map pair_of made)) ∙ ap (λ (l : List (List ℕ × Texts)). map pair_of made ++ l) (sym (no-more rest_pairs none)) ∙ so.pairs_are;
   locks_are = sym (append-nil (map (λ (t : Target). t.lock) made)) ∙ ap (λ (l : List LockParts). map (λ (t : Target). t.lock) made ++ l) (sym (no-more rest_locks (sym so.long ∙ none))) ∙ so.locks_are;
 }

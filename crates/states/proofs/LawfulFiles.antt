@@ -24,7 +24,7 @@ use Rattle.snapshot.specs.Lawful.{IsFile, IsRelease, IsSdist, IsWheel}
 use Rattle.snapshot.specs.Python.{is_blank, python_of, python_with}
 use Rattle.snapshot.specs.Release.{Release}
 use Rattle.states.specs.Entries.{entry_with}
-use Rattle.states.specs.Locking.{listed}
+use Rattle.states.specs.Locks.{listed}
 use Rattle.states.proofs.LawfulNames.{rises-from}
 
 -- ---- files

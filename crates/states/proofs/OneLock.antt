@@ -15,9 +15,9 @@ use Rattle.problems.specs.Rules.{rules_of}
 use Rattle.problems.specs.Solutions.{version_for}
 use Rattle.search.specs.Rules.{IsOrder}
 use Rattle.search.specs.Solutions.{IsBest}
-use Rattle.states.specs.Locking.{IsDependency, IsEntry, IsLockOf, python_text, sdist_of, versions_of, wheels_of}
+use Rattle.states.specs.Locks.{IsDependency, IsEntry, IsLockOf, python_text, sdist_of, versions_of, wheels_of}
 use Rattle.states.proofs.EntriesByName.{Has-from}
-use Rattle.states.proofs.Gathering.{lookup-there}
+use Rattle.states.proofs.GatheredNames.{lookup-there}
 use Rattle.lists.proofs.Members.{Contains-cons_cases, Contains-here, Contains-map_of, Contains-nil, Contains-there}
 
 -- what stands in a list that rises has its key there

@@ -19,9 +19,8 @@ use Rattle.problems.specs.Problem.{active_in, requirements}
 use Rattle.std.proofs.lemmas.List.Concat.{flat_map-append}
 use Rattle.pylock.specs.Locks.{are_entries}
 use Rattle.pylock.specs.Packages.{EntryParts}
-use Rattle.states.specs.Changes.{entry_on}
-use Rattle.states.specs.State.{Reached, by_entry, by_line}
-use Rattle.states.specs.Tied.Deciding.{AreReached, IsGrown, names_met, needs_of}
+use Rattle.states.specs.State.{Reached, by_entry, by_line, entry_on}
+use Rattle.states.specs.Tied.LockForLines.{AreReached, IsGrown, names_met, needs_of}
 use Rattle.states.proofs.EntryFacts.{entry-from, entry-there}
 use Rattle.problems.specs.Tied.Standing.{IsOnce}
 use Rattle.lists.proofs.Members.{Contains-cons_cases, Contains-flat_map_of, Contains-map, Contains-map_of, Contains-nil, get_or-any}

@@ -3,7 +3,7 @@ use Rattle.std.proofs.Common.{◌≡◌, ℕ, Bool, true, List, [], ◌∷◌, O
 use Rattle.std.proofs.lemmas.Bool.{cases_Bool}
 use Rattle.std.specs.Cmp.{tied_itself}
 use Rattle.std.specs.Map.{lookup}
-use Rattle.std.specs.Option.{IsSome, is_some, option_and_then, option_map}
+use Rattle.std.specs.Option.{IsSome, is_some, option_and_then, option_map, option_to_list}
 use Rattle.std.specs.Ordering.{is_eq}
 use Rattle.std.specs.Prelude.{filter, not}
 use Rattle.std.specs.Str.{bytes_eq}
@@ -14,7 +14,7 @@ use Rattle.search.specs.Solutions.{Solution}
 use Rattle.snapshot.specs.Release.{Release}
 use Rattle.problems.specs.Admission.{has_version, release_at}
 use Rattle.problems.specs.Problem.{ProblemParts, releases_on}
-use Rattle.problems.specs.Rules.{candidates, kept_version, preferring, rules_of, versions_of}
+use Rattle.problems.specs.Rules.{candidates, is_held, kept_version, preferring, rules_of, versions_of}
 use Rattle.lists.proofs.Members.{Contains-cons_cases, Contains-filter, Contains-here, Contains-nil, Contains-there}
 
 -- a version of releases is found among them
@@ -48,11 +48,22 @@ preferred-by versions (Some k) version there h = elim (Contains-cons_cases k (fi
   | inr other ↦ (Contains-filter (λ v. not (is_eq (version_cmp k v))) versions version other).0
 ]
 
+alone-by : (versions : List VersionParts) (kept : Option VersionParts) (version : VersionParts) → ((v : VersionParts) → kept ≡ Some v → Contains versions v) → Contains (option_to_list kept) version → Contains versions version
+alone-by versions None version there h = absurd (Contains-nil version h)
+alone-by versions (Some k) version there h = elim (Contains-cons_cases k [] version h) [
+  | inl same ↦ subst (λ v. Contains versions v) same (there k refl)
+  | inr never ↦ absurd (Contains-nil version never)
+]
+
 -- a candidate of a name is the version of a release
 candidate-released : (given : ProblemParts) (name : List ℕ) (version : VersionParts) → Contains (candidates given name) version → IsSome (release_at given name version)
 candidate-released given name version h =
-    found-in (releases_on given name) version
-    (preferred-by (versions_of (releases_on given name)) (kept_version given name) version (kept-by given name (lookup (bytes_eq name) given.kept)) h)
+    let versions : List VersionParts = versions_of (releases_on given name) in
+    let kept : (v : VersionParts) → kept_version given name ≡ Some v → Contains versions v = kept-by given name (lookup (bytes_eq name) given.kept) in
+    found-in (releases_on given name) version (elim (cases_Bool (is_held given name)) [
+      | inl held ↦ alone-by versions (kept_version given name) version kept (rw held at h)
+      | inr free ↦ preferred-by versions (kept_version given name) version kept (rw free at h)
+    ])
 
 -- each version of a solution is that of a release
 pub solution-released : (given : ProblemParts) (chosen : List ℕ → Option VersionParts) → Solution (rules_of given) chosen → (name : List ℕ) (version : VersionParts) → chosen name ≡ Some version

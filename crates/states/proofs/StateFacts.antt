@@ -27,7 +27,7 @@ use Rattle.problems.specs.Problem.{ProblemParts, releases_on, requirements}
 use Rattle.problems.specs.Rules.{bare, nodes_of, rules_of, wants, with_extra}
 use Rattle.problems.specs.Solutions.{version_for}
 use Rattle.problems.specs.declared.node.Node.{Node}
-use Rattle.states.specs.Locking.{IsDependency, IsEntry, IsLockOf, versions_of}
+use Rattle.states.specs.Locks.{IsDependency, IsEntry, IsLockOf, versions_of}
 use Rattle.states.specs.State.{IsAnEntry, IsLockFor, IsMet, Reached, by_entry, by_line as by_active, is_for_python, has_version as set_has}
 use Rattle.states.proofs.EntriesByName.{Has-from, version-there}
 use Rattle.lists.proofs.Members.{Contains-cons_cases, Contains-map}

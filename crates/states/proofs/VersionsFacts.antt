@@ -12,8 +12,8 @@ use Rattle.pep440.specs.Version.{VersionParts}
 use Rattle.pylock.specs.Locks.{are_entries}
 use Rattle.pylock.specs.Packages.{EntryParts}
 use Rattle.problems.specs.Solutions.{version_for}
-use Rattle.states.specs.Changes.{entry_on}
-use Rattle.states.specs.Locking.{versions_of}
+use Rattle.states.specs.State.{entry_on}
+use Rattle.states.specs.Locks.{versions_of}
 use Rattle.states.proofs.EntryFacts.{rises-above, rises-rest}
 use Rattle.lists.proofs.Members.{Contains-cons_cases, Contains-here, Contains-map_of, Contains-nil, Contains-there}
 

@@ -12,7 +12,7 @@ use Rattle.snapshot.specs.Release.{Release}
 use Rattle.problems.specs.Admission.{release_at}
 use Rattle.problems.specs.Problem.{ProblemParts}
 use Rattle.problems.specs.Solutions.{version_for}
-use Rattle.states.specs.Locking.{IsEntry, python_text, sdist_of, versions_of, wheels_of}
+use Rattle.states.specs.Locks.{IsEntry, python_text, sdist_of, versions_of, wheels_of}
 
 -- the entry of a name with its version, where these names are needed and this release may be there
 abbrev pub entry_with : (List ℕ × VersionParts) → List (List ℕ) → Option Release → EntryParts

@@ -1,11 +1,10 @@
 pub mod TargetNames
 pub mod Targets
 pub mod StateParts
-pub mod Locking
+pub mod Pool
+pub mod Locks
 pub mod Dependencies
 pub mod Entries
 pub mod State
-pub mod Changes
-pub mod Differences
 pub mod Laws
 pub mod Tied

@@ -1,7 +1,8 @@
 -- What holds of every state. All of it is reqlock's own rule.
-use Rattle.std.specs.Prelude.{◌≡◌, ◌≢◌, ◌⊎◌, ℕ, Bool, true, false, List, [], ◌∷◌, map, Option, Some, None, Result, Ok, Err}
+use Rattle.std.specs.Prelude.{◌≡◌, ◌≢◌, ◌⊎◌, ℕ, Bool, true, false, List, [], ◌∷◌, find, map, Option, Some, None, Result, Ok, Err}
 use Rattle.std.specs.List.{AllByRecursion, Contains, concat}
 use Rattle.std.specs.Option.{option_map_or}
+use Rattle.std.specs.Str.{bytes_eq}
 use Rattle.markers.specs.Comparisons.{version_read}
 use Rattle.markers.specs.Environment.{Texts, marker_text, text_of}
 use Rattle.markers.specs.declared.variable.Variable.TheVariants.{PythonFullVersion}
@@ -33,6 +34,10 @@ pub record Meets (environment : Texts) (wanted : RequirementParts) (e : EntryPar
   pub named : e.name ≡ wanted.name
   pub matched : matches wanted.clauses e.version ≡ true
   pub runs : option_map_or (is_for_python environment) e.requires_python true ≡ true
+
+-- the entry of a name, if there is one
+abbrev pub entry_on : List EntryParts → List ℕ → Option EntryParts
+entry_on entries name = find (λ e. bytes_eq name e.name) entries
 
 -- an entry of the name
 pub record IsAnEntry (entries : List EntryParts) (name : List ℕ) : Type 0 where

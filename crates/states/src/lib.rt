@@ -1,4 +1,4 @@
-//! States of a requirements file with a lock for each of its targets, and the changes between them.
+//! States of a requirements file with a lock for each of its targets.
 //!
 //! A target of the empty name, locked for the lines over an index:
 //!
@@ -7,33 +7,29 @@
 //! let name = TargetName::empty(alloc);
 //! let mut targets = Vec::new(alloc);
 //! targets.push(Unlocked { name, environment, kept })?;
-//! match locked(alloc, lines, Seq::from_vec(targets), index, &Learning)? {
+//! match locked(alloc, lines, Seq::from_vec(targets), &Pool::whole(index), &Learning)? {
 //!     Some(state) => Ok(state.targets()[0].lock.entries().len()),
 //!     None => Ok(0),
 //! }
 //! ```
 #![tactic(auto)]
 
-mod change;
 mod dependencies;
 mod entry;
 pub mod laws;
-mod locking;
+mod locks;
+mod pool;
 mod refusal;
-mod same;
 mod state;
 mod target;
 mod target_name;
 mod targets;
 
-pub use crate::change::between::change_between;
-pub use crate::change::difference::difference;
-pub use crate::change::{Change, DigestChange, EntryChange, Splice};
-pub use crate::locking::{Unlocked, locked};
+pub use crate::locks::{Unlocked, locked};
+pub use crate::pool::Pool;
 pub use crate::refusal::{Refusal, SavedFile};
-pub use crate::same::has_same;
 pub use crate::state::State;
-pub use crate::state::fitting::first_unfit;
+pub use crate::state::fit::{first_unfit, state_of};
 pub use crate::target::Target;
 pub use crate::target_name::TargetName;
 pub use crate::targets::Targets;

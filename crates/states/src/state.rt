@@ -1,16 +1,16 @@
 // States.
 
-ghost use Rattle.std.specs.Prelude.{◌≡◌, IfOk, MatchOption, map};
+ghost use Rattle.std.specs.Prelude.{◌≡◌, IfOk, MatchOption};
 ghost use Rattle.states.specs.State.{IsOfParts, IsState};
 ghost use Rattle.states.specs.StateParts.{StateParts, digest_of};
 
-pub(crate) mod deciding;
-pub(crate) mod fitting;
-mod joining;
-mod reaching;
+pub(crate) mod fit;
+mod joined_targets;
+pub(crate) mod lock_for_lines;
+mod reach;
 
-use crate::state::fitting::state_of;
-use crate::state::joining::joined;
+use crate::state::fit::state_of;
+use crate::state::joined_targets::joined;
 use crate::target::Target;
 use crate::targets::Targets;
 use lists::{Faithful, Seq};
@@ -114,7 +114,7 @@ impl State {
 
     /// Puts lines and targets into the place of the state's own. Where they make a state, it has no
     /// refusal.
-    pub(crate) fn put(&mut self, lines: Seq<Line>, targets: Seq<Target>)
+    pub fn put(&mut self, lines: Seq<Line>, targets: Seq<Target>)
         requires { IsState (record { lines = lines; targets = targets }) }
         ensures { self.new ≡ record { lines = lines; targets = targets } }
     {

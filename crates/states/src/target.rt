@@ -6,9 +6,9 @@ ghost use Rattle.std.specs.Cmp.Lexicographic.{slice_cmp};
 ghost use Rattle.std.specs.Option.{option_copied};
 ghost use Rattle.std.specs.Ordering.{nat_cmp};
 ghost use Rattle.problems.specs.Solutions.{version_for};
-ghost use Rattle.states.specs.Locking.{versions_of};
+ghost use Rattle.states.specs.Locks.{versions_of};
 
-use crate::state::deciding::entry_on;
+use crate::state::lock_for_lines::entry_on;
 use crate::target_name::TargetName;
 use lists::Faithful;
 use pep440::Version;

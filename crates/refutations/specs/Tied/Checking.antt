@@ -6,8 +6,9 @@ use Rattle.std.specs.Str.{bytes_eq}
 use Rattle.pep440.specs.Version.{VersionParts}
 use Rattle.pep508.specs.Requirement.{RequirementParts}
 use Rattle.problems.specs.Admission.{admits}
+use Rattle.problems.specs.Tied.Eligible.{eligible}
 use Rattle.problems.specs.Tied.NodeEquality.{is_node}
-use Rattle.problems.specs.Problem.{ProblemParts, releases_on}
+use Rattle.problems.specs.Problem.{ProblemParts}
 use Rattle.refutations.specs.Refutations.{ChoiceParts}
 use Rattle.problems.specs.Rules.{nodes_of, same_version}
 use Rattle.problems.specs.declared.node.Node.{Node}
@@ -32,9 +33,9 @@ is_within conflict choice member = list_any (is_same member) conflict || is_same
 abbrev pub completes : List (List ChoiceParts) → List ChoiceParts → ChoiceParts → Bool
 completes earlier conflict choice = list_any (λ old. list_all (is_within conflict choice) old) earlier
 
--- whether it does with each release of the node's name
+-- whether it does with each release of the node's name that is a candidate
 abbrev pub none_left : ProblemParts → List (List ChoiceParts) → List ChoiceParts → Node → Bool
-none_left given earlier conflict node = list_all (λ release. completes earlier conflict (record { node = node; version = release.version })) (releases_on given node.name)
+none_left given earlier conflict node = list_all (λ release. completes earlier conflict (record { node = node; version = release.version })) (eligible given node.name)
 
 -- a requirement needs its name with the extra or with none, and no release is left there
 abbrev pub IsLeftOut : ProblemParts → List (List ChoiceParts) → List ChoiceParts → RequirementParts → Option (List ℕ) → Type 0

@@ -7,8 +7,9 @@ use Rattle.pep440.specs.Version.{VersionParts}
 use Rattle.pep508.specs.Requirement.{RequirementParts}
 use Rattle.problems.specs.Admission.{admits}
 use Rattle.refutations.specs.Tied.Checking.{differ, refuses}
+use Rattle.problems.specs.Tied.Eligible.{eligible}
 use Rattle.problems.specs.Tied.NodeEquality.{is_node}
-use Rattle.problems.specs.Problem.{ProblemParts, releases_on}
+use Rattle.problems.specs.Problem.{ProblemParts}
 use Rattle.problems.specs.Rules.{nodes_of, same_version, wants}
 use Rattle.refutations.specs.SetRefutations.{TermParts}
 use Rattle.problems.specs.declared.node.Node.{Node}
@@ -73,9 +74,9 @@ completes earlier conflict node version = list_any (list_all (is_within conflict
 abbrev pub each_completes : List (List TermParts) → List TermParts → TermParts → Bool
 each_completes earlier conflict term = list_all (completes earlier conflict term.node) term.versions
 
--- whether it does with each release of the node's name
+-- whether it does with each release of the node's name that is a candidate
 abbrev pub none_left : ProblemParts → List (List TermParts) → List TermParts → Node → Bool
-none_left given earlier conflict node = list_all (λ release. completes earlier conflict node release.version) (releases_on given node.name)
+none_left given earlier conflict node = list_all (λ release. completes earlier conflict node release.version) (eligible given node.name)
 
 -- whether the requirement needs the node
 abbrev pub needs : RequirementParts → Node → Bool

@@ -251,7 +251,7 @@ fn none_fits(
     true
 }
 
-/// Whether no release of the name is left for a node, as far as earlier conflicts are found.
+/// Whether no candidate of the name is left for a node, as far as earlier conflicts are found.
 pub(crate) fn none_left_at(
     problem: &Problem<'_>,
     earlier: &[Seq<Choice>],
@@ -272,7 +272,7 @@ pub(crate) fn none_left_at(
         }) }
 {
     none_fits(
-        problem.releases(name),
+        problem.eligible(name),
         earlier,
         hints,
         conflict,

@@ -29,7 +29,7 @@ fn none_left(
     ensures { result ≡ spec.none_left problem.now earlier.now conflict.now
         (record { name = name.now; extra = option_copied extra.entry }) }
 {
-    each_release_completes(earlier, conflict, name, extra, problem.releases(name))
+    each_release_completes(earlier, conflict, name, extra, problem.eligible(name))
 }
 
 /// Whether one of the extras is the one that is asked for.

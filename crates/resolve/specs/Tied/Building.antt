@@ -3,8 +3,8 @@
 use Rattle.std.specs.Prelude.{◌≡◌, ℕ, List, map}
 use Rattle.std.specs.List.{AllZip, Contains}
 use Rattle.pep508.specs.Requirement.{RequirementParts}
-use Rattle.search.specs.Table.{asked_nodes}
-use Rattle.search.specs.declared.parts.Requirement.{Requirement as Entry}
+use Rattle.search.specs.Table.{required_nodes}
+use Rattle.search.specs.declared.parts.TableRequirement.{TableRequirement as Entry}
 use Rattle.problems.specs.Admission.{admits_release}
 use Rattle.problems.specs.Tied.Growing.{nodes_met}
 use Rattle.problems.specs.Problem.{ProblemParts, releases_on}
@@ -20,7 +20,7 @@ pub record Gathered : Type 0 where
 
 -- the entry of a requirement: the numbers of its nodes, and for each release of its name whether it is admitted
 pub record IsEntry (given : ProblemParts) (nodes : List Node) (entry : Entry) (wanted : RequirementParts) : Type 0 where
-  pub numbers : AllStand nodes (asked_nodes entry) (nodes_of wanted)
+  pub numbers : AllStand nodes (required_nodes entry) (nodes_of wanted)
   pub admitted : entry.admits ≡ map (admits_release given wanted) (releases_on given wanted.name)
 
 -- each requirement has its entry, and each node is one that a walk can meet

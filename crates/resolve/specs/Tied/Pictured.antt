@@ -12,7 +12,7 @@ use Rattle.search.specs.Picture.{Picture, IsPicture, pictured}
 use Rattle.search.specs.Solutions.{version_pinned}
 use Rattle.search.specs.Table.{TableParts, candidates_of, name_of}
 use Rattle.search.specs.declared.conflict.NodeChoice.{NodeChoice}
-use Rattle.search.specs.declared.parts.Choice.{Choice}
+use Rattle.search.specs.declared.parts.TableChoice.{TableChoice}
 use Rattle.search.specs.declared.term.Term.{Term}
 use Rattle.snapshot.specs.Releases.{newer_cmp}
 use Rattle.problems.specs.Problem.{ProblemParts, releases_on}
@@ -56,11 +56,11 @@ abbrev pub term_at : ProblemParts → List (List ℕ) → List Node → TablePar
 term_at given names nodes t term = term_pictured t (picture_of given names nodes []) term
 
 -- a choice of a name that is there, with the place of one of its releases
-abbrev pub IsKnown : ProblemParts → List (List ℕ) → Choice → Type 0
+abbrev pub IsKnown : ProblemParts → List (List ℕ) → TableChoice → Type 0
 IsKnown given names choice = (choice.name < length names) × (choice.place < length (releases_on given (name_at names choice.name)))
 
-abbrev pub AreKnown : ProblemParts → List (List ℕ) → List Choice → Type 0
-AreKnown given names choices = (choice : Choice) → Contains choices choice → IsKnown given names choice
+abbrev pub AreKnown : ProblemParts → List (List ℕ) → List TableChoice → Type 0
+AreKnown given names choices = (choice : TableChoice) → Contains choices choice → IsKnown given names choice
 
 -- a name's candidates by their places; its releases fall by version
 pub record IsListed (given : ProblemParts) (places : List ℕ) (name : List ℕ) : Type 0 where
@@ -71,5 +71,5 @@ abbrev pub AreListed : ProblemParts → List (List ℕ) → List (List ℕ) → 
 AreListed given rows names = AllZip (IsListed given) rows names
 
 -- the version that the first choice on a name stands for
-abbrev pub chosen : ProblemParts → List (List ℕ) → List Choice → List ℕ → Option Version
+abbrev pub chosen : ProblemParts → List (List ℕ) → List TableChoice → List ℕ → Option Version
 chosen given names choices = version_pinned (slice_cmp nat_cmp) (pictured (picture_of given names [] []) choices)

@@ -9,7 +9,7 @@ use Rattle.std.specs.Ordering.{nat_cmp}
 use Rattle.std.specs.declared.cmp.Ordering.TheVariants.{Greater}
 use Rattle.pep440.specs.Version.{VersionParts}
 use Rattle.pep508.specs.Requirement.{RequirementParts}
-use Rattle.search.specs.FirstWalk.{IsAskedFor, IsFirstWalk}
+use Rattle.search.specs.FirstWalk.{IsRequired, IsFirstWalk}
 use Rattle.search.specs.Rules.{Rules}
 use Rattle.search.specs.Solutions.{IsNeededName, Needed, Pin, version_pinned}
 use Rattle.problems.specs.Tied.Growing.{requirements_met}
@@ -32,8 +32,8 @@ pub record IsWalked {N X V R : Type 0} (rules : Rules N X V R) (chosen : N → O
   pub linked : (node : X) → Contains followed node → (v : V) × (chosen (rules.on node) ≡ Some v) × ((r : R) → Contains (rules.wants node v) r → IsHeld rules chosen waiting followed left r)
   pub named : (n : N) (v : V) → chosen n ≡ Some v → IsNeededName rules chosen n
   pub needed : (node : X) → Contains followed node → Needed rules chosen node
-  pub asked : (r : R) → Contains left r → IsAskedFor rules chosen r
-  pub waits : (n : N) (rs : List R) (r : R) → waiting n ≡ Some rs → Contains rs r → (rules.name r ≡ n) × IsAskedFor rules chosen r
+  pub asked : (r : R) → Contains left r → IsRequired rules chosen r
+  pub waits : (n : N) (rs : List R) (r : R) → waiting n ≡ Some rs → Contains rs r → (rules.name r ≡ n) × IsRequired rules chosen r
   pub free : (n : N) (rs : List R) → waiting n ≡ Some rs → chosen n ≡ None
   pub some : (n : N) (rs : List R) → waiting n ≡ Some rs → (r : R) × Contains rs r
 

@@ -17,4 +17,4 @@ pub returns-else-admit : goal.returns-else-admit
 returns-else-admit c =
     let kept = rw c.in-Some.is at c.kept.ensures in
     let refused = subst (λ v. list_all (λ wanted. admits c.args.problem.now wanted v) c.args.asks.now ≡ false) c.version.ensures (sym c.admit.ensures ∙ c.if-admit.false) in
-    some-more _ _ c.newest_admitted-else-admit.result (λ v newest. first-behind c.args.problem.now (c.equal_versions_are_alike.ensures c.args.problem.now) c.args.name.now c.args.asks.now c.in-Some.release.now.version v.now (sym kept) refused newest) c.newest_admitted-else-admit.ensures
+    some-more _ _ c.newest_admitted-else-admit.result (λ v newest. first-behind c.args.problem.now (c.equal_versions_are_alike.ensures c.args.problem.now) c.args.name.now c.args.asks.now c.in-Some.release.now.version v.now (sym kept) refused newest.0 newest.1) c.newest_admitted-else-admit.ensures

@@ -1,4 +1,4 @@
-use Rattle.std.proofs.Common.{sym, subst}
+use Rattle.std.proofs.Common.{◌∙◌, sym, subst}
 use Rattle.resolve.specs.Tied.Choosing.{IsNewest}
 use Rattle.resolve.proofs.FirstAdmitted.{newest-found}
 use Rattle.resolve.proofs.choosing.newest_admitted.Goals as goal
@@ -7,4 +7,4 @@ pub returns-in-Some : goal.returns-in-Some
 returns-in-Some c =
     let fall = rw c.releases.ensures.listed at c.releases.ensures.fall in
     let found = rw (c.in-Some.is, c.releases.ensures.listed) at c.first.ensures in
-    subst (IsNewest c.args.problem.now c.args.name.now c.args.asks.now) (sym c.version.ensures) (newest-found c.args.problem.now c.args.name.now c.args.asks.now c.in-Some.release.now fall (sym found))
+    (sym c.is_held.ensures ∙ c.if-is_held.false, subst (IsNewest c.args.problem.now c.args.name.now c.args.asks.now) (sym c.version.ensures) (newest-found c.args.problem.now c.args.name.now c.args.asks.now c.in-Some.release.now fall (sym found)))

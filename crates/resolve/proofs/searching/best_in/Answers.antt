@@ -1,7 +1,7 @@
 use Rattle.std.proofs.Common.{◌≡◌, List, ℕ, sym, subst}
 use Rattle.search.specs.Solutions.{HasNoSolution, IsBest}
 use Rattle.search.specs.Table.{IsAscending, place_in, rules_of as rules_of_table}
-use Rattle.search.specs.declared.parts.Choice.{Choice}
+use Rattle.search.specs.declared.parts.TableChoice.{TableChoice}
 use Rattle.problems.specs.Rules.{rules_of}
 use Rattle.problems.specs.Solutions.{version_for}
 use Rattle.resolve.specs.Tied.Pictured.{AreKnown, chosen, picture_of}
@@ -15,7 +15,7 @@ versions_of-requires c =
     let best : IsBest rules (place_in c.in-Some.choices) = rw c.in-Some.is at c.in_ok-best.ensures.best in
     let ascending : IsAscending c.in-Some.choices = rw c.in-Some.is at c.in_ok-best.ensures.ascending in
     subst (λ (names : List (List ℕ)). AreKnown c.args.problem.now names c.as_slice.result.now) (sym c.as_slice-names.ensures)
-    (subst (λ (choices : List Choice). AreKnown c.args.problem.now c.args.tabled.now.names choices) (sym c.as_slice.ensures)
+    (subst (λ (choices : List TableChoice). AreKnown c.args.problem.now c.args.tabled.now.names choices) (sym c.as_slice.ensures)
     (best-known c.args.problem.now c.args.tabled.now.names c.args.tabled.now.nodes c.args.tabled.now.table c.in-Some.choices c.requires best ascending))
 
 pub returns-in-None : goal.returns-in-None
@@ -32,6 +32,6 @@ returns-in_ok-versions-in-Some c =
     let table = c.args.tabled.now.table in
     let best : IsBest (rules_of_table table) (place_in c.in-Some.choices) = rw c.in-Some.is at c.in_ok-best.ensures.best in
     let same = subst (λ (ns : List (List ℕ)). (name : List ℕ) → version_for c.in_ok-versions-in-Some.versions.entries name ≡ chosen given ns c.in-Some.choices name) c.as_slice-names.ensures
-    (subst (λ (choices : List Choice). (name : List ℕ) → version_for c.in_ok-versions-in-Some.versions.entries name ≡ chosen given c.as_slice-names.result.now choices name) c.as_slice.ensures c.in_ok-versions-in-Some.ensures) in
+    (subst (λ (choices : List TableChoice). (name : List ℕ) → version_for c.in_ok-versions-in-Some.versions.entries name ≡ chosen given c.as_slice-names.result.now choices name) c.as_slice.ensures c.in_ok-versions-in-Some.ensures) in
     best-same given names c.in-Some.choices c.args.tabled.now.nodes c.requires.asked c.in_ok-versions-in-Some.versions.entries same
     (c.a_picture_keeps_the_best_solution.ensures.best table (picture_of given names c.args.tabled.now.nodes c.requires.asked) (rules_of given) c.name_count-count.ensures.known bytes-order c.requires.pictured c.in-Some.choices best)

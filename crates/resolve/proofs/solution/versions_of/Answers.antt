@@ -1,5 +1,5 @@
 use Rattle.std.proofs.Common.{◌≡◌, ◌<◌, ◌-◌, ℕ, suc, List, get_or, drop, length, subst, arith}
-use Rattle.search.specs.declared.parts.Choice.{Choice}
+use Rattle.search.specs.declared.parts.TableChoice.{TableChoice}
 use Rattle.problems.specs.Solutions.{version_for}
 use Rattle.resolve.specs.Tied.Pictured.{chosen}
 use Rattle.resolve.proofs.Solving.{get_or-any, put-more}
@@ -8,13 +8,13 @@ use Rattle.resolve.proofs.solution.versions_of.Goals as goal
 pub put-requires : goal.put-requires
 put-requires c =
     let within : c.loop-left.left - 1 < length c.args.choices.now = omega (arith, c.loop-left-test.true, c.loop-left.invariant.0) in
-    let choice : Choice = get_or c.args.choices.now (c.loop-left.left - 1) (record { name = 0; place = 0 }) in
+    let choice : TableChoice = get_or c.args.choices.now (c.loop-left.left - 1) (record { name = 0; place = 0 }) in
     c.requires choice (c.loop-left.left - 1, within, get_or-any c.args.choices.now (c.loop-left.left - 1) choice (record { name = 0; place = 0 }) within)
 
 pub loop-left-preserved : goal.loop-left-preserved
 loop-left-preserved c =
     let within : c.loop-left.left - 1 < length c.args.choices.now = omega (arith, c.loop-left-test.true, c.loop-left.invariant.0) in
-    let choice : Choice = get_or c.args.choices.now (c.loop-left.left - 1) (record { name = 0; place = 0 }) in
+    let choice : TableChoice = get_or c.args.choices.now (c.loop-left.left - 1) (record { name = 0; place = 0 }) in
     let next : c.loop-left.left ≡ suc (c.loop-left.left - 1) = omega (arith, c.loop-left-test.true) in (
       omega (arith, c.loop-left-test.true, c.loop-left.invariant.0),
       put-more c.args.problem.now c.args.names.now c.args.choices.now (c.loop-left.left - 1) choice c.loop-left.versions c.put.new.versions within (get_or-any c.args.choices.now (c.loop-left.left - 1) (record { name = 0; place = 0 }) choice within)

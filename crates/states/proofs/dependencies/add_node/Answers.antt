@@ -2,7 +2,7 @@ use Rattle.std.proofs.Common.{◌≡◌, ◌∙◌, ap, sym}
 use Rattle.std.specs.BTreeSet.{keys}
 use Rattle.problems.specs.Solutions.{version_for}
 use Rattle.states.specs.Dependencies.{names_in, names_of}
-use Rattle.states.proofs.Gathering.{gathered-more}
+use Rattle.states.proofs.GatheredNames.{gathered-more}
 use Rattle.states.proofs.dependencies.add_node.Goals as goal
 use Rattle.states.proofs.dependencies.add_node.Goals.{in-Some-remove, in-None}
 

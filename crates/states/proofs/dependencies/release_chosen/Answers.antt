@@ -1,7 +1,7 @@
 use Rattle.std.proofs.Common.{◌≡◌, ◌∙◌, Some, None, ap, refl, sym}
 use Rattle.std.specs.Option.{option_copied}
 use Rattle.problems.specs.Solutions.{version_for}
-use Rattle.states.proofs.Gathering.{lookup-get}
+use Rattle.states.proofs.GatheredNames.{lookup-get}
 use Rattle.states.proofs.dependencies.release_chosen.Goals as goal
 
 pub returns-in_err-version : goal.returns-in_err-version

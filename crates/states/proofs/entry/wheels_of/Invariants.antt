@@ -1,5 +1,5 @@
 use Rattle.std.proofs.Common.{◌≡◌, map, take}
-use Rattle.states.specs.Locking.{listed}
+use Rattle.states.specs.Locks.{listed}
 use Rattle.states.proofs.entry.wheels_of.Given as goal
 
 abbrev pub invariant-loop-file : goal.invariant-loop-file

@@ -1,6 +1,6 @@
 use Rattle.std.proofs.Common.{◌≡◌, take, true}
 use Rattle.pylock.specs.Locks.{are_entries}
-use Rattle.states.specs.Locking.{versions_of}
+use Rattle.states.specs.Locks.{versions_of}
 use Rattle.states.proofs.target.versions_of.Given as goal
 
 abbrev pub invariant-loop-entry : goal.invariant-loop-entry

@@ -1,5 +1,5 @@
 use Rattle.std.proofs.Common.{◌≡◌, ℕ, List, None, length, sym, subst, map, arith}
-use Rattle.search.specs.declared.parts.Requirement.{Requirement as Entry}
+use Rattle.search.specs.declared.parts.TableRequirement.{TableRequirement as Entry}
 use Rattle.problems.specs.Rules.{bare}
 use Rattle.problems.specs.Tied.Standing.{IsWith, Stands}
 use Rattle.resolve.specs.Tied.Building.{AreEntries, Gathered, IsGrown}

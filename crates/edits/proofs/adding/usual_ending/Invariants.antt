@@ -1,6 +1,0 @@
-use Rattle.std.proofs.Common.{◌≡◌, drop}
-use Rattle.edits.specs.Adding.{usual_ending}
-use Rattle.edits.proofs.adding.usual_ending.Given as goal
-
-abbrev pub invariant-loop-line : goal.invariant-loop-line
-invariant-loop-line l = usual_ending (drop l.line-index l.lines) ≡ usual_ending l.lines

@@ -1,6 +1,0 @@
-use Rattle.std.proofs.Common.{◌≡◌, map, take}
-use Rattle.edits.specs.Keeping.{kept_for, kept_of}
-use Rattle.edits.proofs.keeping.without_locks.Given as goal
-
-abbrev pub invariant-loop-target : goal.invariant-loop-target
-invariant-loop-target l = map kept_of l.all.items ≡ map (kept_for l.edit) (take l.target-index l.targets)

@@ -1,0 +1,141 @@
+// Targets before they are locked, each with the versions that are kept of its own lock.
+
+ghost use Rattle.std.specs.Prelude.{◌≡◌, ◌≢◌, ◌⊎◌, [], map, IfOk, IfErr, None, Some, true};
+ghost use Rattle.std.specs.List.{list_any};
+ghost use Rattle.std.specs.Str.{bytes_eq};
+ghost use Rattle.edits.specs.Edits.{kept_pins, without_pins};
+ghost use Rattle.edits.specs.KeptVersions.{kept_first, kept_for, kept_of, named_in};
+ghost use Rattle.edits.specs.Refused.{refused_by_locks};
+ghost use Rattle.lists.specs.Rising.{rises};
+ghost use Rattle.states.specs.Locks.{versions_of};
+ghost use Rattle.states.specs.declared.refusal.Refusal.TheVariants.{OutOfMemory};
+
+use crate::request::Edit;
+use crate::upgrade::named_in;
+use lists::Seq;
+use pep440::Version;
+use pep508::{Environment, Name};
+use states::{Refusal, State, Target, TargetName, Targets, Unlocked};
+use std::alloc::{AllocError, Global};
+use std::collections::BTreeMap;
+
+/// Whether the name is one of these.
+fn is_among(names: &[Name], name: &Name) -> bool
+    ensures { result ≡ list_any (bytes_eq name.now) names.now }
+{
+    names.iter().any(|other| name.normal() == other.normal())
+}
+
+/// The versions but for those of these names.
+fn without(mut versions: BTreeMap<Name, Version>, names: &[Name]) -> BTreeMap<Name, Version>
+    ensures { result.entries ≡ without_pins names.now versions.entries }
+{
+    versions.retain(|name, _version| !is_among(names, name));
+    versions
+}
+
+/// The locked versions of the target that the edit keeps, given the names that it drops.
+fn kept_pins(
+    alloc: Global,
+    target: &Target,
+    edit: &Edit,
+    names: &[Name],
+) -> Result<BTreeMap<Name, Version>, AllocError>
+    requires { names.now ≡ named_in edit.now }
+    ensures { IfOk result (λ kept. kept.entries
+        ≡ kept_pins (versions_of target.now.lock.entries) edit.now) }
+{
+    match edit {
+        Edit::Upgrade(_) => Ok(without(target.kept(alloc)?, names)),
+        Edit::UpgradeAll => Ok(BTreeMap::new(alloc)),
+        Edit::Add(_) | Edit::Remove(_) | Edit::Constrain(_, _) | Edit::Relock => target.kept(alloc),
+    }
+}
+
+/// The target without its lock, with the versions that the edit keeps.
+fn without_lock(
+    alloc: Global,
+    target: &Target,
+    edit: &Edit,
+    names: &[Name],
+) -> Result<Unlocked, AllocError>
+    requires { names.now ≡ named_in edit.now }
+    ensures { IfOk result (λ unlocked. kept_of unlocked ≡ kept_for edit.now target.now) }
+{
+    let kept = kept_pins(alloc, target, edit, names)?;
+    let name = target.name.clone()?;
+    let environment = target.environment.clone()?;
+    Ok(Unlocked {
+        name,
+        environment,
+        kept,
+    })
+}
+
+/// The targets without their locks, each with the versions that the edit keeps.
+fn without_locks(
+    alloc: Global,
+    targets: &[Target],
+    edit: &Edit,
+    names: &[Name],
+) -> Result<Seq<Unlocked>, AllocError>
+    requires { names.now ≡ named_in edit.now }
+    ensures { IfOk result (λ all. map kept_of all ≡ map (kept_for edit.now) targets.now) }
+{
+    let mut all = Vec::with_capacity(alloc, targets.len())?;
+    for target in targets {
+        all.push(without_lock(alloc, target, edit, names)?)?;
+    }
+    Ok(Seq::from_vec(all))
+}
+
+/// The targets of the state, each with the versions that the edit keeps of its lock. Where locks refuse
+/// the edit, the first refusal is answered. The names of an upgrade are read once.
+pub(crate) fn unlocked(alloc: Global, state: &State, edit: &Edit) -> Result<Seq<Unlocked>, Refusal>
+    ensures accepted { IfOk result (λ _. refused_by_locks state.now.targets edit.now ≡ None) }
+    ensures kept { IfOk result
+        (λ all. map kept_of all ≡ map (kept_for edit.now) state.now.targets) }
+    ensures some { IfOk result (λ all. all ≢ []) }
+    ensures rising { IfOk result (λ all. rises (map (λ u. u.name) all) ≡ true) }
+    ensures err { IfErr result (λ refusal. (refusal ≡ OutOfMemory)
+        ⊎ (refused_by_locks state.now.targets edit.now ≡ Some refusal)) }
+{
+    state.recall_invariant();
+    let names = named_in(alloc, state.targets(), edit)?;
+    Ok(without_locks(alloc, state.targets(), edit, names.as_slice())?)
+}
+
+/// A named environment, for which no version is kept.
+fn first(alloc: Global, name: TargetName, environment: Environment) -> Unlocked
+    ensures { kept_of result ≡ kept_first (name, environment) }
+{
+    Unlocked {
+        name,
+        environment,
+        kept: BTreeMap::new(alloc),
+    }
+}
+
+/// The named environments, for which no version is kept.
+fn each_first(
+    alloc: Global,
+    targets: Seq<(TargetName, Environment)>,
+) -> Result<Seq<Unlocked>, AllocError>
+    ensures { IfOk result (λ all. map kept_of all ≡ map kept_first targets) }
+{
+    let mut all = Vec::with_capacity(alloc, targets.len())?;
+    for (name, environment) in targets.into_vec() {
+        all.push(first(alloc, name, environment))?;
+    }
+    Ok(Seq::from_vec(all))
+}
+
+/// The targets before they are locked for the first time: no version is kept.
+pub(crate) fn all_first(alloc: Global, targets: Targets) -> Result<Seq<Unlocked>, AllocError>
+    ensures kept { IfOk result (λ all. map kept_of all ≡ map kept_first targets) }
+    ensures some { IfOk result (λ all. all ≢ []) }
+    ensures rising { IfOk result (λ all. rises (map (λ u. u.name) all) ≡ true) }
+{
+    targets.recall_invariant();
+    Ok(each_first(alloc, targets.into_list())?)
+}

@@ -1,5 +1,0 @@
-use Rattle.std.proofs.Common.{rules}
-use Rattle.states.proofs.change.ends.place_behind.Goals as goal
-
-pub returns : goal.returns
-returns c = search rules

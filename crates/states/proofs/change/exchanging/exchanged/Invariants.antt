@@ -1,5 +1,0 @@
-use Rattle.states.proofs.EntriesExchangedAt.{IsExchangedAt}
-use Rattle.states.proofs.change.exchanging.exchanged.Given as goal
-
-abbrev pub invariant-loop-change : goal.invariant-loop-change
-invariant-loop-change l = IsExchangedAt l.changes l.change-index l.entries l.rest l.after.items

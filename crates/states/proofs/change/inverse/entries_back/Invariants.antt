@@ -1,6 +1,0 @@
-use Rattle.std.proofs.Common.{◌≡◌, map, take}
-use Rattle.states.specs.Changes.{entry_back}
-use Rattle.states.proofs.change.inverse.entries_back.Given as goal
-
-abbrev pub invariant-loop-change : goal.invariant-loop-change
-invariant-loop-change l = l.made.items ≡ map entry_back (take l.change-index l.changes)

@@ -1,9 +1,0 @@
-use Rattle.std.proofs.Common.{◌≤◌, drop}
-use Rattle.states.proofs.EndsFacts.{IsBackTo}
-use Rattle.states.proofs.change.inverse.splices_back.Given as goal
-
-abbrev pub invariant-loop-place : goal.invariant-loop-place
-invariant-loop-place l = record {
-  begun : 1 ≤ l.place;
-  made : IsBackTo l.splices (drop l.place l.splices) l.ends l.made.items;
-}

@@ -1,9 +1,0 @@
-use Rattle.std.proofs.Common.{◌≤◌, drop}
-use Rattle.states.proofs.EndsFacts.{IsLeft}
-use Rattle.states.proofs.change.minimal.do_rise.Given as goal
-
-abbrev pub invariant-loop-place : goal.invariant-loop-place
-invariant-loop-place l = record {
-  begun : 1 ≤ l.place;
-  left : IsLeft l.splices (drop l.place l.splices) l.ends;
-}

@@ -1,6 +1,0 @@
-use Rattle.std.proofs.Common.{arith}
-use Rattle.std.proofs.lemmas.Grind.{common_steps}
-use Rattle.states.proofs.change.splicing.stands_at.Goals as goal
-
-pub returns-then-splice-lines : goal.returns-then-splice-lines
-returns-then-splice-lines c = grind (arith, common_steps)

@@ -1,5 +1,0 @@
-use Rattle.states.proofs.CarriedFacts.{After-carried}
-use Rattle.states.proofs.laws.a_change_leads_where_it_carries.Goals as goal
-
-pub returns : goal.returns
-returns c = After-carried
