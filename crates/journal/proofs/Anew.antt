@@ -3,7 +3,7 @@
 use Rattle.std.proofs.Common.{◌≡◌, ℕ, suc, zero, ◌+◌, ◌-◌, ◌<◌, List, [], ◌∷◌, ◌++◌, length, take, Some, sym, ap, subst, ◌∙◌, arith}
 use Rattle.std.specs.Prelude.{slice_get}
 use Rattle.std.specs.List.{AllZip}
-use Rattle.states.specs.Changes.{ChangeParts, IsSameTarget}
+use Rattle.changes.specs.Changes.{ChangeParts, IsSameTarget}
 use Rattle.journal.specs.Values.{State}
 use Rattle.journal.specs.Past.{Past, moved, present, pushed}
 use Rattle.journal.specs.Changes.{IsStepOf}

@@ -10,10 +10,10 @@ use Rattle.markers.specs.Names.{is_normal}
 use Rattle.pylock.specs.Locks.{IsLock, LockParts}
 use Rattle.pylock.specs.Packages.{EntryParts, IsPackage}
 use Rattle.pylock.proofs.PackageFacts.{parts}
-use Rattle.states.specs.Changes.{ChangeParts, ChangesDigest, ChangesTarget, IsEntryChange, IsMinimal, entry_on}
-use Rattle.states.specs.declared.change.parts.DigestChange.{DigestChange}
-use Rattle.states.specs.declared.change.parts.EntryChange.{EntryChange}
-use Rattle.states.specs.State.{IsLockFor, IsState}
+use Rattle.changes.specs.Changes.{ChangeParts, ChangesDigest, ChangesTarget, IsEntryChange, IsMinimal}
+use Rattle.changes.specs.declared.change.parts.DigestChange.{DigestChange}
+use Rattle.changes.specs.declared.change.parts.EntryChange.{EntryChange}
+use Rattle.states.specs.State.{IsLockFor, IsState, entry_on}
 use Rattle.states.specs.TargetNames.{is_target_name}
 use Rattle.states.proofs.EntryFacts.{entry-from}
 use Rattle.journal.specs.Values.{State, Target}
@@ -22,7 +22,8 @@ use Rattle.journal_format.specs.Lines.{has_target, step_in}
 use Rattle.journal_format.specs.Written.{step_data}
 use Rattle.journal_format.specs.declared.header.Header.{Header}
 use Rattle.journal_format.specs.declared.header.JournalVersion.TheVariants.{Two}
-use Rattle.journal_format.proofs.StepsBack.{AreDigests, IsDigest, IsEntryOn, IsLawfulChange, ReadsVersions, step-back}
+use Rattle.pylock.proofs.CanonicalBack.{ReadsVersions}
+use Rattle.journal_format.proofs.StepsBack.{AreDigests, IsDigest, IsEntryOn, IsLawfulChange, step-back}
 
 entry-on : (entries : List EntryParts) (name : List ℕ) (o : Option EntryParts) → AllByRecursion IsPackage entries → entry_on entries name ≡ o → IsEntryOn name o
 entry-on entries name None all at = tt

@@ -2,7 +2,7 @@
 use Rattle.std.proofs.Common.{◌≡◌, ℕ, suc, zero, ◌+◌, ◌-◌, ◌<◌, ◌≤◌, List, [], ◌∷◌, ◌++◌, length, take, Option, Some, None, refl, sym, ap, ◌∙◌, subst, add-one, arith}
 use Rattle.std.specs.Prelude.{IsSomeAnd, slice_get}
 use Rattle.std.proofs.lemmas.Option.{slice_get_within}
-use Rattle.states.specs.Changes.{ChangeParts}
+use Rattle.changes.specs.Changes.{ChangeParts}
 use Rattle.journal.specs.Values.{State}
 use Rattle.journal.specs.Past.{Past, present, pushed}
 use Rattle.journal.specs.Changes.{AreSteps, IsChange, IsStepOf, with_change}

@@ -3,12 +3,12 @@ use Rattle.std.proofs.Common.{◌≡◌, ℕ, zero, suc, ◌+◌, ◌≤◌, Lis
 use Rattle.std.specs.Prelude.{reverse, slice_get}
 use Rattle.std.specs.List.{AllByRecursion}
 use Rattle.std.proofs.lemmas.List.{length-append, length-reverse, length-take-le}
-use Rattle.states.specs.Changes.{ChangeParts, IsMinimal}
+use Rattle.changes.specs.Changes.{ChangeParts, IsMinimal}
 use Rattle.states.specs.State.{IsState}
 use Rattle.states.specs.declared.refusal.Refusal.TheVariants.{JournalBroken}
 use Rattle.journal.specs.Values.{State, Refusal}
 use Rattle.journal.specs.Neighbours.{IsHistory, states_of}
-use Rattle.journal.specs.Opening.{IsAnswer, GoesOn, PastOf, StatesBefore, StatesBehind}
+use Rattle.journal.specs.Opens.{IsAnswer, GoesOn, PastOf, StatesBefore, StatesBehind}
 use Rattle.journal.proofs.Neighbours.{IsFound, found}
 use Rattle.journal.proofs.StatesLawful.{lawful-joined}
 use Rattle.journal.proofs.StepsJoined.{steps-joined}

@@ -14,8 +14,8 @@ use Rattle.journal.specs.Values.{Target}
 use Rattle.journal_format.specs.Lines.{has_target}
 use Rattle.journal.specs.Locks.{LockTexts, is_kept, lock_at, lost_lock, odd_lock, stray_lock}
 use Rattle.journal.specs.LocksWritten.{IsWrittenLock}
-use Rattle.journal.specs.Opening.{TargetsRead}
-use Rattle.journal.specs.Saving.{targets_for}
+use Rattle.journal.specs.Opens.{TargetsRead}
+use Rattle.journal.specs.Saved.{targets_for}
 use Rattle.journal_format.specs.declared.header.Header.{Header}
 use Rattle.journal_format.specs.declared.header.HeaderTarget.{HeaderTarget}
 

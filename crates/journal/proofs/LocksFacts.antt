@@ -8,10 +8,10 @@ use Rattle.std.specs.Ordering.{nat_cmp}
 use Rattle.std.specs.Str.{bytes_eq}
 use Rattle.sha2.specs.Sha256.{sha256}
 use Rattle.pylock.specs.Locks.{LockParts}
-use Rattle.pylock.specs.Reading.{lock_in_text}
+use Rattle.pylock.specs.LockOfTable.{lock_in_text}
 use Rattle.journal.specs.Values.{Target, Refusal, OutOfMemory}
 use Rattle.journal.specs.Locks.{LockTexts, is_kept, lock_at}
-use Rattle.journal.specs.Opening.{IsReadTarget}
+use Rattle.journal.specs.Opens.{IsReadTarget}
 use Rattle.journal_format.specs.declared.header.HeaderTarget.{HeaderTarget}
 
 -- a look-up by bytes is the look-up of a map

@@ -2,12 +2,12 @@
 use Rattle.std.proofs.Common.{◌≡◌, ℕ, suc, zero, ◌+◌, ◌-◌, ◌<◌, ◌≤◌, List, [], ◌∷◌, ◌++◌, length, take, Some, refl, sym, ap, ◌∙◌, subst, add-one, arith}
 use Rattle.std.specs.Prelude.{IsSomeAnd, slice_get}
 use Rattle.std.specs.List.{AllByRecursion}
-use Rattle.states.specs.Changes.{After, ChangeParts, Leads, inverse}
+use Rattle.changes.specs.Changes.{After, ChangeParts, Leads, inverse}
 use Rattle.states.specs.State.{IsState}
-use Rattle.states.specs.Tied.Carried.{carried}
-use Rattle.states.proofs.CarriedFacts.{After-carried}
-use Rattle.states.proofs.ChangeFacts.{After-inverse, IsMinimal-inverse}
-use Rattle.states.proofs.OneOutcome.{After-one}
+use Rattle.changes.specs.Tied.Carried.{carried}
+use Rattle.changes.proofs.CarriedFacts.{After-carried}
+use Rattle.changes.proofs.ChangeFacts.{After-inverse, IsMinimal-inverse}
+use Rattle.changes.proofs.OneOutcome.{After-one}
 use Rattle.journal.specs.Values.{State}
 use Rattle.journal.specs.Changes.{AreSteps, IsChange}
 use Rattle.journal.specs.Neighbours.{IsHistory, states_of, states_on, with_before}

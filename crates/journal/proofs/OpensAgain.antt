@@ -12,8 +12,8 @@ use Rattle.sha2.proofs.Facts256.{length-sha256}
 use Rattle.pep508.specs.Requirement.{file_of}
 use Rattle.serde_json.specs.Data.{Data}
 use Rattle.serde_json.specs.Written.{compact_text}
-use Rattle.states.specs.Changes.{ChangeParts}
-use Rattle.states.specs.Laws.{AChangeLeadsToOneState}
+use Rattle.changes.specs.Changes.{ChangeParts}
+use Rattle.changes.specs.Laws.{AChangeLeadsToOneState}
 use Rattle.states.specs.State.{IsLockFor, IsState}
 use Rattle.states.specs.StateParts.{digest_of}
 use Rattle.states.specs.TargetNames.{is_target_name}
@@ -24,11 +24,11 @@ use Rattle.journal_format.specs.Lines.{IsStepLine, are_targets, header_of_line, 
 use Rattle.journal_format.specs.Written.{header_data, line_of, step_data}
 use Rattle.journal.specs.Locks.{LockTexts, odd_lock}
 use Rattle.journal.specs.LocksWritten.{IsLawfulTarget, IsWrittenLock}
-use Rattle.journal.specs.Opening.{Agrees, BeginsWith, Fit, IsAnswer, NamesEnvironment, Opens, Present, StepLines}
-use Rattle.journal.specs.Saving.{IsSaved, OpensAs, header_for, targets_for}
+use Rattle.journal.specs.Opens.{Agrees, BeginsWith, Fit, IsAnswer, NamesEnvironment, Opens, Present, StepLines}
+use Rattle.journal.specs.Saved.{IsSaved, OpensAs, header_for, targets_for}
 use Rattle.journal.specs.Tied.{AreWritten, IsWritten}
 use Rattle.journal_format.specs.declared.header.Header.{Header}
-use Rattle.journal.specs.declared.saving.Saved.{Saved}
+use Rattle.journal.specs.declared.saved.Saved.{Saved}
 use Rattle.journal.proofs.ChangesRead.{IsRead, Knows, all-known, changes-read}
 use Rattle.journal_format.proofs.HeaderBack.{IsHeader, IsTarget, header-back}
 use Rattle.journal.proofs.Histories.{AreSteps-count}
@@ -37,7 +37,8 @@ use Rattle.journal.proofs.LocksAgain.{name-known, names, names-for, none-odd, ta
 use Rattle.journal.proofs.OpensOnce.{opens-once}
 use Rattle.journal.proofs.PresentFacts.{reads_present}
 use Rattle.journal.proofs.StatesAgain.{past-again, state-at}
-use Rattle.journal_format.proofs.StepsBack.{IsDigest, ReadsVersions}
+use Rattle.pylock.proofs.CanonicalBack.{ReadsVersions}
+use Rattle.journal_format.proofs.StepsBack.{IsDigest}
 
 bytes-append : (xs ys : List ℕ) → IsBytes xs → IsBytes ys → IsBytes (xs ++ ys)
 bytes-append [] ys h g i = g i

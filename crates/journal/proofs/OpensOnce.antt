@@ -1,13 +1,13 @@
 -- Files stand for one history, or have one first fault.
 use Rattle.std.proofs.Common.{◌≡◌, ℕ, zero, suc, ◌+◌, List, [], ◌∷◌, ◌++◌, drop, reverse, take, Option, Some, None, Result, Ok, Err, sym, ap, subst, ◌∙◌, inl, inr}
 use Rattle.pep508.specs.Requirement.{file_of}
-use Rattle.pylock.specs.Reading.{lock_in_text}
-use Rattle.states.specs.Changes.{ChangeParts, Leads, inverse}
-use Rattle.states.specs.Laws.{AChangeLeadsToOneState}
+use Rattle.pylock.specs.LockOfTable.{lock_in_text}
+use Rattle.changes.specs.Changes.{ChangeParts, Leads, inverse}
+use Rattle.changes.specs.Laws.{AChangeLeadsToOneState}
 use Rattle.journal.specs.Values.{State, Target, Refusal}
 use Rattle.journal_format.specs.Lines.{cut_line, header_of_line, step_of_line}
 use Rattle.journal.specs.Locks.{LockTexts, odd_lock}
-use Rattle.journal.specs.Opening.{Agrees, Asks, BeginsWith, Finds, Fit, IsAnswer, IsReadTarget, GoesOn, Opens, PastOf, Present, PresentParts, StatesBefore, StatesBehind, StepAt, StepLines, TargetsRead, Then}
+use Rattle.journal.specs.Opens.{Agrees, Checks, BeginsWith, Finds, Fit, IsAnswer, IsReadTarget, GoesOn, Opens, PastOf, Present, PresentParts, StatesBefore, StatesBehind, StepAt, StepLines, TargetsRead, Then}
 use Rattle.journal_format.specs.declared.header.Header.{Header}
 use Rattle.journal_format.specs.declared.header.HeaderTarget.{HeaderTarget}
 
@@ -18,11 +18,11 @@ IsOnce {A} Is = (a b : Result A Refusal) → Is a → Is b → a ≡ b
 gives-once : {A : Type 0} (x : A) → IsOnce (IsAnswer x)
 gives-once x a b p q = p ∙ sym q
 
-asks-once : {A : Type 0} (fact : Type 0) (refusal : Refusal) (go_on : Result A Refusal → Type 0) → IsOnce go_on → IsOnce (Asks fact refusal go_on)
-asks-once fact refusal go_on on a b (inl p) (inl q) = on a b p.1 q.1
-asks-once fact refusal go_on on a b (inl p) (inr q) = absurd (q.0 p.0)
-asks-once fact refusal go_on on a b (inr p) (inl q) = absurd (p.0 q.0)
-asks-once fact refusal go_on on a b (inr p) (inr q) = p.1 ∙ sym q.1
+checks-once : {A : Type 0} (fact : Type 0) (refusal : Refusal) (go_on : Result A Refusal → Type 0) → IsOnce go_on → IsOnce (Checks fact refusal go_on)
+checks-once fact refusal go_on on a b (inl p) (inl q) = on a b p.1 q.1
+checks-once fact refusal go_on on a b (inl p) (inr q) = absurd (q.0 p.0)
+checks-once fact refusal go_on on a b (inr p) (inl q) = absurd (p.0 q.0)
+checks-once fact refusal go_on on a b (inr p) (inr q) = p.1 ∙ sym q.1
 
 -- nothing but one value is so
 abbrev pub IsAlone : {X : Type 0} → (X → Type 0) → Type 0
@@ -84,12 +84,12 @@ targets-once locks (given ∷ others) = finds-once _ _ _ (read-target-alone lock
 
 parts-once : (header : Header) (requirements : List ℕ) (locks : LockTexts) → IsOnce (PresentParts header requirements locks)
 parts-once header requirements locks =
-    asks-once _ _ _ (agrees-once (odd_lock header locks) _
-    (finds-once _ _ _ (read-alone (file_of requirements)) (λ lines. then-once _ _ (targets-once locks header.targets) (λ targets. asks-once _ _ _ (gives-once _)))))
+    checks-once _ _ _ (agrees-once (odd_lock header locks) _
+    (finds-once _ _ _ (read-alone (file_of requirements)) (λ lines. then-once _ _ (targets-once locks header.targets) (λ targets. checks-once _ _ _ (gives-once _)))))
 
 fit-once : (state : State) (targets : List Target) (go_on : Result State Refusal → Type 0) → IsOnce go_on → IsOnce (Fit state targets go_on)
 fit-once state [] go_on on = on
-fit-once state (target ∷ targets) go_on on = asks-once _ _ _ (fit-once state targets go_on on)
+fit-once state (target ∷ targets) go_on on = checks-once _ _ _ (fit-once state targets go_on on)
 
 present-once : (header : Header) (requirements : List ℕ) (locks : LockTexts) → IsOnce (Present header requirements locks)
 present-once header requirements locks = then-once _ _ (parts-once header requirements locks) (λ state. fit-once state state.targets _ (gives-once state))
@@ -97,7 +97,7 @@ present-once header requirements locks = then-once _ _ (parts-once header requir
 -- ---- steps and states
 
 steps-once : (header : Header) (steps number : ℕ) (bytes : List ℕ) → IsOnce (StepLines header steps number bytes)
-steps-once header zero number bytes = asks-once _ _ _ (gives-once [])
+steps-once header zero number bytes = checks-once _ _ _ (gives-once [])
 steps-once header (suc steps) number bytes = finds-once _ _ _ (step-alone header bytes) (λ step. then-once _ _ (steps-once header steps (number + 1) step.1) (λ changes. gives-once (step.0 ∷ changes)))
 
 module _ (one : AChangeLeadsToOneState) where

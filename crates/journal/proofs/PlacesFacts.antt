@@ -2,12 +2,12 @@
 use Rattle.std.proofs.Common.{◌≡◌, ◌+◌, ◌-◌, ℕ, List, [], ◌∷◌, Some, refl, sym, ap, ◌∙◌, subst, arith}
 use Rattle.std.specs.Prelude.{slice_get}
 use Rattle.std.specs.List.{AllByRecursion, AllZip}
-use Rattle.states.specs.Changes.{After, ChangeParts, ChangesTarget, IsSameTarget, Leads, inverse}
+use Rattle.changes.specs.Changes.{After, ChangeParts, ChangesTarget, IsSameTarget, Leads, inverse}
 use Rattle.states.specs.State.{IsState}
 use Rattle.states.specs.declared.target.Target.{Target}
-use Rattle.states.proofs.ChangeFacts.{After-inverse}
-use Rattle.states.proofs.WholeDifference.{IsDifference-inverse}
-use Rattle.states.proofs.OneOutcome.{After-one}
+use Rattle.changes.proofs.ChangeFacts.{After-inverse}
+use Rattle.changes.proofs.WholeDifference.{IsDifference-inverse}
+use Rattle.changes.proofs.OneOutcome.{After-one}
 use Rattle.journal.specs.Values.{State}
 use Rattle.journal.specs.Changes.{IsStepOf}
 use Rattle.journal.specs.Past.{Past}

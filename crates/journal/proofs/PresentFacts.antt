@@ -11,7 +11,7 @@ use Rattle.states.specs.declared.refusal.SavedFile.TheVariants.{Lock, Requiremen
 use Rattle.journal.specs.Values.{State, Target, Refusal, OutOfMemory}
 use Rattle.journal_format.specs.Lines.{are_targets}
 use Rattle.journal.specs.Locks.{LockTexts, odd_lock}
-use Rattle.journal.specs.Opening.{Agrees, Asks, Finds, Fit, GoesOn, IsAnswer, IsReadTarget, NamesEnvironment, Present, PresentParts, TargetsRead, Then}
+use Rattle.journal.specs.Opens.{Agrees, Checks, Finds, Fit, GoesOn, IsAnswer, IsReadTarget, NamesEnvironment, Present, PresentParts, TargetsRead, Then}
 use Rattle.journal_format.specs.declared.header.Header.{Header}
 use Rattle.journal_format.specs.declared.header.HeaderTarget.{HeaderTarget}
 use Rattle.journal.proofs.StepFacts.{before, before-more}
@@ -22,7 +22,7 @@ abbrev pub reads_present : Header → List ℕ → LockTexts → Result State Re
 reads_present header requirements locks =
     Finds (λ lines. file_of requirements ≡ Ok lines) (FilesDisagree Requirements) (λ lines.
     Then (TargetsRead locks header.targets) (λ targets.
-    Asks (AllByRecursion NamesEnvironment targets) (JournalBroken 1) (
+    Checks (AllByRecursion NamesEnvironment targets) (JournalBroken 1) (
     IsAnswer (record { lines = lines; targets = targets }))))
 
 -- ---- the targets, one after the other
@@ -119,7 +119,7 @@ read-names locks (one ∷ given) targets (inl h) = read-by locks one given targe
 read-names locks (one ∷ given) targets (inr h) = absurd (let is : Ok targets ≡ Err (FilesDisagree (Lock one.name)) = h.1 in cc)
 
 targets-by : (header : Header) (locks : LockTexts) (lines : List (List ℕ)) (state : State) (part : Result (List Target) Refusal) → TargetsRead locks header.targets part
-    → GoesOn (λ targets. Asks (AllByRecursion NamesEnvironment targets) (JournalBroken 1) (IsAnswer (record { lines = lines; targets = targets }))) part (Ok state)
+    → GoesOn (λ targets. Checks (AllByRecursion NamesEnvironment targets) (JournalBroken 1) (IsAnswer (record { lines = lines; targets = targets }))) part (Ok state)
     → map (λ t. t.name) state.targets ≡ map (λ t. t.name) header.targets
 targets-by header locks lines state (Ok targets) read (inl named) =
     let whole : state ≡ record { lines = lines; targets = targets } = let is : Ok state ≡ Ok (record { lines = lines; targets = targets }) = named.1 in cc in

@@ -1,10 +1,10 @@
 -- The states that the steps of a journal lead to, one after the other.
 use Rattle.std.proofs.Common.{◌≡◌, ◌⊎◌, ℕ, ◌+◌, ◌<◌, ◌≤◌, List, [], ◌∷◌, ◌++◌, length, get_or, drop, Result, Ok, Err, refl, sym, ap, subst, ◌∙◌, inl, inr, arith}
 use Rattle.std.proofs.lemmas.List.{append-nil, drop_all, drop_more}
-use Rattle.states.specs.Changes.{ChangeParts, Leads}
+use Rattle.changes.specs.Changes.{ChangeParts, Leads}
 use Rattle.states.specs.declared.refusal.Refusal.TheVariants.{JournalBroken}
 use Rattle.journal.specs.Values.{State, Refusal, OutOfMemory}
-use Rattle.journal.specs.Opening.{StatesBehind}
+use Rattle.journal.specs.Opens.{StatesBehind}
 use Rattle.journal.proofs.StepFacts.{before, before-more}
 
 -- the last of the states, or else this one

@@ -4,13 +4,13 @@ use Rattle.std.specs.Prelude.{slice_get}
 use Rattle.std.specs.List.{AllByRecursion}
 use Rattle.std.proofs.lemmas.List.{drop_more, reverse-append, take-append-drop, take_more}
 use Rattle.std.proofs.lemmas.Option.{get_or_from_slice_get, slice_get_within}
-use Rattle.states.specs.Changes.{After, ChangeParts, Leads, inverse}
+use Rattle.changes.specs.Changes.{After, ChangeParts, Leads, inverse}
 use Rattle.states.specs.State.{IsState}
-use Rattle.states.proofs.ChangeFacts.{After-inverse}
+use Rattle.changes.proofs.ChangeFacts.{After-inverse}
 use Rattle.journal.specs.Values.{State}
 use Rattle.journal.specs.Past.{Past, present}
 use Rattle.journal.specs.Changes.{AreSteps}
-use Rattle.journal.specs.Opening.{PastOf, StatesBefore, StatesBehind}
+use Rattle.journal.specs.Opens.{PastOf, StatesBefore, StatesBehind}
 use Rattle.journal.proofs.Histories.{AreSteps-at, AreSteps-count}
 
 -- a state of a history

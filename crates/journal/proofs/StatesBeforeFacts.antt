@@ -3,10 +3,10 @@ use Rattle.std.proofs.Common.{◌≡◌, ◌⊎◌, ℕ, ◌+◌, ◌-◌, ◌<�
 use Rattle.std.specs.Prelude.{reverse}
 use Rattle.std.proofs.Math.ListN.{length-drop}
 use Rattle.std.proofs.lemmas.List.{append-nil, drop_all, drop_more, get_or-reverse, length-reverse, reverse-append}
-use Rattle.states.specs.Changes.{ChangeParts, Leads, inverse}
+use Rattle.changes.specs.Changes.{ChangeParts, Leads, inverse}
 use Rattle.states.specs.declared.refusal.Refusal.TheVariants.{JournalBroken}
 use Rattle.journal.specs.Values.{State, Refusal, OutOfMemory}
-use Rattle.journal.specs.Opening.{StatesBefore}
+use Rattle.journal.specs.Opens.{StatesBefore}
 use Rattle.journal.proofs.StateFacts.{last_or, last_or-more}
 
 -- what earlier changes answer, with the states that were found, the last one first

@@ -1,11 +1,11 @@
 -- The states that changes lead to are lawful.
 use Rattle.std.proofs.Common.{◌≡◌, ℕ, ◌+◌, List, [], ◌∷◌, ◌++◌, length, Result, Ok, Err, sym, subst, inl, inr}
 use Rattle.std.specs.List.{AllByRecursion}
-use Rattle.states.specs.Changes.{ChangeParts}
+use Rattle.changes.specs.Changes.{ChangeParts}
 use Rattle.states.specs.State.{IsState}
 use Rattle.states.specs.declared.refusal.Refusal.TheVariants.{JournalBroken}
 use Rattle.journal.specs.Values.{State, Refusal}
-use Rattle.journal.specs.Opening.{IsAnswer, GoesOn, StatesBefore, StatesBehind}
+use Rattle.journal.specs.Opens.{IsAnswer, GoesOn, StatesBefore, StatesBehind}
 use Rattle.journal.proofs.StepsJoined.{all-append}
 
 behind_by : (number : ℕ) (changes : List ChangeParts) (states : List State) (next : State) (part : Result (List State) Refusal) → IsState next

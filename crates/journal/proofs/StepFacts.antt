@@ -2,11 +2,11 @@
 use Rattle.std.proofs.Common.{◌≡◌, ◌⊎◌, ◌==◌, true, false, length, ℕ, suc, zero, ◌+◌, ◌-◌, ◌<◌, ◌≤◌, List, [], ◌∷◌, ◌++◌, Result, Ok, Err, refl, sym, ap, subst, append_assoc, inl, inr, arith, true≢false}
 use Rattle.std.proofs.lemmas.Bool.Decides.{nat_tests}
 use Rattle.std.proofs.lemmas.List.{append-nil}
-use Rattle.states.specs.Changes.{ChangeParts}
+use Rattle.changes.specs.Changes.{ChangeParts}
 use Rattle.states.specs.declared.refusal.Refusal.TheVariants.{JournalBroken}
 use Rattle.journal.specs.Values.{Refusal, OutOfMemory}
 use Rattle.journal_format.specs.declared.header.Header.{Header}
-use Rattle.journal.specs.Opening.{IsAnswer, GoesOn, StepAt, StepLines}
+use Rattle.journal.specs.Opens.{IsAnswer, GoesOn, StepAt, StepLines}
 
 -- what was read before, and what the rest answers
 abbrev pub before : {X : Type 0} → List X → Result (List X) Refusal → Result (List X) Refusal

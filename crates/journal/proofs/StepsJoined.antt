@@ -3,12 +3,12 @@ use Rattle.std.proofs.Common.{◌≡◌, ℕ, zero, suc, ◌+◌, List, [], ◌�
 use Rattle.std.specs.Prelude.{reverse}
 use Rattle.std.specs.List.{AllByRecursion}
 use Rattle.std.proofs.lemmas.List.{reverse-append, reverse-reverse, take-append-drop}
-use Rattle.states.specs.Changes.{After, ChangeParts, IsMinimal, inverse}
+use Rattle.changes.specs.Changes.{After, ChangeParts, IsMinimal, inverse}
 use Rattle.states.specs.declared.refusal.Refusal.TheVariants.{JournalBroken}
-use Rattle.states.proofs.ChangeFacts.{After-inverse, inverse-inverse}
+use Rattle.changes.proofs.ChangeFacts.{After-inverse, inverse-inverse}
 use Rattle.journal.specs.Values.{State, Refusal}
 use Rattle.journal.specs.Changes.{AreSteps, IsChange}
-use Rattle.journal.specs.Opening.{IsAnswer, GoesOn, StatesBefore, StatesBehind}
+use Rattle.journal.specs.Opens.{IsAnswer, GoesOn, StatesBefore, StatesBehind}
 
 pub all-append : {X : Type 0} (P : X → Type 0) (xs ys : List X) → AllByRecursion P xs → AllByRecursion P ys → AllByRecursion P (xs ++ ys)
 all-append P [] ys h g = g

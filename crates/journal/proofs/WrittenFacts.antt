@@ -5,7 +5,7 @@ use Rattle.std.proofs.lemmas.Option.{get_or_from_slice_get, slice_get_within}
 use Rattle.std.specs.List.{AllByRecursion, flat_map}
 use Rattle.std.specs.Prelude.{OnOk, slice_get}
 use Rattle.std.specs.Str.{is_utf8}
-use Rattle.states.specs.Changes.{ChangeParts}
+use Rattle.changes.specs.Changes.{ChangeParts}
 use Rattle.serde_json.specs.Data.{Data}
 use Rattle.serde_json.specs.Read.{read}
 use Rattle.serde_json.specs.Written.{compact_text}

@@ -1,6 +1,6 @@
 -- The steps of a history: the change from each state to the next. All of it is reqlock's own rule.
 use Rattle.std.specs.Prelude.{◌≡◌, ℕ, ◌-◌, List, [], ◌∷◌, ◌++◌, Some, slice_get, take}
-use Rattle.states.specs.Changes.{After, ChangeParts, IsMinimal}
+use Rattle.changes.specs.Changes.{After, ChangeParts, IsMinimal}
 use Rattle.journal.specs.Values.{State}
 use Rattle.journal.specs.Past.{Past}
 

@@ -1,6 +1,6 @@
 -- Laws of the steps, and of what is saved.
 use Rattle.std.specs.Prelude.{ℕ, ◌≡◌, List, Result}
-use Rattle.journal.specs.Values.{Edit, Snapshot, Refusal, OutOfMemory}
+use Rattle.journal.specs.Values.{Edit, Pool, Refusal, OutOfMemory}
 use Rattle.journal.specs.declared.commands.Reply.{Reply}
 use Rattle.journal.specs.declared.commands.Reply.TheVariants.{Done, Refused}
 use Rattle.journal.specs.Past.{Past, present}
@@ -9,19 +9,19 @@ use Rattle.journal.specs.Commands.{Asked, Editing, Undoing, Redoing}
 use Rattle.journal.specs.Histories.{RunWithChanges}
 use Rattle.journal.specs.Steps.{Run, Step}
 use Rattle.journal.specs.Locks.{LockTexts}
-use Rattle.journal.specs.Opening.{Opens}
+use Rattle.journal.specs.Opens.{Opens}
 
 -- an undo after an accepted edit gives back the present state before the edit, and its cursor
 abbrev pub UndoGivesTheStateBack : Type 0
-UndoGivesTheStateBack = (before edited undone : Past) (edit : Edit) (snapshot : Snapshot) (k j : ℕ) → Step before (Editing edit snapshot) (Done k) edited → Step edited Undoing (Done j) undone → (present undone ≡ present before) × (j ≡ before.cursor)
+UndoGivesTheStateBack = (before edited undone : Past) (edit : Edit) (pool : Pool) (k j : ℕ) → Step before (Editing edit pool) (Done k) edited → Step edited Undoing (Done j) undone → (present undone ≡ present before) × (j ≡ before.cursor)
 
 -- a redo after that undo gives the history that the edit gave, and its reply
 abbrev pub RedoGivesTheEditAgain : Type 0
-RedoGivesTheEditAgain = (before edited undone redone : Past) (edit : Edit) (snapshot : Snapshot) (k j i : ℕ) → Step before (Editing edit snapshot) (Done k) edited → Step edited Undoing (Done j) undone → Step undone Redoing (Done i) redone → (redone ≡ edited) × (i ≡ k)
+RedoGivesTheEditAgain = (before edited undone redone : Past) (edit : Edit) (pool : Pool) (k j i : ℕ) → Step before (Editing edit pool) (Done k) edited → Step edited Undoing (Done j) undone → Step undone Redoing (Done i) redone → (redone ≡ edited) × (i ≡ k)
 
 -- after an accepted edit an undo is refused for want of memory alone
 abbrev pub AnEditCanBeUndone : Type 0
-AnEditCanBeUndone = (before edited after : Past) (edit : Edit) (snapshot : Snapshot) (k : ℕ) (refusal : Refusal) → Step before (Editing edit snapshot) (Done k) edited → Step edited Undoing (Refused refusal) after → refusal ≡ OutOfMemory
+AnEditCanBeUndone = (before edited after : Past) (edit : Edit) (pool : Pool) (k : ℕ) (refusal : Refusal) → Step before (Editing edit pool) (Done k) edited → Step edited Undoing (Refused refusal) after → refusal ≡ OutOfMemory
 
 -- a run with its changes is a run: replies, states and cursor are those of one
 abbrev pub ARunWithChangesIsARun : Type 0

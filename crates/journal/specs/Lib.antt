@@ -9,7 +9,7 @@ pub mod Histories
 pub mod Laws
 pub mod Neighbours
 pub mod Locks
-pub mod Saving
+pub mod Saved
 pub mod LocksWritten
-pub mod Opening
+pub mod Opens
 pub mod Tied

@@ -7,10 +7,10 @@ use Rattle.std.specs.List.{AllZip}
 use Rattle.std.specs.Ordering.{nat_cmp}
 use Rattle.markers.specs.Environment.{IsEnvironment}
 use Rattle.states.specs.TargetNames.{is_target_name}
-use Rattle.pylock.specs.Reading.{lock_in_text}
+use Rattle.pylock.specs.LockOfTable.{lock_in_text}
 use Rattle.journal.specs.Values.{Target}
-use Rattle.journal.specs.Saving.{IsLockFile, target_for, targets_for}
-use Rattle.journal.specs.declared.saving.Locked.{Locked}
+use Rattle.journal.specs.Saved.{IsLockFile, target_for, targets_for}
+use Rattle.journal.specs.declared.saved.Locked.{Locked}
 
 -- the lock file of a target, which is read as its lock again
 pub record IsWrittenLock (target : Target) (lock : List ℕ × List ℕ) : Type 0 where
@@ -23,7 +23,7 @@ pub record IsLawfulTarget (target : Target) : Type 0 where
   pub environment : IsEnvironment target.environment
 
 -- the lock file of a target more, and the target as a header has it
-pub record IsPut (target : Target) (old new : Locked) : Type 0 where
+pub record IsInserted (target : Target) (old new : Locked) : Type 0 where
   pub text : List ℕ
   pub written : IsWrittenLock target (target.name, text)
   pub locks : new.locks.entries ≡ insert_entry (slice_cmp nat_cmp) old.locks.entries target.name text

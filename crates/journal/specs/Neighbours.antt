@@ -2,9 +2,9 @@
 -- Tied to `AreSteps` by the invariant of `ChangeHistory`; need not be read.
 use Rattle.std.specs.Prelude.{ℕ, zero, suc, ◌≤◌, List, [], ◌∷◌, length}
 use Rattle.std.specs.List.{AllByRecursion}
-use Rattle.states.specs.Changes.{ChangeParts, inverse}
+use Rattle.changes.specs.Changes.{ChangeParts, inverse}
 use Rattle.states.specs.State.{IsState}
-use Rattle.states.specs.Tied.Carried.{carried}
+use Rattle.changes.specs.Tied.Carried.{carried}
 use Rattle.journal.specs.Values.{State}
 use Rattle.journal.specs.Changes.{AreSteps}
 

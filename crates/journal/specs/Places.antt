@@ -1,7 +1,7 @@
 -- What differs between two places of a history. All of it is reqlock's own rule.
 use Rattle.std.specs.Prelude.{◌≡◌, ℕ, Some, slice_get}
-use Rattle.states.specs.Changes.{ChangeParts}
-use Rattle.states.specs.Differences.{IsDifference}
+use Rattle.changes.specs.Changes.{ChangeParts}
+use Rattle.changes.specs.Differences.{IsDifference}
 use Rattle.journal.specs.Values.{State}
 use Rattle.journal.specs.Past.{Past}
 

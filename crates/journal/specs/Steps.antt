@@ -1,6 +1,6 @@
 -- What commands do to a history, over whole states. All of it is reqlock's own rule.
 use Rattle.std.specs.Prelude.{◌≡◌, ◌≢◌, ◌⊎◌, List, [], ◌∷◌, Result, Ok, Err, IsSomeAnd}
-use Rattle.journal.specs.Values.{State, Targets, Edit, Snapshot, ReqFile, Refusal, NothingChanges, NothingToUndo, NothingToRedo, OutOfMemory}
+use Rattle.journal.specs.Values.{State, Targets, Edit, Pool, Snapshot, ReqFile, Refusal, NothingChanges, NothingToUndo, NothingToRedo, OutOfMemory}
 use Rattle.edits.specs.Edits.{InitResult, EditResult}
 use Rattle.journal.specs.declared.commands.Reply.{Reply}
 use Rattle.journal.specs.declared.commands.Reply.TheVariants.{Done, Same, Refused}
@@ -8,12 +8,12 @@ use Rattle.journal.specs.Past.{Past, present, starts, pushed, IsAtStart, IsAtEnd
 use Rattle.journal.specs.Commands.{Asked, Editing, Undoing, Redoing}
 
 -- this is what the edit makes of the present state
-abbrev pub Makes : Past → Edit → Snapshot → Result State Refusal → Type 0
-Makes past edit snapshot answer = IsSomeAnd (present past) (λ state. EditResult state edit snapshot answer)
+abbrev pub Makes : Past → Edit → Pool → Result State Refusal → Type 0
+Makes past edit pool answer = IsSomeAnd (present past) (λ state. EditResult state edit pool answer)
 
 -- this is why the edit of the present state is refused
-abbrev pub RefusesEdit : Past → Edit → Snapshot → Refusal → Type 0
-RefusesEdit past edit snapshot refusal = (refusal ≡ OutOfMemory) ⊎ (Makes past edit snapshot (Err refusal) × (refusal ≢ NothingChanges))
+abbrev pub RefusesEdit : Past → Edit → Pool → Refusal → Type 0
+RefusesEdit past edit pool refusal = (refusal ≡ OutOfMemory) ⊎ (Makes past edit pool (Err refusal) × (refusal ≢ NothingChanges))
 
 -- the refusal of a move that has nowhere to go, or of one that has for want of memory
 abbrev pub RefusesMove : Type 0 → Refusal → Refusal → Type 0
@@ -21,9 +21,9 @@ RefusesMove nowhere nothing refusal = (nowhere × (refusal ≡ nothing)) ⊎ ((�
 
 -- one command, its reply, and the history before and after it. The only choice is to refuse for want of memory
 abbrev pub Step : Past → Asked → Reply → Past → Type 0
-Step old (Editing edit snapshot) (Done k) new = (state : State) × Makes old edit snapshot (Ok state) × (new ≡ pushed old state) × (k ≡ new.cursor)
-Step old (Editing edit snapshot) Same new = Makes old edit snapshot (Err NothingChanges) × (new ≡ old)
-Step old (Editing edit snapshot) (Refused refusal) new = RefusesEdit old edit snapshot refusal × (new ≡ old)
+Step old (Editing edit pool) (Done k) new = (state : State) × Makes old edit pool (Ok state) × (new ≡ pushed old state) × (k ≡ new.cursor)
+Step old (Editing edit pool) Same new = Makes old edit pool (Err NothingChanges) × (new ≡ old)
+Step old (Editing edit pool) (Refused refusal) new = RefusesEdit old edit pool refusal × (new ≡ old)
 Step old Undoing (Done k) new = IsUndone old new × (k ≡ new.cursor)
 Step old Undoing Same new = ⊥
 Step old Undoing (Refused refusal) new = RefusesMove (IsAtStart old) NothingToUndo refusal × (new ≡ old)

@@ -1,16 +1,23 @@
--- What serves the proofs alone. Tied to `Opens` by the contracts of `Session::open` and `Session::save`; need not be read.
-use Rattle.std.specs.Prelude.{◌≡◌, ◌⊎◌, true, ℕ, List, Option, Some, None, IsSomeAnd, ⊤, Result, Ok, Err}
+-- What serves the proofs alone. Tied to `Opens` by the contracts of `Journal::read`, `Session::open` and `Session::save`; need not be read.
+use Rattle.std.specs.Prelude.{◌≡◌, ◌⊎◌, ◌≤◌, true, ℕ, List, Option, Some, None, IsSomeAnd, ⊤, Result, Ok, Err, drop, length}
 use Rattle.std.specs.List.{AllByRecursion}
 use Rattle.std.specs.Str.{is_utf8}
 use Rattle.serde_json.specs.Data.{Data}
 use Rattle.serde_json.specs.Read.{read}
 use Rattle.serde_json.specs.Written.{compact_text}
-use Rattle.states.specs.Changes.{ChangeParts}
+use Rattle.changes.specs.Changes.{ChangeParts}
 use Rattle.journal_format.specs.Written.{header_data, step_data}
 use Rattle.journal_format.specs.declared.header.Header.{Header}
 use Rattle.states.specs.declared.refusal.Refusal.TheVariants.{FilesDisagree}
 use Rattle.states.specs.declared.refusal.SavedFile.TheVariants.{Lock}
 use Rattle.journal.specs.Values.{Refusal, OutOfMemory}
+use Rattle.journal.specs.Opens.{BeginsWith}
+use Rattle.journal.specs.declared.journal.FirstLine.{FirstLine}
+
+-- what the bytes of a journal begin with: this header, and the place behind its line; or no header
+abbrev pub IsBegun : List ℕ → Option FirstLine → Type 0
+IsBegun bytes (Some first) = (first.behind ≤ length bytes) × BeginsWith bytes (first.header, drop first.behind bytes)
+IsBegun bytes None = (begin : Header × List ℕ) → BeginsWith bytes begin → ⊥
 
 -- what a call answers that walks along what a relation asks for and keeps nothing: that there is such a value; or that there was
 -- no memory; or the relation's refusal

@@ -1,4 +1,5 @@
 -- The values of the crates below that a history speaks of.
+pub use Rattle.states.specs.declared.pool.Pool.{Pool}
 pub use Rattle.states.specs.declared.state.State.{State}
 pub use Rattle.states.specs.declared.target.Target.{Target}
 pub use Rattle.states.specs.declared.targets.Targets.{Targets}

@@ -44,12 +44,12 @@ impl Model for ChangeHistory {
     ghost invariant = { λ h. IsHistory h.state h.changes.items h.cursor };
 }
 
-/// Cuts the changes behind the cursor and puts one there; the answer is the place behind it. Where memory
+/// Cuts the changes behind the cursor and appends one; the answer is the place behind it. Where memory
 /// is refused, the changes are what they were.
-fn put(changes: &mut Vec<Change>, cursor: usize, change: Change) -> Result<usize, AllocError>
+fn push_at(changes: &mut Vec<Change>, cursor: usize, change: Change) -> Result<usize, AllocError>
     requires { cursor ≤ length changes.old.items }
     ensures place { IfOk result (λ place. place ≡ cursor + 1) }
-    ensures put { OnOk result (changes.new.items ≡ with_change cursor changes.old.items change) }
+    ensures pushed { OnOk result (changes.new.items ≡ with_change cursor changes.old.items change) }
     ensures kept { OnErr result (changes.new.items ≡ changes.old.items) }
 {
     // All that can fail comes before the cut.
@@ -124,7 +124,7 @@ impl History for ChangeHistory {
     fn push(&mut self, _alloc: Global, edited: Edited) -> Result<(), AllocError> {
         let Edited { state, change } = edited;
         state.recall_invariant();
-        let place = put(&mut self.changes, self.cursor, change)?;
+        let place = push_at(&mut self.changes, self.cursor, change)?;
         self.state = state;
         self.cursor = place;
         Ok(())

@@ -1,11 +1,11 @@
 // What a history is asked for, and what it answers.
 
-use edits::{Edit, Refusal, Snapshot};
+use edits::{Edit, Pool, Refusal};
 
-/// What a history is asked for. An edit comes with the index that it is resolved over.
+/// What a history is asked for. An edit comes with what the versions of its locks are chosen from.
 #[derive(Drop)]
 pub enum Command<'a> {
-    Edit(Edit, &'a Snapshot),
+    Edit(Edit, Pool<'a>),
     Undo,
     Redo,
 }

@@ -2,7 +2,7 @@
 
 ghost use Rattle.std.specs.Prelude.{◌≡◌, ◌⊎◌, ◌↔◌, ◌+◌, ◌-◌, ◌<◌, List, length, Some, slice_get, if◌then◌else◌, is_ok, OnOk, OnErr, IfErr, IsErrOf, IsSomeAnd};
 ghost use Rattle.std.specs.List.{AllByRecursion};
-ghost use Rattle.states.specs.Changes.{ChangeParts};
+ghost use Rattle.changes.specs.Changes.{ChangeParts};
 ghost use Rattle.states.specs.State.{IsState};
 ghost use Rattle.journal.specs.Changes.{AreSteps, IsChange, IsStepOf, with_change};
 ghost use Rattle.journal.specs.Past.{Past, present, pushed, IsUndone, IsRedone, IsAtStart, IsAtEnd};

@@ -8,7 +8,7 @@
 //! ```rust
 //! let mut session = Session::init(alloc, lines, targets, index, &Learning)?;
 //! let add = Edit::Add(Text::copy_of(alloc, "d  # new")?);
-//! let added = session.apply(alloc, &Command::Edit(add, index), &Learning);
+//! let added = session.apply(alloc, &Command::Edit(add, Pool::whole(index)), &Learning);
 //! let undone = session.apply(alloc, &Command::Undo, &Learning);
 //! Ok(added == Reply::Done(1) && undone == Reply::Done(0))
 //! ```
@@ -17,24 +17,25 @@
 mod change_history;
 mod commands;
 mod history;
+mod history_reader;
+mod journal;
 pub mod laws;
-mod opening;
 mod places;
-mod running;
-mod saving;
+mod runs;
+mod saved;
 mod session;
 mod whole;
 
 pub use crate::change_history::ChangeHistory;
 pub use crate::commands::{Command, Reply};
 pub use crate::history::History;
-pub use crate::opening::targets;
-pub use crate::running::{apply, run};
-pub use crate::saving::Saved;
+pub use crate::journal::Journal;
+pub use crate::runs::{apply, run};
+pub use crate::saved::Saved;
 pub use crate::session::Session;
 pub use crate::whole::WholeHistory;
 pub use edits::{
-    Change, Edit, Environment, Learning, Plain, Refusal, ReqFile, Resolver, SavedFile, Snapshot,
-    State, Target, TargetName, Targets,
+    Change, Edit, Environment, Learning, Plain, Pool, Refusal, ReqFile, Resolver, SavedFile,
+    Snapshot, State, Target, TargetName, Targets,
 };
 pub use lists::{Seq, Text};

@@ -2,7 +2,7 @@
 
 ghost use Rattle.std.specs.Prelude.{◌≡◌, ◌+◌, ◌-◌, ◌<◌, ◌≤◌, length, Some, slice_get, IfOk, OnOk};
 ghost use Rattle.std.specs.List.{AllZip};
-ghost use Rattle.states.specs.Changes.{IsSameTarget};
+ghost use Rattle.changes.specs.Changes.{IsSameTarget};
 ghost use Rattle.journal.specs.Places.{IsBetween};
 
 use crate::history::History;

@@ -4,8 +4,8 @@ ghost use Rattle.std.specs.Prelude.{◌≡◌, ◌⊎◌, ◌+◌, ◌-◌, ◌<
 ghost use Rattle.edits.specs.Edits.{InitResult};
 ghost use Rattle.journal.specs.Past.{present};
 ghost use Rattle.journal.specs.Changes.{AreSteps, IsStepOf};
-ghost use Rattle.journal.specs.Opening.{Opens, Tells};
-ghost use Rattle.journal.specs.Saving.{IsSaved, OpensAs};
+ghost use Rattle.journal.specs.Opens.{Opens, Tells};
+ghost use Rattle.journal.specs.Saved.{IsSaved, OpensAs};
 ghost use Rattle.journal.specs.Commands.{asked_of};
 ghost use Rattle.journal.specs.Histories.{ChangesAfter, RunWithChanges};
 ghost use Rattle.journal.specs.Places.{IsBetween};
@@ -16,8 +16,9 @@ ghost use Rattle.journal.specs.declared.commands.Reply.TheVariants as replies;
 use crate::change_history::ChangeHistory;
 use crate::commands::{Command, Reply};
 use crate::history::History;
-use crate::saving::{self, Saved};
-use crate::{opening, places, running};
+use crate::journal::Journal;
+use crate::saved::{self, Saved};
+use crate::{history_reader, places, runs};
 use edits::{Change, Refusal, ReqFile, Resolver, Snapshot, State, TargetName, Targets};
 use lists::Seq;
 use std::alloc::{AllocError, Global};
@@ -84,11 +85,11 @@ impl Session {
         alloc: Global,
         requirements: &[u8],
         locks: &BTreeMap<TargetName, Seq<u8>>,
-        journal: &[u8],
+        journal: &Journal,
     ) -> Result<Session, Refusal>
         ensures opens { Tells (Opens requirements.now locks.now.entries journal.now) result }
     {
-        let history = opening::opened(alloc, requirements, locks, journal)?;
+        let history = history_reader::opened(alloc, requirements, locks, journal)?;
         Ok(Session { history })
     }
 
@@ -98,7 +99,7 @@ impl Session {
         ensures saved { IfOk result (λ saved. IsSaved self.now saved) }
         ensures opens { IfOk result (λ saved. OpensAs self.now saved) }
     {
-        saving::files_of(alloc, &self.history)
+        saved::files_of(alloc, &self.history)
     }
 
     /// The present state. It has no refusal.
@@ -172,7 +173,7 @@ impl Session {
         ensures kept { (refusal : RefusalValue) → result ≡ replies.Refused refusal
             → self.new ≡ self.old }
     {
-        running::apply(alloc, &mut self.history, command, resolver)
+        runs::apply(alloc, &mut self.history, command, resolver)
     }
 
     /// Applies the commands in turn and gives their replies. Each lock of an edited state is the
@@ -190,6 +191,6 @@ impl Session {
             (λ replies. RunWithChanges self.old (map asked_of commands.now) replies self.new) }
         ensures kept { OnErr result (self.new ≡ self.old) }
     {
-        running::run(alloc, &mut self.history, commands, resolver)
+        runs::run(alloc, &mut self.history, commands, resolver)
     }
 }

@@ -2,10 +2,10 @@
 use Rattle.std.proofs.Common.{ℕ, ◌≤◌, List, [], ◌∷◌, map, Option, Some, None, arith}
 use Rattle.pylock.specs.declared.file.FileEntry.{FileEntry}
 use Rattle.pylock.specs.Packages.{EntryParts}
-use Rattle.states.specs.Changes.{ChangeParts}
-use Rattle.states.specs.declared.change.parts.DigestChange.{DigestChange}
-use Rattle.states.specs.declared.change.parts.EntryChange.{EntryChange}
-use Rattle.states.specs.declared.change.parts.Splice.{Splice}
+use Rattle.changes.specs.Changes.{ChangeParts}
+use Rattle.changes.specs.declared.change.parts.DigestChange.{DigestChange}
+use Rattle.changes.specs.declared.change.parts.EntryChange.{EntryChange}
+use Rattle.changes.specs.declared.change.parts.Splice.{Splice}
 use Rattle.serde_json.specs.Data.{Data, depth, items_depth, string}
 use Rattle.serde_json.specs.Read.{max_depth}
 use Rattle.serde_json.specs.View.{items_of}

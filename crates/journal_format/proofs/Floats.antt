@@ -2,10 +2,10 @@
 use Rattle.std.proofs.Common.{◌≡◌, ℕ, false, List, [], ◌∷◌, map, Option, Some, None, refl}
 use Rattle.pylock.specs.declared.file.FileEntry.{FileEntry}
 use Rattle.pylock.specs.Packages.{EntryParts}
-use Rattle.states.specs.Changes.{ChangeParts}
-use Rattle.states.specs.declared.change.parts.DigestChange.{DigestChange}
-use Rattle.states.specs.declared.change.parts.EntryChange.{EntryChange}
-use Rattle.states.specs.declared.change.parts.Splice.{Splice}
+use Rattle.changes.specs.Changes.{ChangeParts}
+use Rattle.changes.specs.declared.change.parts.DigestChange.{DigestChange}
+use Rattle.changes.specs.declared.change.parts.EntryChange.{EntryChange}
+use Rattle.changes.specs.declared.change.parts.Splice.{Splice}
 use Rattle.serde_json.specs.Data.{Data, string}
 use Rattle.serde_json.specs.View.{items_of}
 use Rattle.serde_json.specs.Written.{has_float, items_have_float}

@@ -1,5 +1,5 @@
 -- Reading JSON values.
-use Rattle.std.proofs.Common.{◌≡◌, ◌≢◌, ◌⊎◌, ℕ, suc, ◌+◌, ◌<◌, ◌≤◌, Bool, true, false, List, [], ◌∷◌, ◌++◌, length, get_or, drop, map, take, is_some, None, Some, Result, Ok, Err, refl, sym, ap, ◌∙◌, append_assoc, inl, inr, arith}
+use Rattle.std.proofs.Common.{◌≡◌, ◌≢◌, ◌⊎◌, ℕ, suc, ◌+◌, ◌<◌, ◌≤◌, Bool, true, false, List, [], ◌∷◌, ◌++◌, length, get_or, drop, map, take, is_some, None, Some, Result, Ok, Err, refl, sym, ap, ◌∙◌, inl, inr, arith}
 use Rattle.std.proofs.lemmas.List.{append-nil, drop_more, drop_all, take_all}
 use Rattle.std.proofs.lemmas.List.Folds.{list_all-map}
 use Rattle.std.specs.List.{list_all}
@@ -13,9 +13,11 @@ use Rattle.serde_json.specs.Find.{as_object, get}
 use Rattle.serde_json.specs.Read.{read}
 use Rattle.serde_json.specs.View.{items_view, view}
 use Rattle.serde_json.specs.declared.value.Value.{Value}
-use Rattle.journal_format.specs.declared.flaw.Flaw.{Flaw}
-use Rattle.journal_format.specs.declared.flaw.Flaw.TheVariants.{OtherForm, OutOfMemory}
-use Rattle.journal_format.specs.Forms.{◌>>=◌, counts, each, four_in, json_of, only_keys, three_in, two_in}
+use Rattle.pylock.specs.declared.flaw.Flaw.{Flaw}
+use Rattle.pylock.specs.declared.flaw.Flaw.TheVariants.{OtherForm, OutOfMemory}
+use Rattle.pylock.proofs.ReadSoFar.{before, before-first}
+use Rattle.pylock.specs.Flaws.{◌>>=◌}
+use Rattle.journal_format.specs.Forms.{counts, each, four_in, json_of, only_keys, three_in, two_in}
 use Rattle.journal_format.specs.Lines.{cut_line}
 
 not_json_by : (b : Bool) (bytes : List ℕ) → is_utf8 bytes ≡ b → (IsUtf8 bytes → read bytes ≡ None) → json_of bytes ≡ Err OtherForm
@@ -48,18 +50,6 @@ four_in-other (v ∷ w ∷ []) h = refl
 four_in-other (v ∷ w ∷ x ∷ []) h = refl
 four_in-other (v ∷ w ∷ x ∷ y ∷ []) h = absurd (h refl)
 four_in-other (v ∷ w ∷ x ∷ y ∷ z ∷ vs) h = refl
-
--- what was read so far, before what is still to be read
-abbrev pub before : {A : Type 0} → List A → Result (List A) Flaw → Result (List A) Flaw
-before done read = read >>= λ xs. Ok (done ++ xs)
-
-pub before-none : {A : Type 0} (read : Result (List A) Flaw) → before [] read ≡ read
-before-none (Ok xs) = refl
-before-none (Err e) = refl
-
-before-first : {A : Type 0} (done : List A) (x : A) (read : Result (List A) Flaw) → before done (read >>= λ xs. Ok (x ∷ xs)) ≡ before (done ++ x ∷ []) read
-before-first done x (Ok xs) = ap Ok (sym (append_assoc done (x ∷ []) xs))
-before-first done x (Err e) = refl
 
 module _ {A : Type 0} (form : Data → Result A Flaw) where
   -- the items from a place on: the one there, and the others

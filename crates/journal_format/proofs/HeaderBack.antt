@@ -18,7 +18,8 @@ use Rattle.journal_format.specs.Forms.{each}
 use Rattle.journal_format.specs.Lines.{are_targets, environment_in, header_in, target_in, targets_in}
 use Rattle.journal_format.specs.Written.{environment_data, header_data, target_data}
 use Rattle.journal_format.proofs.KeptTexts.{kept-lawful}
-use Rattle.journal_format.proofs.StepsBack.{Back, IsDigest, digest-back, list-back, target_name-back}
+use Rattle.pylock.proofs.CanonicalBack.{Back}
+use Rattle.journal_format.proofs.StepsBack.{IsDigest, digest-back, list-back, target_name-back}
 
 text-at : (texts : Texts) (variable : Variable) → get (variable_name variable) (environment_data texts) ≡ Some (string (text_of texts variable))
 unfolding environment_data

@@ -5,13 +5,14 @@ use Rattle.std.proofs.lemmas.Bool.Decides.{nat_tests}
 use Rattle.lists.specs.Rising.{rises}
 use Rattle.markers.specs.Environment.{Texts}
 use Rattle.serde_json.specs.Data.{Data}
-use Rattle.journal_format.specs.declared.flaw.Flaw.{Flaw}
+use Rattle.pylock.specs.declared.flaw.Flaw.{Flaw}
 use Rattle.journal_format.specs.declared.header.Header.{Header}
 use Rattle.journal_format.specs.declared.header.HeaderTarget.{HeaderTarget}
 use Rattle.journal_format.specs.declared.header.JournalVersion.{JournalVersion}
 use Rattle.journal_format.specs.declared.header.JournalVersion.TheVariants.{One, Two}
 use Rattle.journal_format.specs.Entries.{digest_in}
-use Rattle.journal_format.specs.Forms.{◌>>=◌, asked, at, found, json_of, list_of, number_of, only_keys}
+use Rattle.pylock.specs.Flaws.{◌>>=◌, found}
+use Rattle.journal_format.specs.Forms.{check, at, json_of, list_of, number_of, only_keys}
 use Rattle.journal_format.specs.Lines.{are_targets, environment_in, header_in, header_keys, header_of_line, target_in, targets_in, journal_version}
 
 least : (m n : ℕ) → nat_le m n ≡ true → m ≤ n
@@ -22,14 +23,14 @@ pub record IsReadHeader (h : Header) : Type 0 where
   pub within : h.cursor ≤ h.steps
   pub targets : are_targets h.targets ≡ true
 
-made_by : (holds : Bool) (g h : Header) → (holds ≡ true → IsReadHeader g) → (asked holds >>= λ _. Ok g) ≡ Ok h → IsReadHeader h
+made_by : (holds : Bool) (g h : Header) → (holds ≡ true → IsReadHeader g) → (check holds >>= λ _. Ok g) ≡ Ok h → IsReadHeader h
 made_by true g h is made = let same : g ≡ h = cc in subst IsReadHeader same (is refl)
 made_by false g h is made = absurd cc
 
 -- the header of these parts, where it is one
 abbrev made : JournalVersion → List HeaderTarget → ℕ → List ℕ → ℕ → Result Header Flaw
 made version targets cursor requirements steps =
-    asked (nat_le cursor steps) >>= λ _. Ok (record { version = version; cursor = cursor; requirements = requirements; steps = steps; targets = targets })
+    check (nat_le cursor steps) >>= λ _. Ok (record { version = version; cursor = cursor; requirements = requirements; steps = steps; targets = targets })
 
 parts_by : (version : JournalVersion) (keys : Result ⊤ Flaw) (targets : Result (List HeaderTarget) Flaw) (cursor : Result ℕ Flaw) (requirements : Result (List ℕ) Flaw) (steps : Result ℕ Flaw) (h : Header)
     → ((ts : List HeaderTarget) → targets ≡ Ok ts → are_targets ts ≡ true)
@@ -39,12 +40,12 @@ parts_by version (Ok keys) (Ok targets) (Ok cursor) (Ok requirements) (Ok steps)
     (λ holds. record { within = least cursor steps holds; targets = rise targets refl }) is
 parts_by version keys targets cursor requirements steps h rise is = absurd cc
 
-asked_by : (holds : Bool) (targets read : List HeaderTarget) → are_targets targets ≡ holds → (asked holds >>= λ _. Ok targets) ≡ Ok read → are_targets read ≡ true
-asked_by true targets read rise is = let same : targets ≡ read = cc in subst (λ (ts : List HeaderTarget). are_targets ts ≡ true) same rise
-asked_by false targets read rise is = absurd cc
+check_by : (holds : Bool) (targets read : List HeaderTarget) → are_targets targets ≡ holds → (check holds >>= λ _. Ok targets) ≡ Ok read → are_targets read ≡ true
+check_by true targets read rise is = let same : targets ≡ read = cc in subst (λ (ts : List HeaderTarget). are_targets ts ≡ true) same rise
+check_by false targets read rise is = absurd cc
 
-two_by : (listed : Result (List HeaderTarget) Flaw) (read : List HeaderTarget) → (listed >>= λ t. asked (are_targets t) >>= λ _. Ok t) ≡ Ok read → are_targets read ≡ true
-two_by (Ok targets) read is = asked_by (are_targets targets) targets read refl is
+two_by : (listed : Result (List HeaderTarget) Flaw) (read : List HeaderTarget) → (listed >>= λ t. check (are_targets t) >>= λ _. Ok t) ≡ Ok read → are_targets read ≡ true
+two_by (Ok targets) read is = check_by (are_targets targets) targets read refl is
 two_by (Err e) read is = absurd cc
 
 one_by : (environment : Result Texts Flaw) (lock : Result (List ℕ) Flaw) (read : List HeaderTarget)

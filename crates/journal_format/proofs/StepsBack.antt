@@ -2,27 +2,24 @@
 use Rattle.std.proofs.Common.{◌≡◌, ℕ, true, false, List, [], ◌∷◌, length, map, Option, Some, None, is_some, Result, Ok, refl, subst}
 use Rattle.std.specs.Prelude.{IfSome}
 use Rattle.std.specs.List.{AllByRecursion, list_all}
-use Rattle.std.specs.Str.{bytes_eq}
 use Rattle.std.proofs.lemmas.Bool.{and_parts}
-use Rattle.std.proofs.lemmas.Slice.Eq.{bytes_eq-Decides}
-use Rattle.hex.specs.Hex.{IsBytes, encode_lower}
-use Rattle.hex.proofs.HexLemmas.{decode_sized-encode_lower}
+use Rattle.hex.specs.Hex.{IsBytes}
 use Rattle.pep440.specs.Canonical.{canonical}
-use Rattle.pep440.specs.Tied.Reading.{version_of}
 use Rattle.pep440.specs.Version.{IsVersion, VersionParts}
 use Rattle.markers.specs.Names.{is_normal}
 use Rattle.pylock.specs.declared.file.FileEntry.{FileEntry}
 use Rattle.pylock.specs.Packages.{EntryParts, IsPackage, is_other}
+use Rattle.pylock.proofs.CanonicalBack.{Back, ReadsVersions, all-back, canonical-back, lower-back, names-back}
 use Rattle.pylock.proofs.PackageFacts.{parts}
 use Rattle.serde_json.specs.Data.{Data, string}
 use Rattle.serde_json.specs.Find.{as_null}
 use Rattle.serde_json.specs.View.{items_of}
-use Rattle.states.specs.Changes.{ChangeParts}
+use Rattle.changes.specs.Changes.{ChangeParts}
 use Rattle.states.specs.TargetNames.{is_target_name}
-use Rattle.states.specs.declared.change.parts.DigestChange.{DigestChange}
-use Rattle.states.specs.declared.change.parts.EntryChange.{EntryChange}
-use Rattle.states.specs.declared.change.parts.Splice.{Splice}
-use Rattle.journal_format.specs.declared.flaw.Flaw.{Flaw}
+use Rattle.changes.specs.declared.change.parts.DigestChange.{DigestChange}
+use Rattle.changes.specs.declared.change.parts.EntryChange.{EntryChange}
+use Rattle.changes.specs.declared.change.parts.Splice.{Splice}
+use Rattle.pylock.specs.declared.flaw.Flaw.{Flaw}
 use Rattle.journal_format.specs.declared.header.Header.{Header}
 use Rattle.journal_format.specs.declared.header.JournalVersion.TheVariants.{Two}
 use Rattle.journal_format.specs.Entries.{digest_in, entry_in, file_in, name_in, version_in}
@@ -30,22 +27,11 @@ use Rattle.journal_format.specs.Forms.{each, or_null, text_of}
 use Rattle.journal_format.specs.Lines.{digests_in, entry_change_in, has_target, splice_in, step_in, target_name_in, targeted}
 use Rattle.journal_format.specs.Written.{digest_data, digests_data, entry_change_data, entry_data, file_data, nullable, splice_data, step_data}
 
-same_bytes : (t : List ℕ) → bytes_eq t t ≡ true
-same_bytes t = (bytes_eq-Decides t t).1 refl
-
 module _ {X : Type 0} (form : X → Data) (reading : Data → Result X Flaw) where
-  -- each item of the list is read back
-  abbrev pub Back : List X → Type 0
-  Back = AllByRecursion (λ x. reading (form x) ≡ Ok x)
-
-  pub list-back : (xs : List X) → Back xs → each reading (items_of (map form xs)) ≡ Ok xs
+  pub list-back : (xs : List X) → Back form reading xs → each reading (items_of (map form xs)) ≡ Ok xs
   unfolding each
   list-back [] h = refl
   list-back (x ∷ xs) h = rw (h.0, list-back xs h.1) refl
-
-  pub all-back : (xs : List X) → ((x : X) → reading (form x) ≡ Ok x) → Back xs
-  all-back [] h = tt
-  all-back (x ∷ xs) h = (h x, all-back xs h)
 
   -- what may be absent is read back, where no value of it is written as null
   pub nullable-back : (o : Option X) → ((x : X) → is_some (as_null (form x)) ≡ false) → IfSome o (λ x. reading (form x) ≡ Ok x) → or_null reading (nullable form o) ≡ Ok o
@@ -63,12 +49,6 @@ pub target_name-back : (name : List ℕ) → is_target_name name ≡ true → ta
 unfolding target_name_in
 target_name-back name is = rw is refl
 
-names-back : (own : List ℕ) (names : List (List ℕ)) → list_all (is_other own) names ≡ true → Back string name_in names
-names-back own [] h = tt
-names-back own (n ∷ ns) h =
-    let all = and_parts (is_other own n) (list_all (is_other own) ns) h in
-    (name-back n (and_parts (is_normal n) _ all.0).0, names-back own ns all.1)
-
 file-back : (f : FileEntry) → file_in (file_data f) ≡ Ok f
 unfolding file_in file_data
 file-back f = refl
@@ -85,19 +65,15 @@ python-back : (o : Option (List ℕ)) → IfSome o (λ t. text_of (string t) ≡
 python-back None = tt
 python-back (Some t) = refl
 
--- the canonical text of a version is read as that version
-abbrev pub ReadsVersions : Type 0
-ReadsVersions = (v : VersionParts) → IsVersion v → version_of (canonical v) ≡ Ok v
-
 version-back : ReadsVersions → (v : VersionParts) → IsVersion v → version_in (string (canonical v)) ≡ Ok v
 unfolding version_in
-version-back reads v h = rw (reads v h, same_bytes (canonical v)) refl
+version-back reads v h = canonical-back reads v h
 
 entry-back : ReadsVersions → (p : EntryParts) → IsPackage p → entry_in p.name (entry_data p) ≡ Ok p
 unfolding entry_in entry_data
 entry-back reads p h =
     let q = parts p h.parts in
-    let dependencies = list-back string name_in p.dependencies (names-back p.name p.dependencies (and_parts _ (list_all (is_other p.name) p.dependencies) q.dependencies).1) in
+    let dependencies = list-back string name_in p.dependencies (names-back string name_in name-back p.name p.dependencies (and_parts _ (list_all (is_other p.name) p.dependencies) q.dependencies).1) in
     let python = nullable-back string text_of p.requires_python (λ _. refl) (python-back p.requires_python) in
     let sdist = nullable-back file_data file_in p.sdist file-there (sdist-back p.sdist) in
     let version = version-back reads p.version h.version in
@@ -147,7 +123,7 @@ pub record IsDigest (digest : List ℕ) : Type 0 where
 
 pub digest-back : (bytes : List ℕ) → IsDigest bytes → digest_in (digest_data bytes) ≡ Ok bytes
 unfolding digest_in
-digest-back bytes h = rw (decode_sized-encode_lower bytes 32 h.size h.bytes, same_bytes (encode_lower bytes)) refl
+digest-back bytes h = lower-back bytes h.size h.bytes
 
 digests-there : (d : DigestChange) → is_some (as_null (digests_data d)) ≡ false
 unfolding digests_data

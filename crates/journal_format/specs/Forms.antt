@@ -1,28 +1,18 @@
 -- JSON values of a wanted form (RFC 8259).
-use Rattle.std.specs.Prelude.{◌≡◌, ◌⊎◌, ℕ, ◌==◌, ◌&&◌, Bool, false, List, [], ◌∷◌, length, Option, Some, None, is_some, option_and_then, ⊤, Result, Ok, Err, if◌then◌else◌}
+use Rattle.std.specs.Prelude.{ℕ, ◌==◌, ◌&&◌, Bool, false, List, [], ◌∷◌, length, Option, Some, None, is_some, option_and_then, ⊤, Result, Ok, Err, if◌then◌else◌}
 use Rattle.std.specs.List.{list_all}
 use Rattle.std.specs.Str.{is_utf8}
 use Rattle.serde_json.specs.Data.{Data, Items, no_items, item, Members}
 use Rattle.serde_json.specs.Events.{members_len}
 use Rattle.serde_json.specs.Find.{as_array, as_null, as_number, as_object, as_str, as_u64, get}
 use Rattle.serde_json.specs.Read.{read}
-use Rattle.journal_format.specs.declared.flaw.Flaw.{Flaw}
-use Rattle.journal_format.specs.declared.flaw.Flaw.TheVariants.{OtherForm, OutOfMemory}
+use Rattle.pylock.specs.declared.flaw.Flaw.{Flaw}
+use Rattle.pylock.specs.declared.flaw.Flaw.TheVariants.{OtherForm}
+use Rattle.pylock.specs.Flaws.{◌>>=◌, found}
 
-infixl 10 ◌>>=◌
--- the next step, unless this one has a fault
-abbrev pub ◌>>=◌ : {A B E : Type 0} → Result A E → (A → Result B E) → Result B E
-(Ok x) >>= f = f x
-(Err e) >>= f = Err e
-
--- what is there
-abbrev pub found : {A : Type 0} → Option A → Result A Flaw
-found None = Err OtherForm
-found (Some x) = Ok x
-
--- what is asked for
-abbrev pub asked : Bool → Result ⊤ Flaw
-asked b = if b then Ok tt else Err OtherForm
+-- what has to hold
+abbrev pub check : Bool → Result ⊤ Flaw
+check b = if b then Ok tt else Err OtherForm
 
 -- the JSON value of the bytes, which have to be UTF-8
 unfoldable pub json_of : List ℕ → Result Data Flaw
@@ -39,7 +29,7 @@ has_keys keys d = counts (length keys) (as_object d) && list_all (λ key. is_som
 
 -- an object with exactly these keys
 abbrev pub only_keys : List (List ℕ) → Data → Result ⊤ Flaw
-only_keys keys d = asked (has_keys keys d)
+only_keys keys d = check (has_keys keys d)
 
 -- what a form makes of the value at a key
 abbrev pub at : {A : Type 0} → List ℕ → (Data → Result A Flaw) → Data → Result A Flaw
@@ -89,8 +79,3 @@ triple_of d = found (as_array d) >>= λ ds. found (three_in ds)
 
 abbrev pub quadruple_of : Data → Result (Data × Data × Data × Data) Flaw
 quadruple_of d = found (as_array d) >>= λ ds. found (four_in ds)
-
--- what a call answers, seen by view, is what is expected, unless it found no memory
-abbrev pub Gives : {X Y : Type 0} → (X → Y) → Result Y Flaw → Result X Flaw → Type 0
-Gives view expected (Ok x) = expected ≡ Ok (view x)
-Gives view expected (Err e) = (e ≡ OutOfMemory) ⊎ (expected ≡ Err e)

@@ -3,23 +3,24 @@ use Rattle.std.specs.Prelude.{◌≡◌, ℕ, ◌+◌, ◌==◌, Bool, false, na
 use Rattle.std.specs.List.{list_any}
 use Rattle.std.specs.Result.{result_ok}
 use Rattle.std.specs.Str.{bytes_eq}
-use Rattle.states.specs.Changes.{ChangeParts, IsMinimal}
-use Rattle.states.specs.declared.change.parts.DigestChange.{DigestChange}
-use Rattle.states.specs.declared.change.parts.EntryChange.{EntryChange}
-use Rattle.states.specs.declared.change.parts.Splice.{Splice}
+use Rattle.changes.specs.Changes.{ChangeParts, IsMinimal}
+use Rattle.changes.specs.declared.change.parts.DigestChange.{DigestChange}
+use Rattle.changes.specs.declared.change.parts.EntryChange.{EntryChange}
+use Rattle.changes.specs.declared.change.parts.Splice.{Splice}
 use Rattle.lists.specs.Rising.{rises}
 use Rattle.states.specs.Targets.{target_name_of}
 use Rattle.markers.specs.Environment.{Texts, all_variables, texts_in}
 use Rattle.markers.specs.Variables.{variable_name}
 use Rattle.markers.specs.declared.fault.Cause.{Cause}
 use Rattle.serde_json.specs.Data.{Data}
-use Rattle.journal_format.specs.declared.flaw.Flaw.{Flaw}
-use Rattle.journal_format.specs.declared.flaw.Flaw.TheVariants.{OtherForm}
+use Rattle.pylock.specs.declared.flaw.Flaw.{Flaw}
+use Rattle.pylock.specs.declared.flaw.Flaw.TheVariants.{OtherForm}
 use Rattle.journal_format.specs.declared.header.Header.{Header}
 use Rattle.journal_format.specs.declared.header.HeaderTarget.{HeaderTarget}
 use Rattle.journal_format.specs.declared.header.JournalVersion.{JournalVersion}
 use Rattle.journal_format.specs.declared.header.JournalVersion.TheVariants.{One, Two}
-use Rattle.journal_format.specs.Forms.{◌>>=◌, asked, at, found, json_of, list_of, number_of, only_keys, or_null, pair_of, quadruple_of, text_of, triple_of}
+use Rattle.pylock.specs.Flaws.{◌>>=◌, found}
+use Rattle.journal_format.specs.Forms.{check, at, json_of, list_of, number_of, only_keys, or_null, pair_of, quadruple_of, text_of, triple_of}
 use Rattle.journal_format.specs.Entries.{digest_in, entry_in, name_in}
 
 -- ---- names of targets
@@ -60,7 +61,7 @@ has_target header name = list_any (λ t. bytes_eq t.name name) header.targets
 unfoldable pub entry_change_in : Header → Data → Result EntryChange Flaw
 entry_change_in header d = do
   parts ← targeted header.version d
-  _ ← asked (has_target header parts.0)
+  _ ← check (has_target header parts.0)
   name ← name_in parts.1
   old ← or_null (entry_in name) parts.2
   new ← or_null (entry_in name) parts.3
@@ -150,7 +151,7 @@ targets_in One d = do
   Ok (record { name = []; environment = environment; lock = lock } ∷ [])
 targets_in Two d = do
   targets ← at (codes "targets") (list_of target_in) d
-  _ ← asked (are_targets targets)
+  _ ← check (are_targets targets)
   Ok targets
 
 -- a header, in the form of its version, whose cursor is at most the number of steps
@@ -163,7 +164,7 @@ header_in d = do
   cursor ← at (codes "cursor") number_of d
   requirements ← at (codes "requirements") digest_in d
   steps ← at (codes "steps") number_of d
-  _ ← asked (nat_le cursor steps)
+  _ ← check (nat_le cursor steps)
   Ok (record { version = version; cursor = cursor; requirements = requirements; steps = steps; targets = targets })
 
 -- the line of a header, without its LF

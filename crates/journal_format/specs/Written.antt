@@ -5,10 +5,10 @@ use Rattle.hex.specs.Hex.{encode_lower}
 use Rattle.pep440.specs.Canonical.{canonical}
 use Rattle.pylock.specs.declared.file.FileEntry.{FileEntry}
 use Rattle.pylock.specs.Packages.{EntryParts}
-use Rattle.states.specs.Changes.{ChangeParts}
-use Rattle.states.specs.declared.change.parts.DigestChange.{DigestChange}
-use Rattle.states.specs.declared.change.parts.EntryChange.{EntryChange}
-use Rattle.states.specs.declared.change.parts.Splice.{Splice}
+use Rattle.changes.specs.Changes.{ChangeParts}
+use Rattle.changes.specs.declared.change.parts.DigestChange.{DigestChange}
+use Rattle.changes.specs.declared.change.parts.EntryChange.{EntryChange}
+use Rattle.changes.specs.declared.change.parts.Splice.{Splice}
 use Rattle.markers.specs.Environment.{Texts, all_variables, text_of}
 use Rattle.markers.specs.Variables.{variable_name}
 use Rattle.markers.specs.declared.variable.Variable.{Variable}

@@ -1,16 +1,13 @@
 // The entries of a lock as a journal has them.
 
-ghost use Rattle.journal_format.specs.Forms.{Gives, found, or_null};
-ghost use Rattle.journal_format.specs.Entries.{canonical_in, digest_in, digest_of, entry_in, file_in, name_in, normal_in, version_in};
+ghost use Rattle.journal_format.specs.Forms.{or_null};
+ghost use Rattle.journal_format.specs.Entries.{digest_in, entry_in, file_in, name_in, version_in};
+ghost use Rattle.pylock.specs.Flaws.{Gives};
 ghost use Rattle.serde_json.specs.View.{view};
 
-use crate::flaw::Flaw;
 use crate::forms::{Read, at, only_keys, text_of};
-use edits::{Entry, FileEntry, Name};
-use hex::FromHex;
 use lists::{Seq, Text};
-use markers::Cause;
-use pep440::{Fault as VersionFault, Version};
+use pylock::{Entry, FileEntry, Flaw, Name, Version, canonical_version, lower_digest, normal_name};
 use serde_json::Value;
 use std::alloc::Global;
 
@@ -33,39 +30,12 @@ impl Read for FileEntry {
     }
 }
 
-/// The name that a text is, in its normal form.
-fn normal_name(alloc: Global, text: &str) -> Result<Name, Flaw>
-    ensures { Gives (λ n. n) (found (normal_in text.now)) result }
-{
-    match Name::read(alloc, text) {
-        Ok(name) if name.normal() == text => Ok(name),
-        Err(Cause::OutOfMemory) => Err(Flaw::OutOfMemory),
-        _ => Err(Flaw::OtherForm),
-    }
-}
-
 impl Read for Name {
     ghost reading = { name_in };
 
     #[tactic(auto, unfolding(crate::specs::Entries::name_in))]
     fn from_value(alloc: Global, value: &Value) -> Result<Name, Flaw> {
         normal_name(alloc, text_of(value)?)
-    }
-}
-
-/// The version whose canonical text this is.
-fn canonical_version(alloc: Global, text: &str) -> Result<Version, Flaw>
-    ensures { Gives (λ v. v) (found (canonical_in text.now)) result }
-{
-    let version = match Version::parse(alloc, text) {
-        Ok(version) => version,
-        Err(VersionFault::OutOfMemory) => return Err(Flaw::OutOfMemory),
-        Err(_) => return Err(Flaw::OtherForm),
-    };
-    match version.canonical(alloc) {
-        Ok(canonical) if canonical.as_str() == text => Ok(version),
-        Ok(_) => Err(Flaw::OtherForm),
-        Err(_) => Err(Flaw::OutOfMemory),
     }
 }
 
@@ -78,28 +48,12 @@ impl Read for Version {
     }
 }
 
-/// The digest that a text is.
-fn digest_of(alloc: Global, text: &str) -> Result<[u8; 32], Flaw>
-    ensures { Gives (λ d. d) (found (digest_of text.now)) result }
-{
-    match <[u8; 32] as FromHex>::from_hex(text) {
-        Ok(digest) => {
-            let lower = hex::encode(alloc, digest)?;
-            if lower.as_str() == text {
-                return Ok(digest);
-            }
-            Err(Flaw::OtherForm)
-        }
-        Err(_) => Err(Flaw::OtherForm),
-    }
-}
-
 impl Read for [u8; 32] {
     ghost reading = { digest_in };
 
     #[tactic(auto, unfolding(crate::specs::Entries::digest_in))]
     fn from_value(alloc: Global, value: &Value) -> Result<[u8; 32], Flaw> {
-        digest_of(alloc, text_of(value)?)
+        lower_digest(alloc, text_of(value)?)
     }
 }
 

@@ -5,11 +5,12 @@ ghost use Rattle.std.specs.List.{list_all};
 ghost use Rattle.serde_json.specs.Data.{Data};
 ghost use Rattle.serde_json.specs.Find.{as_array, as_object, get};
 ghost use Rattle.serde_json.specs.View.{items_view, view};
-ghost use Rattle.journal_format.specs.Forms.{Gives, asked, at, counts, each, found, json_of, list_of, number_of, only_keys, or_null, pair_of, quadruple_of, text_of, triple_of};
-ghost use Rattle.journal_format.specs.declared.flaw.Flaw.{Flaw};
+ghost use Rattle.journal_format.specs.Forms.{check, at, counts, each, json_of, list_of, number_of, only_keys, or_null, pair_of, quadruple_of, text_of, triple_of};
+ghost use Rattle.pylock.specs.Flaws.{Gives, found};
+ghost use Rattle.pylock.specs.declared.flaw.Flaw.{Flaw};
 
-use crate::flaw::Flaw;
 use lists::{Seq, Text};
+use pylock::Flaw;
 use serde_json::Value;
 use std::alloc::Global;
 
@@ -54,7 +55,7 @@ fn has_each(keys: &[&str], object: &Value) -> bool
     keys.iter().all(|key| object.get(*key).is_some())
 }
 
-/// Asks for an object with exactly these keys, which are distinct.
+/// Checks that a value is an object with exactly these keys, which are distinct.
 pub(crate) fn only_keys(keys: &[&str], object: &Value) -> Result<(), Flaw>
     ensures { Gives (λ u. u) (only_keys (map (λ k. k.now) keys.now) (view object.now)) result }
 {
@@ -81,9 +82,9 @@ pub(crate) fn at<T: Read>(alloc: Global, key: &str, object: &Value) -> Result<T,
     T::from_value(alloc, value_at(key, object)?)
 }
 
-/// Asks for what holds.
-pub(crate) fn asked(holds: bool) -> Result<(), Flaw>
-    ensures { Gives (λ u. u) (asked holds) result }
+/// Checks what has to hold.
+pub(crate) fn check(holds: bool) -> Result<(), Flaw>
+    ensures { Gives (λ u. u) (check holds) result }
 {
     if holds {
         return Ok(());

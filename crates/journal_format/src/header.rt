@@ -2,17 +2,18 @@
 
 ghost use Rattle.std.specs.Prelude.{◌≡◌};
 ghost use Rattle.markers.specs.Environment.{all_variables, texts_in};
-ghost use Rattle.journal_format.specs.Forms.{Gives, found, only_keys};
+ghost use Rattle.journal_format.specs.Forms.{only_keys};
 ghost use Rattle.journal_format.specs.Lines.{are_targets, environment_in, has_target, header_in, header_keys, header_of_line, target_in, target_name_in, targets_in, texts_read, journal_version};
+ghost use Rattle.pylock.specs.Flaws.{Gives, found};
 ghost use Rattle.serde_json.specs.View.{view};
 ghost use Rattle.std.specs.Result.{result_ok};
 ghost use Rattle.states.specs.Targets.{target_name_of};
 
-use crate::flaw::Flaw;
-use crate::forms::{Read, asked, at, json_of, only_keys, text_of};
+use crate::forms::{Read, at, check, json_of, only_keys, text_of};
 use edits::{Environment, Refusal, TargetName};
 use lists::{Named, Seq, rises};
 use markers::Cause;
+use pylock::Flaw;
 use serde_json::Value;
 use std::alloc::Global;
 
@@ -148,7 +149,7 @@ fn journal_version(number: u64) -> Result<JournalVersion, Flaw>
     }
 }
 
-/// Asks for an object with exactly the keys of a header of this version.
+/// Checks that a value is an object with exactly the keys of a header of this version.
 fn only_header_keys(version: JournalVersion, value: &Value) -> Result<(), Flaw>
     ensures { Gives (λ u. u) (only_keys (header_keys version) (view value.now)) result }
 {
@@ -218,7 +219,7 @@ fn listed_targets(alloc: Global, value: &Value) -> Result<Seq<HeaderTarget>, Fla
     ensures { Gives (λ targets. targets) (targets_in JournalVersion.Two (view value.now)) result }
 {
     let targets: Seq<HeaderTarget> = at(alloc, "targets", value)?;
-    asked(are_targets(targets.as_slice()))?;
+    check(are_targets(targets.as_slice()))?;
     Ok(targets)
 }
 
@@ -248,7 +249,7 @@ fn header_of(alloc: Global, value: &Value) -> Result<Header, Flaw>
     let cursor: u64 = at(alloc, "cursor", value)?;
     let requirements: [u8; 32] = at(alloc, "requirements", value)?;
     let steps: u64 = at(alloc, "steps", value)?;
-    asked(cursor <= steps)?;
+    check(cursor <= steps)?;
     Ok(Header {
         version,
         cursor,

@@ -3,15 +3,14 @@
 #![tactic(auto)]
 
 mod entries;
-mod flaw;
 mod forms;
 mod header;
 mod lines;
 mod steps;
-mod writing;
+mod values;
 
-pub use crate::flaw::Flaw;
 pub use crate::header::{Header, HeaderTarget, JournalVersion, header_of_line};
 pub use crate::lines::cut_line;
 pub use crate::steps::change_of_line;
-pub use crate::writing::{header_value, step_value};
+pub use crate::values::{header_value, step_value};
+pub use pylock::Flaw;

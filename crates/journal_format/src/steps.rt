@@ -1,20 +1,21 @@
 // The steps of a journal.
 
 ghost use Rattle.std.specs.Prelude.{◌≡◌, ◌⊎◌, IfErr, IfOk, codes};
-ghost use Rattle.states.specs.Changes.{ChangeParts};
-ghost use Rattle.journal_format.specs.Forms.{Gives, at, each, list_of};
+ghost use Rattle.changes.specs.Changes.{ChangeParts};
+ghost use Rattle.journal_format.specs.Forms.{at, each, list_of};
 ghost use Rattle.journal_format.specs.Lines.{IsStepLine, digests_in, entry_change_in, splice_in, step_in, step_of_line, targeted};
-ghost use Rattle.journal_format.specs.declared.flaw.Flaw.TheVariants as flaws;
+ghost use Rattle.pylock.specs.Flaws.{Gives};
+ghost use Rattle.pylock.specs.declared.flaw.Flaw.TheVariants as flaws;
 ghost use Rattle.serde_json.specs.View.{items_view, view};
 
 use crate::entries::entry_or_null;
-use crate::flaw::Flaw;
 use crate::forms::{
-    Read, asked, at, items_of, json_of, only_keys, pair_of, quadruple_of, triple_of, value_at,
+    Read, at, check, items_of, json_of, only_keys, pair_of, quadruple_of, triple_of, value_at,
 };
 use crate::header::{Header, JournalVersion};
 use edits::{Change, DigestChange, EntryChange, Name, Splice, TargetName};
 use lists::{Seq, Text};
+use pylock::Flaw;
 use serde_json::Value;
 use std::alloc::Global;
 
@@ -60,7 +61,7 @@ fn entry_change_of(alloc: Global, header: &Header, value: &Value) -> Result<Entr
     ensures { Gives (λ c. c) (entry_change_in header.now (view value.now)) result }
 {
     let (target, name, old, new) = targeted(alloc, header.version, value)?;
-    asked(header.has_target(&target))?;
+    check(header.has_target(&target))?;
     let name = Name::from_value(alloc, name)?;
     let old = entry_or_null(alloc, &name, old)?;
     let new = entry_or_null(alloc, &name, new)?;

@@ -1,29 +1,23 @@
 -- The table of a lock is read back as the lock.
 use Rattle.std.proofs.Common.{◌≡◌, ℕ, true, List, [], ◌∷◌, map, codes, Option, Some, None, Result, Ok, refl}
-use Rattle.std.proofs.lemmas.Slice.Eq.{bytes_eq-Decides}
 use Rattle.std.specs.List.{AllByRecursion, list_all}
 use Rattle.std.specs.Option.{option_map}
-use Rattle.std.specs.Str.{bytes_eq}
 use Rattle.hex.specs.Hex.{encode_lower}
-use Rattle.hex.proofs.HexLemmas.{decode_sized-encode_lower}
 use Rattle.pep440.specs.Canonical.{canonical}
-use Rattle.pep440.specs.Tied.Reading.{version_of}
-use Rattle.pep440.specs.Version.{IsVersion, VersionParts}
 use Rattle.toml.specs.Data.{Data, string, Members, no_members, member, get_member}
 use Rattle.toml.specs.View.{items_of}
 use Rattle.pylock.specs.declared.file.FileEntry.{FileEntry}
-use Rattle.pylock.specs.declared.fault.Flaw.{Flaw}
+use Rattle.pylock.specs.declared.flaw.Flaw.{Flaw}
+use Rattle.pylock.specs.CanonicalTexts.{lower_digest}
 use Rattle.pylock.specs.Forms.{after, each, optionally, some_each, text_of, unknown_in}
 use Rattle.pylock.specs.Locks.{IsLock, LockParts, are_entries}
 use Rattle.markers.specs.Names.{is_normal}
 use Rattle.pylock.specs.Packages.{IsPackage, EntryParts, is_other}
-use Rattle.pylock.specs.Reading.{digest_in, dependency_in, entries_in, environment_in, file_in, lock_in, package_in, package_keys, tool_in}
+use Rattle.pylock.specs.LockOfTable.{dependency_in, entries_in, environment_in, file_in, lock_in, package_in, package_keys, tool_in}
 use Rattle.pylock.specs.Tables.{array_of, dependency_data, file_data, optional, package_data, some_array, table_of, tool_data}
+use Rattle.pylock.proofs.CanonicalBack.{Back, ReadsVersions, all-back, canonical-back, lower-back, names-back}
 use Rattle.pylock.proofs.PackageFacts.{parts}
 use Rattle.std.proofs.lemmas.Bool.{and_parts}
-
-same_bytes : (t : List ℕ) → bytes_eq t t ≡ true
-same_bytes t = (bytes_eq-Decides t t).1 refl
 
 file-back : (f : FileEntry) → file_in (file_data f) ≡ Ok f
 unfolding file_in file_data unknown_in after
@@ -34,32 +28,18 @@ unfolding dependency_in dependency_data unknown_in after
 dependency-back name normal = rw normal refl
 
 module _ {X : Type 0} (form : X → Data) (reading : Data → Result X Flaw) where
-  -- each item of the list is read back
-  abbrev pub Back : List X → Type 0
-  Back = AllByRecursion (λ x. reading (form x) ≡ Ok x)
-
-  each-back : (xs : List X) → Back xs → each reading (items_of (map form xs)) ≡ Ok xs
+  each-back : (xs : List X) → Back form reading xs → each reading (items_of (map form xs)) ≡ Ok xs
   unfolding each
   each-back [] h = refl
   each-back (x ∷ xs) h = rw (h.0, each-back xs h.1) refl
 
-  some-back : (xs : List X) → Back xs → some_each reading (some_array form xs) ≡ Ok xs
+  some-back : (xs : List X) → Back form reading xs → some_each reading (some_array form xs) ≡ Ok xs
   some-back [] h = refl
   some-back (x ∷ xs) h = each-back (x ∷ xs) h
 
   optional-back : (o : Option X) → ((x : X) → reading (form x) ≡ Ok x) → optionally reading (option_map form o) ≡ Ok o
   optional-back None h = refl
   optional-back (Some x) h = rw (h x) refl
-
-  all-back : (xs : List X) → ((x : X) → reading (form x) ≡ Ok x) → Back xs
-  all-back [] h = tt
-  all-back (x ∷ xs) h = (h x, all-back xs h)
-
-names-back : (own : List ℕ) (names : List (List ℕ)) → list_all (is_other own) names ≡ true → Back dependency_data dependency_in names
-names-back own [] h = tt
-names-back own (n ∷ ns) h =
-    let all = and_parts (is_other own n) (list_all (is_other own) ns) h in
-    (dependency-back n (and_parts (is_normal n) _ all.0).0, names-back own ns all.1)
 
 -- what stands at the keys of a package
 record At (ms : Members) (o1 o3 o4 o6 : Option Data) (d2 d5 : Data) : Type 0 where
@@ -93,31 +73,24 @@ at (Some d) (Some p) None (Some w) n v = record { known = refl; dependencies = r
 at (Some d) (Some p) (Some s) None n v = record { known = refl; dependencies = refl; name = refl; python = refl; sdist = refl; version = refl; wheels = refl }
 at (Some d) (Some p) (Some s) (Some w) n v = record { known = refl; dependencies = refl; name = refl; python = refl; sdist = refl; version = refl; wheels = refl }
 
--- the canonical text of a version is read as that version
-abbrev pub ReadsVersions : Type 0
-ReadsVersions = (v : VersionParts) → IsVersion v → version_of (canonical v) ≡ Ok v
-
 package-back : ReadsVersions → (p : EntryParts) → IsPackage p → package_in (package_data p) ≡ Ok p
 unfolding package_in package_data
 package-back reads p h =
     let a = at (some_array dependency_data p.dependencies) (option_map string p.requires_python) (option_map file_data p.sdist) (some_array file_data p.wheels) (string p.name) (string (canonical p.version)) in
     let q = parts p h.parts in
-    let dependencies = some-back dependency_data dependency_in p.dependencies (names-back p.name p.dependencies (and_parts _ (list_all (is_other p.name) p.dependencies) q.dependencies).1) in
+    let dependencies = some-back dependency_data dependency_in p.dependencies (names-back dependency_data dependency_in dependency-back p.name p.dependencies (and_parts _ (list_all (is_other p.name) p.dependencies) q.dependencies).1) in
     let python = optional-back string text_of p.requires_python (λ _. refl) in
     let sdist = optional-back file_data file_in p.sdist file-back in
     let wheels = some-back file_data file_in p.wheels (all-back file_data file_in p.wheels file-back) in
-    rw (a.known, a.dependencies, a.name, a.python, a.sdist, a.version, a.wheels, dependencies, q.name, python, sdist, reads p.version h.version, same_bytes (canonical p.version), wheels, h.parts) refl
+    rw (a.known, a.dependencies, a.name, a.python, a.sdist, a.version, a.wheels, dependencies, q.name, python, sdist, canonical-back reads p.version h.version, wheels, h.parts) refl
 
 packages-back : ReadsVersions → (ps : List EntryParts) → AllByRecursion IsPackage ps → Back package_data package_in ps
 packages-back reads [] h = tt
 packages-back reads (p ∷ ps) h = (package-back reads p h.0, packages-back reads ps h.1)
 
-tool-back : (digest : List ℕ) → digest_in (encode_lower digest) ≡ Ok digest → tool_in (Some (tool_data digest)) ≡ Ok digest
+tool-back : (digest : List ℕ) → lower_digest (encode_lower digest) ≡ Ok digest → tool_in (Some (tool_data digest)) ≡ Ok digest
 unfolding tool_in tool_data unknown_in after
 tool-back digest h = h
-
-digest-back : (l : LockParts) → IsLock l → digest_in (encode_lower l.snapshot) ≡ Ok l.snapshot
-digest-back l h = rw (decode_sized-encode_lower l.snapshot 32 h.length h.bytes, same_bytes (encode_lower l.snapshot)) refl
 
 entries-back : ReadsVersions → (ps : List EntryParts) → AllByRecursion IsPackage ps → are_entries ps ≡ true → entries_in (Some (array_of package_data ps)) ≡ Ok ps
 unfolding entries_in
@@ -126,4 +99,4 @@ entries-back reads ps h order = rw (each-back package_data package_in ps (packag
 -- the table of a lock is read as the lock
 pub lock-back : ReadsVersions → (l : LockParts) → IsLock l → lock_in (table_of l) ≡ Ok l
 unfolding lock_in environment_in unknown_in after
-lock-back reads l h = rw (entries-back reads l.entries h.entries h.order, tool-back l.snapshot (digest-back l h)) refl
+lock-back reads l h = rw (entries-back reads l.entries h.entries h.order, tool-back l.snapshot (lower-back l.snapshot h.length h.bytes)) refl

@@ -6,7 +6,8 @@ use Rattle.std.specs.Option.{option_map}
 use Rattle.std.specs.Str.{bytes_eq}
 use Rattle.toml.specs.Data.{Data, string, integer, array, table, Members, no_members, as_array, as_str, get_member}
 use Rattle.pylock.specs.declared.file.FileEntry.{FileEntry}
-use Rattle.pylock.specs.Forms.{after, each, found, optionally, size_at, some_each, table_with, text_at, text_of}
+use Rattle.pylock.specs.Flaws.{found}
+use Rattle.pylock.specs.Forms.{after, each, optionally, size_at, some_each, table_with, text_at, text_of}
 use Rattle.pep440.specs.Canonical.{canonical}
 use Rattle.pep440.specs.Tied.Reading.{version_of}
 use Rattle.pep440.specs.Version.{VersionParts}
@@ -14,7 +15,8 @@ use Rattle.pep440.specs.declared.fault.Fault.{Fault as VersionFault}
 use Rattle.pylock.specs.Locks.{are_entries}
 use Rattle.markers.specs.Names.{is_normal}
 use Rattle.pylock.specs.Packages.{EntryParts, entry_of, is_package}
-use Rattle.pylock.specs.Reading.{dependency_in, entries_in, file_in, if_canonical, in_order, lock_keys, normal_in, package_in, package_keys, version_in}
+use Rattle.pylock.specs.CanonicalTexts.{canonical_version, if_canonical, normal_name}
+use Rattle.pylock.specs.LockOfTable.{dependency_in, entries_in, file_in, in_order, lock_keys, package_in, package_keys}
 use Rattle.pylock.specs.Tables.{array_of, dependency_data, file_data, file_table, only_key, optional, package_data, package_table, some_array}
 use Rattle.pylock.proofs.KeyFacts.{AreDistinct, at_keys, is_at_keys}
 use Rattle.pylock.proofs.FormsAreExact.{both, found-is, str-is, array-is, table-is, text-is, number-is, each-is, optional-is, some-is}
@@ -26,7 +28,7 @@ distinct-1 = (refl, tt)
 
 -- ---- the parts of a lock
 
-normal-is : (text name : List ℕ) → normal_in text ≡ Ok name → text ≡ name
+normal-is : (text name : List ℕ) → normal_name text ≡ Ok name → text ≡ name
 normal-is text name h = elim (cases_Bool (is_normal text)) [
   | inl yes1 ↦ let g = (rw yes1 at h) in cc
   | inr other ↦ absurd (let g = (rw other at h) in cc)
@@ -36,7 +38,7 @@ dependency-is : (d : Data) (name : List ℕ) → dependency_in d ≡ Ok name →
 unfolding dependency_in dependency_data
 dependency-is d name h =
     let a = both (table_with (codes "name" ∷ []) d) _ name h in
-    let b = both (text_at (codes "name") a.value) normal_in name a.next in
+    let b = both (text_at (codes "name") a.value) normal_name name a.next in
     let p = table-is (codes "name" ∷ []) d a.value a.first in
     let whole : a.value ≡ optional (codes "name") (get_member (codes "name") a.value) no_members = is_at_keys (codes "name" ∷ []) a.value distinct-1 p.1 in
     let name_is = text-is (codes "name") a.value b.value b.first in
@@ -127,11 +129,11 @@ package-is d p h =
     let ms = a.value in
     let o1 = both (some_each dependency_in (get_member (codes "dependencies") ms)) _ p a.next in
     let o2 = both (text_at (codes "name") ms) _ p o1.next in
-    let n = both (normal_in o2.value) _ p o2.next in
+    let n = both (normal_name o2.value) _ p o2.next in
     let o3 = both (optionally text_of (get_member (codes "requires-python") ms)) _ p n.next in
     let o4 = both (optionally file_in (get_member (codes "sdist") ms)) _ p o3.next in
     let o5 = both (text_at (codes "version") ms) _ p o4.next in
-    let v = both (version_in o5.value) _ p o5.next in
+    let v = both (canonical_version o5.value) _ p o5.next in
     let o6 = both (some_each file_in (get_member (codes "wheels") ms)) _ p v.next in
     let q : EntryParts = record { name = n.value; version = v.value; requires_python = o3.value; dependencies = o1.value; sdist = o4.value; wheels = o6.value } in
     let e : q ≡ p = entry-is q p (found-is (entry_of q) p o6.next) in

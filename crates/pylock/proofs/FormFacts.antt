@@ -1,25 +1,15 @@
 -- Reading the items of an array one after the other.
-use Rattle.std.proofs.Common.{◌≡◌, ◌⊎◌, ℕ, ◌+◌, ◌==◌, ◌<◌, ◌≤◌, List, [], ◌∷◌, ◌++◌, length, get_or, drop, map, true, false, Option, Some, None, if◌then◌else◌, Result, Ok, Err, refl, sym, ap, ◌∙◌, append_assoc, inl, inr}
+use Rattle.std.proofs.Common.{◌≡◌, ◌⊎◌, ℕ, ◌+◌, ◌==◌, ◌<◌, ◌≤◌, List, [], ◌∷◌, ◌++◌, length, get_or, drop, map, true, false, Option, Some, None, if◌then◌else◌, Result, Ok, Err, refl, sym, ap, ◌∙◌, inl, inr}
 use Rattle.std.proofs.lemmas.List.{append-nil, drop_more, drop_all}
 use Rattle.std.specs.Str.{bytes_eq}
 use Rattle.toml.specs.Data.{Data, Members, no_members, member}
 use Rattle.toml.specs.View.{items_view, view}
 use Rattle.toml.specs.declared.value.Value.{Value}
-use Rattle.pylock.specs.declared.fault.Flaw.{Flaw}
-use Rattle.pylock.specs.declared.fault.Flaw.TheVariants.{OutOfMemory}
-use Rattle.pylock.specs.Forms.{◌>>=◌, after, each, not_empty, unknown_in}
-
--- what was read so far, before what is still to be read
-abbrev pub before : {A : Type 0} → List A → Result (List A) Flaw → Result (List A) Flaw
-before done read = read >>= λ xs. Ok (done ++ xs)
-
-pub before-none : {A : Type 0} (read : Result (List A) Flaw) → before [] read ≡ read
-before-none (Ok xs) = refl
-before-none (Err e) = refl
-
-before-first : {A : Type 0} (done : List A) (x : A) (read : Result (List A) Flaw) → before done (read >>= λ xs. Ok (x ∷ xs)) ≡ before (done ++ x ∷ []) read
-before-first done x (Ok xs) = ap Ok (sym (append_assoc done (x ∷ []) xs))
-before-first done x (Err e) = refl
+use Rattle.pylock.specs.declared.flaw.Flaw.{Flaw}
+use Rattle.pylock.specs.declared.flaw.Flaw.TheVariants.{OutOfMemory}
+use Rattle.pylock.proofs.ReadSoFar.{before, before-first}
+use Rattle.pylock.specs.Flaws.{◌>>=◌}
+use Rattle.pylock.specs.Forms.{after, each, not_empty, unknown_in}
 
 module _ {A : Type 0} (form : Data → Result A Flaw) where
   -- the items from a place on: the one there, and the others

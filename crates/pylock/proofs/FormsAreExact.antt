@@ -3,8 +3,9 @@ use Rattle.std.proofs.Common.{◌≡◌, ℕ, List, [], ◌∷◌, map, Option, 
 use Rattle.std.specs.Option.{option_map}
 use Rattle.toml.specs.Data.{Data, string, integer, float, boolean, datetime, array, table, Items, no_items, item, Members, as_array, as_integer, as_str, as_table, get_member}
 use Rattle.toml.specs.View.{items_of}
-use Rattle.pylock.specs.declared.fault.Flaw.{Flaw}
-use Rattle.pylock.specs.Forms.{◌>>=◌, all_known, each, found, natural, not_empty, optionally, size_at, some_each, table_with, text_at, unknown_in}
+use Rattle.pylock.specs.declared.flaw.Flaw.{Flaw}
+use Rattle.pylock.specs.Flaws.{◌>>=◌, found}
+use Rattle.pylock.specs.Forms.{all_known, each, natural, not_empty, optionally, size_at, some_each, table_with, text_at, unknown_in}
 use Rattle.pylock.specs.Tables.{some_array}
 
 -- ---- results

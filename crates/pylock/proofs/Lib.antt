@@ -1,8 +1,10 @@
 pub mod TableFacts
 pub mod PackageFacts
 pub mod WriteFacts
+pub mod ReadSoFar
 pub mod FormFacts
 pub mod ReadFacts
+pub mod CanonicalBack
 pub mod BackFacts
 pub mod DepthFacts
 pub mod DateFacts

@@ -5,12 +5,14 @@ use Rattle.std.proofs.lemmas.Bool.{cases_Bool}
 use Rattle.std.proofs.lemmas.Slice.Eq.{bytes_eq-Decides}
 use Rattle.std.specs.Str.{bytes_eq}
 use Rattle.toml.specs.Data.{Data, string, array, Items, no_items, item, Members, as_array, as_str, get_member}
-use Rattle.pylock.specs.declared.fault.Flaw.{Flaw}
-use Rattle.pylock.specs.Forms.{found, table_with, text_at, unknown_in}
+use Rattle.pylock.specs.declared.flaw.Flaw.{Flaw}
+use Rattle.pylock.specs.CanonicalTexts.{if_lower, lower_digest}
+use Rattle.pylock.specs.Flaws.{found}
+use Rattle.pylock.specs.Forms.{table_with, text_at, unknown_in}
 use Rattle.hex.specs.Hex.{decode_sized, encode_lower}
 use Rattle.hex.specs.declared.error.FromHexError.{FromHexError}
 use Rattle.pylock.specs.Locks.{LockParts}
-use Rattle.pylock.specs.Reading.{at_key, creator_in, digest_in, entries_in, environment_in, format_of, if_known, if_lower, lock_in, lock_keys, only_text, tool_in}
+use Rattle.pylock.specs.LockOfTable.{at_key, creator_in, entries_in, environment_in, format_of, if_known, lock_in, lock_keys, only_text, tool_in}
 use Rattle.pylock.specs.Tables.{array_of, only_key, package_data, table_of, tool_data}
 use Rattle.pylock.proofs.KeyFacts.{at_keys, is_at_keys}
 use Rattle.pylock.proofs.FormsAreExact.{both, found-is, str-is, array-is, text-is}
@@ -55,7 +57,7 @@ tool-is o digest h =
     let tools = both (table_with (codes "reqlock" ∷ []) a.value) _ digest a.next in
     let own = both (found (get_member (codes "reqlock") tools.value)) _ digest tools.next in
     let ms = both (table_with (codes "snapshot" ∷ []) own.value) _ digest own.next in
-    let text = both (text_at (codes "snapshot") ms.value) digest_in digest ms.next in
+    let text = both (text_at (codes "snapshot") ms.value) lower_digest digest ms.next in
     let lower = lower-is text.value (decode_sized text.value 32) digest text.next in
     let inner = one-key (codes "snapshot") own.value (string text.value) ms.value distinct-snapshot ms.first (text-is (codes "snapshot") ms.value text.value text.first) in
     let outer = one-key (codes "reqlock") a.value own.value tools.value distinct-tool tools.first (found-is (get_member (codes "reqlock") tools.value) own.value own.first) in

@@ -3,7 +3,7 @@ use Rattle.std.proofs.Common.{◌≡◌, ◌≢◌, List, [], ◌∷◌, length,
 use Rattle.toml.specs.Data.{as_str}
 use Rattle.toml.specs.View.{items_view, view}
 use Rattle.toml.specs.declared.value.Value.{Value}
-use Rattle.pylock.specs.Reading.{only_text}
+use Rattle.pylock.specs.LockOfTable.{only_text}
 
 pub only_text-one : (vs : List Value) (v : Value) → length vs ≡ 1 → v ≡ get_or vs 0 v → as_str (view v) ≡ only_text (items_view vs)
 only_text-one [] v h is = absurd (omega (arith, h))

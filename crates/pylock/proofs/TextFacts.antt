@@ -7,7 +7,7 @@ use Rattle.toml.specs.Data.{Members}
 use Rattle.toml.specs.Parse.{parse_document}
 use Rattle.pylock.specs.declared.fault.Fault.TheVariants.{NotToml}
 use Rattle.pylock.specs.Locks.{LockParts}
-use Rattle.pylock.specs.Reading.{lock_in, lock_in_text, toml_of}
+use Rattle.pylock.specs.LockOfTable.{lock_in, lock_in_text, toml_of}
 
 not_toml_by : (b : Bool) (bytes : List ℕ) → is_utf8 bytes ≡ b → (IsUtf8 bytes → parse_document bytes ≡ None) → toml_of bytes ≡ Err NotToml
 unfolding toml_of

@@ -2,7 +2,7 @@
 use Rattle.std.proofs.Common.{◌≡◌, Option, Some, None, codes, refl}
 use Rattle.toml.specs.Data.{Data, no_members, member}
 use Rattle.pylock.specs.Tables.{optional}
-use Rattle.pylock.specs.Tied.Writing.{with_member, with_optional}
+use Rattle.pylock.specs.Tied.Members.{with_member, with_optional}
 
 -- keys that are put into a table in their order stand in it in that order
 pub in_order : (dependencies python sdist wheels : Option Data) (name version : Data)

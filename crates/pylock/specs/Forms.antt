@@ -6,19 +6,8 @@ use Rattle.std.specs.Option.{option_map_or}
 use Rattle.std.specs.Ordering.{is_lt, nat_cmp}
 use Rattle.std.specs.Str.{bytes_eq}
 use Rattle.toml.specs.Data.{Data, Items, no_items, item, Members, no_members, member, as_array, as_integer, as_str, as_table, get_member}
-use Rattle.pylock.specs.declared.fault.Flaw.{Flaw}
-use Rattle.pylock.specs.declared.fault.Flaw.TheVariants.{OtherForm}
-
-infixl 10 ◌>>=◌
--- the next step, unless this one has a fault
-abbrev pub ◌>>=◌ : {A B E : Type 0} → Result A E → (A → Result B E) → Result B E
-(Ok x) >>= f = f x
-(Err e) >>= f = Err e
-
--- what is there
-abbrev pub found : {A : Type 0} → Option A → Result A Flaw
-found None = Err OtherForm
-found (Some x) = Ok x
+use Rattle.pylock.specs.declared.flaw.Flaw.{Flaw}
+use Rattle.pylock.specs.Flaws.{◌>>=◌, found}
 
 -- the keys of a table
 abbrev pub keys_of : Members → List (List ℕ)

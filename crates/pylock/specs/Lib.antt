@@ -4,6 +4,8 @@ pub mod Python
 pub mod Locks
 pub mod Order
 pub mod Tables
+pub mod Flaws
+pub mod CanonicalTexts
 pub mod Forms
-pub mod Reading
+pub mod LockOfTable
 pub mod Tied

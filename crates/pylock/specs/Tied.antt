@@ -1,3 +1,2 @@
 -- What serves proofs alone. Each file begins with the law that ties it to a definition outside this folder.
-pub mod Views
-pub mod Writing
+pub mod Members

@@ -2,10 +2,9 @@
 
 ghost use Rattle.std.specs.Prelude.{◌≡◌};
 ghost use Rattle.pylock.specs.declared.fault.Fault.TheVariants as faults;
-ghost use Rattle.pylock.specs.declared.fault.Flaw.TheVariants as flaws;
 
 use lists::Text;
-use std::alloc::{AllocError, AllocFailed};
+use std::alloc::AllocError;
 use std::error::Error;
 use std::fmt;
 
@@ -40,30 +39,5 @@ impl From<AllocError> for Fault {
 
     fn from(_error: AllocError) -> Fault {
         Fault::OutOfMemory
-    }
-}
-
-/// Why a value isn't what it should be.
-#[derive(Clone, Copy, Debug, PartialEq, Eq)]
-pub(crate) enum Flaw {
-    /// The value has another form.
-    OtherForm,
-    /// Memory was refused.
-    OutOfMemory,
-}
-
-impl From<AllocError> for Flaw {
-    ghost from_gives = { λ _ e. e ≡ flaws.OutOfMemory };
-
-    fn from(_error: AllocError) -> Flaw {
-        Flaw::OutOfMemory
-    }
-}
-
-impl<T: Drop> From<AllocFailed<T>> for Flaw {
-    ghost from_gives = { λ _ e. e ≡ flaws.OutOfMemory };
-
-    fn from(_error: AllocFailed<T>) -> Flaw {
-        Flaw::OutOfMemory
     }
 }

@@ -4,11 +4,11 @@ ghost use Rattle.std.specs.Prelude.{◌≡◌, Result, drop, map, option_and_the
 ghost use Rattle.std.specs.Option.{option_map};
 ghost use Rattle.toml.specs.Data.{Data, as_array, get_member};
 ghost use Rattle.toml.specs.View.{items_view, table_view, view};
-ghost use Rattle.pylock.specs.Forms.{after, each, found, not_empty, optionally, size_at, some_each, table_with, text_at, text_of, unknown_in};
-ghost use Rattle.pylock.specs.Tied.Views.{Gives};
-ghost use Rattle.pylock.specs.declared.fault.Flaw.{Flaw};
+ghost use Rattle.pylock.specs.Flaws.{Gives, found};
+ghost use Rattle.pylock.specs.Forms.{after, each, not_empty, optionally, size_at, some_each, table_with, text_at, text_of, unknown_in};
+ghost use Rattle.pylock.specs.declared.flaw.Flaw.{Flaw};
 
-use crate::fault::Flaw;
+use crate::flaw::Flaw;
 use lists::Text;
 use std::alloc::Global;
 use toml::{Table, Value};

@@ -4,18 +4,19 @@ ghost use Rattle.std.specs.Prelude.{◌≡◌, ◌⊎◌, IfOk, codes, option_an
 ghost use Rattle.lists.specs.Answers.{Answers};
 ghost use Rattle.toml.specs.Data.{as_array, as_str, get_member};
 ghost use Rattle.toml.specs.View.{items_view, table_view};
-ghost use Rattle.pylock.specs.Forms.{found, unknown_in};
-ghost use Rattle.pylock.specs.Tied.Views.{Gives};
+ghost use Rattle.pylock.specs.Flaws.{Gives, found};
+ghost use Rattle.pylock.specs.Forms.{unknown_in};
 ghost use Rattle.pylock.specs.Locks.{are_entries};
-ghost use Rattle.pylock.specs.Reading.{at_key, creator_in, digest_in, entries_in, environment_in, fault_at, format_of, if_known, in_order, lock_in, lock_keys, only_text, tool_in};
+ghost use Rattle.pylock.specs.LockOfTable.{at_key, creator_in, entries_in, environment_in, fault_at, format_of, if_known, in_order, lock_in, lock_keys, only_text, tool_in};
 ghost use Rattle.pylock.specs.Tables.{table_of};
 ghost use Rattle.pylock.specs.declared.fault.Fault.TheVariants as faults;
 
+use crate::canonical_texts::lower_digest;
 use crate::entry::Entry;
-use crate::fault::{Fault, Flaw};
+use crate::fault::Fault;
+use crate::flaw::Flaw;
 use crate::forms::{each, needed_at, table_with, text_at, unknown_key, value_at};
 use crate::lock::Lock;
-use hex::FromHex;
 use lists::{Seq, Text, rises};
 use std::alloc::Global;
 use toml::{Table, Value};
@@ -43,7 +44,7 @@ fn at_key<T>(alloc: Global, key: &str, read: Result<T, Flaw>) -> Result<T, Fault
     }
 }
 
-/// Asks for version 1.0 of the format.
+/// Checks that the format is version 1.0.
 fn check_format(alloc: Global, table: &Table) -> Result<(), Fault>
     ensures { Answers faults.OutOfMemory (format_of (option_and_then as_str (get_member (codes
         "lock-version") (table_view table.now)))) result }
@@ -55,8 +56,8 @@ fn check_format(alloc: Global, table: &Table) -> Result<(), Fault>
     }
 }
 
-/// Asks for the name of this tool.
-fn creator_at(table: &Table) -> Result<(), Flaw>
+/// Checks that the lock is of this tool.
+fn check_creator(table: &Table) -> Result<(), Flaw>
     ensures { Gives (λ u. u) (creator_in (get_member (codes "created-by") (table_view table.now)))
         result }
 {
@@ -88,7 +89,7 @@ fn only_text(values: &[Value]) -> Option<&str>
 }
 
 /// The text of the lock's environment.
-#[tactic(auto, unfolding(crate::specs::Reading::environment_in))]
+#[tactic(auto, unfolding(crate::specs::LockOfTable::environment_in))]
 fn environment_at(alloc: Global, table: &Table) -> Result<Text, Flaw>
     ensures { Gives (λ t. t) (environment_in (get_member (codes "environments") (table_view
         table.now))) result }
@@ -100,7 +101,7 @@ fn environment_at(alloc: Global, table: &Table) -> Result<Text, Flaw>
 }
 
 /// The entries, in the order of their names.
-#[tactic(auto, unfolding(crate::specs::Reading::entries_in))]
+#[tactic(auto, unfolding(crate::specs::LockOfTable::entries_in))]
 fn entries_at(alloc: Global, table: &Table) -> Result<Seq<Entry>, Flaw>
     ensures entries { Gives
         (λ es. es) (entries_in (get_member (codes "packages") (table_view table.now))) result }
@@ -113,33 +114,17 @@ fn entries_at(alloc: Global, table: &Table) -> Result<Seq<Entry>, Flaw>
     Ok(Seq::from_vec(entries))
 }
 
-/// The digest that a text is.
-fn digest_in(alloc: Global, text: &str) -> Result<[u8; 32], Flaw>
-    ensures { Gives (λ d. d) (digest_in text.now) result }
-{
-    match <[u8; 32] as FromHex>::from_hex(text) {
-        Ok(digest) => {
-            let lower = hex::encode(alloc, digest)?;
-            if lower.as_str() == text {
-                return Ok(digest);
-            }
-            Err(Flaw::OtherForm)
-        }
-        Err(_) => Err(Flaw::OtherForm),
-    }
-}
-
 /// The digest of the index.
-#[tactic(auto, unfolding(crate::specs::Reading::tool_in))]
+#[tactic(auto, unfolding(crate::specs::LockOfTable::tool_in))]
 fn snapshot_at(alloc: Global, table: &Table) -> Result<[u8; 32], Flaw>
     ensures { Gives (λ d. d) (tool_in (get_member (codes "tool") (table_view table.now))) result }
 {
     let tools = table_with(&["reqlock"], needed_at("tool", table)?)?;
     let own = table_with(&["snapshot"], needed_at("reqlock", tools)?)?;
-    digest_in(alloc, text_at("snapshot", own)?)
+    lower_digest(alloc, text_at("snapshot", own)?)
 }
 
-/// Asks that no other key is there.
+/// Checks that no other key is there.
 fn check_keys(alloc: Global, table: &Table) -> Result<(), Fault>
     ensures { Answers faults.OutOfMemory (if_known (unknown_in lock_keys (table_view table.now)))
         result }
@@ -160,13 +145,13 @@ fn check_keys(alloc: Global, table: &Table) -> Result<(), Fault>
 }
 
 /// The lock whose table this is, or the first fault.
-#[tactic(auto, unfolding(crate::specs::Reading::lock_in))]
+#[tactic(auto, unfolding(crate::specs::LockOfTable::lock_in))]
 fn lock_in(alloc: Global, table: &Table) -> Result<Lock, Fault>
     ensures { Answers faults.OutOfMemory (lock_in (table_view table.now)) result }
 {
     check_format(alloc, table)?;
     let environment = at_key(alloc, "environments", environment_at(alloc, table))?;
-    at_key(alloc, "created-by", creator_at(table))?;
+    at_key(alloc, "created-by", check_creator(table))?;
     let entries = at_key(alloc, "packages", entries_at(alloc, table))?;
     let snapshot = at_key(alloc, "tool", snapshot_at(alloc, table))?;
     check_keys(alloc, table)?;

@@ -5,7 +5,7 @@ ghost use Rattle.toml.specs.Data.{Members};
 ghost use Rattle.pylock.specs.Forms.{keys_of, least_unknown, unknown_in};
 ghost use Rattle.pylock.specs.Locks.{IsLock, LockParts};
 ghost use Rattle.lists.specs.Rising.{rises};
-ghost use Rattle.pylock.specs.Reading.{file_keys, lock_in, lock_keys, package_keys};
+ghost use Rattle.pylock.specs.LockOfTable.{file_keys, lock_in, lock_keys, package_keys};
 ghost use Rattle.pylock.specs.Tables.{table_of};
 
 use pep440::laws::a_canonical_text_is_read;

@@ -8,22 +8,26 @@
 //! ```
 #![tactic(auto)]
 
+mod canonical_texts;
 mod checks;
 mod entry;
 mod fault;
 mod file;
+mod flaw;
 mod forms;
 mod from_table;
 pub mod laws;
 mod lock;
-mod reading;
+mod packages;
 mod table;
 mod text;
-mod writing;
+mod values;
 
+pub use crate::canonical_texts::{canonical_version, lower_digest, normal_name};
 pub use crate::entry::Entry;
 pub use crate::fault::Fault;
 pub use crate::file::FileEntry;
+pub use crate::flaw::Flaw;
 pub use crate::lock::Lock;
 pub use lists::{Named, rises};
 pub use pep508::{Name, Version};

@@ -90,21 +90,6 @@ impl Lock {
         }
     }
 
-    /// Puts another digest and other entries, which are in order, into the place of the lock's own. It
-    /// has no refusal.
-    pub fn put(&mut self, snapshot: [u8; 32], entries: Seq<Entry>)
-        requires { are_entries entries ≡ true }
-        ensures { self.new ≡ record {
-          environment = self.old.environment;
-          snapshot = snapshot;
-          entries = entries;
-        } }
-    {
-        recall_invariants(entries.as_slice());
-        self.snapshot = snapshot;
-        self.entries = entries;
-    }
-
     /// The text of the environment, the digest of the index and the entries, each moved out of the lock.
     pub fn into_parts(self) -> (Text, [u8; 32], Seq<Entry>)
         ensures environment { result.0 ≡ self.environment }

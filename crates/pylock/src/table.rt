@@ -4,14 +4,14 @@ ghost use Rattle.std.specs.Prelude.{◌≡◌, ◌^◌, ◌∷◌, [], IfOk, Ok,
 ghost use Rattle.pep440.specs.Canonical.{canonical};
 ghost use Rattle.toml.specs.Data.{string};
 ghost use Rattle.toml.specs.View.{table_view, view};
-ghost use Rattle.pylock.specs.Reading.{lock_in};
+ghost use Rattle.pylock.specs.LockOfTable.{lock_in};
 ghost use Rattle.pylock.specs.Tables.{array_of, dependency_data, file_data, package_data, table_of, tool_data};
 
 use crate::entry::Entry;
 use crate::file::FileEntry;
 use crate::lock::Lock;
-use crate::writing::{
-    Written, array_value, only_key, put, put_some, some_array, some_value, text_value,
+use crate::values::{
+    Written, array_value, insert, insert_some, only_key, some_array, some_value, text_value,
 };
 use lists::Text;
 use pep440::Version;
@@ -51,20 +51,20 @@ impl Written for FileEntry {
     fn to_value(&self, alloc: Global) -> Result<Value, AllocError> {
         let mut table = Table::new(alloc);
         let sha256 = text_value(alloc, self.sha256.as_str())?;
-        put(
+        insert(
             alloc,
             &mut table,
             "hashes",
             only_key(alloc, "sha256", sha256)?,
         )?;
-        put(
+        insert(
             alloc,
             &mut table,
             "name",
             text_value(alloc, self.name.as_str())?,
         )?;
-        put(alloc, &mut table, "size", Value::Integer(self.size as i64))?;
-        put(
+        insert(alloc, &mut table, "size", Value::Integer(self.size as i64))?;
+        insert(
             alloc,
             &mut table,
             "url",
@@ -84,19 +84,19 @@ impl Written for Entry {
         self.recall_invariant();
         let mut table = Table::new(alloc);
         let dependencies = some_array(alloc, self.dependencies())?;
-        put_some(alloc, &mut table, "dependencies", dependencies)?;
-        put(
+        insert_some(alloc, &mut table, "dependencies", dependencies)?;
+        insert(
             alloc,
             &mut table,
             "name",
             text_value(alloc, self.name().normal())?,
         )?;
         let requires_python = some_value(alloc, self.requires_python())?;
-        put_some(alloc, &mut table, "requires-python", requires_python)?;
-        put_some(alloc, &mut table, "sdist", some_value(alloc, self.sdist())?)?;
+        insert_some(alloc, &mut table, "requires-python", requires_python)?;
+        insert_some(alloc, &mut table, "sdist", some_value(alloc, self.sdist())?)?;
         let version = canonical_text(alloc, self.version())?;
-        put(alloc, &mut table, "version", Value::String(version))?;
-        put_some(
+        insert(alloc, &mut table, "version", Value::String(version))?;
+        insert_some(
             alloc,
             &mut table,
             "wheels",
@@ -139,22 +139,22 @@ fn table_of(alloc: Global, lock: &Lock) -> Result<Table, AllocError>
     ensures { IfOk result (λ t. table_view t ≡ table_of lock.now) }
 {
     let mut table = Table::new(alloc);
-    put(
+    insert(
         alloc,
         &mut table,
         "created-by",
         text_value(alloc, "reqlock")?,
     )?;
     let environments = environments_value(alloc, lock.environment())?;
-    put(alloc, &mut table, "environments", environments)?;
-    put(alloc, &mut table, "lock-version", text_value(alloc, "1.0")?)?;
-    put(
+    insert(alloc, &mut table, "environments", environments)?;
+    insert(alloc, &mut table, "lock-version", text_value(alloc, "1.0")?)?;
+    insert(
         alloc,
         &mut table,
         "packages",
         array_value(alloc, lock.entries())?,
     )?;
-    put(
+    insert(
         alloc,
         &mut table,
         "tool",

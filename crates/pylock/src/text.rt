@@ -5,7 +5,7 @@ ghost use Rattle.std.specs.Str.{is_utf8};
 ghost use Rattle.lists.specs.Answers.{Answers};
 ghost use Rattle.toml.specs.Parse.{parse_document};
 ghost use Rattle.toml.specs.View.{table_view};
-ghost use Rattle.pylock.specs.Reading.{lock_in_text, toml_of};
+ghost use Rattle.pylock.specs.LockOfTable.{lock_in_text, toml_of};
 ghost use Rattle.pylock.specs.Tables.{table_of};
 ghost use Rattle.pylock.specs.declared.fault.Fault.TheVariants as faults;
 
@@ -16,7 +16,7 @@ use std::alloc::{AllocError, Global};
 use toml::Table;
 
 /// The TOML table of the bytes.
-#[tactic(auto, unfolding(crate::specs::Reading::toml_of))]
+#[tactic(auto, unfolding(crate::specs::LockOfTable::toml_of))]
 fn toml_of(alloc: Global, bytes: &[u8]) -> Result<Table, Fault>
     ensures table { IfOk result (λ t. toml_of bytes.now ≡ Ok (table_view t)) }
     ensures refused { IfErr result (λ e. (e ≡ faults.OutOfMemory) ⊎ (toml_of bytes.now ≡ Err e)) }
@@ -61,7 +61,7 @@ impl Lock {
 
     /// The lock whose TOML text this is (PEP 751): `NotToml` where the bytes aren't UTF-8 or no
     /// TOML, else as `from_table` answers for the table.
-    #[tactic(auto, unfolding(crate::specs::Reading::lock_in_text))]
+    #[tactic(auto, unfolding(crate::specs::LockOfTable::lock_in_text))]
     pub fn read(alloc: Global, bytes: &[u8]) -> Result<Lock, Fault>
         ensures answers { Answers faults.OutOfMemory (lock_in_text bytes.now) result }
     {

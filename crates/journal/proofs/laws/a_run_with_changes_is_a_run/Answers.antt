@@ -1,4 +1,4 @@
-use Rattle.journal.proofs.Runs.{Run-of}
+use Rattle.journal.proofs.RunFacts.{Run-of}
 use Rattle.journal.proofs.laws.a_run_with_changes_is_a_run.Goals as goal
 
 pub returns : goal.returns

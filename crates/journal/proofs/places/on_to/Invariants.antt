@@ -1,7 +1,7 @@
 use Rattle.std.proofs.Common.{◌≡◌, Some}
 use Rattle.std.specs.Prelude.{slice_get}
 use Rattle.std.specs.List.{AllZip}
-use Rattle.states.specs.Changes.{IsSameTarget}
+use Rattle.changes.specs.Changes.{IsSameTarget}
 use Rattle.journal.proofs.places.on_to.Given as goal
 
 abbrev pub invariant-loop-place : goal.invariant-loop-place

@@ -1,7 +1,7 @@
 use Rattle.std.proofs.Common.{◌≡◌, drop}
 use Rattle.toml.specs.View.{items_view}
 use Rattle.pylock.specs.Forms.{each}
-use Rattle.pylock.proofs.FormFacts.{before}
+use Rattle.pylock.proofs.ReadSoFar.{before}
 use Rattle.pylock.proofs.forms.each.Given as goal
 
 abbrev pub invariant-loop-place : goal.invariant-loop-place

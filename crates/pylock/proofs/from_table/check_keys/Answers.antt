@@ -1,7 +1,7 @@
 use Rattle.std.proofs.Common.{◌≡◌, Some, None, refl, sym, inl, inr}
 use Rattle.toml.specs.View.{table_view}
 use Rattle.pylock.specs.Forms.{unknown_in}
-use Rattle.pylock.specs.Reading.{lock_keys}
+use Rattle.pylock.specs.LockOfTable.{lock_keys}
 use Rattle.pylock.proofs.from_table.check_keys.Goals as goal
 
 pub returns-in-Some : goal.returns-in-Some

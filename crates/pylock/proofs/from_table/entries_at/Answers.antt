@@ -1,5 +1,5 @@
 use Rattle.std.proofs.Common.{rules}
-use Rattle.pylock.specs.Reading.{entries_in}
+use Rattle.pylock.specs.LockOfTable.{entries_in}
 use Rattle.pylock.proofs.from_table.entries_at.Goals as goal
 
 pub returns-clause-order : goal.returns-clause-order

@@ -1,5 +1,5 @@
 use Rattle.std.proofs.Common.{rules}
-use Rattle.pylock.specs.Reading.{lock_in}
+use Rattle.pylock.specs.LockOfTable.{lock_in}
 use Rattle.pylock.proofs.from_table.lock_in.Goals as goal
 
 pub returns : goal.returns

@@ -1,6 +1,6 @@
 use Rattle.std.proofs.Common.{refl, inr, sym, ◌∙◌, true≢false}
 use Rattle.std.proofs.lemmas.Str.{is_utf8-from_IsUtf8}
-use Rattle.pylock.specs.Reading.{toml_of}
+use Rattle.pylock.specs.LockOfTable.{toml_of}
 use Rattle.pylock.proofs.TextFacts.{not_toml}
 use Rattle.pylock.proofs.text.toml_of.Goals as goal
 

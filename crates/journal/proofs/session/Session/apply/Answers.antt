@@ -1,6 +1,6 @@
 use Rattle.std.proofs.Common.{sym}
 use Rattle.journal.specs.Commands.{asked_of}
-use Rattle.journal.proofs.Runs.{refused-kept}
+use Rattle.journal.proofs.RunFacts.{refused-kept}
 use Rattle.journal.proofs.session.Session.apply.Goals as goal
 
 pub returns-clause-step : goal.returns-clause-step

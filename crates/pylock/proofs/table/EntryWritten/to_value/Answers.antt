@@ -25,14 +25,14 @@ returns c =
     let sdist = c.in_ok-some_value.ensures in
     let version = c.in_ok-version.ensures in
     let wheels = c.in_ok-some_array.ensures in
-    let whole : table_view c.put_some-4.new.table ≡ package_table c.args.self.now =
+    let whole : table_view c.insert_some-4.new.table ≡ package_table c.args.self.now =
     rw (
-      c.in_ok-put_some-4.ensures,
-      c.in_ok-put-2.ensures,
-      c.in_ok-put_some-3.ensures,
-      c.in_ok-put_some-2.ensures,
-      c.in_ok-put.ensures,
-      c.in_ok-put_some.ensures,
+      c.in_ok-insert_some-4.ensures,
+      c.in_ok-insert-2.ensures,
+      c.in_ok-insert_some-3.ensures,
+      c.in_ok-insert_some-2.ensures,
+      c.in_ok-insert.ensures,
+      c.in_ok-insert_some.ensures,
       c.new-table.ensures.empty,
       wheels,
       sdist,
@@ -50,4 +50,4 @@ returns c =
       c.dependencies.ensures,
     )
     (in_order _ _ _ _ _ _) in
-    view-Table c.put_some-4.new.table ∙ ap table whole
+    view-Table c.insert_some-4.new.table ∙ ap table whole

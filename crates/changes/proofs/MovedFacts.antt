@@ -1,0 +1,72 @@
+-- Where a change moves a state.
+use Rattle.std.proofs.Common.{◌≡◌, ◌≢◌, ◌<◌, ◌≤◌, ◌||◌, ℕ, Bool, true, false, List, [], ◌∷◌, Contains, Ok, Option, Some, None, MatchOption, length, get_or, map, take, refl, sym, ap, ◌∙◌, subst}
+use Rattle.std.proofs.lemmas.Bool.{and_from, and_parts}
+use Rattle.std.proofs.lemmas.List.Elements.{AllZip-get_or}
+use Rattle.std.specs.List.{AllByRecursion, AllZip, concat, list_all, list_any}
+use Rattle.std.specs.Str.{bytes_eq}
+use Rattle.lists.proofs.Members.{take-whole}
+use Rattle.pep508.specs.Requirement.{file_of}
+use Rattle.changes.specs.Changes.{After, ChangeParts, ChangesTarget, Leads, LeadsNowhere}
+use Rattle.states.specs.State.{IsState}
+use Rattle.states.specs.StateParts.{StateParts}
+use Rattle.changes.specs.Tied.Only.{IsTheOnly}
+use Rattle.changes.specs.declared.change.parts.EntryChange.{EntryChange}
+use Rattle.states.specs.declared.target.Target.{Target}
+use Rattle.states.proofs.Among.{among-from, among-of}
+use Rattle.changes.proofs.OneOutcome.{After-one, targets-one}
+
+-- a change that leads to no state here leads nowhere
+pub nowhere : (change : ChangeParts) (old made : StateParts) → After old change made → (IsState made → ⊥) → LeadsNowhere old change
+nowhere change old made after none = λ new leads. none (subst IsState (After-one change old new made leads.0 after) leads.1)
+
+pub nowhere-lines : (change : ChangeParts) (old made : StateParts) → After old change made → file_of (concat made.lines) ≢ Ok made.lines → LeadsNowhere old change
+nowhere-lines change old made after none = nowhere change old made after (λ is. none is.lines)
+
+-- where it leads somewhere, it leads here
+pub is-state : (change : ChangeParts) (old made next : StateParts) → After old change made → Leads old change next → IsState made
+is-state change old made next after leads = subst IsState (After-one change old next made leads.0 after) leads.1
+
+-- what was made of it, or nothing, is where it leads
+pub leads-by : (change : ChangeParts) (old made : StateParts) → After old change made → (answer : Option StateParts)
+    → MatchOption answer (IsState made → ⊥) (λ state. (state ≡ made) × IsState made) → MatchOption answer (LeadsNowhere old change) (Leads old change)
+leads-by change old made after None none = nowhere change old made after none
+leads-by change old made after (Some state) is = subst (Leads old change) (sym is.0) (after, is.1)
+
+-- ---- targets
+
+-- the test whether a target has a name, over the targets' names
+any-named : (targets : List Target) (name : List ℕ) → list_any (λ t. bytes_eq name t.name) targets ≡ list_any (bytes_eq name) (map (λ t. t.name) targets)
+any-named [] name = refl
+any-named (t ∷ rest) name = ap (λ (more : Bool). bytes_eq name t.name || more) (any-named rest name)
+
+-- the targets of all changes are there, as it is tested
+pub known-from : (targets : List Target) (changes : List EntryChange) → list_all (λ c. list_any (λ t. bytes_eq c.target t.name) targets) changes ≡ true
+    → AllByRecursion (λ c. Contains (map (λ t. t.name) targets) c.target) changes
+known-from targets [] is = tt
+known-from targets (c ∷ rest) is =
+    let parts = and_parts (list_any (λ (t : Target). bytes_eq c.target t.name) targets) (list_all (λ (d : EntryChange). list_any (λ (t : Target). bytes_eq d.target t.name) targets) rest) is in
+    (among-from (map (λ (t : Target). t.name) targets) c.target (sym (any-named targets c.target) ∙ parts.0), known-from targets rest parts.1)
+
+pub known-of : (targets : List Target) (changes : List EntryChange) → AllByRecursion (λ c. Contains (map (λ t. t.name) targets) c.target) changes
+    → list_all (λ c. list_any (λ t. bytes_eq c.target t.name) targets) changes ≡ true
+known-of targets [] all = refl
+known-of targets (c ∷ rest) all =
+    and_from (list_any (λ (t : Target). bytes_eq c.target t.name) targets) (list_all (λ (d : EntryChange). list_any (λ (t : Target). bytes_eq d.target t.name) targets) rest)
+    (any-named targets c.target ∙ among-of (map (λ (t : Target). t.name) targets) c.target all.0) (known-of targets rest all.1)
+
+-- where the target of one isn't there, a change leads nowhere
+pub nowhere-unknown : (change : ChangeParts) (old : StateParts) → list_all (λ c. list_any (λ t. bytes_eq c.target t.name) old.targets) change.entries ≡ false → LeadsNowhere old change
+nowhere-unknown change old unknown = λ new leads. let known = known-of old.targets change.entries leads.0.known in let no : true ≡ false = sym known ∙ unknown in cc
+
+-- nor where it leads nowhere from a target
+pub stops-at : (change : ChangeParts) (targets : List Target) (place : ℕ) (t : Target) → place < length targets → t ≡ get_or targets place t → IsTheOnly (ChangesTarget change t) None
+    → IsTheOnly (AllZip (ChangesTarget change) targets) None
+stops-at change targets place t within is none = λ others all.
+    none (get_or others place t) (subst (λ (s : Target). ChangesTarget change s (get_or others place t)) (sym is) (AllZip-get_or (ChangesTarget change) targets others place t t all within))
+
+-- all targets are moved
+pub moves-all : (change : ChangeParts) (targets : List Target) (place : ℕ) (made : List Target) → length targets ≤ place → AllZip (ChangesTarget change) (take place targets) made
+    → IsTheOnly (AllZip (ChangesTarget change) targets) (Some made)
+moves-all change targets place made past all =
+    let whole : AllZip (ChangesTarget change) targets made = subst (λ (l : List Target). AllZip (ChangesTarget change) l made) (take-whole targets place past) all in
+    (whole, λ others also. targets-one change targets others made also whole)

@@ -1,0 +1,6 @@
+use Rattle.std.proofs.Common.{take}
+use Rattle.std.specs.List.{AllByRecursion}
+use Rattle.changes.proofs.change.minimal.are_parts.Given as goal
+
+abbrev pub invariant-loop-part : goal.invariant-loop-part
+invariant-loop-part g l = AllByRecursion g.T.Part.IsPart (take l.part-index l.parts)

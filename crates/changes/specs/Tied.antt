@@ -1,0 +1,10 @@
+-- What serves proofs alone.
+pub mod Between
+pub mod Carried
+pub mod Ends
+pub mod ExchangedEntries
+pub mod Outcome
+pub mod Nearest
+pub mod Only
+pub mod SplicedLines
+pub mod Whole

@@ -1,0 +1,50 @@
+-- The state that a change leads to, as a function of the state and the change.
+-- Tied to `After` by the law `a_change_leads_where_it_carries`; need not be read.
+use Rattle.std.specs.Prelude.{ℕ, ◌+◌, ◌-◌, List, [], ◌∷◌, ◌++◌, drop, length, map, take, Option, Some, None}
+use Rattle.std.specs.Option.{option_to_list}
+use Rattle.pylock.specs.Packages.{EntryParts}
+use Rattle.changes.specs.Changes.{ChangeParts, changes_on}
+use Rattle.states.specs.StateParts.{StateParts}
+use Rattle.changes.specs.Tied.ExchangedEntries.{count_below, entries_on}
+use Rattle.changes.specs.declared.change.parts.Splice.{Splice}
+use Rattle.changes.specs.declared.change.parts.EntryChange.{EntryChange}
+use Rattle.changes.specs.declared.change.parts.DigestChange.{DigestChange}
+use Rattle.states.specs.declared.target.Target.{Target}
+
+-- the lines, of which the first has this place in the file, after the splices
+abbrev pub carried_lines : ℕ → List Splice → List (List ℕ) → List (List ℕ)
+carried_lines from [] lines = lines
+carried_lines from (splice ∷ rest) lines =
+    take (splice.place - from) lines ++ splice.new ++ carried_lines (splice.place + length splice.old) rest (drop (splice.place - from + length splice.old) lines)
+
+-- the entries that aren't below a name
+abbrev pub from_name : List ℕ → List EntryParts → List EntryParts
+from_name name entries = drop (count_below name entries) entries
+
+-- the entries after the changes of some
+abbrev pub carried_entries : List EntryChange → List EntryParts → List EntryParts
+carried_entries [] entries = entries
+carried_entries (change ∷ rest) entries =
+    take (count_below change.name entries) entries ++ option_to_list change.new
+    ++ carried_entries rest (drop (entries_on change.name (from_name change.name entries)) (from_name change.name entries))
+
+-- the digest after its change
+abbrev pub carried_digest : Option DigestChange → List ℕ → List ℕ
+carried_digest None digest = digest
+carried_digest (Some digests) digest = digests.new
+
+-- the target after the change
+abbrev pub carried_target : ChangeParts → Target → Target
+carried_target change target = record {
+  name = target.name;
+  environment = target.environment;
+  lock = record {
+    environment = target.lock.environment;
+    snapshot = carried_digest change.digests target.lock.snapshot;
+    entries = carried_entries (changes_on target.name change.entries) target.lock.entries;
+  };
+}
+
+-- the state after the change
+abbrev pub carried : StateParts → ChangeParts → StateParts
+carried state change = record { lines = carried_lines 0 change.splices state.lines; targets = map (carried_target change) state.targets }

@@ -1,0 +1,139 @@
+// What a change makes of a state.
+
+ghost use Rattle.std.specs.Prelude.{◌≡◌, IfOk, MatchOption, true};
+ghost use Rattle.std.specs.List.{AllZip, list_all, list_any};
+ghost use Rattle.std.specs.Str.{bytes_eq};
+ghost use Rattle.pylock.specs.Locks.{are_entries};
+ghost use Rattle.changes.specs.Changes.{After, ChangesDigest, ChangesTarget, LeadsNowhere};
+ghost use Rattle.changes.specs.Tied.Outcome.{with_entries, with_outcome};
+ghost use Rattle.changes.specs.Tied.Only.{IsTheOnly};
+
+use crate::change::Change;
+use crate::change::by_target::own_changes;
+use crate::change::exchanged_entries::exchanged;
+use crate::change::parts::{DigestChange, EntryChange};
+use crate::change::spliced_lines::spliced;
+use lists::{Seq, Text};
+use pep508::Line;
+use pylock::{Entry, Lock};
+use states::{State, Target, TargetName};
+use std::alloc::{AllocError, Global};
+
+/// What a change makes of a state. What stays of the lines and of the entries is shared.
+#[derive(Drop)]
+pub(crate) struct Outcome {
+    pub(crate) lines: Seq<Line>,
+    pub(crate) targets: Seq<Target>,
+}
+
+/// The digest after the change; `None` where another one stood there.
+fn digest_after(digests: Option<DigestChange>, digest: [u8; 32]) -> Option<[u8; 32]>
+    ensures { IsTheOnly (ChangesDigest digests digest) result }
+{
+    let Some(digests) = digests else {
+        return Some(digest);
+    };
+    let old = digests.old;
+    if old != digest {
+        return None;
+    }
+    let new = digests.new;
+    Some(new)
+}
+
+/// The target with another digest and other entries in its lock.
+fn target_with(
+    alloc: Global,
+    target: &Target,
+    digest: [u8; 32],
+    entries: Seq<Entry>,
+) -> Result<Target, AllocError>
+    requires { are_entries entries ≡ true }
+    ensures { IfOk result (λ made. made ≡ with_entries target.now digest entries) }
+{
+    let name = target.name.clone()?;
+    let environment = target.environment.clone()?;
+    let text = Text::copy_of(alloc, target.lock.environment())?;
+    let lock = Lock::in_order(text, digest, entries);
+    Ok(Target {
+        name,
+        environment,
+        lock,
+    })
+}
+
+/// What the change makes of a target; `None` where an old part of it doesn't stand in its place.
+fn moved(alloc: Global, change: &Change, target: &Target) -> Result<Option<Target>, AllocError>
+    ensures { IfOk result (IsTheOnly (ChangesTarget change.now target.now)) }
+{
+    change.recall_invariant();
+    let lock = &target.lock;
+    lock.recall_invariant();
+    let Some(digest) = digest_after(change.digests(), lock.snapshot()) else {
+        return Ok(None);
+    };
+    let own = own_changes(change.entries(), &target.name);
+    let Some(entries) = exchanged(alloc, lock.entries(), own)? else {
+        return Ok(None);
+    };
+    Ok(Some(target_with(alloc, target, digest, entries)?))
+}
+
+/// What the change makes of the targets; `None` where it makes nothing of one.
+fn all_moved(
+    alloc: Global,
+    change: &Change,
+    targets: &[Target],
+) -> Result<Option<Seq<Target>>, AllocError>
+    ensures { IfOk result (IsTheOnly (AllZip (ChangesTarget change.now) targets.now)) }
+{
+    let mut made = Vec::with_capacity(alloc, targets.len())?;
+    for target in targets {
+        let Some(next) = moved(alloc, change, target)? else {
+            return Ok(None);
+        };
+        made.push(next)?;
+    }
+    Ok(Some(Seq::from_vec(made)))
+}
+
+/// Whether a target has the name.
+fn is_known(targets: &[Target], name: &TargetName) -> bool
+    ensures { result ≡ list_any (λ t. bytes_eq name.now t.name) targets.now }
+{
+    targets
+        .iter()
+        .any(|target| target.name.as_str() == name.as_str())
+}
+
+/// Whether the target of each change is there.
+fn are_known(targets: &[Target], changes: &[EntryChange]) -> bool
+    ensures { result ≡ list_all (λ c. list_any (λ t. bytes_eq c.target t.name) targets.now)
+        changes.now }
+{
+    changes
+        .iter()
+        .all(|change| is_known(targets, &change.target))
+}
+
+/// What the change makes of the state; `None` where an old part of it doesn't stand in its place, a
+/// target of it isn't there, or a new line doesn't read. Whether it is a state isn't tested.
+pub(crate) fn outcome_of(
+    alloc: Global,
+    change: &Change,
+    state: &State,
+) -> Result<Option<Outcome>, AllocError>
+    ensures { IfOk result (λ made. MatchOption made (LeadsNowhere state.now change.now)
+        (λ made. After state.now change.now (with_outcome made))) }
+{
+    if !are_known(state.targets(), change.entries()) {
+        return Ok(None);
+    }
+    let Some(targets) = all_moved(alloc, change, state.targets())? else {
+        return Ok(None);
+    };
+    let Some(lines) = spliced(alloc, state.lines().lines(), change.splices())? else {
+        return Ok(None);
+    };
+    Ok(Some(Outcome { lines, targets }))
+}

@@ -1,0 +1,117 @@
+// Whether values hold the same, compared by their texts and not by an order.
+
+ghost use Rattle.std.specs.Prelude.{◌≡◌, ◌↔◌, IsTrue};
+
+use lists::Text;
+use pep440::{LocalPart, Pre, Version};
+use pep508::{Line, Name};
+use pylock::{Entry, FileEntry};
+
+/// What can be compared by all that it holds. The versions `1` and `1.0` are equal in their order, and
+/// don't hold the same.
+pub(crate) trait Same {
+    /// Whether the other one holds the same. It has no refusal.
+    fn is_same(&self, other: &Self) -> bool
+        ensures { IsTrue result ↔ (self.now ≡ other.now) };
+}
+
+impl Same for u64 {
+    fn is_same(&self, other: &u64) -> bool {
+        *self == *other
+    }
+}
+
+impl Same for Text {
+    fn is_same(&self, other: &Text) -> bool {
+        self.as_str() == other.as_str()
+    }
+}
+
+impl Same for Name {
+    fn is_same(&self, other: &Name) -> bool {
+        self.normal() == other.normal()
+    }
+}
+
+impl Same for Line {
+    fn is_same(&self, other: &Line) -> bool {
+        self.text() == other.text()
+    }
+}
+
+impl Same for Pre {
+    fn is_same(&self, other: &Pre) -> bool {
+        match (self, other) {
+            (Pre::Alpha(number), Pre::Alpha(same)) => number.is_same(same),
+            (Pre::Beta(number), Pre::Beta(same)) => number.is_same(same),
+            (Pre::Candidate(number), Pre::Candidate(same)) => number.is_same(same),
+            _ => false,
+        }
+    }
+}
+
+impl Same for LocalPart {
+    fn is_same(&self, other: &LocalPart) -> bool {
+        match (self, other) {
+            (LocalPart::Word(word), LocalPart::Word(same)) => word.is_same(same),
+            (LocalPart::Number(number), LocalPart::Number(same)) => number.is_same(same),
+            _ => false,
+        }
+    }
+}
+
+impl<T: Same> Same for Option<T> {
+    fn is_same(&self, other: &Option<T>) -> bool {
+        match (self, other) {
+            (Some(value), Some(same)) => value.is_same(same),
+            (None, None) => true,
+            _ => false,
+        }
+    }
+}
+
+/// Whether the items are the same, one by one.
+pub(crate) fn are_same<T: Same>(items: &[T], others: &[T]) -> bool
+    ensures { IsTrue result ↔ (items.now ≡ others.now) }
+{
+    if items.len() != others.len() {
+        return false;
+    }
+    for place in 0..items.len() {
+        if !items[place].is_same(&others[place]) {
+            return false;
+        }
+    }
+    true
+}
+
+impl Same for Version {
+    fn is_same(&self, other: &Version) -> bool {
+        self.epoch() == other.epoch()
+            && are_same(self.release(), other.release())
+            && self.pre().is_same(&other.pre())
+            && self.post().is_same(&other.post())
+            && self.dev().is_same(&other.dev())
+            && are_same(self.local(), other.local())
+    }
+}
+
+impl Same for FileEntry {
+    fn is_same(&self, other: &FileEntry) -> bool {
+        self.name.is_same(&other.name)
+            && self.url.is_same(&other.url)
+            && self.size == other.size
+            && self.sha256.is_same(&other.sha256)
+    }
+}
+
+impl Same for Entry {
+    fn is_same(&self, other: &Entry) -> bool {
+        self.name().is_same(other.name())
+            && self.version().is_same(other.version())
+            && self.requires_python().is_same(other.requires_python())
+            && are_same(self.dependencies(), other.dependencies())
+            && self.sdist().is_same(other.sdist())
+            && are_same(self.wheels(), other.wheels())
+    }
+}

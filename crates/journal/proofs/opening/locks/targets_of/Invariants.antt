@@ -1,5 +1,0 @@
-use Rattle.journal.proofs.PresentFacts.{ReadSoFar}
-use Rattle.journal.proofs.opening.locks.targets_of.Given as goal
-
-abbrev pub invariant-loop-place : goal.invariant-loop-place
-invariant-loop-place l = ReadSoFar l.locks.entries l.given l.place l.targets.items

@@ -1,6 +1,0 @@
-use Rattle.std.proofs.Common.{take}
-use Rattle.journal.specs.LocksWritten.{AreLocked}
-use Rattle.journal.proofs.saving.locked_of.Given as goal
-
-abbrev pub invariant-loop-place : goal.invariant-loop-place
-invariant-loop-place l = AreLocked (take l.place l.targets) l.locked

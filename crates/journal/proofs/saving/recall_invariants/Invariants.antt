@@ -1,7 +1,0 @@
-use Rattle.std.proofs.Common.{take}
-use Rattle.std.specs.List.{AllByRecursion}
-use Rattle.journal.specs.LocksWritten.{IsLawfulTarget}
-use Rattle.journal.proofs.saving.recall_invariants.Given as goal
-
-abbrev pub invariant-loop-place : goal.invariant-loop-place
-invariant-loop-place l = AllByRecursion IsLawfulTarget (take l.place l.targets)
