@@ -37,9 +37,15 @@ needed_rule name = record (text_rule name) { required = true }
 abbrev pub texts_rule : Text → Rule
 texts_rule name = record (text_rule name) { range = Some (record { start_inclusive = 0; end_inclusive = usize_max }) }
 
--- the options of what is saved, and those of what is printed
+-- the options of what is saved, those of an edit that is saved, and those of what is printed
 abbrev pub saving_rules : List Rule
 saving_rules = flag_rule (codes "dry-run") ∷ verbose_rule ∷ []
+
+abbrev pub keeping_rule : Rule
+keeping_rule = flag_rule (codes "keep-locked")
+
+abbrev pub edit_rules : List Rule
+edit_rules = keeping_rule ∷ saving_rules
 
 abbrev pub json_rules : List Rule
 json_rules = flag_rule (codes "json") ∷ []
@@ -55,11 +61,11 @@ with_options app = with_rule (with_rule (with_rule app (option_rule (codes "dir"
 abbrev pub shape_with : Text → List Rule → Shape
 shape_with name rules = record (new_shape name) { rules = option_rules ++ rules }
 
--- reqlock [--dir DIR] [--index FILE] [--env FILE]... [--dry-run] [--verbose] [--json] SUBCOMMAND
+-- reqlock [--dir DIR] [--index FILE] [--env FILE]... [--keep-locked] [--dry-run] [--verbose] [--json] SUBCOMMAND
 abbrev pub options_app : App
 options_app = record {
   top = record (new_shape (codes "reqlock")) {
-    rules = option_rules ++ saving_rules ++ json_rules;
+    rules = option_rules ++ edit_rules ++ json_rules;
     has_version = true;
     subcommand_required = true;
   };
@@ -70,11 +76,11 @@ options_app = record {
 abbrev pub edit_shapes : List Shape
 edit_shapes =
     shape_with (codes "init") (verbose_rule ∷ [])
-    ∷ shape_with (codes "add") (needed_rule (codes "text") ∷ saving_rules)
-    ∷ shape_with (codes "remove") (needed_rule (codes "name") ∷ saving_rules)
-    ∷ shape_with (codes "constrain") (needed_rule (codes "name") ∷ text_rule (codes "specifiers") ∷ saving_rules)
-    ∷ shape_with (codes "upgrade") (texts_rule (codes "names") ∷ saving_rules)
-    ∷ shape_with (codes "relock") saving_rules
+    ∷ shape_with (codes "add") (needed_rule (codes "text") ∷ edit_rules)
+    ∷ shape_with (codes "remove") (needed_rule (codes "name") ∷ edit_rules)
+    ∷ shape_with (codes "constrain") (needed_rule (codes "name") ∷ text_rule (codes "specifiers") ∷ edit_rules)
+    ∷ shape_with (codes "upgrade") (texts_rule (codes "names") ∷ edit_rules)
+    ∷ shape_with (codes "relock") edit_rules
     ∷ []
 
 -- those that go through the history, and those that do the commands of standard input
@@ -82,7 +88,7 @@ abbrev pub step_shapes : List Shape
 step_shapes =
     shape_with (codes "undo") saving_rules
     ∷ shape_with (codes "redo") saving_rules
-    ∷ shape_with (codes "batch") []
+    ∷ shape_with (codes "batch") (keeping_rule ∷ [])
     ∷ shape_with (codes "try") []
     ∷ []
 
@@ -97,11 +103,11 @@ view_shapes =
     ∷ shape_with (codes "skipped") []
     ∷ []
 
--- why [--explain] [TEXT], or why with one of --init [TEXT], --constrain NAME [SPEC], --upgrade [NAME]..., --remove NAME and --not NAME
+-- why [--explain] [--keep-locked] [TEXT], or why with one of --init [TEXT], --constrain NAME [SPEC], --upgrade [NAME]..., --remove NAME and --not NAME
 abbrev pub why_shapes : List Shape
 why_shapes =
     shape_with (codes "why") (
-    flag_rule (codes "explain") ∷ text_rule (codes "text") ∷ flag_rule (codes "init") ∷ ranged_rule (codes "constrain") 2 1 2
+    flag_rule (codes "explain") ∷ keeping_rule ∷ text_rule (codes "text") ∷ flag_rule (codes "init") ∷ ranged_rule (codes "constrain") 2 1 2
     ∷ ranged_rule (codes "upgrade") 1 0 usize_max ∷ option_rule (codes "remove") ∷ option_rule (codes "not") ∷ []
     )
     ∷ []

@@ -4,7 +4,7 @@ ghost use Rattle.std.specs.Prelude.{◌≡◌, [], ◌∷◌, codes, false, map,
 ghost use Rattle.std.specs.List.{AllByRecursion};
 ghost use Rattle.clap.specs.Lexer.{usize_max};
 ghost use Rattle.clap.specs.Words.{app_of, new_app, rule_of, with_subcommand};
-ghost use Rattle.clap_command.specs.CommandWords.{edit_shapes, flag_rule, needed_rule, option_rule, options_app, ranged_rule, repeated_rule, reqlock_app, saving_rules, shape_with, step_shapes, text_rule, verbose_rule, view_shapes, why_shapes, with_options, with_subcommands};
+ghost use Rattle.clap_command.specs.CommandWords.{edit_rules, edit_shapes, flag_rule, keeping_rule, needed_rule, option_rule, options_app, ranged_rule, repeated_rule, reqlock_app, saving_rules, shape_with, step_shapes, text_rule, verbose_rule, view_shapes, why_shapes, with_options, with_subcommands};
 
 use crate::subcommand_help::{
     ADD, BATCH, CHECK, CONSTRAIN, DIFF, Help, INIT, LOG, OUTDATED, REDO, RELOCK, REMOVE, SHOW,
@@ -47,7 +47,8 @@ fn with_edits<'a>(alloc: Global, command: Command<'a>) -> Result<Command<'a>, Al
     let remove = editing(alloc, add, "remove", REMOVE, name)?;
     let constrain = constraining(alloc, remove)?;
     let upgrade = editing(alloc, constrain, "upgrade", UPGRADE, names)?;
-    stepping(alloc, upgrade, "relock", RELOCK)
+    let args = vec![in alloc; keep_locked(alloc), dry_run(alloc), verbose(alloc)]?;
+    taking(alloc, upgrade, "relock", RELOCK, args)
 }
 
 // Those that go through the history, and those that do the commands of standard input.
@@ -57,7 +58,8 @@ fn with_steps<'a>(alloc: Global, command: Command<'a>) -> Result<Command<'a>, Al
 {
     let undo = stepping(alloc, command, "undo", UNDO)?;
     let redo = stepping(alloc, undo, "redo", REDO)?;
-    let batch = plain(alloc, redo, "batch", BATCH)?;
+    let args = vec![in alloc; keep_locked(alloc)]?;
+    let batch = taking(alloc, redo, "batch", BATCH, args)?;
     plain(alloc, batch, "try", TRY)
 }
 
@@ -106,7 +108,10 @@ fn with_why<'a>(alloc: Global, command: Command<'a>) -> Result<Command<'a>, Allo
     let release = option(alloc, "not", "NAME[==VERSION]").help(
         "Ask why the lock lacks this version; without one, the newest",
     );
-    let args = vec![in alloc; explain, line, init, constrain, upgrade, remove, release]?;
+    let keep = keep_locked(alloc);
+    let args = vec![in alloc;
+        explain, keep, line, init, constrain, upgrade, remove, release,
+    ]?;
     taking(alloc, command, "why", WHY, args)
 }
 
@@ -132,17 +137,18 @@ fn upgrades<'a>(alloc: Global) -> Arg<'a>
 fn constraining<'a>(alloc: Global, command: Command<'a>) -> Result<Command<'a>, AllocError>
     ensures app { IfOk result (λ c. app_of c ≡ with_subcommand (app_of command.entry)
         (shape_with (codes "constrain")
-        (needed_rule (codes "name") ∷ text_rule (codes "specifiers") ∷ saving_rules))) }
+        (needed_rule (codes "name") ∷ text_rule (codes "specifiers") ∷ edit_rules))) }
 {
     let name = needed(alloc, "name", "NAME").help("The name of the line");
     let specifiers = text(alloc, "specifiers", "SPEC").help(
         "The specifiers, such as '>=2,<3'; without them any version will do",
     );
-    let args = vec![in alloc; name, specifiers, dry_run(alloc), verbose(alloc)]?;
+    let keep = keep_locked(alloc);
+    let args = vec![in alloc; name, specifiers, keep, dry_run(alloc), verbose(alloc)]?;
     taking(alloc, command, "constrain", CONSTRAIN, args)
 }
 
-// The command with one more subcommand, which takes this text and saves.
+// The command with one more subcommand, which makes an edit with this text.
 fn editing<'a>(
     alloc: Global,
     command: Command<'a>,
@@ -152,9 +158,9 @@ fn editing<'a>(
 ) -> Result<Command<'a>, AllocError>
     requires local { text.global ≡ false }
     ensures app { IfOk result (λ c. app_of c ≡ with_subcommand (app_of command.entry)
-        (shape_with name.entry.now (rule_of text.entry ∷ saving_rules))) }
+        (shape_with name.entry.now (rule_of text.entry ∷ edit_rules))) }
 {
-    let args = vec![in alloc; text, dry_run(alloc), verbose(alloc)]?;
+    let args = vec![in alloc; text, keep_locked(alloc), dry_run(alloc), verbose(alloc)]?;
     taking(alloc, command, name, help, args)
 }
 
@@ -230,6 +236,7 @@ fn options<'a>(alloc: Global) -> Result<Command<'a>, AllocError>
         .version(VERSION)
         .subcommand_required(true);
     with_options(alloc, command, Help::ALL)?
+        .arg(keep_locked(alloc))?
         .arg(dry_run(alloc))?
         .arg(verbose(alloc))?
         .arg(json(alloc))
@@ -245,14 +252,22 @@ fn with_options<'a>(
 {
     let dir = option(alloc, "dir", "DIR")
         .help("The folder of requirements.txt [default: .]")
-        .hide(!help.needs_dir);
+        .hide(!help.shows_dir);
     let index = option(alloc, "index", "FILE")
         .help("The snapshot of the index")
-        .hide(!help.needs_index);
+        .hide(!help.shows_index);
     let environment = repeated(alloc, "env", "FILE")
         .help("The environment that a lock is for; or NAME=FILE")
-        .hide(!help.needs_environment);
+        .hide(!help.shows_environment);
     command.arg(dir)?.arg(index)?.arg(environment)
+}
+
+// Of an edit, or of its question.
+fn keep_locked<'a>(alloc: Global) -> Arg<'a>
+    ensures rule { rule_of result ≡ keeping_rule }
+    ensures local { result.global ≡ false }
+{
+    flag(alloc, "keep-locked").help("Move no locked version that is still needed")
 }
 
 // Of an edit or a step.

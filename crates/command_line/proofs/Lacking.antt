@@ -9,7 +9,7 @@ use Rattle.command_line.specs.declared.usage.RequestFault.{RequestFault}
 use Rattle.command_line.specs.declared.usage.RequestFault.TheVariants.{Needed, OutOfMemory, Usage}
 use Rattle.command_line.specs.Options.{json_takers}
 use Rattle.command_line.specs.Questions.{edit_of}
-use Rattle.command_line.specs.UsageFaults.{AsksNothing, Conflicts, FaultWith, HasNoNumber, IsLacking, IsUnasked, LacksIndex, LacksInput, NeedsEnvironment, NeedsIndex}
+use Rattle.command_line.specs.UsageFaults.{IsNoSubcommand, Conflicts, FaultWith, HasNoNumber, IsLacking, IsNoQuestion, LacksIndex, LacksInput, NeedsEnvironment, NeedsIndex}
 
 pub index_lacks : (before behind : List Row) (name : Text) (fault : RequestFault) → NeedsIndex name behind → LacksIndex before behind fault → IsLacking before behind name fault
 index_lacks before behind name fault needs lacks = subst (IsLacking before behind name) (sym lacks.0) (needs, lacks.1)
@@ -30,11 +30,11 @@ number_lacks before behind name (Usage error) named none kind = inr (inr (named,
 number_lacks before behind name (Needed option) named none kind = absurd kind
 number_lacks before behind name OutOfMemory named none kind = tt
 
-pub unasked_lacks : (before behind : List Row) (name : Text) (fault : RequestFault) → name ≡ codes "why" → IsUnasked before behind fault → IsLacking before behind name fault
-unasked_lacks before behind name (Usage error) named unasked = inr (inl (inl (named, unasked.0), unasked.1))
-unasked_lacks before behind name (Needed Index) named unasked = (inr (inr (inr (inr (inl named)))), unasked)
-unasked_lacks before behind name (Needed Environment) named unasked = (inr (inr (named, unasked.0)), unasked.1, unasked.2)
-unasked_lacks before behind name OutOfMemory named unasked = tt
+pub no_question_lacks : (before behind : List Row) (name : Text) (fault : RequestFault) → name ≡ codes "why" → IsNoQuestion before behind fault → IsLacking before behind name fault
+no_question_lacks before behind name (Usage error) named unasked = inr (inl (inl (named, unasked.0), unasked.1))
+no_question_lacks before behind name (Needed Index) named unasked = (inr (inr (inr (inr (inl named)))), unasked)
+no_question_lacks before behind name (Needed Environment) named unasked = (inr (inr (named, unasked.0)), unasked.1, unasked.2)
+no_question_lacks before behind name OutOfMemory named unasked = tt
 
 pub nothing_lacks : (before behind : List Row) (name : Text) (fault : RequestFault) → edit_of name behind ≡ None → AllByRecursion (λ known. name ≢ known) json_takers → name ≢ codes "init"
     → name ≢ codes "try" → name ≢ codes "batch" → name ≢ codes "undo" → name ≢ codes "redo" → name ≢ codes "skipped" → name ≢ codes "why" → FaultWith kinds.MissingSubcommand fault
@@ -42,6 +42,6 @@ pub nothing_lacks : (before behind : List Row) (name : Text) (fault : RequestFau
 nothing_lacks before behind name (Needed option) none views init attempt batch undo redo skipped why kind = absurd kind
 nothing_lacks before behind name OutOfMemory none views init attempt batch undo redo skipped why kind = tt
 nothing_lacks before behind name (Usage error) none views init attempt batch undo redo skipped why kind =
-    let asks : AsksNothing name behind =
-    (none, (init, (attempt, (batch, (undo, (redo, (views.0, (views.1.0, (views.1.1.0, (views.1.1.1.0, (views.1.1.1.1.0, (skipped, (why, tt))))))))))))) in
+    let asks : IsNoSubcommand name behind =
+    (none, (init, (undo, (redo, (batch, (attempt, (views.0, (views.1.0, (views.1.1.0, (views.1.1.1.0, (views.1.1.1.1.0, (skipped, (why, tt))))))))))))) in
     inl (asks, kind)

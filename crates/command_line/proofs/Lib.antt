@@ -1,2 +1,3 @@
 pub mod Lacking
 pub mod Requests
+pub mod SubcommandNames

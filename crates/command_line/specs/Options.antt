@@ -39,7 +39,8 @@ abbrev pub is_flag_twice : List Row → List Row → Text → Bool
 is_flag_twice before behind flag = has_flag before flag && has_flag behind flag
 
 abbrev pub has_flag_twice : List Row → List Row → Bool
-has_flag_twice before behind = is_flag_twice before behind (codes "dry-run") || (is_flag_twice before behind (codes "verbose") || is_flag_twice before behind (codes "json"))
+has_flag_twice before behind =
+    is_flag_twice before behind (codes "keep-locked") || (is_flag_twice before behind (codes "dry-run") || (is_flag_twice before behind (codes "verbose") || is_flag_twice before behind (codes "json")))
 
 abbrev pub has_twice : List Row → List Row → Bool
 has_twice before behind =
@@ -48,6 +49,9 @@ has_twice before behind =
 -- the subcommands that take a flag which may stand before them
 abbrev pub dry_run_takers : List Text
 dry_run_takers = codes "add" ∷ codes "remove" ∷ codes "constrain" ∷ codes "upgrade" ∷ codes "relock" ∷ codes "undo" ∷ codes "redo" ∷ []
+
+abbrev pub keep_locked_takers : List Text
+keep_locked_takers = codes "add" ∷ codes "remove" ∷ codes "constrain" ∷ codes "upgrade" ∷ codes "relock" ∷ codes "batch" ∷ codes "why" ∷ []
 
 abbrev pub verbose_takers : List Text
 verbose_takers = codes "init" ∷ dry_run_takers
@@ -61,6 +65,7 @@ is_among names name = list_any (bytes_eq name) names
 -- whether a flag stands before a subcommand that doesn't take it
 abbrev pub has_stray : List Row → Text → Bool
 has_stray before name =
-    (has_flag before (codes "dry-run") && not (is_among dry_run_takers name))
+    (has_flag before (codes "keep-locked") && not (is_among keep_locked_takers name))
+    || ((has_flag before (codes "dry-run") && not (is_among dry_run_takers name))
     || ((has_flag before (codes "verbose") && not (is_among verbose_takers name))
-    || (has_flag before (codes "json") && not (is_among json_takers name)))
+    || (has_flag before (codes "json") && not (is_among json_takers name))))

@@ -12,6 +12,10 @@ abbrev pub upgrade_with : List Text → EditValue
 upgrade_with [] = UpgradeAll
 upgrade_with (name ∷ names) = Upgrade (name ∷ names)
 
+-- the subcommands that make an edit
+abbrev pub edit_names : List Text
+edit_names = codes "add" ∷ codes "remove" ∷ codes "constrain" ∷ codes "upgrade" ∷ codes "relock" ∷ []
+
 -- the edit of a subcommand with the texts that clap found: none where the subcommand is no edit, or lacks a text
 abbrev pub edit_of : Text → List Row → Option EditValue
 edit_of name rows =
@@ -50,6 +54,6 @@ has_two [] = false
 has_two (one ∷ others) = (one && list_any (λ other. other) others) || has_two others
 
 -- whether two questions stand behind `why`; a text is one, but for that of `--init`
-abbrev pub asks_twice : List Row → Bool
-asks_twice rows = has_two (has_flag rows (codes "init") ∷ is_given rows (codes "constrain") ∷ is_given rows (codes "upgrade") ∷ is_given rows (codes "remove")
+abbrev pub has_two_questions : List Row → Bool
+has_two_questions rows = has_two (has_flag rows (codes "init") ∷ is_given rows (codes "constrain") ∷ is_given rows (codes "upgrade") ∷ is_given rows (codes "remove")
     ∷ is_given rows (codes "not") ∷ (not (has_flag rows (codes "init")) && is_given rows (codes "text")) ∷ [])

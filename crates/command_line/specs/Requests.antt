@@ -7,22 +7,22 @@ use Rattle.command_line.specs.declared.usage.RequestFault.{RequestFault}
 use Rattle.command_line.specs.declared.usage.RequestFault.TheVariants.{Usage, Needed, OutOfMemory}
 use Rattle.clap_command.specs.CommandWords.{reqlock_app}
 use Rattle.command_line.specs.Options.{chosen, has_stray, has_twice, is_flagged}
-use Rattle.command_line.specs.Subcommands.{IsAsked}
+use Rattle.command_line.specs.Subcommands.{IsSubcommand}
 use Rattle.command_line.specs.UsageFaults.{FaultWith, IsLacking}
 
--- what is asked of a subcommand with what stands before it and behind it: no option stands in both places, none in front of a
+-- the request of a subcommand with what stands before it and behind it: no option stands in both places, none in front of a
 -- subcommand that doesn't take it, and the request has what was found
-pub record IsAskedBy (before : List Row) (name : Text) (behind : List Row) (request : Invocation) : Type 0 where
+pub record IsReadAs (before : List Row) (name : Text) (behind : List Row) (request : Invocation) : Type 0 where
   pub once : has_twice before behind ≡ false
   pub taken : has_stray before name ≡ false
-  pub subcommand : IsAsked before behind name request.subcommand
+  pub subcommand : IsSubcommand before behind name request.subcommand
   pub dir : request.dir.now ≡ unwrap_or (chosen before behind (codes "dir")) (codes ".")
   pub verbose : request.is_verbose ≡ is_flagged before behind (codes "verbose")
 
 -- clap reads the words, and the request has what it finds in them
 pub record IsRequest (words : List Text) (request : Invocation) : Type 0 where
   pub read : fault_of reqlock_app words ≡ []
-  pub asked : IsSomeAnd (subcommand_of reqlock_app words) (λ found. IsAskedBy (matches_of reqlock_app words) found.0 found.1 request)
+  pub found : IsSomeAnd (subcommand_of reqlock_app words) (λ found. IsReadAs (matches_of reqlock_app words) found.0 found.1 request)
 
 -- clap's error is one of those of the words: it refuses them or gives help
 abbrev pub IsRefused : List Text → RequestFault → Type 0
@@ -30,7 +30,7 @@ IsRefused words (Usage error) = IsAmong (kind_of error) (fault_of reqlock_app wo
 IsRefused words (Needed option) = ⊥
 IsRefused words OutOfMemory = Unit {0}
 
--- why nothing is asked of a subcommand: an option stands in both places; or in front of a subcommand that doesn't take it; or else
+-- why a subcommand is no request: an option stands in both places; or in front of a subcommand that doesn't take it; or else
 -- the subcommand can't be done
 abbrev pub IsFaultBy : List Row → Text → List Row → RequestFault → Type 0
 IsFaultBy before name behind fault =

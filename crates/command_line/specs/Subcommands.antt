@@ -1,4 +1,4 @@
--- The subcommand that the words of a command line ask for, by what clap found before it and behind it. All of it is reqlock's own
+-- The subcommand that the words of a command line name, by what clap found before it and behind it. All of it is reqlock's own
 -- rule.
 use Rattle.std.specs.Prelude.{◌≡◌, ◌≢◌, ◌<◌, ◌^◌, ℕ, true, false, List, [], Option, None, Some, codes, if◌then◌else◌, IsSomeAnd}
 use Rattle.std.specs.Borrow.{Bor}
@@ -8,6 +8,7 @@ use Rattle.command_line.specs.declared.invocation.DiffRange.{DiffRange}
 use Rattle.command_line.specs.declared.invocation.DiffRange.TheVariants.{LastStep, Since, Between}
 use Rattle.command_line.specs.declared.invocation.Format.{Format as FormatValue}
 use Rattle.command_line.specs.declared.invocation.Format.TheVariants.{Lines, Json}
+use Rattle.command_line.specs.declared.invocation.EditInputs.{EditInputs}
 use Rattle.command_line.specs.declared.invocation.Inputs.{Inputs}
 use Rattle.command_line.specs.declared.invocation.Question.{Question}
 use Rattle.command_line.specs.declared.invocation.Question.TheVariants as questions
@@ -18,7 +19,7 @@ use Rattle.command_line.specs.declared.invocation.Shown.TheVariants.{Table, Entr
 use Rattle.command_line.specs.declared.invocation.Subcommand.{Subcommand}
 use Rattle.command_line.specs.declared.invocation.Subcommand.TheVariants.{Init, Edit, Undo, Redo, Batch, Try, Show, Log, Diff, Check, Outdated, Skipped, Why}
 use Rattle.command_line.specs.Options.{all_chosen, chosen, has_flag, is_flagged, text_of}
-use Rattle.command_line.specs.Questions.{asks_twice, edit_of, questioned}
+use Rattle.command_line.specs.Questions.{has_two_questions, edit_of, questioned}
 
 -- the index and the environments that are given
 abbrev pub index_of : List Row → List Row → Option Text
@@ -30,6 +31,10 @@ environments_of before behind = all_chosen before behind (codes "env")
 -- both, each value of `--env` as it stands, and at least one
 abbrev pub HasInputs : List Row → List Row → Inputs → Type 0
 HasInputs before behind inputs = (index_of before behind ≡ Some inputs.index.now) × (inputs.environments ≡ environments_of before behind) × (environments_of before behind ≢ [])
+
+-- the index that an edit is made over, and whether it keeps what is locked
+abbrev pub HasEditInputs : List Row → List Row → EditInputs → Type 0
+HasEditInputs before behind inputs = (index_of before behind ≡ Some inputs.index.now) × (inputs.keeps_locked ≡ is_flagged before behind (codes "keep-locked"))
 
 -- whether a step is saved, and how a result is printed
 abbrev pub saving_of : List Row → List Row → SavingValue
@@ -58,32 +63,32 @@ IsRange behind LastStep = first_of (codes "from") behind ≡ None
 IsRange behind (Since from) = IsSomeAnd (first_of (codes "from") behind) (IsPlace from) × (first_of (codes "to") behind ≡ None)
 IsRange behind (Between from to) = IsSomeAnd (first_of (codes "from") behind) (IsPlace from) × IsSomeAnd (first_of (codes "to") behind) (IsPlace to)
 
--- the index over which `check` is asked whether the lock is current
+-- the index over which `check` tells whether the lock is current
 abbrev pub IsChecked : List Row → List Row → Option (Bor Text) → Type 0
 IsChecked before behind None = has_flag behind (codes "current") ≡ false
 IsChecked before behind (Some over) = (has_flag behind (codes "current") ≡ true) × (index_of before behind ≡ Some over.now)
 
--- what `why` is asked: about `init`, about a release, or about an edit
+-- the question of `why`: about `init`, about a release, or about an edit
 abbrev pub IsQuestion : List Row → List Row → Question → Type 0
 IsQuestion before behind (questions.Init inputs line) = (has_flag behind (codes "init") ≡ true) × HasInputs before behind inputs × (text_of line ≡ first_of (codes "text") behind)
 IsQuestion before behind (questions.Release release over) =
     (has_flag behind (codes "init") ≡ false) × (first_of (codes "not") behind ≡ Some release.now) × (index_of before behind ≡ Some over.now)
-IsQuestion before behind (questions.Edit edit over) =
-    (has_flag behind (codes "init") ≡ false) × (first_of (codes "not") behind ≡ None) × (edit ≡ questioned behind) × (index_of before behind ≡ Some over.now)
+IsQuestion before behind (questions.Edit edit inputs) =
+    (has_flag behind (codes "init") ≡ false) × (first_of (codes "not") behind ≡ None) × (edit ≡ questioned behind) × HasEditInputs before behind inputs
 
 -- a subcommand of this name
-abbrev pub IsAsked : List Row → List Row → Text → Subcommand → Type 0
-IsAsked before behind name (Init inputs) = (name ≡ codes "init") × HasInputs before behind inputs
-IsAsked before behind name (Edit edit over saving) = (edit_of name behind ≡ Some edit) × (index_of before behind ≡ Some over.now) × (saving ≡ saving_of before behind)
-IsAsked before behind name (Undo saving) = (name ≡ codes "undo") × (saving ≡ saving_of before behind)
-IsAsked before behind name (Redo saving) = (name ≡ codes "redo") × (saving ≡ saving_of before behind)
-IsAsked before behind name (Batch over) = (name ≡ codes "batch") × (index_of before behind ≡ Some over.now)
-IsAsked before behind name (Try inputs) = (name ≡ codes "try") × HasInputs before behind inputs
-IsAsked before behind name (Show shown format) = (name ≡ codes "show") × IsShown before behind shown × (format ≡ format_of before behind)
-IsAsked before behind name (Log long format) = (name ≡ codes "log") × (long ≡ has_flag behind (codes "long")) × (format ≡ format_of before behind)
-IsAsked before behind name (Diff range format) = (name ≡ codes "diff") × IsRange behind range × (format ≡ format_of before behind)
-IsAsked before behind name (Check current format) = (name ≡ codes "check") × IsChecked before behind current × (format ≡ format_of before behind)
-IsAsked before behind name (Outdated over format) = (name ≡ codes "outdated") × (index_of before behind ≡ Some over.now) × (format ≡ format_of before behind)
-IsAsked before behind name (Skipped over) = (name ≡ codes "skipped") × (index_of before behind ≡ Some over.now)
-IsAsked before behind name (Why question explains) =
-    (name ≡ codes "why") × (asks_twice behind ≡ false) × IsQuestion before behind question × (explains ≡ has_flag behind (codes "explain"))
+abbrev pub IsSubcommand : List Row → List Row → Text → Subcommand → Type 0
+IsSubcommand before behind name (Init inputs) = (name ≡ codes "init") × HasInputs before behind inputs
+IsSubcommand before behind name (Edit edit inputs saving) = (edit_of name behind ≡ Some edit) × HasEditInputs before behind inputs × (saving ≡ saving_of before behind)
+IsSubcommand before behind name (Undo saving) = (name ≡ codes "undo") × (saving ≡ saving_of before behind)
+IsSubcommand before behind name (Redo saving) = (name ≡ codes "redo") × (saving ≡ saving_of before behind)
+IsSubcommand before behind name (Batch inputs) = (name ≡ codes "batch") × HasEditInputs before behind inputs
+IsSubcommand before behind name (Try inputs) = (name ≡ codes "try") × HasInputs before behind inputs
+IsSubcommand before behind name (Show shown format) = (name ≡ codes "show") × IsShown before behind shown × (format ≡ format_of before behind)
+IsSubcommand before behind name (Log long format) = (name ≡ codes "log") × (long ≡ has_flag behind (codes "long")) × (format ≡ format_of before behind)
+IsSubcommand before behind name (Diff range format) = (name ≡ codes "diff") × IsRange behind range × (format ≡ format_of before behind)
+IsSubcommand before behind name (Check current format) = (name ≡ codes "check") × IsChecked before behind current × (format ≡ format_of before behind)
+IsSubcommand before behind name (Outdated over format) = (name ≡ codes "outdated") × (index_of before behind ≡ Some over.now) × (format ≡ format_of before behind)
+IsSubcommand before behind name (Skipped over) = (name ≡ codes "skipped") × (index_of before behind ≡ Some over.now)
+IsSubcommand before behind name (Why question explains) =
+    (name ≡ codes "why") × (has_two_questions behind ≡ false) × IsQuestion before behind question × (explains ≡ has_flag behind (codes "explain"))

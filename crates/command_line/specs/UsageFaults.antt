@@ -1,4 +1,4 @@
--- Why the words of a command line ask for nothing. All of it is reqlock's own rule.
+-- Why the words of a command line are no request. All of it is reqlock's own rule.
 use Rattle.std.specs.Prelude.{◌≡◌, ◌≢◌, ◌⊎◌, true, List, [], ◌∷◌, None, codes, IsSome, IsSomeAnd}
 use Rattle.std.specs.List.{AllByRecursion}
 use Rattle.clap.specs.Words.{Row, Text, first_of, kind_of}
@@ -9,7 +9,7 @@ use Rattle.command_line.specs.declared.usage.RequestFault.{RequestFault}
 use Rattle.command_line.specs.declared.usage.RequestFault.TheVariants.{Usage, Needed, OutOfMemory}
 use Rattle.command_line.specs.declared.usage.NeededOption.TheVariants.{Index, Environment}
 use Rattle.command_line.specs.Options.{has_flag}
-use Rattle.command_line.specs.Questions.{asks_twice, edit_of}
+use Rattle.command_line.specs.Questions.{has_two_questions, edit_of}
 use Rattle.command_line.specs.Subcommands.{IsPlaceText, environments_of, index_of}
 
 -- want of memory where that is clap's error, and else the error itself
@@ -34,7 +34,7 @@ NeedsIndex name behind =
     ⊎ ((name ≡ codes "check") × (has_flag behind (codes "current") ≡ true))
     ⊎ IsSome (edit_of name behind)
 
--- the option that is missing; the index is asked for first
+-- the option that is missing; the index is missed first
 abbrev pub LacksIndex : List Row → List Row → RequestFault → Type 0
 LacksIndex before behind fault = (fault ≡ Needed Index) × (index_of before behind ≡ None)
 
@@ -44,25 +44,29 @@ LacksInput before behind (Needed Index) = index_of before behind ≡ None
 LacksInput before behind (Needed Environment) = IsSome (index_of before behind) × (environments_of before behind ≡ [])
 LacksInput before behind OutOfMemory = Unit {0}
 
+-- the subcommands that make no edit, in the order of clap's command (`the_subcommands_are_known`)
+abbrev pub other_names : List Text
+other_names = codes "init" ∷ codes "undo" ∷ codes "redo" ∷ codes "batch" ∷ codes "try" ∷ codes "show" ∷ codes "log" ∷ codes "diff" ∷ codes "check" ∷ codes "outdated" ∷ codes "skipped" ∷ codes "why" ∷ []
+
 -- no subcommand of the program, or an edit that lacks a text
-abbrev pub AsksNothing : Text → List Row → Type 0
-AsksNothing name behind =
+abbrev pub IsNoSubcommand : Text → List Row → Type 0
+IsNoSubcommand name behind =
     (edit_of name behind ≡ None)
-    × AllByRecursion (λ known. name ≢ known) (codes "init" ∷ codes "try" ∷ codes "batch" ∷ codes "undo" ∷ codes "redo" ∷ codes "show" ∷ codes "log" ∷ codes "diff" ∷ codes "check" ∷ codes "outdated" ∷ codes "skipped" ∷ codes "why" ∷ [])
+    × AllByRecursion (λ known. name ≢ known) other_names
 
 -- arguments that exclude one another: two questions behind `why`, and `--tree` with a name behind `show`
-abbrev pub IsOverasked : List Row → Type 0
-IsOverasked behind = (has_flag behind (codes "tree") ≡ true) × IsSome (first_of (codes "name") behind)
+abbrev pub IsTreeOfEntry : List Row → Type 0
+IsTreeOfEntry behind = (has_flag behind (codes "tree") ≡ true) × IsSome (first_of (codes "name") behind)
 
 abbrev pub Conflicts : Text → List Row → Type 0
-Conflicts name behind = ((name ≡ codes "why") × (asks_twice behind ≡ true)) ⊎ ((name ≡ codes "show") × IsOverasked behind)
+Conflicts name behind = ((name ≡ codes "why") × (has_two_questions behind ≡ true)) ⊎ ((name ≡ codes "show") × IsTreeOfEntry behind)
 
--- why `why` is asked nothing: it is asked twice, or an option is missing
-abbrev pub IsUnasked : List Row → List Row → RequestFault → Type 0
-IsUnasked before behind (Usage error) = (asks_twice behind ≡ true) × (kind_of error ≡ kinds.ArgumentConflict)
-IsUnasked before behind (Needed Index) = index_of before behind ≡ None
-IsUnasked before behind (Needed Environment) = (has_flag behind (codes "init") ≡ true) × IsSome (index_of before behind) × (environments_of before behind ≡ [])
-IsUnasked before behind OutOfMemory = Unit {0}
+-- why `why` has no question: it has two, or an option is missing
+abbrev pub IsNoQuestion : List Row → List Row → RequestFault → Type 0
+IsNoQuestion before behind (Usage error) = (has_two_questions behind ≡ true) × (kind_of error ≡ kinds.ArgumentConflict)
+IsNoQuestion before behind (Needed Index) = index_of before behind ≡ None
+IsNoQuestion before behind (Needed Environment) = (has_flag behind (codes "init") ≡ true) × IsSome (index_of before behind) × (environments_of before behind ≡ [])
+IsNoQuestion before behind OutOfMemory = Unit {0}
 
 -- FROM or TO is no number
 abbrev pub HasNoNumber : List Row → Type 0
@@ -73,7 +77,7 @@ HasNoNumber behind =
 -- why a subcommand of this name can't be done, of what clap found before it and behind it
 abbrev pub IsLacking : List Row → List Row → Text → RequestFault → Type 0
 IsLacking before behind name (Usage error) =
-    (AsksNothing name behind × (kind_of error ≡ kinds.MissingSubcommand))
+    (IsNoSubcommand name behind × (kind_of error ≡ kinds.MissingSubcommand))
     ⊎ (Conflicts name behind × (kind_of error ≡ kinds.ArgumentConflict))
     ⊎ ((name ≡ codes "diff") × HasNoNumber behind × (kind_of error ≡ kinds.ValueValidation))
 IsLacking before behind name (Needed Index) = NeedsIndex name behind × (index_of before behind ≡ None)

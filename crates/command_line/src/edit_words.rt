@@ -1,4 +1,4 @@
-// The edit that words ask for.
+// The edit that words name.
 
 ghost use Rattle.std.specs.Prelude.{◌≡◌, [], option_map, unwrap_or, IfOk};
 ghost use Rattle.clap.specs.Words.{found_of, rows_of};

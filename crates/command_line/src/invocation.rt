@@ -1,9 +1,9 @@
-// What a command line asks the program to do.
+// What a command line wants the program to do.
 
 use edits::Edit;
 use lists::{Seq, Text};
 
-/// What the words of the command line ask for. The texts are those of the words.
+/// What the words of the command line mean. The texts are those of the words.
 #[derive(Debug, Drop)]
 pub struct Invocation<'a> {
     /// The folder of the three files.
@@ -19,12 +19,12 @@ pub struct Invocation<'a> {
 pub enum Subcommand<'a> {
     /// Locks the requirements file, and begins a history.
     Init(Inputs<'a>),
-    /// Makes an edit over this index.
-    Edit(Edit, &'a str, Saving),
+    /// Makes an edit over an index.
+    Edit(Edit, EditInputs<'a>, Saving),
     Undo(Saving),
     Redo(Saving),
-    /// Does the commands of standard input over this index, and saves.
-    Batch(&'a str),
+    /// Does the commands of standard input over an index, and saves.
+    Batch(EditInputs<'a>),
     /// Does them on the state that `Init` would begin with, and saves nothing.
     Try(Inputs<'a>),
     /// Prints the lock, or a part of it.
@@ -52,6 +52,14 @@ pub struct Inputs<'a> {
     pub environments: Seq<Text>,
 }
 
+/// What an edit is made over.
+#[derive(Clone, Copy, Debug, PartialEq, Eq)]
+pub struct EditInputs<'a> {
+    pub index: &'a str,
+    /// Whether each locked version that is still needed has to stay.
+    pub keeps_locked: bool,
+}
+
 /// Whether an edit or a step is saved.
 #[derive(Clone, Copy, Debug, PartialEq, Eq)]
 pub enum Saving {
@@ -75,7 +83,7 @@ pub enum Shown<'a> {
     Table,
     /// The entry of this name, over this index where one is given.
     Entry(&'a str, Option<&'a str>),
-    /// The entries below the lines that ask for them.
+    /// The entries below the lines that need them.
     Tree,
 }
 
@@ -90,11 +98,11 @@ pub enum DiffRange {
     Between(usize, usize),
 }
 
-/// What `why` is asked.
+/// The question of `why`.
 #[derive(Debug, Drop)]
 pub enum Question<'a> {
-    /// Why this edit of the present state has no solution over this index.
-    Edit(Edit, &'a str),
+    /// Why this edit of the present state has no solution over an index.
+    Edit(Edit, EditInputs<'a>),
     /// Why a first lock has none, with this line behind those of the file where there is one.
     Init(Inputs<'a>, Option<&'a str>),
     /// Why the present lock hasn't the release that this text names, as `NAME==VERSION`, or the

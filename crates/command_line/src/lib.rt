@@ -1,11 +1,11 @@
-//! The command line: what its words ask for.
+//! The command line: what its words mean.
 //!
 //! `request` reads them, by `clap`, into a subcommand with its texts and the files that it needs:
 //!
 //! ```rust
 //! let words = ["reqlock", "--dir", "web", "undo"];
-//! let asked = request(alloc, &words)?;
-//! Ok(asked.dir == "web" && matches!(asked.subcommand, Subcommand::Undo(_)))
+//! let invocation = request(alloc, &words)?;
+//! Ok(invocation.dir == "web" && matches!(invocation.subcommand, Subcommand::Undo(_)))
 //! ```
 #![tactic(auto)]
 

@@ -2,7 +2,7 @@
 
 ghost use Rattle.std.specs.Prelude.{◌≡◌, IfOk, is_some, map};
 ghost use Rattle.clap.specs.Words.{all_of, first_of, found_of, rows_of};
-ghost use Rattle.command_line.specs.Options.{all_chosen, chosen, dry_run_takers, has_flag, has_flag_twice, has_stray, has_twice, is_among, is_flag_twice, is_flagged, is_twice, json_takers, text_of, texts_of, verbose_takers};
+ghost use Rattle.command_line.specs.Options.{all_chosen, chosen, dry_run_takers, has_flag, has_flag_twice, has_stray, has_twice, is_among, is_flag_twice, is_flagged, is_twice, json_takers, keep_locked_takers, text_of, texts_of, verbose_takers};
 
 use clap::ArgMatches;
 use lists::{Seq, Text};
@@ -93,6 +93,9 @@ fn flag_twice(before: &ArgMatches<'_>, behind: &ArgMatches<'_>) -> Option<&'stat
     ensures { is_some result ≡ has_flag_twice (rows_of (found_of before.now))
         (rows_of (found_of behind.now)) }
 {
+    if is_flag_twice(before, behind, "keep-locked") {
+        return Some("--keep-locked");
+    }
     if is_flag_twice(before, behind, "dry-run") {
         return Some("--dry-run");
     }
@@ -109,6 +112,9 @@ fn flag_twice(before: &ArgMatches<'_>, behind: &ArgMatches<'_>) -> Option<&'stat
 pub(crate) fn stray_flag(before: &ArgMatches<'_>, subcommand: &str) -> Option<&'static str>
     ensures { is_some result ≡ has_stray (rows_of (found_of before.now)) subcommand.now }
 {
+    if has_flag(before, "keep-locked") && !takes_keep_locked(subcommand) {
+        return Some("--keep-locked");
+    }
     if has_flag(before, "dry-run") && !takes_dry_run(subcommand) {
         return Some("--dry-run");
     }
@@ -119,6 +125,15 @@ pub(crate) fn stray_flag(before: &ArgMatches<'_>, subcommand: &str) -> Option<&'
         return Some("--json");
     }
     None
+}
+
+fn takes_keep_locked(subcommand: &str) -> bool
+    ensures { result ≡ is_among keep_locked_takers subcommand.now }
+{
+    matches!(
+        subcommand,
+        "add" | "remove" | "constrain" | "upgrade" | "relock" | "batch" | "why"
+    )
 }
 
 fn takes_dry_run(subcommand: &str) -> bool

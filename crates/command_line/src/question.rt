@@ -1,32 +1,32 @@
-// What `why` is asked.
+// The question of `why`.
 
 ghost use Rattle.std.specs.Prelude.{◌≡◌, false, map, is_some, true, IfErr, IfOk};
 ghost use Rattle.clap.specs.Words.{found_of, rows_of};
-ghost use Rattle.command_line.specs.Questions.{asks_twice, constraint_of, is_given, questioned, text_at};
+ghost use Rattle.command_line.specs.Questions.{has_two_questions, constraint_of, is_given, questioned, text_at};
 ghost use Rattle.command_line.specs.Subcommands.{IsQuestion};
-ghost use Rattle.command_line.specs.UsageFaults.{IsUnasked};
+ghost use Rattle.command_line.specs.UsageFaults.{IsNoQuestion};
 
 use crate::edit_words::{read_addition, read_upgrade};
 use crate::invocation::Question;
 use crate::options::{has_flag, value, values};
-use crate::subcommand::{needed_index, needed_inputs};
+use crate::subcommand::{needed_edit_inputs, needed_index, needed_inputs};
 use crate::usage::{RequestFault, excludes_another};
 use clap::ArgMatches;
 use edits::Edit;
 use lists::Text;
 use std::alloc::{AllocError, Global};
 
-/// What `why` is asked, with what stands before it and behind it.
+/// The question of `why`, with what stands before it and behind it.
 pub(crate) fn read_question<'a>(
     alloc: Global,
     before: &ArgMatches<'a>,
     behind: &ArgMatches<'a>,
 ) -> Result<Question<'a>, RequestFault>
-    ensures once { IfOk result (λ _. asks_twice (rows_of (found_of behind.now)) ≡ false) }
+    ensures once { IfOk result (λ _. has_two_questions (rows_of (found_of behind.now)) ≡ false) }
     ensures question { IfOk result
         (IsQuestion (rows_of (found_of before.now)) (rows_of (found_of behind.now))) }
     ensures fault { IfErr result
-        (IsUnasked (rows_of (found_of before.now)) (rows_of (found_of behind.now))) }
+        (IsNoQuestion (rows_of (found_of before.now)) (rows_of (found_of behind.now))) }
 {
     if let Some(shown) = excluding(behind) {
         return Err(excludes_another(alloc, shown));
@@ -35,11 +35,11 @@ pub(crate) fn read_question<'a>(
         let inputs = needed_inputs(alloc, before, behind)?;
         return Ok(Question::Init(inputs, value(behind, "text")));
     }
-    let index = needed_index(before, behind)?;
     if let Some(release) = value(behind, "not") {
-        return Ok(Question::Release(release, index));
+        return Ok(Question::Release(release, needed_index(before, behind)?));
     }
-    Ok(Question::Edit(read_questioned(alloc, behind)?, index))
+    let inputs = needed_edit_inputs(before, behind)?;
+    Ok(Question::Edit(read_questioned(alloc, behind)?, inputs))
 }
 
 // The edit that a question is about: that of the option which names it, or the addition of the text, or
@@ -83,9 +83,9 @@ fn is_given(behind: &ArgMatches<'_>, id: &str) -> bool
     values(behind, id).is_some()
 }
 
-// A question beside which another is asked, as help shows it.
+// A question beside which another stands, as help shows it.
 fn excluding(behind: &ArgMatches<'_>) -> Option<&'static str>
-    ensures twice { is_some result ≡ asks_twice (rows_of (found_of behind.now)) }
+    ensures twice { is_some result ≡ has_two_questions (rows_of (found_of behind.now)) }
 {
     let init = has_flag(behind, "init");
     let constrain = is_given(behind, "constrain");

@@ -1,4 +1,4 @@
-// What the words of the command line ask for.
+// What the words of the command line mean.
 
 ghost use Rattle.std.specs.Prelude.{◌≡◌, [], false, map, true, IfOk, IfErr};
 ghost use Rattle.clap.specs.Words.{fault_of, found_of, matches_of, rows_of, subcommand_of, subcommand_rows_of};
@@ -8,7 +8,7 @@ ghost use Rattle.command_line.specs.Requests.{IsFault, IsRequest};
 ghost use Rattle.command_line.specs.UsageFaults.{FaultWith};
 
 pub use crate::invocation::{
-    DiffRange, Format, Inputs, Invocation, Question, Saving, Shown, Subcommand,
+    DiffRange, EditInputs, Format, Inputs, Invocation, Question, Saving, Shown, Subcommand,
 };
 use crate::options::{chosen, is_flagged, option_twice, stray_flag};
 use crate::subcommand::read_subcommand;
@@ -20,7 +20,7 @@ use clap_command::command;
 use std::alloc::Global;
 use std::convert::AsStr;
 
-/// What the words of a command line ask for, the first of them the program's name.
+/// What the words of a command line mean, the first of them the program's name.
 pub fn request<'a, S: AsStr>(alloc: Global, words: &'a [S]) -> Result<Invocation<'a>, RequestFault>
     ensures request { IfOk result (IsRequest (map S.text words.entry.now)) }
     ensures fault { IfErr result (IsFault (map S.text words.entry.now)) }

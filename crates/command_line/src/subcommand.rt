@@ -4,11 +4,11 @@ ghost use Rattle.std.specs.Prelude.{◌≡◌, ◌≢◌, codes, true, IfErr, If
 ghost use Rattle.std.specs.List.{AllByRecursion};
 ghost use Rattle.clap.specs.Words.{found_of, rows_of};
 ghost use Rattle.command_line.specs.Options.{has_flag, json_takers};
-ghost use Rattle.command_line.specs.Subcommands.{HasInputs, IsAsked, IsChecked, IsPlace, IsPlaceText, IsRange, IsShown, format_of, index_of, saving_of};
-ghost use Rattle.command_line.specs.UsageFaults.{FaultWith, HasNoNumber, IsLacking, IsOverasked, LacksIndex, LacksInput};
+ghost use Rattle.command_line.specs.Subcommands.{HasEditInputs, HasInputs, IsSubcommand, IsChecked, IsPlace, IsPlaceText, IsRange, IsShown, format_of, index_of, saving_of};
+ghost use Rattle.command_line.specs.UsageFaults.{FaultWith, HasNoNumber, IsLacking, IsTreeOfEntry, LacksIndex, LacksInput};
 
 use crate::edit_words::read_edit;
-use crate::invocation::{DiffRange, Format, Inputs, Saving, Shown, Subcommand};
+use crate::invocation::{DiffRange, EditInputs, Format, Inputs, Saving, Shown, Subcommand};
 use crate::options::{all_chosen, chosen, has_flag, is_flagged, value};
 use crate::question::read_question;
 use crate::usage::{NeededOption, RequestFault, excludes_another, no_number, no_subcommand};
@@ -23,14 +23,14 @@ pub(crate) fn read_subcommand<'a>(
     before: &ArgMatches<'a>,
     behind: &ArgMatches<'a>,
 ) -> Result<Subcommand<'a>, RequestFault>
-    ensures asked { IfOk result (IsAsked
+    ensures subcommand { IfOk result (IsSubcommand
         (rows_of (found_of before.now)) (rows_of (found_of behind.now)) name.now) }
     ensures fault { IfErr result (IsLacking
         (rows_of (found_of before.now)) (rows_of (found_of behind.now)) name.now) }
 {
     if let Some(edit) = read_edit(alloc, name, behind)? {
-        let index = needed_index(before, behind)?;
-        return Ok(Subcommand::Edit(edit, index, saving(before, behind)));
+        let inputs = needed_edit_inputs(before, behind)?;
+        return Ok(Subcommand::Edit(edit, inputs, saving(before, behind)));
     }
     if let Some(view) = read_view(alloc, name, before, behind)? {
         return Ok(view);
@@ -38,7 +38,7 @@ pub(crate) fn read_subcommand<'a>(
     match name {
         "init" => Ok(Subcommand::Init(needed_inputs(alloc, before, behind)?)),
         "try" => Ok(Subcommand::Try(needed_inputs(alloc, before, behind)?)),
-        "batch" => Ok(Subcommand::Batch(needed_index(before, behind)?)),
+        "batch" => Ok(Subcommand::Batch(needed_edit_inputs(before, behind)?)),
         "skipped" => Ok(Subcommand::Skipped(needed_index(before, behind)?)),
         "why" => {
             let question = read_question(alloc, before, behind)?;
@@ -58,9 +58,9 @@ fn read_view<'a>(
     before: &ArgMatches<'a>,
     behind: &ArgMatches<'a>,
 ) -> Result<Option<Subcommand<'a>>, RequestFault>
-    ensures asked { IfOk result (λ view. MatchOption view
+    ensures subcommand { IfOk result (λ view. MatchOption view
         (AllByRecursion (λ known. name.now ≢ known) json_takers)
-        (IsAsked (rows_of (found_of before.now)) (rows_of (found_of behind.now)) name.now)) }
+        (IsSubcommand (rows_of (found_of before.now)) (rows_of (found_of behind.now)) name.now)) }
     ensures fault { IfErr result (IsLacking
         (rows_of (found_of before.now)) (rows_of (found_of behind.now)) name.now) }
 {
@@ -69,7 +69,7 @@ fn read_view<'a>(
         "show" => Ok(Some(Subcommand::Show(read_shown(alloc, before, behind)?, format))),
         "log" => Ok(Some(Subcommand::Log(has_flag(behind, "long"), format))),
         "diff" => Ok(Some(Subcommand::Diff(read_range(alloc, behind)?, format))),
-        "check" => Ok(Some(Subcommand::Check(asked_index(before, behind)?, format))),
+        "check" => Ok(Some(Subcommand::Check(checked_index(before, behind)?, format))),
         "outdated" => Ok(Some(Subcommand::Outdated(needed_index(before, behind)?, format))),
         _ => Ok(None),
     }
@@ -102,7 +102,7 @@ fn read_shown<'a>(
 ) -> Result<Shown<'a>, RequestFault>
     ensures shown { IfOk result
         (IsShown (rows_of (found_of before.now)) (rows_of (found_of behind.now))) }
-    ensures fault { IfErr result (λ e. IsOverasked (rows_of (found_of behind.now))
+    ensures fault { IfErr result (λ e. IsTreeOfEntry (rows_of (found_of behind.now))
         × FaultWith ErrorKind.ArgumentConflict e) }
 {
     let is_tree = has_flag(behind, "tree");
@@ -141,8 +141,8 @@ fn read_place(alloc: Global, text: &str, shown: &str) -> Result<usize, RequestFa
     }
 }
 
-// The index of a `check` that is asked whether the lock is current.
-fn asked_index<'a>(
+// The index of a `check` whether the lock is current.
+fn checked_index<'a>(
     before: &ArgMatches<'a>,
     behind: &ArgMatches<'a>,
 ) -> Result<Option<&'a str>, RequestFault>
@@ -176,7 +176,25 @@ pub(crate) fn needed_index<'a>(
     }
 }
 
-/// The index and the environments that were given; the index is asked for first.
+/// The index that was given, and whether what is locked is to be kept.
+pub(crate) fn needed_edit_inputs<'a>(
+    before: &ArgMatches<'a>,
+    behind: &ArgMatches<'a>,
+) -> Result<EditInputs<'a>, RequestFault>
+    ensures inputs { IfOk result
+        (HasEditInputs (rows_of (found_of before.now)) (rows_of (found_of behind.now))) }
+    ensures missing { IfErr result
+        (LacksIndex (rows_of (found_of before.now)) (rows_of (found_of behind.now))) }
+{
+    let index = needed_index(before, behind)?;
+    let keeps_locked = is_flagged(before, behind, "keep-locked");
+    Ok(EditInputs {
+        index,
+        keeps_locked,
+    })
+}
+
+/// The index and the environments that were given; the index is missed first.
 pub(crate) fn needed_inputs<'a>(
     alloc: Global,
     before: &ArgMatches<'a>,

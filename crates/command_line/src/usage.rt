@@ -1,4 +1,4 @@
-// Why the words of a command line ask for nothing.
+// Why the words of a command line are no request.
 
 ghost use Rattle.std.specs.Prelude.{◌≡◌, IfOk};
 ghost use Rattle.clap.specs.Words.{kind_of};
@@ -18,10 +18,10 @@ pub enum NeededOption {
     Environment,
 }
 
-/// Why the words ask for nothing.
+/// Why the words are no request.
 #[derive(Debug, Drop)]
 pub enum RequestFault {
-    /// clap doesn't read them, or they ask for help, whose text the error has; or what it reads
+    /// clap doesn't read them, or they call for help, whose text the error has; or what it reads
     /// doesn't go together.
     Usage(Error),
     /// clap reads them, but the subcommand needs this option.

@@ -9,7 +9,7 @@ use Rattle.std.proofs.lemmas.Bool.{eqb-false}
 use Rattle.std.proofs.lemmas.Grind.{flat_map-append}
 use Rattle.std.proofs.lemmas.List.Elements.{filter_map-append}
 use Rattle.std.proofs.lemmas.List.Folds.{list_any-append}
-use Rattle.snapshot.specs.declared.snapshot.Snapshot.{Snapshot}
+use Rattle.states.specs.declared.pool.Pool.{Pool}
 use Rattle.journal.specs.declared.commands.Reply.{Reply}
 use Rattle.journal.specs.declared.commands.Reply.TheVariants.{Refused}
 use Rattle.states.specs.declared.refusal.Refusal.TheVariants as refusals
@@ -25,7 +25,7 @@ use Rattle.commands.specs.Replies.{text_of_reply, reply_text, is_accepted}
 use Rattle.commands.specs.declared.batch.BatchFault.{BatchFault}
 use Rattle.commands.specs.declared.batch.BatchFault.TheVariants.{OutOfMemory}
 use Rattle.commands.specs.Faults.{IsOfSink}
-use Rattle.commands.specs.Runs.{asked_in, replies_of, Replied, Answered, AnsweredWith, IsCutOff, BreaksOff, Ends, EndsAt, EndsInReading, EndsInWriting}
+use Rattle.commands.specs.Runs.{command_in, replies_of, Replied, Answered, AnsweredWith, IsCutOff, BreaksOff, Ends, EndsAt, EndsInReading, EndsInWriting}
 use Rattle.commands.specs.Standings.{Standing, Advances, Answers, AnswersAllBut, ReadsOf, Reads, Breaks}
 use Rattle.commands.proofs.Lines.{items_alike, ended_items_alike, items_kept, items_of_line, none_ended, commands_last, unbroken_append}
 
@@ -39,54 +39,59 @@ run_append (x ∷ xs) ys [] ts old next new first second = absurd first
 run_append (x ∷ xs) ys (r ∷ rs) ts old next new first second = (first.0, first.1, first.2, run_append xs ys rs ts first.0 next new first.3 second)
 
 -- the replies to items are those to the first of them and those to the others
-replies_append : (snapshot : Snapshot) (xs ys : List Item) (rs ts : List Reply) (old next : HistoryParts) → RunWithChanges old (filter_map (asked_in snapshot) xs) rs next → replies_of (xs ++ ys) (rs ++ ts) ≡ replies_of xs rs ++ replies_of ys ts
-replies_append snapshot [] ys [] ts old next run = refl
-replies_append snapshot [] ys (r ∷ rs) ts old next run = absurd run
-replies_append snapshot (BadCommand ∷ xs) ys rs ts old next run = ap (λ replies. Refused refusals.BadCommand ∷ replies) (replies_append snapshot xs ys rs ts old next run)
-replies_append snapshot (Edit edit ∷ xs) ys [] ts old next run = absurd run
-replies_append snapshot (Edit edit ∷ xs) ys (r ∷ rs) ts old next run = ap (λ replies. r ∷ replies) (replies_append snapshot xs ys rs ts run.0 next run.3)
-replies_append snapshot (Undo ∷ xs) ys [] ts old next run = absurd run
-replies_append snapshot (Undo ∷ xs) ys (r ∷ rs) ts old next run = ap (λ replies. r ∷ replies) (replies_append snapshot xs ys rs ts run.0 next run.3)
-replies_append snapshot (Redo ∷ xs) ys [] ts old next run = absurd run
-replies_append snapshot (Redo ∷ xs) ys (r ∷ rs) ts old next run = ap (λ replies. r ∷ replies) (replies_append snapshot xs ys rs ts run.0 next run.3)
+replies_append : (pool : Pool) (xs ys : List Item) (rs ts : List Reply) (old next : HistoryParts) → RunWithChanges old (filter_map (command_in pool) xs) rs next → replies_of (xs ++ ys) (rs ++ ts) ≡ replies_of xs rs ++ replies_of ys ts
+replies_append pool [] ys [] ts old next run = refl
+replies_append pool [] ys (r ∷ rs) ts old next run = absurd run
+replies_append pool (BadCommand ∷ xs) ys rs ts old next run = ap (λ replies. Refused refusals.BadCommand ∷ replies) (replies_append pool xs ys rs ts old next run)
+replies_append pool (Edit edit ∷ xs) ys [] ts old next run = absurd run
+replies_append pool (Edit edit ∷ xs) ys (r ∷ rs) ts old next run = ap (λ replies. r ∷ replies) (replies_append pool xs ys rs ts run.0 next run.3)
+replies_append pool (Undo ∷ xs) ys [] ts old next run = absurd run
+replies_append pool (Undo ∷ xs) ys (r ∷ rs) ts old next run = ap (λ replies. r ∷ replies) (replies_append pool xs ys rs ts run.0 next run.3)
+replies_append pool (Redo ∷ xs) ys [] ts old next run = absurd run
+replies_append pool (Redo ∷ xs) ys (r ∷ rs) ts old next run = ap (λ replies. r ∷ replies) (replies_append pool xs ys rs ts run.0 next run.3)
 
-replied_append : (snapshot : Snapshot) (xs ys : List Item) (rs ts : List Reply) (old next new : HistoryParts) → Replied snapshot xs rs old next → Replied snapshot ys ts next new → Replied snapshot (xs ++ ys) (rs ++ ts) old new
-replied_append snapshot xs ys rs ts old next new first second =
+replied_append : (pool : Pool) (xs ys : List Item) (rs ts : List Reply) (old next new : HistoryParts) → Replied pool xs rs old next → Replied pool ys ts next new → Replied pool (xs ++ ys) (rs ++ ts) old new
+replied_append pool xs ys rs ts old next new first second =
     let P : List Asked → Type 0 = λ asked. RunWithChanges old asked (first.0 ++ second.0) new in (
       first.0 ++ second.0,
-      subst P (sym (filter_map-append (asked_in snapshot) xs ys)) (run_append (filter_map (asked_in snapshot) xs) (filter_map (asked_in snapshot) ys) first.0 second.0 old next new first.1 second.1),
-      ap (λ replies. replies ++ ts) first.2 ∙ ap (λ replies. replies_of xs first.0 ++ replies) second.2 ∙ sym (replies_append snapshot xs ys first.0 second.0 old next first.1),
+      subst P (sym (filter_map-append (command_in pool) xs ys)) (run_append (filter_map (command_in pool) xs) (filter_map (command_in pool) ys) first.0 second.0 old next new first.1 second.1),
+      ap (λ replies. replies ++ ts) first.2 ∙ ap (λ replies. replies_of xs first.0 ++ replies) second.2 ∙ sym (replies_append pool xs ys first.0 second.0 old next first.1),
     )
 
 -- nothing was asked for
-replied_none : (snapshot : Snapshot) (old : HistoryParts) → Replied snapshot [] [] old old
-replied_none snapshot old = ([], refl, refl)
+replied_none : (pool : Pool) (old : HistoryParts) → Replied pool [] [] old old
+replied_none pool old = ([], refl, refl)
 
 -- one item that asks for this
-pub replied_edit : (snapshot : Snapshot) (item : Item) (edit : EditValue) (reply : Reply) (old new : HistoryParts) → item ≡ Edit edit → Step old.past (Editing edit snapshot) reply new.past → ChangesAfter old (Editing edit snapshot) reply new → Replied snapshot (item ∷ []) (reply ∷ []) old new
-replied_edit snapshot item edit reply old new is step changes =
-    let P : Item → Type 0 = λ i. Replied snapshot (i ∷ []) (reply ∷ []) old new in subst P (sym is) (reply ∷ [], (new, step, changes, refl), refl)
+pub replied_edit : (pool : Pool) (item : Item) (edit : EditValue) (reply : Reply) (old new : HistoryParts) → item ≡ Edit edit → Step old.past (Editing edit pool) reply new.past → ChangesAfter old (Editing edit pool) reply new → Replied pool (item ∷ []) (reply ∷ []) old new
+replied_edit pool item edit reply old new is step changes =
+    let P : Item → Type 0 = λ i. Replied pool (i ∷ []) (reply ∷ []) old new in subst P (sym is) (reply ∷ [], (new, step, changes, refl), refl)
 
-pub replied_undo : (snapshot : Snapshot) (item : Item) (reply : Reply) (old new : HistoryParts) → item ≡ Undo → Step old.past Undoing reply new.past → ChangesAfter old Undoing reply new → Replied snapshot (item ∷ []) (reply ∷ []) old new
-replied_undo snapshot item reply old new is step changes =
-    let P : Item → Type 0 = λ i. Replied snapshot (i ∷ []) (reply ∷ []) old new in subst P (sym is) (reply ∷ [], (new, step, changes, refl), refl)
+-- the same over an equal pool
+pub replied_edit_over : (pool other : Pool) (item : Item) (edit : EditValue) (reply : Reply) (old new : HistoryParts) → item ≡ Edit edit → other ≡ pool → Step old.past (Editing edit other) reply new.past → ChangesAfter old (Editing edit other) reply new → Replied pool (item ∷ []) (reply ∷ []) old new
+replied_edit_over pool other item edit reply old new is same step changes =
+    subst (λ (p : Pool). Replied p (item ∷ []) (reply ∷ []) old new) same (replied_edit other item edit reply old new is step changes)
 
-pub replied_redo : (snapshot : Snapshot) (item : Item) (reply : Reply) (old new : HistoryParts) → item ≡ Redo → Step old.past Redoing reply new.past → ChangesAfter old Redoing reply new → Replied snapshot (item ∷ []) (reply ∷ []) old new
-replied_redo snapshot item reply old new is step changes =
-    let P : Item → Type 0 = λ i. Replied snapshot (i ∷ []) (reply ∷ []) old new in subst P (sym is) (reply ∷ [], (new, step, changes, refl), refl)
+pub replied_undo : (pool : Pool) (item : Item) (reply : Reply) (old new : HistoryParts) → item ≡ Undo → Step old.past Undoing reply new.past → ChangesAfter old Undoing reply new → Replied pool (item ∷ []) (reply ∷ []) old new
+replied_undo pool item reply old new is step changes =
+    let P : Item → Type 0 = λ i. Replied pool (i ∷ []) (reply ∷ []) old new in subst P (sym is) (reply ∷ [], (new, step, changes, refl), refl)
+
+pub replied_redo : (pool : Pool) (item : Item) (reply : Reply) (old new : HistoryParts) → item ≡ Redo → Step old.past Redoing reply new.past → ChangesAfter old Redoing reply new → Replied pool (item ∷ []) (reply ∷ []) old new
+replied_redo pool item reply old new is step changes =
+    let P : Item → Type 0 = λ i. Replied pool (i ∷ []) (reply ∷ []) old new in subst P (sym is) (reply ∷ [], (new, step, changes, refl), refl)
 
 -- an edit is refused where there is no memory for its text
-pub replied_for_memory : (snapshot : Snapshot) (item : Option Item) (old : HistoryParts) → IsEdit item → Replied snapshot (option_to_list item) (Refused refusals.OutOfMemory ∷ []) old old
-replied_for_memory snapshot None old is = absurd is
-replied_for_memory snapshot (Some (Edit edit)) old is = replied_edit snapshot (Edit edit) edit (Refused refusals.OutOfMemory) old old refl (inl refl, refl) refl
-replied_for_memory snapshot (Some Undo) old is = absurd is
-replied_for_memory snapshot (Some Redo) old is = absurd is
-replied_for_memory snapshot (Some BadCommand) old is = absurd is
+pub replied_for_memory : (pool : Pool) (item : Option Item) (old : HistoryParts) → IsEdit item → Replied pool (option_to_list item) (Refused refusals.OutOfMemory ∷ []) old old
+replied_for_memory pool None old is = absurd is
+replied_for_memory pool (Some (Edit edit)) old is = replied_edit pool (Edit edit) edit (Refused refusals.OutOfMemory) old old refl (inl refl, refl) refl
+replied_for_memory pool (Some Undo) old is = absurd is
+replied_for_memory pool (Some Redo) old is = absurd is
+replied_for_memory pool (Some BadCommand) old is = absurd is
 
 -- what a line asked for was answered
-pub replied_item : (snapshot : Snapshot) (asked : Option Item) (item : Item) (reply : Reply) (old new : HistoryParts) → Some item ≡ asked → Replied snapshot (item ∷ []) (reply ∷ []) old new → Replied snapshot (option_to_list asked) (reply ∷ []) old new
-replied_item snapshot asked item reply old new is replied =
-    let P : Option Item → Type 0 = λ one. Replied snapshot (option_to_list one) (reply ∷ []) old new in subst P is replied
+pub replied_item : (pool : Pool) (asked : Option Item) (item : Item) (reply : Reply) (old new : HistoryParts) → Some item ≡ asked → Replied pool (item ∷ []) (reply ∷ []) old new → Replied pool (option_to_list asked) (reply ∷ []) old new
+replied_item pool asked item reply old new is replied =
+    let P : Option Item → Type 0 = λ one. Replied pool (option_to_list one) (reply ∷ []) old new in subst P is replied
 
 -- ---- what is written
 
@@ -140,59 +145,59 @@ or_none true = refl
 or_none false = refl
 
 -- answers behind answers
-pub advances_append : (snapshot : Snapshot) (xs ys : List Item) (old next new : Standing) → Advances snapshot xs old next → Advances snapshot ys next new → Advances snapshot (xs ++ ys) old new
-advances_append snapshot xs ys old next new first second =
+pub advances_append : (pool : Pool) (xs ys : List Item) (old next new : Standing) → Advances pool xs old next → Advances pool ys next new → Advances pool (xs ++ ys) old new
+advances_append pool xs ys old next new first second =
     let P : List ℕ → Type 0 = λ text. Appends old.written new.written text in (
       first.0 ++ second.0,
-      replied_append snapshot xs ys first.0 second.0 old.history next.history new.history first.1 second.1,
+      replied_append pool xs ys first.0 second.0 old.history next.history new.history first.1 second.1,
       subst P (sym (flat_map-append text_of_reply first.0 second.0)) (appends_append old.written next.written new.written (reply_text first.0) (reply_text second.0) first.2 second.2),
       accepted_append old.has_accepted next.has_accepted new.has_accepted first.0 second.0 first.3 second.3,
     )
 
 -- nothing to answer
-pub advances_none : (snapshot : Snapshot) (old : Standing) → Advances snapshot [] old old
-advances_none snapshot old = ([], replied_none snapshot old.history, appends_none old.written, or_none old.has_accepted)
+pub advances_none : (pool : Pool) (old : Standing) → Advances pool [] old old
+advances_none pool old = ([], replied_none pool old.history, appends_none old.written, or_none old.has_accepted)
 
 -- a reply to one line, where both were written as they should
-advances_line : {T E : Type 0} (result : Result T E) (snapshot : Snapshot) (items : List Item) (reply : Reply) (old new : HistoryParts) (before after : Option (List ℕ)) (had has : Bool)
-    → Replied snapshot items (reply ∷ []) old new → OnOk result (Appends before after (text_of_reply reply)) → OnOk result (has ≡ (had || is_accepted reply))
-    → OnOk result (Advances snapshot items (record { history = old; written = before; has_accepted = had }) (record { history = new; written = after; has_accepted = has }))
-advances_line (Ok u) snapshot items reply old new before after had has replied written accepted =
+advances_line : {T E : Type 0} (result : Result T E) (pool : Pool) (items : List Item) (reply : Reply) (old new : HistoryParts) (before after : Option (List ℕ)) (had has : Bool)
+    → Replied pool items (reply ∷ []) old new → OnOk result (Appends before after (text_of_reply reply)) → OnOk result (has ≡ (had || is_accepted reply))
+    → OnOk result (Advances pool items (record { history = old; written = before; has_accepted = had }) (record { history = new; written = after; has_accepted = has }))
+advances_line (Ok u) pool items reply old new before after had has replied written accepted =
     let P : List ℕ → Type 0 = λ text. Appends before after text in (
       reply ∷ [],
       replied,
       subst P (sym (append-nil (text_of_reply reply))) written,
       accepted ∙ ap (λ b. had || b) (or_none (is_accepted reply)),
     )
-advances_line (Err e) snapshot items reply old new before after had has replied written accepted = tt
+advances_line (Err e) pool items reply old new before after had has replied written accepted = tt
 
 -- a reply that was cut off
-breaks_line : {T E : Type 0} (result : Result T E) (snapshot : Snapshot) (items : List Item) (reply : Reply) (old new : HistoryParts) (before after : Option (List ℕ))
-    → Replied snapshot items (reply ∷ []) old new → OnErr result (IsCutOff (text_of_reply reply) before after) → OnErr result (BreaksOff snapshot items old new before after)
-breaks_line (Ok u) snapshot items reply old new before after replied cut = tt
-breaks_line (Err e) snapshot items reply old new before after replied cut =
+breaks_line : {T E : Type 0} (result : Result T E) (pool : Pool) (items : List Item) (reply : Reply) (old new : HistoryParts) (before after : Option (List ℕ))
+    → Replied pool items (reply ∷ []) old new → OnErr result (IsCutOff (text_of_reply reply) before after) → OnErr result (BreaksOff pool items old new before after)
+breaks_line (Ok u) pool items reply old new before after replied cut = tt
+breaks_line (Err e) pool items reply old new before after replied cut =
     record { told = []; last = reply; replied = replied; front = cut.front; missing = cut.missing; last_is = cut.text_is; is_missing = cut.is_missing; written = cut.written }
 
 -- a reply to one line, written whole or in part
-pub answers_sent : {T : Type 0} (result : Result T BatchFault) (snapshot : Snapshot) (items : List Item) (reply : Reply) (old new : HistoryParts) (before after : Option (List ℕ)) (had has failed : Bool)
-    → Replied snapshot items (reply ∷ []) old new → OnOk result (Appends before after (text_of_reply reply)) → OnOk result (has ≡ (had || is_accepted reply)) → OnErr result (IsCutOff (text_of_reply reply) before after) → IsOfSink result failed
-    → Answers result snapshot items (record { history = old; written = before; has_accepted = had }) (record { history = new; written = after; has_accepted = has }) failed
-answers_sent result snapshot items reply old new before after had has failed replied written accepted cut sink =
+pub answers_sent : {T : Type 0} (result : Result T BatchFault) (pool : Pool) (items : List Item) (reply : Reply) (old new : HistoryParts) (before after : Option (List ℕ)) (had has failed : Bool)
+    → Replied pool items (reply ∷ []) old new → OnOk result (Appends before after (text_of_reply reply)) → OnOk result (has ≡ (had || is_accepted reply)) → OnErr result (IsCutOff (text_of_reply reply) before after) → IsOfSink result failed
+    → Answers result pool items (record { history = old; written = before; has_accepted = had }) (record { history = new; written = after; has_accepted = has }) failed
+answers_sent result pool items reply old new before after had has failed replied written accepted cut sink =
     record {
-      advances = advances_line result snapshot items reply old new before after had has replied written accepted;
-      breaks = breaks_line result snapshot items reply old new before after replied cut;
+      advances = advances_line result pool items reply old new before after had has replied written accepted;
+      breaks = breaks_line result pool items reply old new before after replied cut;
       sink = sink;
     }
 
 -- answers, and then a reply that was cut off
-pub breaks_append : (snapshot : Snapshot) (xs ys : List Item) (old next : Standing) (new : HistoryParts) (after : Option (List ℕ)) → Advances snapshot xs old next → BreaksOff snapshot ys next.history new next.written after → BreaksOff snapshot (xs ++ ys) old.history new old.written after
-breaks_append snapshot xs ys old next new after first second =
-    let P : List Reply → Type 0 = λ replies. Replied snapshot (xs ++ ys) replies old.history new in
+pub breaks_append : (pool : Pool) (xs ys : List Item) (old next : Standing) (new : HistoryParts) (after : Option (List ℕ)) → Advances pool xs old next → BreaksOff pool ys next.history new next.written after → BreaksOff pool (xs ++ ys) old.history new old.written after
+breaks_append pool xs ys old next new after first second =
+    let P : List Reply → Type 0 = λ replies. Replied pool (xs ++ ys) replies old.history new in
     let Q : List ℕ → Type 0 = λ text. Appends old.written after text in
     record {
       told = first.0 ++ second.told;
       last = second.last;
-      replied = subst P (sym (append_assoc first.0 second.told (second.last ∷ []))) (replied_append snapshot xs ys first.0 (second.told ++ second.last ∷ []) old.history next.history new first.1 second.replied);
+      replied = subst P (sym (append_assoc first.0 second.told (second.last ∷ []))) (replied_append pool xs ys first.0 (second.told ++ second.last ∷ []) old.history next.history new first.1 second.replied);
       front = second.front;
       missing = second.missing;
       last_is = second.last_is;
@@ -204,19 +209,19 @@ breaks_append snapshot xs ys old next new after first second =
 -- ---- lines
 
 -- at the start nothing is answered
-pub answers_start : (snapshot : Snapshot) (bytes : List ℕ) (old : Standing) → AnswersAllBut snapshot bytes bytes old old
-answers_start snapshot bytes old = record { done = []; advances = advances_none snapshot old; left = λ rest. refl; ended = λ rest. refl }
+pub answers_start : (pool : Pool) (bytes : List ℕ) (old : Standing) → AnswersAllBut pool bytes bytes old old
+answers_start pool bytes old = record { done = []; advances = advances_none pool old; left = λ rest. refl; ended = λ rest. refl }
 
 -- a line that its LF ended
-pub answers_line : (snapshot : Snapshot) (bytes pending line behind : List ℕ) (old next new : Standing) → IsUnbroken pending → IsUnbroken line
-    → AnswersAllBut snapshot bytes (pending ++ (line ++ (10 ∷ behind))) old next
-    → Advances snapshot (option_to_list (item_of (record { bytes = take 65537 (pending ++ line); is_ended = true }))) next new
-    → AnswersAllBut snapshot bytes behind old new
-answers_line snapshot bytes pending line behind old next new first second before advances =
+pub answers_line : (pool : Pool) (bytes pending line behind : List ℕ) (old next new : Standing) → IsUnbroken pending → IsUnbroken line
+    → AnswersAllBut pool bytes (pending ++ (line ++ (10 ∷ behind))) old next
+    → Advances pool (option_to_list (item_of (record { bytes = take 65537 (pending ++ line); is_ended = true }))) next new
+    → AnswersAllBut pool bytes behind old new
+answers_line pool bytes pending line behind old next new first second before advances =
     let item = option_to_list (item_of (record { bytes = take 65537 (pending ++ line); is_ended = true })) in
     record {
       done = before.done ++ item;
-      advances = advances_append snapshot before.done item old next new before.advances advances;
+      advances = advances_append pool before.done item old next new before.advances advances;
       left = λ rest.
           before.left rest ∙ ap (λ items. before.done ++ items) (items_of_line item_of pending line behind rest items_alike first second)
           ∙ sym (append_assoc before.done item (commands_of (behind ++ rest)));
@@ -226,15 +231,15 @@ answers_line snapshot bytes pending line behind old next new first second before
     }
 
 -- the same, where its reply was cut off
-pub breaks_in_line : (snapshot : Snapshot) (bytes pending line behind : List ℕ) (old next new : Standing) → IsUnbroken pending → IsUnbroken line
-    → AnswersAllBut snapshot bytes (pending ++ (line ++ (10 ∷ behind))) old next
-    → BreaksOff snapshot (option_to_list (item_of (record { bytes = take 65537 (pending ++ line); is_ended = true }))) next.history new.history next.written new.written
-    → Breaks snapshot bytes old new
-breaks_in_line snapshot bytes pending line behind old next new first second before breaks =
+pub breaks_in_line : (pool : Pool) (bytes pending line behind : List ℕ) (old next new : Standing) → IsUnbroken pending → IsUnbroken line
+    → AnswersAllBut pool bytes (pending ++ (line ++ (10 ∷ behind))) old next
+    → BreaksOff pool (option_to_list (item_of (record { bytes = take 65537 (pending ++ line); is_ended = true }))) next.history new.history next.written new.written
+    → Breaks pool bytes old new
+breaks_in_line pool bytes pending line behind old next new first second before breaks =
     let item = option_to_list (item_of (record { bytes = take 65537 (pending ++ line); is_ended = true })) in
     record {
       done = before.done ++ item;
-      breaks_off = breaks_append snapshot before.done item old next new.history new.written before.advances breaks;
+      breaks_off = breaks_append pool before.done item old next new.history new.written before.advances breaks;
       left = λ rest. (
         commands_of (behind ++ rest),
         before.left rest ∙ ap (λ items. before.done ++ items) (items_of_line item_of pending line behind rest items_alike first second)
@@ -243,9 +248,9 @@ breaks_in_line snapshot bytes pending line behind old next new first second befo
     }
 
 -- what is left of a piece is pending
-pub answers_kept : (snapshot : Snapshot) (bytes pending line : List ℕ) (old new : Standing) → IsUnbroken pending → IsUnbroken line
-    → AnswersAllBut snapshot bytes (pending ++ line) old new → AnswersAllBut snapshot bytes (take 65537 (pending ++ line)) old new
-answers_kept snapshot bytes pending line old new first second before =
+pub answers_kept : (pool : Pool) (bytes pending line : List ℕ) (old new : Standing) → IsUnbroken pending → IsUnbroken line
+    → AnswersAllBut pool bytes (pending ++ line) old new → AnswersAllBut pool bytes (take 65537 (pending ++ line)) old new
+answers_kept pool bytes pending line old new first second before =
     let whole = unbroken_append pending line first second in
     record {
       done = before.done;
@@ -267,45 +272,45 @@ items_append h read piece pending after rest done more first second =
     ∙ sym (append_assoc done more (filter_map h (input_lines_of (after ++ rest))))
 
 -- one more piece
-answers_piece : (snapshot : Snapshot) (read pending piece after : List ℕ) (old next new : Standing) → AnswersAllBut snapshot read pending old next → AnswersAllBut snapshot (pending ++ piece) after next new → AnswersAllBut snapshot (read ++ piece) after old new
-answers_piece snapshot read pending piece after old next new first second =
+answers_piece : (pool : Pool) (read pending piece after : List ℕ) (old next new : Standing) → AnswersAllBut pool read pending old next → AnswersAllBut pool (pending ++ piece) after next new → AnswersAllBut pool (read ++ piece) after old new
+answers_piece pool read pending piece after old next new first second =
     record {
       done = first.done ++ second.done;
-      advances = advances_append snapshot first.done second.done old next new first.advances second.advances;
+      advances = advances_append pool first.done second.done old next new first.advances second.advances;
       left = λ rest. items_append item_of read piece pending after rest first.done second.done first.left (second.left rest);
       ended = λ rest. items_append ended_item_of read piece pending after rest first.done second.done first.ended (second.ended rest);
     }
 
 -- the same where the bytes may be unknown
-pub reads_piece : (snapshot : Snapshot) (had now then : Option (List ℕ)) (pending piece after : List ℕ) (old next new : Standing)
-    → Reads snapshot had pending now old next → Consumes now then piece → AnswersAllBut snapshot (pending ++ piece) after next new → IsUnbroken after → Reads snapshot had after then old new
-reads_piece snapshot None now then pending piece after old next new first taken second unbroken = tt
-reads_piece snapshot (Some input) None then pending piece after old next new first taken second unbroken = absurd first
-reads_piece snapshot (Some input) (Some rest) None pending piece after old next new first taken second unbroken = absurd taken
-reads_piece snapshot (Some input) (Some rest) (Some behind) pending piece after old next new first taken second unbroken =
+pub reads_piece : (pool : Pool) (had now then : Option (List ℕ)) (pending piece after : List ℕ) (old next new : Standing)
+    → Reads pool had pending now old next → Consumes now then piece → AnswersAllBut pool (pending ++ piece) after next new → IsUnbroken after → Reads pool had after then old new
+reads_piece pool None now then pending piece after old next new first taken second unbroken = tt
+reads_piece pool (Some input) None then pending piece after old next new first taken second unbroken = absurd first
+reads_piece pool (Some input) (Some rest) None pending piece after old next new first taken second unbroken = absurd taken
+reads_piece pool (Some input) (Some rest) (Some behind) pending piece after old next new first taken second unbroken =
     record {
       read = first.read ++ piece;
       input_is = first.input_is ∙ ap (λ bytes. first.read ++ bytes) taken ∙ sym (append_assoc first.read piece behind);
       unbroken = unbroken;
-      answers = answers_piece snapshot first.read pending piece after old next new first.answers second;
+      answers = answers_piece pool first.read pending piece after old next new first.answers second;
     }
 
 -- before the first read
-pub reads_start : (snapshot : Snapshot) (had : Option (List ℕ)) (old : Standing) → Reads snapshot had [] had old old
-reads_start snapshot None old = tt
-reads_start snapshot (Some input) old = record {
+pub reads_start : (pool : Pool) (had : Option (List ℕ)) (old : Standing) → Reads pool had [] had old old
+reads_start pool None old = tt
+reads_start pool (Some input) old = record {
   read = [];
   input_is = refl;
   unbroken = tt;
-  answers = answers_start snapshot [] old;
+  answers = answers_start pool [] old;
 }
 
 -- a read that gave nothing
-pub reads_end : (snapshot : Snapshot) (had now then : Option (List ℕ)) (pending : List ℕ) (old new : Standing) → Reads snapshot had pending now old new → Consumes now then [] → Reads snapshot had pending then old new
-reads_end snapshot None now then pending old new first taken = tt
-reads_end snapshot (Some input) None then pending old new first taken = absurd first
-reads_end snapshot (Some input) (Some rest) None pending old new first taken = absurd taken
-reads_end snapshot (Some input) (Some rest) (Some behind) pending old new first taken =
+pub reads_end : (pool : Pool) (had now then : Option (List ℕ)) (pending : List ℕ) (old new : Standing) → Reads pool had pending now old new → Consumes now then [] → Reads pool had pending then old new
+reads_end pool None now then pending old new first taken = tt
+reads_end pool (Some input) None then pending old new first taken = absurd first
+reads_end pool (Some input) (Some rest) None pending old new first taken = absurd taken
+reads_end pool (Some input) (Some rest) (Some behind) pending old new first taken =
     record {
       read = first.read;
       input_is = first.input_is ∙ ap (λ bytes. first.read ++ bytes) taken;
@@ -314,17 +319,17 @@ reads_end snapshot (Some input) (Some rest) (Some behind) pending old new first 
     }
 
 -- a read that failed
-pub ends_in_reading : (snapshot : Snapshot) (had now then : Option (List ℕ)) (pending : List ℕ) (old new : Standing) → Reads snapshot had pending now old new → Keeps now then
-    → IfSome had (λ input. EndsInReading snapshot input then old.history new.history old.written new.written)
-ends_in_reading snapshot None now then pending old new reads kept = tt
-ends_in_reading snapshot (Some input) None then pending old new reads kept = absurd reads
-ends_in_reading snapshot (Some input) (Some rest) None pending old new reads kept = absurd kept
-ends_in_reading snapshot (Some input) (Some rest) (Some behind) pending old new reads kept =
+pub ends_in_reading : (pool : Pool) (had now then : Option (List ℕ)) (pending : List ℕ) (old new : Standing) → Reads pool had pending now old new → Keeps now then
+    → IfSome had (λ input. EndsInReading pool input then old.history new.history old.written new.written)
+ends_in_reading pool None now then pending old new reads kept = tt
+ends_in_reading pool (Some input) None then pending old new reads kept = absurd reads
+ends_in_reading pool (Some input) (Some rest) None pending old new reads kept = absurd kept
+ends_in_reading pool (Some input) (Some rest) (Some behind) pending old new reads kept =
     let answers = reads.answers in
     let nothing : ended_commands_of (pending ++ []) ≡ [] = ap ended_commands_of (append-nil pending) ∙ none_ended pending reads.unbroken in
     let done : answers.done ≡ ended_commands_of reads.read =
     sym (ap ended_commands_of (sym (append-nil reads.read)) ∙ answers.ended [] ∙ ap (λ items. answers.done ++ items) nothing ∙ append-nil answers.done) in
-    let P : List Item → Type 0 = λ items. Answered snapshot items old.history new.history old.written new.written in
+    let P : List Item → Type 0 = λ items. Answered pool items old.history new.history old.written new.written in
     record {
       read = reads.read;
       read_is = reads.input_is ∙ ap (λ bytes. reads.read ++ bytes) (sym kept);
@@ -332,13 +337,13 @@ ends_in_reading snapshot (Some input) (Some rest) (Some behind) pending old new 
     }
 
 -- a write that failed in a piece
-pub ends_in_writing : (snapshot : Snapshot) (had now then : Option (List ℕ)) (pending piece : List ℕ) (old next new : Standing)
-    → Reads snapshot had pending now old next → Consumes now then piece → Breaks snapshot (pending ++ piece) next new
-    → IfSome had (λ input. EndsInWriting snapshot input old.history new.history old.written new.written)
-ends_in_writing snapshot None now then pending piece old next new reads taken breaks = tt
-ends_in_writing snapshot (Some input) None then pending piece old next new reads taken breaks = absurd reads
-ends_in_writing snapshot (Some input) (Some rest) None pending piece old next new reads taken breaks = absurd taken
-ends_in_writing snapshot (Some input) (Some rest) (Some behind) pending piece old next new reads taken breaks =
+pub ends_in_writing : (pool : Pool) (had now then : Option (List ℕ)) (pending piece : List ℕ) (old next new : Standing)
+    → Reads pool had pending now old next → Consumes now then piece → Breaks pool (pending ++ piece) next new
+    → IfSome had (λ input. EndsInWriting pool input old.history new.history old.written new.written)
+ends_in_writing pool None now then pending piece old next new reads taken breaks = tt
+ends_in_writing pool (Some input) None then pending piece old next new reads taken breaks = absurd reads
+ends_in_writing pool (Some input) (Some rest) None pending piece old next new reads taken breaks = absurd taken
+ends_in_writing pool (Some input) (Some rest) (Some behind) pending piece old next new reads taken breaks =
     let answers = reads.answers in
     let left = breaks.left behind in
     record {
@@ -347,81 +352,81 @@ ends_in_writing snapshot (Some input) (Some rest) (Some behind) pending piece ol
       commands_are = ap commands_of (reads.input_is ∙ ap (λ bytes. reads.read ++ bytes) taken) ∙ answers.left (piece ++ behind)
           ∙ ap (λ bytes. answers.done ++ commands_of bytes) (sym (append_assoc pending piece behind)) ∙ ap (λ items. answers.done ++ items) left.1
           ∙ sym (append_assoc answers.done breaks.done left.0);
-      breaks_off = breaks_append snapshot answers.done breaks.done old next new.history new.written answers.advances breaks.breaks_off;
+      breaks_off = breaks_append pool answers.done breaks.done old next new.history new.written answers.advances breaks.breaks_off;
     }
 
 -- ---- the end of input
 
 -- the commands of the whole input, once all was read
-all_commands : (snapshot : Snapshot) (input pending rest : List ℕ) (old new : Standing) (reads : ReadsOf snapshot input pending rest old new) → rest ≡ [] → commands_of input ≡ reads.answers.done ++ commands_of pending
-all_commands snapshot input pending rest old new reads end =
+all_commands : (pool : Pool) (input pending rest : List ℕ) (old new : Standing) (reads : ReadsOf pool input pending rest old new) → rest ≡ [] → commands_of input ≡ reads.answers.done ++ commands_of pending
+all_commands pool input pending rest old new reads end =
     ap commands_of (reads.input_is ∙ ap (λ bytes. reads.read ++ bytes) end) ∙ reads.answers.left [] ∙ ap (λ bytes. reads.answers.done ++ commands_of bytes) (append-nil pending)
 
 -- the whole input, once what is pending at its end is answered
-pub advances_end : (snapshot : Snapshot) (had now : Option (List ℕ)) (pending : List ℕ) (old next new : Standing)
-    → Reads snapshot had pending now old next → IsAtEnd now → Advances snapshot (commands_of pending) next new
-    → IfSome had (λ input. Advances snapshot (commands_of input) old new)
-advances_end snapshot None now pending old next new reads end last = tt
-advances_end snapshot (Some input) None pending old next new reads end last = absurd reads
-advances_end snapshot (Some input) (Some rest) pending old next new reads end last =
+pub advances_end : (pool : Pool) (had now : Option (List ℕ)) (pending : List ℕ) (old next new : Standing)
+    → Reads pool had pending now old next → IsAtEnd now → Advances pool (commands_of pending) next new
+    → IfSome had (λ input. Advances pool (commands_of input) old new)
+advances_end pool None now pending old next new reads end last = tt
+advances_end pool (Some input) None pending old next new reads end last = absurd reads
+advances_end pool (Some input) (Some rest) pending old next new reads end last =
     let done = reads.answers.done in
-    let P : List Item → Type 0 = λ items. Advances snapshot items old new in
-    subst P (sym (all_commands snapshot input pending rest old next reads end)) (advances_append snapshot done (commands_of pending) old next new reads.answers.advances last)
+    let P : List Item → Type 0 = λ items. Advances pool items old new in
+    subst P (sym (all_commands pool input pending rest old next reads end)) (advances_append pool done (commands_of pending) old next new reads.answers.advances last)
 
 -- a write that failed at the last line
-last_write : (snapshot : Snapshot) (had now : Option (List ℕ)) (pending : List ℕ) (old next : Standing) (new : HistoryParts) (after : Option (List ℕ))
-    → Reads snapshot had pending now old next → IsAtEnd now → BreaksOff snapshot (commands_of pending) next.history new next.written after
-    → IfSome had (λ input. EndsInWriting snapshot input old.history new old.written after)
-last_write snapshot None now pending old next new after reads end last = tt
-last_write snapshot (Some input) None pending old next new after reads end last = absurd reads
-last_write snapshot (Some input) (Some rest) pending old next new after reads end last =
+last_write : (pool : Pool) (had now : Option (List ℕ)) (pending : List ℕ) (old next : Standing) (new : HistoryParts) (after : Option (List ℕ))
+    → Reads pool had pending now old next → IsAtEnd now → BreaksOff pool (commands_of pending) next.history new next.written after
+    → IfSome had (λ input. EndsInWriting pool input old.history new old.written after)
+last_write pool None now pending old next new after reads end last = tt
+last_write pool (Some input) None pending old next new after reads end last = absurd reads
+last_write pool (Some input) (Some rest) pending old next new after reads end last =
     let done = reads.answers.done in
     record {
       done = done ++ commands_of pending;
       more = [];
-      commands_are = all_commands snapshot input pending rest old next reads end ∙ sym (append-nil (done ++ commands_of pending));
-      breaks_off = breaks_append snapshot done (commands_of pending) old next new after reads.answers.advances last;
+      commands_are = all_commands pool input pending rest old next reads end ∙ sym (append-nil (done ++ commands_of pending));
+      breaks_off = breaks_append pool done (commands_of pending) old next new after reads.answers.advances last;
     }
 
-pub ends_in_last : {T : Type 0} (result : Result T BatchFault) (snapshot : Snapshot) (had now : Option (List ℕ)) (pending : List ℕ) (old next new : Standing) (source_failed sink_failed : Bool)
-    → Reads snapshot had pending now old next → IsAtEnd now → source_failed ≡ false → Answers result snapshot (commands_of pending) next new sink_failed
-    → Ends result snapshot had now source_failed old.history new.history old.written new.written sink_failed
-ends_in_last (Ok value) snapshot had now pending old next new source_failed sink_failed reads end unfailed last =
+pub ends_in_last : {T : Type 0} (result : Result T BatchFault) (pool : Pool) (had now : Option (List ℕ)) (pending : List ℕ) (old next new : Standing) (source_failed sink_failed : Bool)
+    → Reads pool had pending now old next → IsAtEnd now → source_failed ≡ false → Answers result pool (commands_of pending) next new sink_failed
+    → Ends result pool had now source_failed old.history new.history old.written new.written sink_failed
+ends_in_last (Ok value) pool had now pending old next new source_failed sink_failed reads end unfailed last =
     record { end = end; source = unfailed; sink = last.sink.failure; left = tt }
-ends_in_last (Err e) snapshot had now pending old next new source_failed sink_failed reads end unfailed last =
+ends_in_last (Err e) pool had now pending old next new source_failed sink_failed reads end unfailed last =
     rw last.sink.fault
-    (record { end = tt; source = unfailed; sink = last.sink.failure; left = last_write snapshot had now pending old next new.history new.written reads end last.breaks })
+    (record { end = tt; source = unfailed; sink = last.sink.failure; left = last_write pool had now pending old next new.history new.written reads end last.breaks })
 
 -- nothing was done
-left_at_once : (snapshot : Snapshot) (had : Option (List ℕ)) (old : HistoryParts) (before : Option (List ℕ)) → IfSome had (λ input. EndsAt OutOfMemory snapshot input had old old before before)
-left_at_once snapshot None old before = tt
-left_at_once snapshot (Some input) old before = (refl, refl, refl)
+left_at_once : (pool : Pool) (had : Option (List ℕ)) (old : HistoryParts) (before : Option (List ℕ)) → IfSome had (λ input. EndsAt OutOfMemory pool input had old old before before)
+left_at_once pool None old before = tt
+left_at_once pool (Some input) old before = (refl, refl, refl)
 
-pub ends_at_once : {T : Type 0} (snapshot : Snapshot) (had : Option (List ℕ)) (old : HistoryParts) (before : Option (List ℕ)) {source_failed sink_failed : Bool} → source_failed ≡ false → sink_failed ≡ false
-    → Ends {T = T} (Err OutOfMemory) snapshot had had source_failed old old before before sink_failed
-ends_at_once snapshot had old before source sink = record { end = tt; source = source; sink = sink; left = left_at_once snapshot had old before }
+pub ends_at_once : {T : Type 0} (pool : Pool) (had : Option (List ℕ)) (old : HistoryParts) (before : Option (List ℕ)) {source_failed sink_failed : Bool} → source_failed ≡ false → sink_failed ≡ false
+    → Ends {T = T} (Err OutOfMemory) pool had had source_failed old old before before sink_failed
+ends_at_once pool had old before source sink = record { end = tt; source = source; sink = sink; left = left_at_once pool had old before }
 
 -- all that was answered, from where no reply was `ok`
-pub answered_with : (snapshot : Snapshot) (had : Option (List ℕ)) (old new : HistoryParts) (before after : Option (List ℕ)) (was now accepted : Bool) → was ≡ false → accepted ≡ now
-    → IfSome had (λ input. Advances snapshot (commands_of input) (record { history = old; written = before; has_accepted = was }) (record { history = new; written = after; has_accepted = now }))
-    → IfSome had (λ input. AnsweredWith accepted snapshot (commands_of input) old new before after)
-answered_with snapshot None old new before after was now accepted was_is is advances = tt
-answered_with snapshot (Some input) old new before after was now accepted was_is is advances =
+pub answered_with : (pool : Pool) (had : Option (List ℕ)) (old new : HistoryParts) (before after : Option (List ℕ)) (was now accepted : Bool) → was ≡ false → accepted ≡ now
+    → IfSome had (λ input. Advances pool (commands_of input) (record { history = old; written = before; has_accepted = was }) (record { history = new; written = after; has_accepted = now }))
+    → IfSome had (λ input. AnsweredWith accepted pool (commands_of input) old new before after)
+answered_with pool None old new before after was now accepted was_is is advances = tt
+answered_with pool (Some input) old new before after was now accepted was_is is advances =
     (advances.0, advances.1, advances.2, is ∙ advances.3 ∙ ap (λ b. b || list_any is_accepted advances.0) was_is)
 
 -- the same, where nobody asks whether a command was accepted
-pub answered_of : (snapshot : Snapshot) (had : Option (List ℕ)) (old new : HistoryParts) (before after : Option (List ℕ)) (accepted : Bool)
-    → IfSome had (λ input. AnsweredWith accepted snapshot (commands_of input) old new before after) → IfSome had (λ input. Answered snapshot (commands_of input) old new before after)
-answered_of snapshot None old new before after accepted answered = tt
-answered_of snapshot (Some input) old new before after accepted answered = (answered.0, answered.1, answered.2)
+pub answered_of : (pool : Pool) (had : Option (List ℕ)) (old new : HistoryParts) (before after : Option (List ℕ)) (accepted : Bool)
+    → IfSome had (λ input. AnsweredWith accepted pool (commands_of input) old new before after) → IfSome had (λ input. Answered pool (commands_of input) old new before after)
+answered_of pool None old new before after accepted answered = tt
+answered_of pool (Some input) old new before after accepted answered = (answered.0, answered.1, answered.2)
 
 -- no last line
-pub advances_empty : (snapshot : Snapshot) (pending : List ℕ) (old : Standing) → length pending ≡ 0 → Advances snapshot (commands_of pending) old old
-advances_empty snapshot [] old empty = advances_none snapshot old
-advances_empty snapshot (b ∷ bs) old empty = absurd (omega arith)
+pub advances_empty : (pool : Pool) (pending : List ℕ) (old : Standing) → length pending ≡ 0 → Advances pool (commands_of pending) old old
+advances_empty pool [] old empty = advances_none pool old
+advances_empty pool (b ∷ bs) old empty = absurd (omega arith)
 
 -- a last line without an LF
-pub answers_last : {T : Type 0} (result : Result T BatchFault) (snapshot : Snapshot) (pending : List ℕ) (old new : Standing) (failed : Bool) → IsUnbroken pending → 0 < length pending
-    → Answers result snapshot (option_to_list (item_of (record { bytes = pending; is_ended = false }))) old new failed → Answers result snapshot (commands_of pending) old new failed
-answers_last result snapshot pending old new failed unbroken long answers =
-    let P : List Item → Type 0 = λ items. Answers result snapshot items old new failed in subst P (sym (commands_last pending unbroken long)) answers
+pub answers_last : {T : Type 0} (result : Result T BatchFault) (pool : Pool) (pending : List ℕ) (old new : Standing) (failed : Bool) → IsUnbroken pending → 0 < length pending
+    → Answers result pool (option_to_list (item_of (record { bytes = pending; is_ended = false }))) old new failed → Answers result pool (commands_of pending) old new failed
+answers_last result pool pending old new failed unbroken long answers =
+    let P : List Item → Type 0 = λ items. Answers result pool items old new failed in subst P (sym (commands_last pending unbroken long)) answers

@@ -11,23 +11,23 @@ use Rattle.lists.specs.Spaces.{is_space_or_tab, trim_start}
 use Rattle.lists.proofs.SpaceBytes.{is_space_or_tab-ascii}
 use Rattle.commands.specs.declared.batch_line.Item.{Item}
 use Rattle.commands.specs.declared.batch_line.Item.TheVariants.{BadCommand}
-use Rattle.commands.specs.BatchLine.{asked_by, asked_by_text, behind_word, command_of, first_word, from_first, words_of}
+use Rattle.commands.specs.BatchLine.{item_in, item_in_text, behind_word, command_of, first_word, from_first, words_of}
 
 -- a text that is UTF-8 is read, and another is a bad command
-pub asked_utf8 : (text : List ℕ) → IsUtf8 text → asked_by_text text ≡ asked_by (trim_start text)
-asked_utf8 text utf8 = rw (is_utf8-from_IsUtf8 text utf8) refl
+pub item_of_utf8 : (text : List ℕ) → IsUtf8 text → item_in_text text ≡ item_in (trim_start text)
+item_of_utf8 text utf8 = rw (is_utf8-from_IsUtf8 text utf8) refl
 
 bad_cases : (b : Bool) (item : Option Item) → (b ≡ true → ⊥) → cond b item (Some BadCommand) ≡ Some BadCommand
 bad_cases true item other = absurd (other refl)
 bad_cases false item other = refl
 
-pub asked_other : (text : List ℕ) → (IsUtf8 text → ⊥) → asked_by_text text ≡ Some BadCommand
-asked_other text other = bad_cases (is_utf8 text) (asked_by (trim_start text)) (λ is. other (IsUtf8-from_is_utf8 text is))
+pub item_of_other : (text : List ℕ) → (IsUtf8 text → ⊥) → item_in_text text ≡ Some BadCommand
+item_of_other text other = bad_cases (is_utf8 text) (item_in (trim_start text)) (λ is. other (IsUtf8-from_is_utf8 text is))
 
 -- a text that isn't blank asks for its command
-pub asked_some : (text : List ℕ) → 0 < length text → asked_by text ≡ Some (command_of (first_word text) (behind_word text))
-asked_some [] some = absurd (omega arith)
-asked_some (b ∷ rest) some = refl
+pub item_of_some : (text : List ℕ) → 0 < length text → item_in text ≡ Some (command_of (first_word text) (behind_word text))
+item_of_some [] some = absurd (omega arith)
+item_of_some (b ∷ rest) some = refl
 
 -- a text may be cut at its first space
 pub word-cut : (text : List ℕ) → IsCharBoundary text (position_or_len is_space_or_tab text)

@@ -6,7 +6,7 @@ use Rattle.edits.specs.declared.request.Edit.TheVariants.{Add, Constrain, Relock
 use Rattle.journal.specs.declared.commands.Reply.TheVariants.{Same, Refused}
 use Rattle.commands.specs.declared.batch_line.Item.{Item}
 use Rattle.commands.specs.declared.batch_line.Item.TheVariants.{BadCommand, Edit, Redo, Undo}
-use Rattle.commands.specs.BatchLine.{asked_by, input_lines_of, line_text}
+use Rattle.commands.specs.BatchLine.{item_in, input_lines_of, line_text}
 use Rattle.commands.specs.Replies.{reply_text}
 
 -- a CR before an LF is dropped, and a last line counts
@@ -19,7 +19,7 @@ cr_row = refl
 
 -- what texts ask for
 asked : List (List ℕ) → List (Option Item)
-asked texts = map (λ text. asked_by (trim_start text)) texts
+asked texts = map (λ text. item_in (trim_start text)) texts
 
 -- blank texts ask for nothing, and an addition has a text
 commands_row : asked (codes " undo\t" ∷ codes "\t" ∷ codes "redo x" ∷ codes "redo" ∷ codes "undo\r" ∷ codes "add \t " ∷ codes "add" ∷ [])

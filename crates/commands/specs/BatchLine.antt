@@ -1,4 +1,4 @@
--- The lines of a batch, and what each asks for. All of it is reqlock's own rule.
+-- The lines of a batch, and the command of each. All of it is reqlock's own rule.
 use Rattle.std.specs.Prelude.{ℕ, Bool, true, false, ◌≡◌, ◌==◌, ◌-◌, nat_lt, not, if◌then◌else◌, List, [], ◌∷◌, Option, Some, None, length, slice_index, take, drop, filter, codes}
 use Rattle.std.specs.List.{filter_map, before_first, position_or_len, slice_split}
 use Rattle.std.specs.Str.{is_utf8, bytes_eq}
@@ -89,18 +89,18 @@ command_of word rest =
     if bytes_eq word (codes "redo") then plain Redo rest else
     BadCommand
 
--- what a trimmed text asks for: nothing where it is blank
-abbrev pub asked_by : List ℕ → Option Item
-asked_by [] = None
-asked_by (b ∷ bs) = Some (command_of (first_word (b ∷ bs)) (behind_word (b ∷ bs)))
+-- the command of a trimmed text: none where it is blank
+abbrev pub item_in : List ℕ → Option Item
+item_in [] = None
+item_in (b ∷ bs) = Some (command_of (first_word (b ∷ bs)) (behind_word (b ∷ bs)))
 
--- what the text of a line asks for: one that isn't UTF-8 is a bad command
-abbrev pub asked_by_text : List ℕ → Option Item
-asked_by_text text = if is_utf8 text then asked_by (trim_start text) else Some BadCommand
+-- the command of the text of a line: one that isn't UTF-8 is a bad command
+abbrev pub item_in_text : List ℕ → Option Item
+item_in_text text = if is_utf8 text then item_in (trim_start text) else Some BadCommand
 
--- what a line asks for: a line that is too long is a bad command, whatever it holds
+-- the command of a line: a line that is too long is a bad command, whatever it holds
 abbrev pub item_of : Line → Option Item
-item_of line = if nat_lt longest_line (length line.bytes) then Some BadCommand else asked_by_text (line_text line)
+item_of line = if nat_lt longest_line (length line.bytes) then Some BadCommand else item_in_text (line_text line)
 
 -- an edit, whose texts have to be copied
 abbrev pub IsEdit : Option Item → Type 0
@@ -119,7 +119,7 @@ IsUnbroken (b ∷ bs) = ((b == 10) ≡ false) × IsUnbroken bs
 abbrev pub commands_of : List ℕ → List Item
 commands_of input = filter_map item_of (input_lines_of input)
 
--- what a line asks for that an LF ended: any other has not been read to its end
+-- the command of a line that an LF ended: any other has not been read to its end
 abbrev pub ended_item_of : Line → Option Item
 ended_item_of line = if line.is_ended then item_of line else None
 

@@ -40,8 +40,3 @@ abbrev pub is_accepted : Reply → Bool
 is_accepted (Done cursor) = true
 is_accepted Same = false
 is_accepted (Refused refusal) = false
-
--- the text of the last reply, and whether one of the replies so far was `ok`
-pub record Telling : Type 0 where
-  pub text : List ℕ
-  pub has_accepted : Bool

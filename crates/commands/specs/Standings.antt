@@ -2,14 +2,14 @@
 use Rattle.std.specs.Prelude.{ℕ, ◌≡◌, ◌||◌, Bool, List, ◌++◌, Option, None, Some, Result, OnOk, OnErr}
 use Rattle.std.specs.List.{list_any}
 use Rattle.std.specs.Io.KnownBytes.{Appends}
-use Rattle.snapshot.specs.declared.snapshot.Snapshot.{Snapshot}
+use Rattle.states.specs.declared.pool.Pool.{Pool}
 use Rattle.journal.specs.declared.commands.Reply.{Reply}
 use Rattle.journal.specs.Changes.{HistoryParts}
 use Rattle.commands.specs.declared.batch.BatchFault.{BatchFault}
 use Rattle.commands.specs.declared.batch_line.Item.{Item}
 use Rattle.commands.specs.BatchLine.{commands_of, ended_commands_of, IsUnbroken}
 use Rattle.commands.specs.Faults.{IsOfSink}
-use Rattle.commands.specs.Replies.{Telling, reply_text, is_accepted}
+use Rattle.commands.specs.Replies.{reply_text, is_accepted}
 use Rattle.commands.specs.Runs.{Replied, BreaksOff}
 
 -- where a batch stands: its history, what was written where that is known, and whether a reply was `ok`
@@ -18,42 +18,42 @@ pub record Standing : Type 0 where
   pub written : Option (List ℕ)
   pub has_accepted : Bool
 
-abbrev pub standing : HistoryParts → Option (List ℕ) → Telling → Standing
-standing history written telling = record { history = history; written = written; has_accepted = telling.has_accepted }
+abbrev pub standing : HistoryParts → Option (List ℕ) → Bool → Standing
+standing history written accepted = record { history = history; written = written; has_accepted = accepted }
 
 -- the items were answered
-abbrev pub Advances : Snapshot → List Item → Standing → Standing → Type 0
-Advances snapshot items old new =
-    (replies : List Reply) × Replied snapshot items replies old.history new.history × Appends old.written new.written (reply_text replies) × (new.has_accepted ≡ (old.has_accepted || list_any is_accepted replies))
+abbrev pub Advances : Pool → List Item → Standing → Standing → Type 0
+Advances pool items old new =
+    (replies : List Reply) × Replied pool items replies old.history new.history × Appends old.written new.written (reply_text replies) × (new.has_accepted ≡ (old.has_accepted || list_any is_accepted replies))
 
 -- the items were answered, or the sink has failed and the reply to the last of them breaks off
-pub record Answers {T : Type 0} (result : Result T BatchFault) (snapshot : Snapshot) (items : List Item) (old new : Standing) (sink_failed : Bool) : Type 0 where
-  pub advances : OnOk result (Advances snapshot items old new)
-  pub breaks : OnErr result (BreaksOff snapshot items old.history new.history old.written new.written)
+pub record Answers {T : Type 0} (result : Result T BatchFault) (pool : Pool) (items : List Item) (old new : Standing) (sink_failed : Bool) : Type 0 where
+  pub advances : OnOk result (Advances pool items old new)
+  pub breaks : OnErr result (BreaksOff pool items old.history new.history old.written new.written)
   pub sink : IsOfSink result sink_failed
 
 -- of `bytes` so many commands were answered that those left are the ones of `back` and what follows
-pub record AnswersAllBut (snapshot : Snapshot) (bytes back : List ℕ) (old new : Standing) : Type 0 where
+pub record AnswersAllBut (pool : Pool) (bytes back : List ℕ) (old new : Standing) : Type 0 where
   pub done : List Item
-  pub advances : Advances snapshot done old new
+  pub advances : Advances pool done old new
   pub left : (rest : List ℕ) → commands_of (bytes ++ rest) ≡ done ++ commands_of (back ++ rest)
   pub ended : (rest : List ℕ) → ended_commands_of (bytes ++ rest) ≡ done ++ ended_commands_of (back ++ rest)
 
 -- of an input these bytes are left, and what was read of it is answered up to a pending line
-pub record ReadsOf (snapshot : Snapshot) (input pending rest : List ℕ) (old new : Standing) : Type 0 where
+pub record ReadsOf (pool : Pool) (input pending rest : List ℕ) (old new : Standing) : Type 0 where
   pub read : List ℕ
   pub input_is : input ≡ read ++ rest
   pub unbroken : IsUnbroken pending
-  pub answers : AnswersAllBut snapshot read pending old new
+  pub answers : AnswersAllBut pool read pending old new
 
 -- the same of a source whose bytes may be unknown
-abbrev pub Reads : Snapshot → Option (List ℕ) → List ℕ → Option (List ℕ) → Standing → Standing → Type 0
-Reads snapshot None pending left old new = Unit {0}
-Reads snapshot (Some input) pending None old new = ⊥
-Reads snapshot (Some input) pending (Some rest) old new = ReadsOf snapshot input pending rest old new
+abbrev pub Reads : Pool → Option (List ℕ) → List ℕ → Option (List ℕ) → Standing → Standing → Type 0
+Reads pool None pending left old new = Unit {0}
+Reads pool (Some input) pending None old new = ⊥
+Reads pool (Some input) pending (Some rest) old new = ReadsOf pool input pending rest old new
 
 -- of these bytes the first commands are done, and the reply to the last of them breaks off
-pub record Breaks (snapshot : Snapshot) (bytes : List ℕ) (old new : Standing) : Type 0 where
+pub record Breaks (pool : Pool) (bytes : List ℕ) (old new : Standing) : Type 0 where
   pub done : List Item
-  pub breaks_off : BreaksOff snapshot done old.history new.history old.written new.written
+  pub breaks_off : BreaksOff pool done old.history new.history old.written new.written
   pub left : (rest : List ℕ) → (more : List Item) × (commands_of (bytes ++ rest) ≡ done ++ more)

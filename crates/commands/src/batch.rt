@@ -12,16 +12,15 @@ ghost use Rattle.commands.specs.declared.batch.BatchFault.TheVariants.{OutOfMemo
 
 use crate::batch_line::{Item, read_item};
 use crate::pending_line::PendingLine;
-use crate::reply_text::ReplyText;
+use crate::reply_text::{ReplyText, is_accepted};
 use crate::sink::Sink;
 use crate::source::Source;
 use edits::Refusal;
-use journal::{Command, Reply, Session};
+use journal::{Command, Pool, Reply, Session};
 use resolve::RESOLVER;
-use snapshot::Snapshot;
 use std::alloc::{AllocError, Global};
 
-// How many bytes one read asks for.
+// How many bytes one read takes at most.
 const PIECE: usize = 8192;
 
 /// Why a batch ended before the end of its input.
@@ -43,6 +42,18 @@ impl From<AllocError> for BatchFault {
     }
 }
 
+/// What a batch holds between its commands.
+#[derive(Drop)]
+struct BatchState {
+    alloc: Global,
+    /// The line of which no LF has come.
+    pending: PendingLine,
+    /// The text of the last reply.
+    text: ReplyText,
+    /// Whether one of the replies so far was `ok`.
+    has_accepted: bool,
+}
+
 /// Does the commands that `source` gives, one a line, and writes the reply to each to `sink`. A
 /// refusal, of memory too, ends nothing. The first failed call ends the batch: the source has
 /// failed where `Read` is answered, the sink where `Write` is, and else neither.
@@ -51,23 +62,23 @@ pub fn batch<S: Source, K: Sink>(
     source: &mut S,
     sink: &mut K,
     session: &mut Session,
-    snapshot: &Snapshot,
+    pool: &Pool<'_>,
 ) -> Result<(), BatchFault>
     requires source { S.has_failed source.old ≡ false }
     requires sink { K.has_failed sink.old ≡ false }
     // What was written is the text of the replies of a run over the commands of the input.
     ensures answered { OnOk result (IfSome (S.remaining source.old) (λ input.
-        Answered snapshot.now (commands_of input) session.old session.new
+        Answered pool.now (commands_of input) session.old session.new
         (K.contents sink.old) (K.contents sink.new))) }
     // Which stream has failed, and what is done where a fault ends it.
-    ensures ends { Ends result snapshot.now (S.remaining source.old) (S.remaining source.new)
+    ensures ends { Ends result pool.now (S.remaining source.old) (S.remaining source.new)
         (S.has_failed source.new) session.old session.new
         (K.contents sink.old) (K.contents sink.new) (K.has_failed sink.new) }
     // Want of memory comes before all else.
     ensures memory { result ≡ Err BatchFault.OutOfMemory
         → (session.new ≡ session.old) × (sink.new ≡ sink.old) × (source.new ≡ source.old) }
 {
-    match accepted_in(alloc, source, sink, session, snapshot) {
+    match accepted_in(alloc, source, sink, session, pool) {
         Ok(_) => Ok(()),
         Err(fault) => Err(fault),
     }
@@ -80,105 +91,103 @@ pub fn accepted_in<S: Source, K: Sink>(
     source: &mut S,
     sink: &mut K,
     session: &mut Session,
-    snapshot: &Snapshot,
+    pool: &Pool<'_>,
 ) -> Result<bool, BatchFault>
     requires source { S.has_failed source.old ≡ false }
     requires sink { K.has_failed sink.old ≡ false }
     ensures answered { IfOk result (λ accepted. IfSome (S.remaining source.old) (λ input.
-        AnsweredWith accepted snapshot.now (commands_of input) session.old session.new
+        AnsweredWith accepted pool.now (commands_of input) session.old session.new
         (K.contents sink.old) (K.contents sink.new))) }
-    ensures ends { Ends result snapshot.now (S.remaining source.old) (S.remaining source.new)
+    ensures ends { Ends result pool.now (S.remaining source.old) (S.remaining source.new)
         (S.has_failed source.new) session.old session.new
         (K.contents sink.old) (K.contents sink.new) (K.has_failed sink.new) }
     ensures memory { result ≡ Err BatchFault.OutOfMemory
         → (session.new ≡ session.old) × (sink.new ≡ sink.old) × (source.new ≡ source.old) }
 {
-    let mut text = ReplyText::new(alloc)?;
+    let text = ReplyText::new(alloc)?;
     let mut piece = vec![in alloc; 0u8; PIECE]?;
-    let mut pending = PendingLine::new(alloc)?;
-    answer_all(
+    let pending = PendingLine::new(alloc)?;
+    let mut batch = BatchState {
         alloc,
+        pending,
+        text,
+        has_accepted: false,
+    };
+    answer_all(
+        &mut batch,
         source,
         piece.as_mut_slice(),
-        &mut pending,
-        &mut text,
         sink,
         session,
-        snapshot,
+        pool,
     )?;
-    Ok(text.has_accepted())
+    Ok(batch.has_accepted)
 }
 
-// Answers each line of the input. The replies are put into `text` in turn.
+// Answers each line of the input.
 fn answer_all<S: Source, K: Sink>(
-    alloc: Global,
+    batch: &mut BatchState,
     source: &mut S,
     piece: &mut [u8],
-    pending: &mut PendingLine,
-    text: &mut ReplyText,
     sink: &mut K,
     session: &mut Session,
-    snapshot: &Snapshot,
+    pool: &Pool<'_>,
 ) -> Result<(), BatchFault>
     requires piece { 0 < length piece.old }
-    requires pending { pending.old ≡ [] }
+    requires pending { batch.old.pending ≡ [] }
     requires source { S.has_failed source.old ≡ false }
     requires sink { K.has_failed sink.old ≡ false }
     ensures advances { OnOk result (IfSome (S.remaining source.old) (λ input.
-        Advances snapshot.now (commands_of input)
-        (standing session.old (K.contents sink.old) text.old)
-        (standing session.new (K.contents sink.new) text.new))) }
-    ensures ends { Ends result snapshot.now (S.remaining source.old) (S.remaining source.new)
+        Advances pool.now (commands_of input)
+        (standing session.old (K.contents sink.old) batch.old.has_accepted)
+        (standing session.new (K.contents sink.new) batch.new.has_accepted))) }
+    ensures ends { Ends result pool.now (S.remaining source.old) (S.remaining source.new)
         (S.has_failed source.new) session.old session.new
         (K.contents sink.old) (K.contents sink.new) (K.has_failed sink.new) }
     ensures memory { IfErr result (λ e. e ≢ BatchFault.OutOfMemory) }
 {
-    answer_lines(alloc, source, piece, pending, text, sink, session, snapshot)?;
-    answer_last(alloc, pending, text, sink, session, snapshot)
+    answer_lines(batch, source, piece, sink, session, pool)?;
+    answer_last(batch, sink, session, pool)
 }
 
 // Answers a last line, of which no LF has come.
 fn answer_last<K: Sink>(
-    alloc: Global,
-    pending: &PendingLine,
-    text: &mut ReplyText,
+    batch: &mut BatchState,
     sink: &mut K,
     session: &mut Session,
-    snapshot: &Snapshot,
+    pool: &Pool<'_>,
 ) -> Result<(), BatchFault>
     requires { K.has_failed sink.old ≡ false }
-    ensures { Answers result snapshot.now (commands_of pending.now)
-        (standing session.old (K.contents sink.old) text.old)
-        (standing session.new (K.contents sink.new) text.new)
+    ensures { Answers result pool.now (commands_of batch.old.pending)
+        (standing session.old (K.contents sink.old) batch.old.has_accepted)
+        (standing session.new (K.contents sink.new) batch.new.has_accepted)
         (K.has_failed sink.new) }
 {
-    let line = pending.as_bytes();
+    let line = batch.pending.as_bytes();
     if line.is_empty() {
         return Ok(());
     }
-    answer_line(alloc, line, false, text, sink, session, snapshot)
+    answer_line(batch, false, sink, session, pool)
 }
 
 // Reads to the end of input and answers each line that an LF ended. The last line is left.
 fn answer_lines<S: Source, K: Sink>(
-    alloc: Global,
+    batch: &mut BatchState,
     source: &mut S,
     piece: &mut [u8],
-    pending: &mut PendingLine,
-    text: &mut ReplyText,
     sink: &mut K,
     session: &mut Session,
-    snapshot: &Snapshot,
+    pool: &Pool<'_>,
 ) -> Result<(), BatchFault>
     requires piece { 0 < length piece.old }
-    requires pending { pending.old ≡ [] }
+    requires pending { batch.old.pending ≡ [] }
     requires source { S.has_failed source.old ≡ false }
     requires sink { K.has_failed sink.old ≡ false }
-    ensures reads { OnOk result (Reads snapshot.now
-        (S.remaining source.old) pending.new (S.remaining source.new)
-        (standing session.old (K.contents sink.old) text.old)
-        (standing session.new (K.contents sink.new) text.new)) }
-    ensures ends { Ends result snapshot.now (S.remaining source.old) (S.remaining source.new)
+    ensures reads { OnOk result (Reads pool.now
+        (S.remaining source.old) batch.new.pending (S.remaining source.new)
+        (standing session.old (K.contents sink.old) batch.old.has_accepted)
+        (standing session.new (K.contents sink.new) batch.new.has_accepted)) }
+    ensures ends { Ends result pool.now (S.remaining source.old) (S.remaining source.new)
         (S.has_failed source.new) session.old session.new
         (K.contents sink.old) (K.contents sink.new) (K.has_failed sink.new) }
     ensures memory { IfErr result (λ e. e ≢ BatchFault.OutOfMemory) }
@@ -191,15 +200,7 @@ fn answer_lines<S: Source, K: Sink>(
         if count == 0 {
             return Ok(());
         }
-        answer_piece(
-            alloc,
-            &piece[..count],
-            pending,
-            text,
-            sink,
-            session,
-            snapshot,
-        )?;
+        answer_piece(batch, &piece[..count], sink, session, pool)?;
     }
 }
 
@@ -223,40 +224,31 @@ fn read_piece<S: Source>(source: &mut S, piece: &mut [u8]) -> Result<usize, Batc
 
 // Answers each line whose LF is in the piece, and keeps what is left of it.
 fn answer_piece<K: Sink>(
-    alloc: Global,
+    batch: &mut BatchState,
     piece: &[u8],
-    pending: &mut PendingLine,
-    text: &mut ReplyText,
     sink: &mut K,
     session: &mut Session,
-    snapshot: &Snapshot,
+    pool: &Pool<'_>,
 ) -> Result<(), BatchFault>
     requires { K.has_failed sink.old ≡ false }
-    ensures answers { OnOk result (AnswersAllBut snapshot.now (pending.old ++ piece.now) pending.new
-        (standing session.old (K.contents sink.old) text.old)
-        (standing session.new (K.contents sink.new) text.new)) }
-    ensures unbroken { OnOk result (IsUnbroken pending.new) }
-    ensures breaks { OnErr result (Breaks snapshot.now (pending.old ++ piece.now)
-        (standing session.old (K.contents sink.old) text.old)
-        (standing session.new (K.contents sink.new) text.new)) }
+    ensures answers { OnOk result (AnswersAllBut pool.now
+        (batch.old.pending ++ piece.now) batch.new.pending
+        (standing session.old (K.contents sink.old) batch.old.has_accepted)
+        (standing session.new (K.contents sink.new) batch.new.has_accepted)) }
+    ensures unbroken { OnOk result (IsUnbroken batch.new.pending) }
+    ensures breaks { OnErr result (Breaks pool.now (batch.old.pending ++ piece.now)
+        (standing session.old (K.contents sink.old) batch.old.has_accepted)
+        (standing session.new (K.contents sink.new) batch.new.has_accepted)) }
     ensures sink { IsOfSink result (K.has_failed sink.new) }
 {
     let mut rest = piece;
     'lines: while let Some((line, behind)) = split_line(rest) {
-        pending.keep(line);
-        answer_line(
-            alloc,
-            pending.as_bytes(),
-            true,
-            text,
-            sink,
-            session,
-            snapshot,
-        )?;
-        pending.clear();
+        batch.pending.keep(line);
+        answer_line(batch, true, sink, session, pool)?;
+        batch.pending.clear();
         rest = behind;
     }
-    pending.keep(rest);
+    batch.pending.keep(rest);
     Ok(())
 }
 
@@ -282,50 +274,50 @@ fn line_end(bytes: &[u8]) -> Option<usize>
     memchr::memchr(b'\n', bytes)
 }
 
-// Does what a line asks for, and writes the reply. A blank line asks for nothing.
+// Does the command of the line, and writes the reply. A blank line has none.
 fn answer_line<K: Sink>(
-    alloc: Global,
-    line: &[u8],
+    batch: &mut BatchState,
     is_ended: bool,
-    text: &mut ReplyText,
     sink: &mut K,
     session: &mut Session,
-    snapshot: &Snapshot,
+    pool: &Pool<'_>,
 ) -> Result<(), BatchFault>
     requires { K.has_failed sink.old ≡ false }
-    ensures { Answers result snapshot.now
-        (option_to_list (item_of (record { bytes = line.now; is_ended = is_ended })))
-        (standing session.old (K.contents sink.old) text.old)
-        (standing session.new (K.contents sink.new) text.new)
+    ensures { Answers result pool.now
+        (option_to_list (item_of (record { bytes = batch.old.pending; is_ended = is_ended })))
+        (standing session.old (K.contents sink.old) batch.old.has_accepted)
+        (standing session.new (K.contents sink.new) batch.new.has_accepted)
         (K.has_failed sink.new) }
 {
-    match read_item(alloc, line, is_ended) {
+    let alloc = batch.alloc;
+    match read_item(alloc, batch.pending.as_bytes(), is_ended) {
         Ok(None) => Ok(()),
-        Ok(Some(item)) => send(&reply_to(alloc, item, session, snapshot), text, sink),
-        Err(AllocError) => send(&Reply::Refused(Refusal::OutOfMemory), text, sink),
+        Ok(Some(item)) => send(batch, &reply_to(alloc, item, session, pool), sink),
+        Err(AllocError) => send(batch, &Reply::Refused(Refusal::OutOfMemory), sink),
     }
 }
 
 // Writes a reply.
-fn send<K: Sink>(reply: &Reply, text: &mut ReplyText, sink: &mut K) -> Result<(), BatchFault>
+fn send<K: Sink>(batch: &mut BatchState, reply: &Reply, sink: &mut K) -> Result<(), BatchFault>
     requires { K.has_failed sink.old ≡ false }
     ensures reply { OnOk result
         (Appends (K.contents sink.old) (K.contents sink.new) (text_of_reply reply.now)) }
     ensures accepted { OnOk result
-        (text.new.has_accepted ≡ (text.old.has_accepted || is_accepted reply.now)) }
+        (batch.new.has_accepted ≡ (batch.old.has_accepted || is_accepted reply.now)) }
     ensures cut_off { OnErr result
         (IsCutOff (text_of_reply reply.now) (K.contents sink.old) (K.contents sink.new)) }
     ensures sink { IsOfSink result (K.has_failed sink.new) }
 {
-    text.set(reply);
-    write_all(sink, text.as_bytes())
+    batch.has_accepted = batch.has_accepted || is_accepted(reply);
+    batch.text.set(reply);
+    write_all(sink, batch.text.as_bytes())
 }
 
-fn reply_to(alloc: Global, item: Item, session: &mut Session, snapshot: &Snapshot) -> Reply
-    ensures replied { Replied snapshot.now (item ∷ []) (result ∷ []) session.old session.new }
+fn reply_to(alloc: Global, item: Item, session: &mut Session, pool: &Pool<'_>) -> Reply
+    ensures replied { Replied pool.now (item ∷ []) (result ∷ []) session.old session.new }
 {
     match item {
-        Item::Edit(edit) => session.apply(alloc, &Command::Edit(edit, snapshot), &RESOLVER),
+        Item::Edit(edit) => session.apply(alloc, &Command::Edit(edit, pool.copy()), &RESOLVER),
         Item::Undo => session.apply(alloc, &Command::Undo, &RESOLVER),
         Item::Redo => session.apply(alloc, &Command::Redo, &RESOLVER),
         Item::BadCommand => Reply::Refused(Refusal::BadCommand),

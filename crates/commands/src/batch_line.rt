@@ -1,7 +1,7 @@
 // One line of a batch, read as a command.
 
 ghost use Rattle.std.specs.Prelude.{◌≡◌, IfOk, OnErr, Some};
-ghost use Rattle.commands.specs.BatchLine.{IsEdit, addition_of, asked_by, asked_by_text, command_of, constraint_of, item_of, plain, removal_of, line_text, upgrade_of, words_of};
+ghost use Rattle.commands.specs.BatchLine.{IsEdit, addition_of, item_in, item_in_text, command_of, constraint_of, item_of, plain, removal_of, line_text, upgrade_of, words_of};
 
 use crate::words::cut_word;
 use edits::Edit;
@@ -12,7 +12,7 @@ use std::str;
 /// The most bytes of a line that is read as a command, its CR counted and its LF not.
 pub const LONGEST_LINE: usize = 65_536;
 
-/// What a line of a batch asks for.
+/// The command of a line of a batch.
 #[derive(Debug, Drop)]
 pub enum Item {
     Edit(Edit),
@@ -22,7 +22,7 @@ pub enum Item {
     BadCommand,
 }
 
-/// What a line asks for, and nothing where it is blank. `line` is without its LF, and `is_ended`
+/// The command of a line, and nothing where it is blank. `line` is without its LF, and `is_ended`
 /// says whether it had one. Memory is taken for the texts of an edit alone.
 pub fn read_item(alloc: Global, line: &[u8], is_ended: bool) -> Result<Option<Item>, AllocError>
     ensures item { IfOk result (λ item.
@@ -49,10 +49,10 @@ fn line_text(line: &[u8], is_ended: bool) -> &[u8]
     }
 }
 
-#[tactic(auto, using(crate::proofs::Texts::asked_utf8, crate::proofs::Texts::asked_other))]
+#[tactic(auto, using(crate::proofs::Texts::item_of_utf8, crate::proofs::Texts::item_of_other))]
 fn read_bytes(alloc: Global, bytes: &[u8]) -> Result<Option<Item>, AllocError>
-    ensures item { IfOk result (λ item. item ≡ asked_by_text bytes.now) }
-    ensures memory { OnErr result (IsEdit (asked_by_text bytes.now)) }
+    ensures item { IfOk result (λ item. item ≡ item_in_text bytes.now) }
+    ensures memory { OnErr result (IsEdit (item_in_text bytes.now)) }
 {
     match str::from_utf8(bytes) {
         Ok(text) => read_text(alloc, trim_start(text)),
@@ -61,8 +61,8 @@ fn read_bytes(alloc: Global, bytes: &[u8]) -> Result<Option<Item>, AllocError>
 }
 
 fn read_text(alloc: Global, text: &str) -> Result<Option<Item>, AllocError>
-    ensures item { IfOk result (λ item. item ≡ asked_by text.now) }
-    ensures memory { OnErr result (IsEdit (asked_by text.now)) }
+    ensures item { IfOk result (λ item. item ≡ item_in text.now) }
+    ensures memory { OnErr result (IsEdit (item_in text.now)) }
 {
     if text.is_empty() {
         return Ok(None);

@@ -3,11 +3,11 @@
 //! `batch` reads commands from a `Source`, one a line, does them on a session, and writes the reply to
 //! each to a `Sink`.
 //!
-//! What a line asks for:
+//! What a line means:
 //!
 //! ```rust
-//! let asked = read_item(alloc, b"constrain flask >=2,<3", true)?;
-//! Ok(matches!(asked, Some(Item::Edit(Edit::Constrain(_, _)))))
+//! let item = read_item(alloc, b"constrain flask >=2,<3", true)?;
+//! Ok(matches!(item, Some(Item::Edit(Edit::Constrain(_, _)))))
 //! ```
 #![tactic(auto)]
 
@@ -22,6 +22,6 @@ mod words;
 
 pub use crate::batch_line::{Item, LONGEST_LINE, read_item};
 pub use crate::counted::Counted;
-pub use crate::reply_text::{ReplyText, refusal_word};
+pub use crate::reply_text::{ReplyText, is_accepted, refusal_word};
 pub use crate::sink::Sink;
 pub use crate::source::Source;

@@ -1,6 +1,6 @@
 // Replies as they are written.
 
-ghost use Rattle.std.specs.Prelude.{◌≡◌, ◌+◌, ◌≤◌, ◌||◌, [], ◌++◌, false, IfOk, length, vec_len, vec_capacity};
+ghost use Rattle.std.specs.Prelude.{◌≡◌, ◌+◌, ◌≤◌, [], ◌++◌, IfOk, length, vec_len, vec_capacity};
 ghost use Rattle.commands.specs.Replies.{is_accepted, text_of_reply, word_of};
 
 use edits::Refusal;
@@ -38,21 +38,18 @@ pub fn refusal_word(refusal: &Refusal) -> &'static str
     }
 }
 
-/// The text of one reply after another, in room that is taken once.
+/// The text of one reply after another, in room that is taken once. In a clause it is the text of the last one.
 #[derive(Drop)]
 pub struct ReplyText {
     bytes: Vec<u8>,
-    // whether one of them was `ok`
-    has_accepted: bool,
 }
 
 impl Model for ReplyText {
-    ghost use Rattle.std.specs.Prelude.{◌≤◌, vec_capacity};
-    ghost use Rattle.commands.specs.Replies.{Telling};
+    ghost use Rattle.std.specs.Prelude.{List, ℕ, ◌≤◌, vec_capacity};
 
-    ghost Value = { Telling };
+    ghost Value = { List ℕ };
 
-    ghost view = { λ t. record { text = t.bytes.items; has_accepted = t.has_accepted } };
+    ghost view = { λ t. t.bytes.items };
 
     ghost invariant = { λ t. 64 ≤ vec_capacity t.bytes };
 }
@@ -60,42 +57,31 @@ impl Model for ReplyText {
 impl ReplyText {
     /// The empty text, with room for every reply.
     pub fn new(alloc: Global) -> Result<ReplyText, AllocError>
-        ensures empty { IfOk result (λ t. t ≡ record { text = []; has_accepted = false }) }
+        ensures empty { IfOk result (λ t. t ≡ []) }
     {
         Ok(ReplyText {
             bytes: Vec::with_capacity(alloc, LONGEST_REPLY)?,
-            has_accepted: false,
         })
     }
 
     /// Makes it the text of this reply. It has no refusal.
     pub fn set(&mut self, reply: &Reply)
-        ensures text { self.new.text ≡ text_of_reply reply.now }
-        ensures accepted { self.new.has_accepted
-            ≡ (self.old.has_accepted || is_accepted reply.now) }
+        ensures text { self.new ≡ text_of_reply reply.now }
     {
-        self.has_accepted = self.has_accepted || is_done(reply);
         self.bytes.clear();
         write_reply(&mut self.bytes, reply);
     }
 
-    /// Whether one of the replies so far was `ok`.
-    pub fn has_accepted(&self) -> bool
-        ensures accepted { result ≡ self.now.has_accepted }
-    {
-        self.has_accepted
-    }
-
-    /// The bytes of the replies.
+    /// The bytes of the reply.
     pub fn as_bytes(&self) -> &[u8]
-        ensures text { result.now ≡ self.now.text }
+        ensures text { result.now ≡ self.now }
     {
         self.bytes.as_slice()
     }
 }
 
-// Whether a reply tells of an accepted command.
-fn is_done(reply: &Reply) -> bool
+/// Whether a reply tells of an accepted command.
+pub fn is_accepted(reply: &Reply) -> bool
     ensures { result ≡ is_accepted reply.now }
 {
     match reply {

@@ -164,7 +164,8 @@ fn of_histories(
         "empty reads" => batch_rows::reads(alloc, background, &case_of(texts, false)?),
         "failing writes" => batch_rows::writes(alloc, background, &case_of(texts, true)?),
         "empty writes" => batch_rows::writes(alloc, background, &case_of(texts, false)?),
-        "do" => session_rows::done(alloc, background, first),
+        "do" => session_rows::done(alloc, background, first, false),
+        "keep" => session_rows::done(alloc, background, first, true),
         _ => of_history(alloc, background, kind, first, second, text_at(texts, 2)),
     }
 }

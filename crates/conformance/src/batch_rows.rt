@@ -6,6 +6,7 @@ use crate::streams::{Narrow, Pieces};
 use crate::telling::Telling;
 use commands::Counted;
 use commands::batch::{BatchFault, batch};
+use edits::Pool;
 use journal::Session;
 use std::alloc::Global;
 
@@ -75,7 +76,13 @@ fn read_once(
     });
     let mut sink = Counted::new(Vec::new(alloc));
     let index = background.index.as_ref()?;
-    let done = batch(alloc, &mut source, &mut sink, &mut session, index);
+    let done = batch(
+        alloc,
+        &mut source,
+        &mut sink,
+        &mut session,
+        &Pool::whole(index),
+    );
     let text = told(alloc, &done, sink.into_inner(), &session)?;
     Some((text, is_stopped(source.into_inner().stops)?))
 }
@@ -97,7 +104,13 @@ fn write_once(
         stops: 0,
     });
     let index = background.index.as_ref()?;
-    let done = batch(alloc, &mut source, &mut sink, &mut session, index);
+    let done = batch(
+        alloc,
+        &mut source,
+        &mut sink,
+        &mut session,
+        &Pool::whole(index),
+    );
     let Narrow {
         taken,
         most: _,

@@ -4,8 +4,8 @@ use crate::environment_rows::bytes_of;
 use crate::notation::owned;
 use crate::telling::Telling;
 use command_line::request::{
-    DiffRange, Format, Inputs, Invocation, NeededOption, Question, RequestFault, Saving, Shown,
-    Subcommand, request,
+    DiffRange, EditInputs, Format, Inputs, Invocation, NeededOption, Question, RequestFault,
+    Saving, Shown, Subcommand, request,
 };
 use commands::{Item, read_item};
 use edits::Edit;
@@ -83,12 +83,21 @@ fn push_range(text: &mut Telling, range: DiffRange) {
     }
 }
 
-/// Pushes what `why` is asked.
+/// Pushes what an edit is made over.
+fn push_edit_inputs(text: &mut Telling, inputs: EditInputs<'_>) {
+    let index = inputs.index;
+    write!(text, " {index}");
+    if inputs.keeps_locked {
+        text.push_str(" kept");
+    }
+}
+
+/// Pushes the question of `why`.
 fn push_question(text: &mut Telling, question: &Question<'_>) {
     match question {
-        Question::Edit(edit, index) => {
+        Question::Edit(edit, inputs) => {
             push_edit(text, edit);
-            write!(text, " {index}");
+            push_edit_inputs(text, *inputs);
         }
         Question::Init(inputs, line) => {
             push_inputs(text, "init", inputs);
@@ -104,9 +113,9 @@ fn push_question(text: &mut Telling, question: &Question<'_>) {
 fn push_subcommand(text: &mut Telling, subcommand: Subcommand<'_>) {
     match subcommand {
         Subcommand::Init(inputs) => push_inputs(text, "init", &inputs),
-        Subcommand::Edit(edit, index, saving) => {
+        Subcommand::Edit(edit, inputs, saving) => {
             push_edit(text, &edit);
-            write!(text, " {index}");
+            push_edit_inputs(text, inputs);
             push_saving(text, saving);
         }
         Subcommand::Undo(saving) => {
@@ -117,7 +126,10 @@ fn push_subcommand(text: &mut Telling, subcommand: Subcommand<'_>) {
             text.push_str("redo");
             push_saving(text, saving);
         }
-        Subcommand::Batch(index) => write!(text, "batch {index}"),
+        Subcommand::Batch(inputs) => {
+            text.push_str("batch");
+            push_edit_inputs(text, inputs);
+        }
         Subcommand::Try(inputs) => push_inputs(text, "try", &inputs),
         Subcommand::Skipped(index) => write!(text, "skipped {index}"),
         Subcommand::Why(question, explains) => {

@@ -4,7 +4,7 @@ use crate::scenarios::data;
 use crate::targets::unnamed;
 use command_line::request::{RequestFault, Subcommand, request};
 use commands::{Item, read_item};
-use edits::{Edit, Refusal, State, Target, TargetName, Targets, edit};
+use edits::{Edit, Pool, Refusal, State, Target, TargetName, Targets, edit};
 use journal::{Command, Reply, Session};
 use lists::{Seq, Text, trim_end};
 use markers::{Environment, Marker, Name};
@@ -153,7 +153,13 @@ fn of_states(
         environment,
         kept,
     })?;
-    match locked(alloc, lines, Seq::from_vec(targets), index, &Learning)? {
+    match locked(
+        alloc,
+        lines,
+        Seq::from_vec(targets),
+        &Pool::whole(index),
+        &Learning,
+    )? {
         Some(state) => Ok(state.targets()[0].lock.entries().len()),
         None => Ok(0),
     }
@@ -161,7 +167,13 @@ fn of_states(
 
 fn of_edits(alloc: Global, state: &State, index: &Snapshot) -> Result<bool, Refusal> {
     let line = Text::copy_of(alloc, "d  # new")?;
-    let edited = edit(alloc, state, &Edit::Add(line), index, &Learning)?;
+    let edited = edit(
+        alloc,
+        state,
+        &Edit::Add(line),
+        &Pool::whole(index),
+        &Learning,
+    )?;
     let back = edited.change.inverse(alloc)?;
     Ok(back.apply(alloc, &edited.state)?.is_some())
 }
@@ -174,18 +186,18 @@ fn of_journal(
 ) -> Result<bool, Refusal> {
     let mut session = Session::init(alloc, lines, targets, index, &Learning)?;
     let add = Edit::Add(Text::copy_of(alloc, "d  # new")?);
-    let added = session.apply(alloc, &Command::Edit(add, index), &Learning);
+    let added = session.apply(alloc, &Command::Edit(add, Pool::whole(index)), &Learning);
     let undone = session.apply(alloc, &Command::Undo, &Learning);
     Ok(added == Reply::Done(1) && undone == Reply::Done(0))
 }
 
 fn of_commands(alloc: Global) -> Result<bool, AllocError> {
-    let asked = read_item(alloc, b"constrain flask >=2,<3", true)?;
-    Ok(matches!(asked, Some(Item::Edit(Edit::Constrain(_, _)))))
+    let item = read_item(alloc, b"constrain flask >=2,<3", true)?;
+    Ok(matches!(item, Some(Item::Edit(Edit::Constrain(_, _)))))
 }
 
 fn of_command_line(alloc: Global) -> Result<bool, RequestFault> {
     let words = ["reqlock", "--dir", "web", "undo"];
-    let asked = request(alloc, &words)?;
-    Ok(asked.dir == "web" && matches!(asked.subcommand, Subcommand::Undo(_)))
+    let invocation = request(alloc, &words)?;
+    Ok(invocation.dir == "web" && matches!(invocation.subcommand, Subcommand::Undo(_)))
 }

@@ -1,7 +1,7 @@
 // Rows of saved histories.
 
 use crate::notation::owned;
-use crate::targets::bytes_of;
+use crate::targets::{bytes_of, journal_of};
 use edits::{Refusal, TargetName};
 use journal::{Saved, Session};
 use lists::Text;
@@ -16,7 +16,8 @@ fn opened(
     journal: &str,
 ) -> Result<Session, Refusal> {
     let locks = bytes_of(alloc, locks)?;
-    Session::open(alloc, requirements.as_bytes(), &locks, journal.as_bytes())
+    let journal = journal_of(alloc, journal)?;
+    Session::open(alloc, requirements.as_bytes(), &locks, &journal)
 }
 
 /// Saves the session, and opens what was saved: its place among the steps, and the lines of the journal.

@@ -2,7 +2,7 @@
 // behind it. A preloaded library refuses them.
 
 mod calls;
-mod changes;
+mod change_calls;
 mod clones;
 pub mod data;
 mod histories;
@@ -33,7 +33,7 @@ fn play<W: Write>(alloc: Global, out: &mut W, scenario: &str) -> Option<()> {
         "compare" => readings::compare(alloc, out),
         "clone" => clones::clones(alloc, out, rest),
         "state" => state_calls::states(alloc, out, rest),
-        "change" => changes::changes(alloc, out, rest),
+        "change" => change_calls::change_calls(alloc, out, rest),
         "apply" => sessions::apply(alloc, out, rest),
         "run" => sessions::run(alloc, out, rest),
         "files" => sessions::files(alloc, out, rest),

@@ -5,7 +5,7 @@ use crate::notation::owned;
 use crate::state_texts::{change_text, push_lock};
 use crate::telling::Telling;
 use commands::{Item, ReplyText, read_item};
-use edits::{Change, Refusal, ReqFile, Snapshot, State};
+use edits::{Change, Pool, Refusal, ReqFile, State};
 use journal::{Command, Learning, Reply, Session};
 use std::alloc::Global;
 
@@ -69,9 +69,9 @@ pub fn begin(alloc: Global, background: &mut Background, lines: &str) -> Option<
 }
 
 /// The command that a line tells.
-fn command_of<'a>(alloc: Global, index: &'a Snapshot, line: &str) -> Option<Command<'a>> {
+fn command_of<'a>(alloc: Global, pool: &Pool<'a>, line: &str) -> Option<Command<'a>> {
     match read_item(alloc, line.as_bytes(), true).ok()? {
-        Some(Item::Edit(edit)) => Some(Command::Edit(edit, index)),
+        Some(Item::Edit(edit)) => Some(Command::Edit(edit, pool.copy())),
         Some(Item::Undo) => Some(Command::Undo),
         Some(Item::Redo) => Some(Command::Redo),
         Some(Item::BadCommand) | None => None,
@@ -79,10 +79,10 @@ fn command_of<'a>(alloc: Global, index: &'a Snapshot, line: &str) -> Option<Comm
 }
 
 /// The commands of the lines.
-fn commands_of<'a>(alloc: Global, index: &'a Snapshot, lines: &str) -> Option<Vec<Command<'a>>> {
+fn commands_of<'a>(alloc: Global, pool: &Pool<'a>, lines: &str) -> Option<Vec<Command<'a>>> {
     let mut commands = Vec::new(alloc);
     for line in lines.lines() {
-        commands.push(command_of(alloc, index, line)?).ok()?;
+        commands.push(command_of(alloc, pool, line)?).ok()?;
     }
     Some(commands)
 }
@@ -101,9 +101,18 @@ fn replies_text(alloc: Global, replies: &[Reply], state: &State) -> Option<Strin
     text.told()
 }
 
-/// Does the commands of the lines.
-pub fn done(alloc: Global, background: &mut Background, lines: &str) -> Option<String> {
-    let commands = commands_of(alloc, background.index.as_ref()?, lines)?;
+/// Does the commands of the lines; whether no other version counts beside one that an edit keeps.
+pub fn done(
+    alloc: Global,
+    background: &mut Background,
+    lines: &str,
+    only_kept: bool,
+) -> Option<String> {
+    let pool = Pool {
+        snapshot: background.index.as_ref()?,
+        only_kept,
+    };
+    let commands = commands_of(alloc, &pool, lines)?;
     let session = background.session.as_mut()?;
     let replies = session.run(alloc, commands.as_slice(), &Learning).ok()?;
     replies_text(alloc, replies.as_slice(), session.state())

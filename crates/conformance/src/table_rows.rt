@@ -4,7 +4,7 @@ use crate::notation::owned;
 use crate::telling::Telling;
 use learning_search::learned_best;
 use lists::Seq;
-use search::{Choice, Requirement, Table};
+use search::{Table, TableChoice, TableRequirement};
 use std::alloc::Global;
 
 /// The numbers between spaces.
@@ -46,17 +46,17 @@ fn marks(alloc: Global, text: &str) -> Option<Seq<bool>> {
 }
 
 /// A requirement such as `0+1:011`: its node, a further node, and which places it admits.
-fn requirement(alloc: Global, text: &str) -> Option<Requirement> {
+fn requirement(alloc: Global, text: &str) -> Option<TableRequirement> {
     let (nodes, admits) = text.split_once(':')?;
     let (node, more) = nodes.split_once('+').unwrap_or((nodes, ""));
-    Some(Requirement {
+    Some(TableRequirement {
         node: node.parse::<usize>().ok()?,
         more: numbers(alloc, more)?,
         admits: marks(alloc, admits)?,
     })
 }
 
-fn requirements(alloc: Global, text: &str) -> Option<Seq<Requirement>> {
+fn requirements(alloc: Global, text: &str) -> Option<Seq<TableRequirement>> {
     let mut read = Seq::new(alloc);
     for word in text.split(' ') {
         if !word.is_empty() {
@@ -82,7 +82,7 @@ fn table_of(alloc: Global, told: &[String]) -> Option<Option<Table>> {
 }
 
 /// The best solution: each name with the place of its release.
-fn best_text(alloc: Global, choices: &[Choice]) -> Option<String> {
+fn best_text(alloc: Global, choices: &[TableChoice]) -> Option<String> {
     let mut text = Telling::new(alloc);
     text.push_str("best:");
     for choice in choices {

@@ -1,6 +1,7 @@
 // Targets: environments with names, the locks of states by these names, and their files.
 
 use edits::{Environment, Lock, Refusal, State, TargetName, Targets};
+use journal::Journal;
 use lists::{Seq, Text};
 use std::alloc::{AllocError, Global};
 use std::collections::BTreeMap;
@@ -37,6 +38,12 @@ pub fn locks_of(alloc: Global, state: &State) -> Result<Seq<Lock>, AllocError> {
         locks.push(target.lock.clone()?)?;
     }
     Ok(Seq::from_vec(locks))
+}
+
+/// The journal of this text.
+pub fn journal_of(alloc: Global, text: &str) -> Result<Journal, AllocError> {
+    let bytes = Vec::from_slice(alloc, text.as_bytes())?;
+    Journal::read(alloc, Seq::from_vec(bytes))
 }
 
 /// The bytes of lock files.

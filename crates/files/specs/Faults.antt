@@ -1,4 +1,4 @@
--- How what is refused is told of a file or of a target. All of it is reqlock's own rule.
+-- How what is refused is told of a file. All of it is reqlock's own rule.
 use Rattle.std.specs.Prelude.{◌≡◌, ◌⊎◌, Result, Ok, Err}
 use Rattle.states.specs.declared.refusal.Refusal.{Refusal}
 use Rattle.states.specs.declared.refusal.Refusal.TheVariants as refusals
@@ -10,15 +10,12 @@ use Rattle.files.specs.declared.input_files.InputFault.TheVariants as inputs
 use Rattle.files.specs.declared.input_files.InputFile.{InputFile}
 use Rattle.files.specs.declared.input_files.InputFile.TheVariants as names
 
--- the fault that a refusal is told as: that of the file or of the target that it is about, or the refusal itself
+-- the fault that a refusal is told as: that of the file that it is about, or the refusal itself
 abbrev pub fault_of : Refusal → Fault
 fault_of refusals.OutOfMemory = faults.OutOfMemory
 fault_of (refusals.FilesDisagree saved.Requirements) = faults.Input names.Requirements inputs.Disagrees
 fault_of (refusals.FilesDisagree (saved.Lock name)) = faults.Input (names.Lock name) inputs.Disagrees
 fault_of (refusals.JournalBroken line) = faults.Input names.Journal (inputs.JournalBroken line)
-fault_of refusals.BadTarget = faults.BadTarget
-fault_of (refusals.DuplicateTarget name) = faults.DuplicateTarget name
-fault_of refusals.NoTarget = faults.NoTarget
 fault_of refusal = faults.Refused refusal
 
 -- what was read of a file, or its fault as that of the file; want of memory is no file's

@@ -5,7 +5,7 @@ ghost use Rattle.files.specs.Faults.{fault_of, of_file};
 ghost use Rattle.files.specs.declared.fault.Fault.TheVariants.{OutOfMemory};
 
 use crate::input_files::{InputFault, InputFile};
-use edits::{Refusal, SavedFile, TargetName};
+use edits::{Refusal, SavedFile};
 use std::alloc::{AllocError, AllocFailed};
 use std::io::{self, ErrorKind};
 
@@ -16,13 +16,7 @@ pub enum Fault {
     Input(InputFile, InputFault),
     /// This file can't be written.
     Unwritten(InputFile),
-    /// A target has a bad name.
-    BadTarget,
-    /// Two targets have this name.
-    DuplicateTarget(TargetName),
-    /// There is no target.
-    NoTarget,
-    /// The history refuses what is asked of it, and no file is at fault.
+    /// The history refuses a command, or a target is refused, and no file is at fault.
     Refused(Refusal),
     OutOfMemory,
 }
@@ -43,7 +37,7 @@ impl<T: Drop> From<AllocFailed<T>> for Fault {
     }
 }
 
-// Each refusal is told of the file or of the target that it is about.
+// Each refusal is told of the file that it is about, where there is one.
 impl From<Refusal> for Fault {
     ghost from_gives = { λ refusal fault. fault ≡ fault_of refusal };
 
@@ -59,9 +53,6 @@ impl From<Refusal> for Fault {
             Refusal::JournalBroken(line) => {
                 Fault::Input(InputFile::Journal, InputFault::JournalBroken(line))
             }
-            Refusal::BadTarget => Fault::BadTarget,
-            Refusal::DuplicateTarget(name) => Fault::DuplicateTarget(name),
-            Refusal::NoTarget => Fault::NoTarget,
             refusal => Fault::Refused(refusal),
         }
     }

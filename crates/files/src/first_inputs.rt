@@ -28,7 +28,7 @@ pub fn first_inputs<R: Files + AllocGlobal>(
 ) -> Result<FirstInputs, Fault> {
     let alloc = rt.alloc();
     let files = SavedFiles::requirements_alone(rt, dir)?;
-    let index = in_file(InputFile::Index, read_bytes(rt, index))?;
+    let index = read_bytes(rt, InputFile::Index, index)?;
     let environments = read_all(rt, targets)?;
     let lines = read_requirements(alloc, files.requirements());
     let lines = in_file(InputFile::Requirements, lines)?;

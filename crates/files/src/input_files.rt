@@ -6,14 +6,20 @@ ghost use Rattle.lists.specs.Answers.{Answers};
 ghost use Rattle.states.specs.TargetNames.{file_name};
 ghost use Rattle.files.specs.FileNames.{environment_name, name_of};
 ghost use Rattle.files.specs.Inputs.{environment_in, index_in, requirements_in};
+ghost use Rattle.files.specs.declared.fault.Fault.TheVariants as faults;
 ghost use Rattle.files.specs.declared.input_files.InputFault.TheVariants.{OutOfMemory};
 
+use crate::fault::Fault;
 use edits::TargetName;
 use pep508::{Cause, Environment, Fault as LineFault, ReqFile};
 use snapshot::{Fault as IndexFault, Snapshot};
 use std::alloc::{AllocError, Global};
+use std::io::{self, ErrorKind};
 use std::rt::Files;
-use std::{fmt, fs, io};
+use std::{fmt, fs};
+
+/// The kind of the error of what is no regular file.
+pub const NO_REGULAR_FILE: ErrorKind = ErrorKind::Unsupported;
 
 /// A file that a call reads. The first three stand in its folder, and are written too.
 #[derive(Debug, Drop)]
@@ -101,14 +107,42 @@ impl From<AllocError> for InputFault {
     }
 }
 
-/// The bytes of a file.
-pub fn read_bytes<R: Files + AllocGlobal>(rt: &R, path: &str) -> Result<Vec<u8>, InputFault>
-    ensures { IfErr result (λ fault. (fault ≡ OutOfMemory) ⊎ (fault ≡ InputFault.Unreadable)) }
+/// The bytes of a file, or its fault.
+pub fn read_bytes<R: Files + AllocGlobal>(
+    rt: &R,
+    file: InputFile,
+    path: &str,
+) -> Result<Vec<u8>, Fault>
+    ensures { IfErr result (λ fault. (fault ≡ faults.OutOfMemory)
+        ⊎ (fault ≡ faults.Input file InputFault.Unreadable)) }
 {
-    match fs::read(rt, path) {
+    match read_file(rt, &file, path) {
         Ok(bytes) => Ok(bytes),
-        Err(error) if error.kind() == io::ErrorKind::OutOfMemory => Err(InputFault::OutOfMemory),
-        Err(_) => Err(InputFault::Unreadable),
+        Err(error) if error.kind() == ErrorKind::OutOfMemory => Err(Fault::OutOfMemory),
+        Err(_) => Err(Fault::Input(file, InputFault::Unreadable)),
+    }
+}
+
+/// The bytes of a regular file. Who can put a pipe in its place could else make every call wait. What a call
+/// names itself may also be what the shell or the system hands over, as `/dev/stdin`.
+pub fn read_file<R: Files + AllocGlobal>(
+    rt: &R,
+    file: &InputFile,
+    path: &str,
+) -> io::Result<Vec<u8>> {
+    if is_handed_over(file, path) || fs::metadata(rt, path)?.is_file() {
+        return fs::read(rt, path);
+    }
+    Err(io::Error::from(NO_REGULAR_FILE))
+}
+
+// Whether a call names the file itself, in a place where the shell and the system hand over.
+fn is_handed_over(file: &InputFile, path: &str) -> bool {
+    match file {
+        InputFile::Index | InputFile::Environment(_) => {
+            path.starts_with("/dev/") || path.starts_with("/proc/")
+        }
+        InputFile::Requirements | InputFile::Lock(_) | InputFile::Journal => false,
     }
 }
 

@@ -1,5 +1,5 @@
 // Replacing files so that none is ever half written: each is written whole beside its place, under
-// its name and `.new`, and only when all of them stand are they put into their places.
+// its name and `.new`, and only when all of them stand are they renamed to their places.
 
 use crate::fault::{Fault, passed_over, unwritten};
 use crate::folder_lock::sync_folder;
@@ -19,7 +19,7 @@ pub struct Replacement<'a> {
     pub bytes: &'a [u8],
 }
 
-/// Where a file stands, and where it is written before it is put there.
+/// Where a file stands, and where it is written before it is renamed.
 #[derive(Drop)]
 pub struct Places {
     file: InputFile,
@@ -28,7 +28,7 @@ pub struct Places {
 }
 
 /// Replaces the files in turn. Where one can't be written, none is replaced, and what was written
-/// beside is removed. Where one can't be put into its place when others are, it stays beside with
+/// beside is removed. Where one can't be renamed when others are, it stays beside with
 /// those behind it.
 pub fn replace_all<R: Files + AllocGlobal>(
     rt: &R,
@@ -44,12 +44,12 @@ pub fn replace_all<R: Files + AllocGlobal>(
             }
         }
     }
-    put_all(rt, staged.as_slice())
+    rename_all(rt, staged.as_slice())
 }
 
-fn put_all<R: Files + AllocGlobal>(rt: &R, staged: &[Places]) -> Result<(), Fault> {
+fn rename_all<R: Files + AllocGlobal>(rt: &R, staged: &[Places]) -> Result<(), Fault> {
     for number in 0..staged.len() {
-        if let Err(fault) = put_in_place(rt, &staged[number]) {
+        if let Err(fault) = rename_to_place(rt, &staged[number]) {
             if number == 0 {
                 remove_staged(rt, staged);
             }
@@ -65,9 +65,9 @@ fn remove_staged<R: Files>(rt: &R, staged: &[Places]) {
     }
 }
 
-/// Puts what stands beside a file's place into it, and makes that last before another one is put into
+/// Renames what stands beside a file's place to it, and makes that last before another one is put into
 /// its own.
-pub fn put_in_place<R: Files + AllocGlobal>(rt: &R, places: &Places) -> Result<(), Fault> {
+pub fn rename_to_place<R: Files + AllocGlobal>(rt: &R, places: &Places) -> Result<(), Fault> {
     match fs::rename(rt, places.beside.as_str(), places.place.as_str()) {
         Ok(()) => {
             sync_names(rt, places.place.as_str());

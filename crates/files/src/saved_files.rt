@@ -1,16 +1,16 @@
 // The files of the folder: the requirements file, the lock of each target, and the journal.
 
 ghost use Rattle.std.specs.Prelude.{◌≡◌, ◌⊎◌, [], IfOk, Ok, Err, ℕ};
-ghost use Rattle.journal.specs.Opening.{NamesTargets, Opens};
+ghost use Rattle.journal.specs.Opens.{NamesTargets, Opens};
 ghost use Rattle.states.specs.declared.refusal.Refusal.TheVariants.{JournalBroken};
 ghost use Rattle.files.specs.Faults.{TellsFault};
 
-use crate::fault::{Fault, in_file};
+use crate::fault::Fault;
 use crate::input_files::{InputFault, InputFile, read_bytes};
 use crate::replacement::{Places, Replacement, places_at, replace_all};
-use crate::stopped_save::{Beside, end_save, remove_left};
+use crate::stopped_save::{Beside, end_save, remove_left_of_opened};
 use edits::{Refusal, TargetName};
-use journal::{Session, targets};
+use journal::{Journal, Session};
 use lists::Seq;
 use std::alloc::{AllocError, Global};
 use std::collections::BTreeMap;
@@ -21,7 +21,7 @@ use std::rt::Files;
 pub struct SavedFiles {
     requirements: Vec<u8>,
     locks: BTreeMap<TargetName, Seq<u8>>,
-    journal: Vec<u8>,
+    journal: Journal,
 }
 
 impl SavedFiles {
@@ -57,7 +57,7 @@ impl SavedFiles {
         Ok(SavedFiles {
             requirements,
             locks: BTreeMap::new(rt.alloc()),
-            journal: Vec::new(rt.alloc()),
+            journal: Journal::read(rt.alloc(), Seq::new(rt.alloc()))?,
         })
     }
 
@@ -68,9 +68,9 @@ impl SavedFiles {
         beside: &Beside,
     ) -> Result<SavedFiles, Fault> {
         let requirements = read_in(rt, dir, InputFile::Requirements, beside)?;
-        let journal = read_in(rt, dir, InputFile::Journal, beside)?;
+        let journal = journal_in(rt, dir, beside)?;
         let mut locks = BTreeMap::new(rt.alloc());
-        for name in names_in(rt.alloc(), journal.as_slice())?.into_vec() {
+        for name in names_in(rt.alloc(), &journal)?.into_vec() {
             let lock = read_in(rt, dir, InputFile::Lock(name.clone()?), beside)?;
             locks.insert(name, Seq::from_vec(lock))?;
         }
@@ -89,10 +89,10 @@ impl SavedFiles {
     /// The history that the files stand for.
     pub fn open(&self, alloc: Global) -> Result<Session, Fault>
         ensures { TellsFault (Opens self.now.requirements.items self.now.locks.entries
-            self.now.journal.items) result }
+            self.now.journal) result }
     {
         let requirements = self.requirements.as_slice();
-        Ok(Session::open(alloc, requirements, &self.locks, self.journal.as_slice())?)
+        Ok(Session::open(alloc, requirements, &self.locks, &self.journal)?)
     }
 
     /// The files, with the history that they stand for, to save another in their place. Where they
@@ -114,7 +114,7 @@ impl SavedFiles {
             }
             Err(fault) => return Err(fault),
         };
-        remove_left(rt, dir, &session)?;
+        remove_left_of_opened(rt, dir, &session)?;
         Ok((files, session))
     }
 
@@ -128,50 +128,57 @@ impl SavedFiles {
     ) -> Result<(), Fault> {
         let alloc = rt.alloc();
         let saved = session.save(alloc)?;
-        let mut changed = Vec::new(alloc);
+        let mut texts = Vec::new(alloc);
         let old = Some(self.requirements.as_slice());
-        let new = saved.requirements.as_str();
-        add_changed(&mut changed, alloc, dir, InputFile::Requirements, old, new)?;
+        texts.push((InputFile::Requirements, old, saved.requirements.as_str()))?;
         for (name, lock) in saved.locks.iter() {
             let old = self.locks.get(name).map(|lock| lock.as_slice());
-            let file = InputFile::Lock(name.clone()?);
-            add_changed(&mut changed, alloc, dir, file, old, lock.as_str())?;
+            texts.push((InputFile::Lock(name.clone()?), old, lock.as_str()))?;
         }
-        let old = Some(self.journal.as_slice());
-        let new = saved.journal.as_str();
-        add_changed(&mut changed, alloc, dir, InputFile::Journal, old, new)?;
-        replace_all(rt, changed.as_slice())
+        let old = Some(self.journal.bytes());
+        texts.push((InputFile::Journal, old, saved.journal.as_str()))?;
+        replace_all(rt, changed_files(alloc, dir, texts)?.as_slice())
     }
 }
 
-// Notes a file that is to hold this text, where it doesn't hold it.
-fn add_changed<'a>(
-    changed: &mut Vec<Replacement<'a>>,
+// Of files with what they hold and the texts that they are to hold, those that don't hold them.
+fn changed_files<'a>(
     alloc: Global,
     dir: &str,
-    file: InputFile,
-    old: Option<&[u8]>,
-    new: &'a str,
-) -> Result<(), Fault> {
-    let bytes = new.as_bytes();
-    if old == Some(bytes) {
-        return Ok(());
+    texts: Vec<(InputFile, Option<&[u8]>, &'a str)>,
+) -> Result<Vec<Replacement<'a>>, Fault> {
+    let mut changed = Vec::new(alloc);
+    for (file, old, new) in texts {
+        let bytes = new.as_bytes();
+        if old != Some(bytes) {
+            let path = path_of(alloc, dir, &file)?;
+            changed.push(Replacement { file, path, bytes })?;
+        }
     }
-    let path = path_of(alloc, dir, &file)?;
-    Ok(changed.push(Replacement { file, path, bytes })?)
+    Ok(changed)
 }
 
 /// The names of the targets that a journal has. A broken one has none: what is broken is told where it
 /// is opened.
-pub fn names_in(alloc: Global, journal: &[u8]) -> Result<Seq<TargetName>, Fault>
+pub fn names_in(alloc: Global, journal: &Journal) -> Result<Seq<TargetName>, Fault>
     ensures { IfOk result (λ names. NamesTargets journal.now (Ok names)
         ⊎ ((names ≡ []) × (line : ℕ) × NamesTargets journal.now (Err (JournalBroken line)))) }
 {
-    match targets(alloc, journal) {
+    match journal.targets(alloc) {
         Ok(names) => Ok(names),
         Err(Refusal::JournalBroken(_)) => Ok(Seq::new(alloc)),
         Err(refusal) => Err(Fault::from(refusal)),
     }
+}
+
+/// The journal, in its place or, where it is among these, beside it.
+pub fn journal_in<R: Files + AllocGlobal>(
+    rt: &R,
+    dir: &str,
+    beside: &Beside,
+) -> Result<Journal, Fault> {
+    let bytes = read_in(rt, dir, InputFile::Journal, beside)?;
+    Ok(Journal::read(rt.alloc(), Seq::from_vec(bytes))?)
 }
 
 /// The places of a file of the folder. Nothing where it can have none.
@@ -198,10 +205,10 @@ pub fn read_in<R: Files + AllocGlobal>(
 ) -> Result<Vec<u8>, Fault> {
     if !beside.has(&file) {
         let path = path_of(rt.alloc(), dir, &file)?;
-        return in_file(file, read_bytes(rt, path.as_str()));
+        return read_bytes(rt, file, path.as_str());
     }
     match places_in(rt, dir, file.clone()?)? {
-        Some(places) => in_file(file, read_bytes(rt, places.beside.as_str())),
+        Some(places) => read_bytes(rt, file, places.beside.as_str()),
         None => Err(Fault::Input(file, InputFault::Unreadable)),
     }
 }

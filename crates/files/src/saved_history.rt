@@ -35,7 +35,7 @@ where
     R::File: LockFile,
 {
     let files = saved_files(rt, dir)?;
-    let bytes = in_file(InputFile::Index, read_bytes(rt, index))?;
+    let bytes = read_bytes(rt, InputFile::Index, index)?;
     let session = files.open(rt.alloc())?;
     let snapshot = in_file(InputFile::Index, read_index(rt.alloc(), bytes.as_slice()))?;
     Ok((session, snapshot))
@@ -58,7 +58,7 @@ pub fn history_to_save<R: Files + AllocGlobal>(
 ) -> Result<SavedHistory, Fault> {
     let alloc = rt.alloc();
     let files = SavedFiles::read_to_save(rt, dir)?;
-    let index = in_file(InputFile::Index, read_bytes(rt, index))?;
+    let index = read_bytes(rt, InputFile::Index, index)?;
     let (files, session) = files.open_to_save(rt, dir)?;
     let snapshot = in_file(InputFile::Index, read_index(alloc, index.as_slice()))?;
     Ok(SavedHistory {

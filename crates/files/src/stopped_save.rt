@@ -2,10 +2,10 @@
 
 use crate::fault::Fault;
 use crate::input_files::InputFile;
-use crate::replacement::{Places, put_in_place};
-use crate::saved_files::{SavedFiles, names_in, places_in, read_in};
+use crate::replacement::{Places, rename_to_place};
+use crate::saved_files::{SavedFiles, journal_in, names_in, places_in, read_in};
 use edits::TargetName;
-use journal::{Command, Reply, Session};
+use journal::{Command, Journal, Reply, Session};
 use resolve::RESOLVER;
 use std::alloc::{AllocError, Global};
 use std::collections::BTreeSet;
@@ -46,7 +46,7 @@ impl Beside {
         }
     }
 
-    // The files, in the order in which a save puts them into their places.
+    // The files, in the order in which a save renames them to their places.
     fn files(&self, alloc: Global) -> Result<Vec<InputFile>, AllocError> {
         let mut files = Vec::new(alloc);
         if self.requirements {
@@ -72,7 +72,7 @@ pub fn end_save<R: Files + AllocGlobal>(rt: &R, dir: &str) -> Result<bool, Fault
     for (requirements, journal) in LEFT_BESIDE {
         let beside = Beside::of(rt.alloc(), requirements, journal);
         if let Some(left) = left_with(rt, dir, beside)? {
-            put_left(rt, dir, &left)?;
+            rename_left(rt, dir, &left)?;
             return Ok(true);
         }
     }
@@ -95,11 +95,32 @@ pub fn remove_left<R: Files + AllocGlobal>(
     dir: &str,
     session: &Session,
 ) -> Result<(), Fault> {
-    let mut beside = named_files(rt, dir)?;
+    remove_named(rt, dir, named_files(rt, dir)?, session)
+}
+
+/// The same, where the journal in its place is that of the history: it names the history's targets, and
+/// isn't read for them again.
+pub fn remove_left_of_opened<R: Files + AllocGlobal>(
+    rt: &R,
+    dir: &str,
+    session: &Session,
+) -> Result<(), Fault> {
+    let mut left = Beside::of(rt.alloc(), true, true);
+    add_named(rt, dir, &mut left, true)?;
+    remove_named(rt, dir, left, session)
+}
+
+// Removes these files, and the locks of this history's targets, from beside their places.
+fn remove_named<R: Files + AllocGlobal>(
+    rt: &R,
+    dir: &str,
+    mut left: Beside,
+    session: &Session,
+) -> Result<(), Fault> {
     for target in session.state().targets() {
-        beside.locks.insert(target.name.clone()?)?;
+        left.locks.insert(target.name.clone()?)?;
     }
-    for places in all_places(rt, dir, &beside)? {
+    for places in all_places(rt, dir, &left)? {
         let _ = fs::remove_file(rt, places.beside.as_str());
     }
     Ok(())
@@ -119,27 +140,36 @@ fn is_any_left<R: Files + AllocGlobal>(rt: &R, dir: &str) -> Result<bool, Fault>
 fn named_files<R: Files + AllocGlobal>(rt: &R, dir: &str) -> Result<Beside, Fault> {
     let mut all = Beside::of(rt.alloc(), true, true);
     for is_beside in [false, true] {
-        let journal = Beside::of(rt.alloc(), false, is_beside);
-        match read_in(rt, dir, InputFile::Journal, &journal) {
-            Ok(journal) => add_names(rt.alloc(), &mut all, journal.as_slice())?,
-            Err(Fault::Input(_file, _fault)) => {}
-            Err(fault) => return Err(fault),
-        }
+        add_named(rt, dir, &mut all, is_beside)?;
     }
     Ok(all)
 }
 
-fn add_names(alloc: Global, beside: &mut Beside, journal: &[u8]) -> Result<(), Fault> {
+// Adds the locks that a journal names. One that can't be read names none.
+fn add_named<R: Files + AllocGlobal>(
+    rt: &R,
+    dir: &str,
+    all: &mut Beside,
+    is_beside: bool,
+) -> Result<(), Fault> {
+    match journal_in(rt, dir, &Beside::of(rt.alloc(), false, is_beside)) {
+        Ok(journal) => add_names(rt.alloc(), all, &journal),
+        Err(Fault::Input(_file, _fault)) => Ok(()),
+        Err(fault) => Err(fault),
+    }
+}
+
+fn add_names(alloc: Global, beside: &mut Beside, journal: &Journal) -> Result<(), Fault> {
     for name in names_in(alloc, journal)?.into_vec() {
         beside.locks.insert(name)?;
     }
     Ok(())
 }
 
-fn put_left<R: Files + AllocGlobal>(rt: &R, dir: &str, left: &Beside) -> Result<(), Fault> {
+fn rename_left<R: Files + AllocGlobal>(rt: &R, dir: &str, left: &Beside) -> Result<(), Fault> {
     let found = all_places(rt, dir, left)?;
     for places in found.as_slice() {
-        put_in_place(rt, places)?;
+        rename_to_place(rt, places)?;
     }
     Ok(())
 }

@@ -5,7 +5,7 @@ ghost use Rattle.files.specs.FileNames.{parts_of};
 
 use crate::fault::{Fault, in_file};
 use crate::input_files::{InputFile, read_bytes, read_environment};
-use edits::{TargetName, Targets};
+use edits::{Refusal, TargetName, Targets};
 use lists::{Seq, Text};
 use std::alloc::{AllocError, Global};
 use std::collections::BTreeSet;
@@ -86,7 +86,7 @@ fn refuse_twice(alloc: Global, files: &[TargetFile]) -> Result<(), Fault> {
     let mut names = BTreeSet::new(alloc);
     for file in files {
         if !names.insert(file.name.clone()?)? {
-            return Err(Fault::DuplicateTarget(file.name.clone()?));
+            return Err(Fault::Refused(Refusal::DuplicateTarget(file.name.clone()?)));
         }
     }
     Ok(())
@@ -100,7 +100,7 @@ pub fn read_all<R: Files + AllocGlobal>(
     let mut read = Vec::with_capacity(rt.alloc(), files.len())?;
     for TargetFile { name, path } in files {
         let file = InputFile::Environment(name.clone()?);
-        let bytes = in_file(file, read_bytes(rt, path.as_str()))?;
+        let bytes = read_bytes(rt, file, path.as_str())?;
         read.push(TargetBytes { name, bytes })?;
     }
     Ok(read)

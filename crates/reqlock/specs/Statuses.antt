@@ -1,35 +1,32 @@
--- How the program stops, and with which status. All of it is reqlock's own rule.
+-- With which status the program stops. All of it is reqlock's own rule.
 use Rattle.std.specs.Prelude.{◌≡◌, ◌⊎◌}
-use Rattle.commands.specs.declared.batch.BatchFault.TheVariants as batches
-use Rattle.command_line.specs.declared.usage.NeededOption.TheVariants as options
-use Rattle.files.specs.declared.fault.Fault.{Fault}
-use Rattle.files.specs.declared.fault.Fault.TheVariants as faults
-use Rattle.reqlock.specs.declared.stop.Status.{Status}
-use Rattle.reqlock.specs.declared.stop.Status.TheVariants as statuses
-use Rattle.reqlock.specs.declared.stop.Stop.{Stop}
-use Rattle.reqlock.specs.declared.stop.Stop.TheVariants as stops
+use Rattle.clap.specs.Words.{kind_of}
+use Rattle.clap.specs.declared.error.kind.ErrorKind.{ErrorKind}
+use Rattle.clap.specs.declared.error.kind.ErrorKind.TheVariants as kinds
+use Rattle.calls.specs.declared.stop.Stop.{Stop}
+use Rattle.calls.specs.declared.stop.Stop.TheVariants as stops
+use Rattle.reqlock.specs.declared.report.Status.{Status}
+use Rattle.reqlock.specs.declared.report.Status.TheVariants as statuses
 use Rattle.states.specs.declared.refusal.Refusal.TheVariants as refusals
-
--- how the program stops at a fault of the files
-abbrev pub stop_of : Fault → Stop
-stop_of (faults.Input file fault) = stops.Input file fault
-stop_of (faults.Unwritten file) = stops.Unwritten file
-stop_of faults.BadTarget = stops.BadTarget
-stop_of (faults.DuplicateTarget name) = stops.DuplicateTarget name
-stop_of faults.NoTarget = stops.Needed options.Environment
-stop_of (faults.Refused refusal) = stops.Refused refusal
-stop_of faults.OutOfMemory = stops.Fault batches.OutOfMemory
 
 -- this status, or that of a fault where the output can't be written
 abbrev pub IsPrinted : Status → Status → Type 0
 IsPrinted wanted status = (status ≡ wanted) ⊎ (status ≡ statuses.Fault)
 
--- the status of a stop; help is no mistake, and neither is an explanation whose reader has closed the output
+-- the status of words that are no request; who asks for help or for the version makes no mistake
+abbrev pub HasUsageStatus : ErrorKind → Status → Type 0
+HasUsageStatus kinds.DisplayHelp status = IsPrinted statuses.Done status
+HasUsageStatus kinds.DisplayVersion status = IsPrinted statuses.Done status
+HasUsageStatus kind status = status ≡ statuses.Usage
+
+-- the status of a stop; an explanation whose reader has closed the output is no mistake; the refusal of a target is one of the words of
+-- the call
 abbrev pub HasStatus : Stop → Status → Type 0
-HasStatus (stops.Usage error) status = (status ≡ statuses.Usage) ⊎ IsPrinted statuses.Done status
+HasStatus (stops.Usage error) status = HasUsageStatus (kind_of error) status
 HasStatus (stops.Needed option) status = status ≡ statuses.Usage
-HasStatus stops.BadTarget status = status ≡ statuses.Usage
-HasStatus (stops.DuplicateTarget name) status = status ≡ statuses.Usage
+HasStatus (stops.Refused refusals.BadTarget) status = status ≡ statuses.Usage
+HasStatus (stops.Refused (refusals.DuplicateTarget name)) status = status ≡ statuses.Usage
+HasStatus (stops.Refused refusals.NoTarget) status = status ≡ statuses.Usage
 HasStatus (stops.Refused refusals.NoSolution) status = IsPrinted statuses.NoSolution status
 HasStatus (stops.Refused refusal) status = IsPrinted statuses.Refused status
 HasStatus (stops.Refuted text) status = IsPrinted statuses.NoSolution status

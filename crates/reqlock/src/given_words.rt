@@ -1,6 +1,6 @@
 // The words of the command line, with the options that the environment gives.
 
-use crate::stop::{Status, report_fault};
+use crate::report::{Status, report_fault};
 use commands::batch::BatchFault;
 use std::alloc::{AllocError, AllocFailed};
 use std::env::VarError;

@@ -2,9 +2,9 @@
 
 use files::InputFault;
 use pep508::{Cause, Fault as LineFault};
+use phrases::cause_word::cause_word;
 use snapshot::Fault as IndexFault;
 use std::fmt;
-use texts::cause_word::cause_word;
 
 /// The text of a fault of an input.
 #[derive(Clone, Copy)]

@@ -1,12 +1,10 @@
 //! `reqlock`: a locker for Python requirements files, with undo and redo.
 #![tactic(auto)]
 
-mod details;
 mod given_words;
 mod input_fault_text;
 mod program;
-mod stop;
-mod subcommands;
+mod report;
 
 use crate::given_words::{given_words, report_words};
 use std::process::ExitCode;

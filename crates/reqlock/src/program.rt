@@ -1,28 +1,22 @@
 // The program: what each subcommand does.
 
-use crate::details::{CallFiles, Details};
-use crate::stop::{Status, Stop, report};
-use crate::subcommands::batch::{run_batch, try_commands};
-use crate::subcommands::check::print_check;
-use crate::subcommands::diff::print_diff;
-use crate::subcommands::dry_run::{rehearse_edit, rehearse_step};
-use crate::subcommands::edit::{edit_once, step_once};
-use crate::subcommands::init::init;
-use crate::subcommands::log::print_history;
-use crate::subcommands::outdated::print_outdated;
-use crate::subcommands::show::print_shown;
-use crate::subcommands::skipped::print_skipped;
-use crate::subcommands::why::{print_why, print_why_init};
-use crate::subcommands::why_not::print_why_not;
+use crate::report::{Status, report};
+use answers::{print_why, print_why_init, print_why_not};
+use calls::{Call, Stop};
 use command_line::request::{Invocation, Question, Saving, Subcommand, request};
 use files::target_files::{TargetFile, target_files};
 use files::{InputFault, InputFile, LockFile, lock_to_save};
 use journal::Command;
 use lists::Text;
+use saves::{
+    CallFiles, Details, begin_history, edit_once, rehearse_edit, rehearse_step, run_batch,
+    step_once, try_commands,
+};
 use std::io::{Read, Write};
 use std::rt::Files;
+use views::{print_check, print_diff, print_history, print_outdated, print_shown, print_skipped};
 
-/// Does what the words ask for, the first of them the program's name. Commands are read from
+/// Does what the words mean, the first of them the program's name. Commands are read from
 /// `input`, replies and help are written to `output`, and other texts to `errors`.
 pub fn program<R: Files + AllocGlobal, I: Read + Drop, O: Write, E: Write>(
     rt: &R,
@@ -39,10 +33,7 @@ where
         Ok(()) => Status::Done,
         Err(stop) => report(&stop, output, errors),
     };
-    // behind a fault what was noted may be half of it, or of a save that failed
-    if status != Status::Fault {
-        details.tell(errors);
-    }
+    details.tell(status == Status::Fault, errors);
     status
 }
 
@@ -71,9 +62,10 @@ where
     };
     if is_verbose {
         files.targets = targets.clone()?;
-        details.ask(rt.alloc(), &files)?;
+        details.tell_of(rt.alloc(), &files)?;
     }
-    match obey_in(rt, dir, subcommand, targets, input, output, details) {
+    let mut call = Call { rt, dir, output };
+    match obey_in(&mut call, subcommand, targets, input, details) {
         Ok(()) => Ok(()),
         Err(stop) => {
             details.add_stop(rt, &files, &stop)?;
@@ -83,88 +75,88 @@ where
 }
 
 fn obey_in<R: Files + AllocGlobal, I: Read + Drop, O: Write>(
-    rt: &R,
-    dir: &str,
+    call: &mut Call<'_, R, O>,
     subcommand: Subcommand<'_>,
     targets: Vec<TargetFile>,
     input: I,
-    output: &mut O,
     details: &mut Details,
 ) -> Result<(), Stop>
 where
     R::File: LockFile,
 {
-    refuse_no_folder(dir, &subcommand)?;
-    let _lock = locked(rt, dir, &subcommand)?;
+    refuse_no_folder(call.dir, &subcommand)?;
+    let _lock = locked(call.rt, call.dir, &subcommand)?;
     match subcommand {
-        Subcommand::Init(inputs) => init(rt, dir, inputs.index, targets, details, output),
-        Subcommand::Edit(edit, index, Saving::Save) => {
-            edit_once(rt, dir, edit, index, details, output)
+        Subcommand::Init(inputs) => begin_history(call, details, inputs.index, targets),
+        Subcommand::Edit(edit, inputs, Saving::Save) => edit_once(call, details, edit, inputs),
+        Subcommand::Edit(edit, inputs, Saving::DryRun) => {
+            rehearse_edit(call, details, edit, inputs)
         }
-        Subcommand::Edit(edit, index, Saving::DryRun) => {
-            rehearse_edit(rt, dir, edit, index, details, output)
-        }
-        Subcommand::Undo(saving) => step(rt, dir, &Command::Undo, saving, details, output),
-        Subcommand::Redo(saving) => step(rt, dir, &Command::Redo, saving, details, output),
-        Subcommand::Batch(index) => run_batch(rt, dir, index, input, output),
-        Subcommand::Try(inputs) => { try_commands(rt, dir, inputs.index, targets, input, output) }
-        Subcommand::Show(shown, format) => print_shown(rt, dir, shown, format, output),
-        Subcommand::Log(long, format) => print_history(rt, dir, long, format, output),
-        Subcommand::Diff(range, format) => print_diff(rt, dir, range, format, output),
-        Subcommand::Check(index, format) => print_check(rt, dir, index, format, output),
-        Subcommand::Outdated(index, format) => print_outdated(rt, dir, index, format, output),
-        Subcommand::Skipped(index) => print_skipped(rt, index, output),
-        Subcommand::Why(question, explains) => {
-            answer_why(rt, dir, question, explains, targets, output)
-        }
+        Subcommand::Undo(saving) => step(call, details, &Command::Undo, saving),
+        Subcommand::Redo(saving) => step(call, details, &Command::Redo, saving),
+        Subcommand::Batch(inputs) => run_batch(call, inputs, input),
+        Subcommand::Try(inputs) => try_commands(call, inputs.index, targets, input),
+        Subcommand::Show(shown, format) => print_shown(call, shown, format),
+        Subcommand::Log(long, format) => print_history(call, long, format),
+        Subcommand::Diff(range, format) => print_diff(call, range, format),
+        Subcommand::Check(index, format) => print_check(call, index, format),
+        Subcommand::Outdated(index, format) => print_outdated(call, index, format),
+        Subcommand::Skipped(index) => print_skipped(call, index),
+        Subcommand::Why(question, explains) => answer_why(call, question, explains, targets),
     }
 }
 
-// What `why` is asked. A question about a release is always answered in sentences.
+// What `why` answers. A question about a release is always answered in sentences.
 fn answer_why<R: Files + AllocGlobal, O: Write>(
-    rt: &R,
-    dir: &str,
+    call: &mut Call<'_, R, O>,
     question: Question<'_>,
     explains: bool,
     targets: Vec<TargetFile>,
-    output: &mut O,
 ) -> Result<(), Stop>
 where
     R::File: LockFile,
 {
     match question {
-        Question::Edit(edit, index) => print_why(rt, dir, &edit, index, explains, output),
+        Question::Edit(edit, inputs) => print_why(call, &edit, inputs, explains),
         Question::Init(inputs, line) => {
-            print_why_init(rt, dir, line, inputs.index, targets, explains, output)
+            print_why_init(call, line, inputs.index, targets, explains)
         }
-        Question::Release(text, index) => print_why_not(rt, dir, text, index, output),
+        Question::Release(text, index) => print_why_not(call, text, index),
     }
 }
 
 // An undo or a redo, saved or not.
 fn step<R: Files + AllocGlobal, O: Write>(
-    rt: &R,
-    dir: &str,
+    call: &mut Call<'_, R, O>,
+    details: &mut Details,
     command: &Command<'_>,
     saving: Saving,
-    details: &mut Details,
-    output: &mut O,
 ) -> Result<(), Stop>
 where
     R::File: LockFile,
 {
     match saving {
-        Saving::Save => step_once(rt, dir, command, details, output),
-        Saving::DryRun => rehearse_step(rt, dir, command, details, output),
+        Saving::Save => step_once(call, details, command),
+        Saving::DryRun => rehearse_step(call, details, command),
     }
 }
 
-// The index that a subcommand is given.
+// The index of a subcommand that can be verbose.
 fn index_of<'a>(subcommand: &Subcommand<'a>) -> Option<&'a str> {
     match subcommand {
         Subcommand::Init(inputs) => Some(inputs.index),
-        Subcommand::Edit(_, index, _) => Some(index),
-        _ => None,
+        Subcommand::Edit(_, inputs, _) => Some(inputs.index),
+        Subcommand::Undo(_)
+        | Subcommand::Redo(_)
+        | Subcommand::Batch(_)
+        | Subcommand::Try(_)
+        | Subcommand::Show(_, _)
+        | Subcommand::Log(_, _)
+        | Subcommand::Diff(_, _)
+        | Subcommand::Check(_, _)
+        | Subcommand::Outdated(_, _)
+        | Subcommand::Skipped(_)
+        | Subcommand::Why(_, _) => None,
     }
 }
 
@@ -174,7 +166,17 @@ fn environments_of<'a>(subcommand: &'a Subcommand<'_>) -> &'a [Text] {
         Subcommand::Init(inputs)
         | Subcommand::Try(inputs)
         | Subcommand::Why(Question::Init(inputs, _), _) => inputs.environments.as_slice(),
-        _ => &[],
+        Subcommand::Edit(_, _, _)
+        | Subcommand::Undo(_)
+        | Subcommand::Redo(_)
+        | Subcommand::Batch(_)
+        | Subcommand::Show(_, _)
+        | Subcommand::Log(_, _)
+        | Subcommand::Diff(_, _)
+        | Subcommand::Check(_, _)
+        | Subcommand::Outdated(_, _)
+        | Subcommand::Skipped(_)
+        | Subcommand::Why(Question::Edit(_, _) | Question::Release(_, _), _) => &[],
     }
 }
 

@@ -1,9 +1,8 @@
 // What a change did, for people.
 
-use crate::plain_text::add_plain;
-use crate::target_line::add_target_line;
 use edits::{Change, DigestChange, EntryChange, Splice};
 use lists::Text;
+use phrases::{add_plain, add_target_line};
 use std::alloc::{AllocError, Global};
 
 /// The lines of the requirements file that a change takes out, with `-` and their numbers before it, and those
@@ -58,7 +57,7 @@ fn add_entries(text: &mut String, changes: &[EntryChange]) -> Result<(), AllocEr
     let mut last = None;
     for change in changes {
         if !has_same_target(last, change) {
-            add_target_line(text, &change.target)?;
+            add_target_line(text, change.target.as_str())?;
         }
         add_entry_change(text, change)?;
         text.push_str("\n")?;

@@ -5,7 +5,7 @@ use edits::{Entry, FileEntry, Name};
 use serde_json::{Map, Value, put};
 use std::alloc::{AllocError, Global};
 
-/// An entry: its name and version, what it asks of Python, the names that it needs, and its files.
+/// An entry: its name and version, what it needs of Python, the names that it needs, and its files.
 pub(crate) fn entry_value(alloc: Global, entry: &Entry) -> Result<Value, AllocError> {
     let mut members = Map::new(alloc);
     let name = text_value(alloc, entry.name().normal())?;

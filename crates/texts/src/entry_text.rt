@@ -1,16 +1,14 @@
 // One entry of a lock, for people.
 
-use crate::ask_text::{add_asker, add_line_text};
-use crate::asking::{Ask, Asker, asks_of, problem_over};
 use crate::lock_text::place_of;
-use crate::plain_text::add_plain;
-use crate::requirement_text::add_requirement;
-use crate::target_line::add_target_line;
+use crate::required_by::{RequiredBy, Requirer, problem_over, requirers_of};
+use crate::requirer_text::{add_line_text, add_requirer};
 use edits::{Entry, FileEntry, Name, Snapshot, State, Target};
+use phrases::{add_plain, add_requirement, add_target_line};
 use std::alloc::{AllocError, Global};
 
-/// The entry of a name in each target that has one: its version, who asks for it, what it needs, and its files. What
-/// other entries ask for is told where an index is at hand that has their releases.
+/// The entry of a name in each target that has one: its version, what requires it, what it needs, and its files. What
+/// other entries require is told where an index is at hand that has their releases.
 pub fn entry_text(
     alloc: Global,
     state: &State,
@@ -21,30 +19,29 @@ pub fn entry_text(
     for target in state.targets() {
         let entries = target.lock.entries();
         if let Some(place) = place_of(entries, name.normal()) {
-            add_target(alloc, &mut text, state, target, snapshot, place)?;
+            if !text.is_empty() {
+                text.push_str("\n")?;
+            }
+            let problem = problem_over(alloc, state, target, snapshot)?;
+            let lines = state.lines().lines();
+            let requirers = requirers_of(alloc, lines, target, problem.as_ref())?;
+            add_target(&mut text, target, place, requirers.as_slice())?;
         }
     }
     Ok(text)
 }
 
-// The entry at a place of a target's lock.
+// The entry at a place of a target's lock, given what requires each of its entries.
 fn add_target(
-    alloc: Global,
     text: &mut String,
-    state: &State,
     target: &Target,
-    snapshot: Option<&Snapshot>,
     place: usize,
+    requirers: &[Vec<RequiredBy<'_>>],
 ) -> Result<(), AllocError> {
-    if !text.is_empty() {
-        text.push_str("\n")?;
-    }
-    add_target_line(text, &target.name)?;
-    let problem = problem_over(alloc, state, target, snapshot)?;
-    let asks = asks_of(alloc, state.lines().lines(), target, problem.as_ref())?;
+    add_target_line(text, target.name.as_str())?;
     let entries = target.lock.entries();
-    match (entries.get(place), asks.get(place)) {
-        (Some(entry), Some(asked)) => add_entry(text, entries, entry, asked.as_slice()),
+    match (entries.get(place), requirers.get(place)) {
+        (Some(entry), Some(own)) => add_entry(text, entries, entry, own.as_slice()),
         _ => Ok(()),
     }
 }
@@ -53,7 +50,7 @@ fn add_entry(
     text: &mut String,
     entries: &[Entry],
     entry: &Entry,
-    asks: &[Ask<'_>],
+    requirers: &[RequiredBy<'_>],
 ) -> Result<(), AllocError> {
     add_pin(text, entry)?;
     text.push_str("\n")?;
@@ -62,8 +59,8 @@ fn add_entry(
         add_plain(text, python.as_str().trim())?;
         text.push_str("\n")?;
     }
-    for ask in asks {
-        add_ask_line(text, *ask)?;
+    for by in requirers {
+        add_required_by_line(text, *by)?;
     }
     for needed in entry.dependencies() {
         add_need(text, entries, needed)?;
@@ -83,19 +80,19 @@ fn add_pin(text: &mut String, entry: &Entry) -> Result<(), AllocError> {
     write!(text, "{name} {version}")
 }
 
-// A line with its text as it stands, or an entry with what it asks for.
-fn add_ask_line(text: &mut String, ask: Ask<'_>) -> Result<(), AllocError> {
-    match ask.asker {
-        Asker::Line(_, line) => {
+// A line with its text as it stands, or an entry with what it requires.
+fn add_required_by_line(text: &mut String, by: RequiredBy<'_>) -> Result<(), AllocError> {
+    match by.requirer {
+        Requirer::Line(_, line) => {
             text.push_str("  ")?;
-            add_asker(text, ask.asker)?;
+            add_requirer(text, by.requirer)?;
             text.push_str(": ")?;
             add_line_text(text, line)?;
         }
-        Asker::Entry(_) => {
+        Requirer::Entry(_) => {
             text.push_str("  needed by ")?;
-            add_asker(text, ask.asker)?;
-            if let Some(wanted) = ask.wanted {
+            add_requirer(text, by.requirer)?;
+            if let Some(wanted) = by.requirement {
                 text.push_str(": ")?;
                 add_requirement(text, wanted)?;
             }

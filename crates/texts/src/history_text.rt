@@ -1,18 +1,17 @@
 // The history for people: a line for each step.
 
 use crate::diff_text::add_entry_change;
-use crate::plain_text::add_plain;
-use crate::requirement_text::add_specifiers;
 use edits::{Cause, Change, EntryChange, Line, Splice, TargetName};
 use journal::Session;
 use lists::Text;
+use phrases::{add_plain, add_specifiers};
 use std::alloc::{AllocError, Global};
 
 /// How many characters a line of the history has at most.
 const WIDTH: usize = 100;
 
-/// A line for the first state, and one for each step behind it that tells what was asked, as far as its
-/// change shows that. The present state is marked. A longer line is cut. Where `long` is asked for, a line for each
+/// A line for the first state, and one for each step behind it that tells what it did, as far as its
+/// change shows that. The present state is marked. A longer line is cut. With `long`, a line for each
 /// entry that came, went or changed stands under the step's.
 pub fn history_text(alloc: Global, session: &Session, long: bool) -> Result<String, AllocError> {
     let mut text = String::new(alloc);
@@ -66,14 +65,14 @@ fn add_cut(text: &mut String, line: &str) -> Result<(), AllocError> {
     text.push_str("...")
 }
 
-/// What was asked of a step, as `log` tells it, not cut.
+/// What a step did, as `log` tells it, not cut.
 pub(crate) fn step_text(alloc: Global, change: &Change) -> Result<String, AllocError> {
     let mut text = String::new(alloc);
     add_step(alloc, &mut text, change)?;
     Ok(text)
 }
 
-// What was asked: an edit of one line, or a new lock, of which the number of changed entries is told.
+// What a step did: an edit of one line, or a new lock, of which the number of changed entries is told.
 fn add_step(alloc: Global, text: &mut String, change: &Change) -> Result<(), AllocError> {
     match change.splices().first() {
         Some(splice) => add_edit(alloc, text, splice),
@@ -113,7 +112,7 @@ fn add_line(text: &mut String, line: Option<&Text>) -> Result<(), AllocError> {
     }
 }
 
-// The name of the requirement of a line, and its specifiers where they are asked for.
+// The name of the requirement of a line, and its specifiers with `with_specifiers`.
 fn add_name(
     alloc: Global,
     text: &mut String,

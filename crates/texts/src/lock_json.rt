@@ -1,16 +1,16 @@
 // Locks as JSON objects.
 
-use crate::ask_text::asks_value;
-use crate::asking::{Ask, asks_of, problem_over};
 use crate::entry_json::entry_value;
 use crate::json_text::{pin_value, target_object, targets_text};
 use crate::lock_text::place_of;
+use crate::required_by::{RequiredBy, problem_over, requirers_of};
+use crate::requirer_text::requirers_value;
 use edits::{Entry, Name, Snapshot, State, Target};
 use serde_json::{Map, Value, put};
 use std::alloc::{AllocError, Global};
 
-/// The entries of each target, each with who asks for it and with what it needs; those of one name alone where it is
-/// given. What other entries ask for is told where an index is at hand that has their releases.
+/// The entries of each target, each with what requires it and with what it needs; those of one name alone where it is
+/// given. What other entries require is told where an index is at hand that has their releases.
 pub fn lock_json(
     alloc: Global,
     state: &State,
@@ -33,12 +33,12 @@ fn entries_value(
     name: Option<&Name>,
 ) -> Result<Value, AllocError> {
     let problem = problem_over(alloc, state, target, snapshot)?;
-    let asks = asks_of(alloc, state.lines().lines(), target, problem.as_ref())?;
+    let requirers = requirers_of(alloc, state.lines().lines(), target, problem.as_ref())?;
     let entries = target.lock.entries();
     let mut values = Vec::new(alloc);
-    for (entry, asked) in entries.iter().zip(asks.as_slice()) {
+    for (entry, own) in entries.iter().zip(requirers.as_slice()) {
         if is_meant(name, entry) {
-            values.push(told_value(alloc, entries, entry, asked.as_slice())?)?;
+            values.push(told_value(alloc, entries, entry, own.as_slice())?)?;
         }
     }
     Ok(Value::Array(values))
@@ -51,15 +51,16 @@ fn is_meant(name: Option<&Name>, entry: &Entry) -> bool {
     }
 }
 
-// An entry with who asks for it and what it needs.
+// An entry with what requires it and what it needs.
 fn told_value(
     alloc: Global,
     entries: &[Entry],
     entry: &Entry,
-    asks: &[Ask<'_>],
+    requirers: &[RequiredBy<'_>],
 ) -> Result<Value, AllocError> {
     let mut members = Map::new(alloc);
-    put(&mut members, alloc, "asked_by", asks_value(alloc, asks)?)?;
+    let asked_by = requirers_value(alloc, requirers)?;
+    put(&mut members, alloc, "asked_by", asked_by)?;
     put(&mut members, alloc, "entry", entry_value(alloc, entry)?)?;
     put(
         &mut members,

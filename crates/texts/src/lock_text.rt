@@ -1,8 +1,7 @@
-// Locks as tables for people: what is locked, and what asks for it.
+// Locks as tables for people: what is locked, and what requires it.
 
-use crate::table::add_table;
-use crate::target_line::add_target_line;
 use edits::{Entry, Environment, Line, State, Target};
+use phrases::{add_table, add_target_line};
 use std::alloc::{AllocError, Global};
 
 // One row of the table.
@@ -10,7 +9,7 @@ use std::alloc::{AllocError, Global};
 struct Row {
     name: String,
     version: String,
-    // the numbers of the lines that ask for the entry
+    // the numbers of the lines that require the entry
     lines: String,
     // the names of the entries that need it
     needed_by: String,
@@ -24,14 +23,14 @@ pub fn lock_text(alloc: Global, state: &State) -> Result<String, AllocError> {
         if !text.is_empty() {
             text.push_str("\n")?;
         }
-        add_target_line(&mut text, &target.name)?;
+        add_target_line(&mut text, target.name.as_str())?;
         add_lock(alloc, &mut text, state.lines().lines(), target)?;
     }
     Ok(text)
 }
 
 // A line for each entry of the lock, below a head line: the name, the version, the numbers of the
-// lines that ask for it, and the names of the entries that need it.
+// lines that require it, and the names of the entries that need it.
 fn add_lock(
     alloc: Global,
     text: &mut String,
@@ -44,7 +43,7 @@ fn add_lock(
         rows.push(new_row(alloc, entry)?)?;
     }
     for (place, line) in lines.iter().enumerate() {
-        if is_asking(&target.environment, line) {
+        if is_active(&target.environment, line) {
             add_line(alloc, &mut rows, entries, line, place.saturating_add(1))?;
         }
     }
@@ -66,15 +65,15 @@ fn new_row(alloc: Global, entry: &Entry) -> Result<Row, AllocError> {
     })
 }
 
-/// Whether the line asks for something in the environment.
-pub(crate) fn is_asking(environment: &Environment, line: &Line) -> bool {
+/// Whether the line counts in the environment.
+pub(crate) fn is_active(environment: &Environment, line: &Line) -> bool {
     match line.requirement() {
         Some(requirement) => requirement.is_active(environment),
         None => false,
     }
 }
 
-// Notes the number of a line with the entry that it asks for.
+// Notes the number of a line with the entry that it requires.
 fn add_line(
     alloc: Global,
     rows: &mut Vec<Row>,

@@ -1,6 +1,6 @@
 // Which entries of a lock have newer releases, and who holds them back.
 
-use crate::asking::{Ask, asks_of};
+use crate::required_by::{RequiredBy, requirers_of};
 use edits::{Entry, Line, Name, Problem, Release, Requirement, Target};
 use lists::Seq;
 use pep440::Version;
@@ -12,26 +12,26 @@ use std::alloc::{AllocError, Global};
 #[derive(Drop)]
 pub(crate) struct Outdated<'a> {
     pub(crate) entry: &'a Entry,
-    /// The newest version that all who ask for the entry admit; none where they admit no release of the index.
+    /// The newest version that all that require the entry admit; none where they admit no release of the index.
     pub(crate) admitted: Option<&'a Version>,
-    /// The newest version that its name alone or one of those who ask for it admits.
+    /// The newest version that its name alone or one of those that require it admits.
     pub(crate) newest: &'a Version,
-    /// Who asks for the entry and doesn't admit the newest version.
-    pub(crate) holders: Vec<Ask<'a>>,
+    /// What requires the entry and doesn't admit the newest version.
+    pub(crate) holders: Vec<RequiredBy<'a>>,
 }
 
-// Who asks for an entry, with whether each release of its name, from the newest, is admitted.
+// What requires an entry, with whether each release of its name, from the newest, is admitted.
 #[derive(Drop)]
-struct Heard<'a> {
-    ask: Ask<'a>,
+struct AdmittedBy<'a> {
+    by: RequiredBy<'a>,
     admits: Seq<bool>,
 }
 
-// What the name alone and those who ask for an entry admit.
+// What the name alone and those that require an entry admit.
 #[derive(Drop)]
 struct Admitted<'a> {
     by_name: Seq<bool>,
-    heard: Vec<Heard<'a>>,
+    by_requirers: Vec<AdmittedBy<'a>>,
 }
 
 /// The entries of a target's lock that have newer releases in the index of the problem, in their order.
@@ -41,10 +41,10 @@ pub(crate) fn outdated_of<'a>(
     target: &'a Target,
     problem: &'a Problem<'a>,
 ) -> Result<Vec<Outdated<'a>>, AllocError> {
-    let asks = asks_of(alloc, lines, target, Some(problem))?;
+    let requirers = requirers_of(alloc, lines, target, Some(problem))?;
     let mut found = Vec::new(alloc);
-    for (entry, asked) in target.lock.entries().iter().zip(asks.as_slice()) {
-        add_outdated(alloc, &mut found, problem, entry, asked.as_slice())?;
+    for (entry, own) in target.lock.entries().iter().zip(requirers.as_slice()) {
+        add_outdated(alloc, &mut found, problem, entry, own.as_slice())?;
     }
     Ok(found)
 }
@@ -54,7 +54,7 @@ fn add_outdated<'a>(
     found: &mut Vec<Outdated<'a>>,
     problem: &'a Problem<'a>,
     entry: &'a Entry,
-    asks: &[Ask<'a>],
+    requirers: &[RequiredBy<'a>],
 ) -> Result<(), AllocError> {
     let releases = problem.releases(entry.name());
     if !begin_newer(releases, entry) {
@@ -65,10 +65,13 @@ fn add_outdated<'a>(
     };
     let admitted = Admitted {
         by_name,
-        heard: heard_of(alloc, problem, asks)?,
+        by_requirers: admitted_by(alloc, problem, requirers)?,
     };
-    match newest_of(releases, &admitted) {
-        Some(place) => add_newer(alloc, found, entry, releases, place, admitted),
+    let Some(place) = newest_of(releases, &admitted) else {
+        return Ok(());
+    };
+    match newer_at(alloc, entry, releases, place, &admitted)? {
+        Some(outdated) => Ok(found.push(outdated)?),
         None => Ok(()),
     }
 }
@@ -95,20 +98,20 @@ fn admitted_by_name(
     }
 }
 
-// What those admit of whom it is known what they ask for.
-fn heard_of<'a>(
+// What those admit of which it is known what they require.
+fn admitted_by<'a>(
     alloc: Global,
     problem: &Problem<'_>,
-    asks: &[Ask<'a>],
-) -> Result<Vec<Heard<'a>>, AllocError> {
-    let mut heard = Vec::with_capacity(alloc, asks.len())?;
-    for ask in asks {
-        if let Some(wanted) = ask.wanted {
+    requirers: &[RequiredBy<'a>],
+) -> Result<Vec<AdmittedBy<'a>>, AllocError> {
+    let mut admitted = Vec::with_capacity(alloc, requirers.len())?;
+    for by in requirers {
+        if let Some(wanted) = by.requirement {
             let admits = admissions(alloc, problem, wanted)?;
-            heard.push(Heard { ask: *ask, admits })?;
+            admitted.push(AdmittedBy { by: *by, admits })?;
         }
     }
-    Ok(heard)
+    Ok(admitted)
 }
 
 fn admits(releases: &Seq<bool>, place: usize) -> bool {
@@ -118,23 +121,23 @@ fn admits(releases: &Seq<bool>, place: usize) -> bool {
     }
 }
 
-// Whether the name alone or one of those who ask admits the release at a place.
+// Whether the name alone or one of those that require the entry admits the release at a place.
 fn does_count(admitted: &Admitted<'_>, place: usize) -> bool {
     if admits(&admitted.by_name, place) {
         return true;
     }
-    for heard in admitted.heard.as_slice() {
-        if admits(&heard.admits, place) {
+    for one in admitted.by_requirers.as_slice() {
+        if admits(&one.admits, place) {
             return true;
         }
     }
     false
 }
 
-// Whether all who ask admit the release at a place, and it counts.
+// Whether all that require the entry admit the release at a place, and it counts.
 fn do_admit(admitted: &Admitted<'_>, place: usize) -> bool {
-    for heard in admitted.heard.as_slice() {
-        if !admits(&heard.admits, place) {
+    for one in admitted.by_requirers.as_slice() {
+        if !admits(&one.admits, place) {
             return false;
         }
     }
@@ -151,7 +154,7 @@ fn newest_of(releases: &[Release], admitted: &Admitted<'_>) -> Option<usize> {
     None
 }
 
-// The newest version that all who ask admit.
+// The newest version that all admit that require the entry.
 fn admitted_of<'a>(releases: &'a [Release], admitted: &Admitted<'_>) -> Option<&'a Version> {
     for (place, release) in releases.iter().enumerate() {
         if do_admit(admitted, place) {
@@ -161,41 +164,39 @@ fn admitted_of<'a>(releases: &'a [Release], admitted: &Admitted<'_>) -> Option<&
     None
 }
 
-// Notes an entry where the release at a place is newer than what is locked.
-fn add_newer<'a>(
+// An entry where the release at a place is newer than what is locked.
+fn newer_at<'a>(
     alloc: Global,
-    found: &mut Vec<Outdated<'a>>,
     entry: &'a Entry,
     releases: &'a [Release],
     place: usize,
-    admitted: Admitted<'a>,
-) -> Result<(), AllocError> {
+    admitted: &Admitted<'a>,
+) -> Result<Option<Outdated<'a>>, AllocError> {
     let Some(release) = releases.get(place) else {
-        return Ok(());
+        return Ok(None);
     };
     let newest = release.version();
     if !newest.cmp(entry.version()).is_gt() {
-        return Ok(());
+        return Ok(None);
     }
-    let outdated = Outdated {
+    Ok(Some(Outdated {
         entry,
-        admitted: admitted_of(releases, &admitted),
+        admitted: admitted_of(releases, admitted),
         newest,
-        holders: holders_of(alloc, &admitted, place)?,
-    };
-    Ok(found.push(outdated)?)
+        holders: holders_of(alloc, admitted, place)?,
+    }))
 }
 
-// Who doesn't admit the release at a place.
+// What doesn't admit the release at a place.
 fn holders_of<'a>(
     alloc: Global,
     admitted: &Admitted<'a>,
     place: usize,
-) -> Result<Vec<Ask<'a>>, AllocError> {
+) -> Result<Vec<RequiredBy<'a>>, AllocError> {
     let mut holders = Vec::new(alloc);
-    for heard in admitted.heard.as_slice() {
-        if !admits(&heard.admits, place) {
-            holders.push(heard.ask)?;
+    for one in admitted.by_requirers.as_slice() {
+        if !admits(&one.admits, place) {
+            holders.push(one.by)?;
         }
     }
     Ok(holders)

@@ -1,18 +1,17 @@
 // The entries that have newer releases, for people and for scripts.
 
-use crate::ask_text::{add_ask, asks_value};
-use crate::asking::{Ask, is_in_index, problem_of};
 use crate::json_text::{pin_value, target_members, targets_text, text_value, version_value};
 use crate::outdated::{Outdated, outdated_of};
-use crate::table::add_table;
-use crate::target_line::add_target_line;
+use crate::required_by::{RequiredBy, is_in_index, problem_of};
+use crate::requirer_text::{add_required_by, requirers_value};
 use edits::{Entry, Problem, Snapshot, State, Target};
 use pep440::Version;
+use phrases::{add_table, add_target_line};
 use serde_json::{Map, Value, put};
 use std::alloc::{AllocError, Global};
 
 /// A table for each target of the state with entries that have newer releases in the index: what is locked, the
-/// newest version that all admit who ask for it, the newest version, and who doesn't admit that. Below it stand the
+/// newest version that all admit that require it, the newest version, and what doesn't admit that. Below it stand the
 /// entries whose releases the index doesn't have. A target without either has no table.
 pub fn outdated_text(
     alloc: Global,
@@ -28,7 +27,7 @@ pub fn outdated_text(
         if !text.is_empty() {
             text.push_str("\n")?;
         }
-        add_target_line(&mut text, &target.name)?;
+        add_target_line(&mut text, target.name.as_str())?;
         text.push_str(part.as_str())?;
     }
     Ok(text)
@@ -80,13 +79,13 @@ fn admitted_text(alloc: Global, admitted: Option<&Version>) -> Result<String, Al
     }
 }
 
-fn holders_text(alloc: Global, holders: &[Ask<'_>]) -> Result<String, AllocError> {
+fn holders_text(alloc: Global, holders: &[RequiredBy<'_>]) -> Result<String, AllocError> {
     let mut text = String::new(alloc);
     for holder in holders {
         if !text.is_empty() {
             text.push_str(", ")?;
         }
-        add_ask(&mut text, *holder)?;
+        add_required_by(&mut text, *holder)?;
     }
     Ok(text)
 }
@@ -156,7 +155,7 @@ fn outdated_value(alloc: Global, outdated: &Outdated<'_>) -> Result<Value, Alloc
     put(&mut members, alloc, "admitted", admitted)?;
     let newest = version_value(alloc, outdated.newest)?;
     put(&mut members, alloc, "newest", newest)?;
-    let holders = asks_value(alloc, outdated.holders.as_slice())?;
+    let holders = requirers_value(alloc, outdated.holders.as_slice())?;
     put(&mut members, alloc, "held_by", holders)?;
     Ok(Value::Object(members))
 }

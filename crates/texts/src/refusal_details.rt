@@ -1,12 +1,9 @@
 // What is known of a refused edit beside its word.
 
-use crate::near_names::{add_near_names, has_package};
-use crate::plain_text::add_plain;
-use crate::shell_word::add_word;
-use crate::text_column::{clause_column, column_of};
 use edits::{Cause, Edit, Environment, Line, Name, Refusal, Snapshot, State};
 use lists::Text;
 use pep440::{Fault as SpecifierFault, SpecifierSet};
+use phrases::{add_near_names, add_plain, add_word, clause_column, column_of, has_package};
 use std::alloc::{AllocError, Global};
 
 /// A refused edit of a state over an index.

@@ -1,10 +1,10 @@
 // Locks as trees, from the lines down.
 
-use crate::ask_text::add_line_text;
 use crate::json_text::{target_object, targets_text, text_value, version_value};
-use crate::lock_text::{is_asking, place_of};
-use crate::target_line::add_target_line;
+use crate::lock_text::{is_active, place_of};
+use crate::requirer_text::add_line_text;
 use edits::{Entry, Line, Name, State, Target};
+use phrases::add_target_line;
 use serde_json::{Map, Value, put};
 use std::alloc::{AllocError, Global};
 
@@ -13,7 +13,7 @@ const DEEPEST: usize = 40;
 
 // A row of a tree.
 #[derive(Clone, Copy)]
-enum Row<'a> {
+enum TreeRow<'a> {
     /// An active line, with its number from 1.
     Line(usize, &'a Line),
     /// An entry, how many entries lead to it from a line, and whether it stands above already.
@@ -36,7 +36,7 @@ pub fn tree_text(alloc: Global, state: &State) -> Result<String, AllocError> {
         if !text.is_empty() {
             text.push_str("\n")?;
         }
-        add_target_line(&mut text, &target.name)?;
+        add_target_line(&mut text, target.name.as_str())?;
         for row in rows_of(alloc, state.lines().lines(), target)?.as_slice() {
             add_row(&mut text, *row)?;
         }
@@ -44,13 +44,13 @@ pub fn tree_text(alloc: Global, state: &State) -> Result<String, AllocError> {
     Ok(text)
 }
 
-fn add_row(text: &mut String, row: Row<'_>) -> Result<(), AllocError> {
+fn add_row(text: &mut String, row: TreeRow<'_>) -> Result<(), AllocError> {
     match row {
-        Row::Line(number, line) => {
+        TreeRow::Line(number, line) => {
             write!(text, "line {number}: ")?;
             add_line_text(text, line)?;
         }
-        Row::Entry(entry, depth, is_above) => {
+        TreeRow::Entry(entry, depth, is_above) => {
             add_depth(text, depth)?;
             let name = entry.name().normal();
             let version = entry.version();
@@ -79,7 +79,7 @@ fn rows_of<'a>(
     alloc: Global,
     lines: &'a [Line],
     target: &'a Target,
-) -> Result<Vec<Row<'a>>, AllocError> {
+) -> Result<Vec<TreeRow<'a>>, AllocError> {
     let entries = target.lock.entries();
     let turns = most_turns(entries);
     let mut rows = Vec::new(alloc);
@@ -88,8 +88,8 @@ fn rows_of<'a>(
         told: vec![in alloc; false; entries.len()]?,
     };
     for (place, line) in lines.iter().enumerate() {
-        if is_asking(&target.environment, line) {
-            rows.push(Row::Line(place.saturating_add(1), line))?;
+        if is_active(&target.environment, line) {
+            rows.push(TreeRow::Line(place.saturating_add(1), line))?;
             begin(&mut walk, entries, line)?;
             add_entries(&mut rows, &mut walk, entries, turns)?;
         }
@@ -97,7 +97,7 @@ fn rows_of<'a>(
     Ok(rows)
 }
 
-// What a line asks for is left.
+// What a line requires is left.
 fn begin(walk: &mut Walk, entries: &[Entry], line: &Line) -> Result<(), AllocError> {
     match line.requirement() {
         Some(wanted) => put_left(walk, entries, wanted.name(), 0),
@@ -120,7 +120,7 @@ fn put_left(
 // A row for each entry that is left, until none is. An entry's dependencies are left once, so that there are no more
 // turns than these.
 fn add_entries<'a>(
-    rows: &mut Vec<Row<'a>>,
+    rows: &mut Vec<TreeRow<'a>>,
     walk: &mut Walk,
     entries: &'a [Entry],
     turns: usize,
@@ -130,13 +130,17 @@ fn add_entries<'a>(
             return Ok(());
         };
         if let Some(entry) = entries.get(place) {
-            add_entry(rows, walk, entries, entry, place, depth)?;
+            let is_above = was_told(walk, place);
+            rows.push(TreeRow::Entry(entry, depth, is_above))?;
+            if !is_above {
+                put_needed(walk, entries, entry, depth.saturating_add(1))?;
+            }
         }
     }
     Ok(())
 }
 
-// One for what a line asks for, and one for each dependency.
+// One for what a line requires, and one for each dependency.
 fn most_turns(entries: &[Entry]) -> usize {
     let mut turns: usize = 1;
     for entry in entries {
@@ -145,21 +149,15 @@ fn most_turns(entries: &[Entry]) -> usize {
     turns
 }
 
-fn add_entry<'a>(
-    rows: &mut Vec<Row<'a>>,
+// What an entry needs is left, to be put in so far.
+fn put_needed(
     walk: &mut Walk,
-    entries: &'a [Entry],
-    entry: &'a Entry,
-    place: usize,
+    entries: &[Entry],
+    entry: &Entry,
     depth: usize,
 ) -> Result<(), AllocError> {
-    let is_above = was_told(walk, place);
-    rows.push(Row::Entry(entry, depth, is_above))?;
-    if is_above {
-        return Ok(());
-    }
     for needed in entry.dependencies().iter().rev() {
-        put_left(walk, entries, needed, depth.saturating_add(1))?;
+        put_left(walk, entries, needed, depth)?;
     }
     Ok(())
 }
@@ -190,15 +188,15 @@ pub fn tree_json(alloc: Global, state: &State) -> Result<String, AllocError> {
     targets_text(alloc, targets)
 }
 
-fn row_value(alloc: Global, row: Row<'_>) -> Result<Value, AllocError> {
+fn row_value(alloc: Global, row: TreeRow<'_>) -> Result<Value, AllocError> {
     let mut members = Map::new(alloc);
     match row {
-        Row::Line(number, line) => {
+        TreeRow::Line(number, line) => {
             put(&mut members, alloc, "line", Value::from(number))?;
             let text = text_value(alloc, line.text().trim())?;
             put(&mut members, alloc, "text", text)?;
         }
-        Row::Entry(entry, depth, is_above) => {
+        TreeRow::Entry(entry, depth, is_above) => {
             put(&mut members, alloc, "depth", Value::from(depth))?;
             let name = text_value(alloc, entry.name().normal())?;
             put(&mut members, alloc, "name", name)?;

@@ -3,7 +3,7 @@
 use crate::scenarios::calls::{play, surely};
 use crate::scenarios::data::{self, Indexes, read_indexes};
 use crate::scenarios::told_commands::{BEFORE, all_commands, commands_of};
-use crate::targets::{bytes_of, targets_of};
+use crate::targets::{bytes_of, journal_of, targets_of};
 use journal::{Command, Learning, Session};
 use std::alloc::Global;
 use std::io::Write;
@@ -73,11 +73,11 @@ fn opened<W: Write>(alloc: Global, out: &mut W, session: &Session) -> Option<()>
     let saved = session.save(alloc).ok()?;
     let requirements = saved.requirements.as_str().as_bytes();
     let locks = bytes_of(alloc, &saved.locks).ok()?;
-    let journal = saved.journal.as_str().as_bytes();
+    let journal = journal_of(alloc, saved.journal.as_str()).ok()?;
     play(
         alloc,
         out,
         &mut (),
-        |_| Session::open(alloc, requirements, &locks, journal),
+        |_| Session::open(alloc, requirements, &locks, &journal),
     )
 }

@@ -6,7 +6,7 @@ use crate::scenarios::told::Told;
 use crate::scenarios::told_commands::edit_of;
 use crate::targets::{locks_of, targets_of};
 use crate::telling::Telling;
-use edits::{Edit, Refusal, Snapshot, State, problem_after};
+use edits::{Edit, Pool, Refusal, Snapshot, State, problem_after};
 use journal::Learning;
 use resolve::{Problem, check};
 use std::alloc::Global;
@@ -34,7 +34,7 @@ fn problem_of<'a>(
     edit: &Edit,
     index: &'a Snapshot,
 ) -> Option<Problem<'a>> {
-    let (_, problem) = problem_after(alloc, state, edit, index)
+    let (_, problem) = problem_after(alloc, state, edit, &Pool::whole(index))
         .ok()?
         .into_vec()
         .pop()?;
@@ -80,7 +80,7 @@ fn asked<W: Write>(
         problem: None,
     };
     play(alloc, out, &mut question, |question| {
-        question.problem = problem_after(alloc, &question.state, edit, index)?
+        question.problem = problem_after(alloc, &question.state, edit, &Pool::whole(index))?
             .into_vec()
             .pop()
             .map(|(_, problem)| problem);

@@ -1,7 +1,7 @@
 // What values are told as.
 
 use crate::state_texts::push_versions;
-use crate::targets::bytes_of;
+use crate::targets::{bytes_of, journal_of};
 use crate::telling::Telling;
 use edits::{Change, Entry, Environment, FileEntry, Line, ReqFile, Requirement, Snapshot, State};
 use journal::{History, Plain, Reply, Resolver, Saved, Session, WholeHistory};
@@ -217,12 +217,15 @@ fn tell_present(alloc: Global, text: &mut Telling, cursor: usize, steps: usize, 
 impl Told for Saved {
     fn tell(&self, alloc: Global, text: &mut Telling) {
         let requirements = self.requirements.as_str().as_bytes();
-        let journal = self.journal.as_str().as_bytes();
         let Ok(locks) = bytes_of(alloc, &self.locks) else {
             text.miss();
             return;
         };
-        match Session::open(alloc, requirements, &locks, journal) {
+        let Ok(journal) = journal_of(alloc, self.journal.as_str()) else {
+            text.miss();
+            return;
+        };
+        match Session::open(alloc, requirements, &locks, &journal) {
             Ok(session) => session.tell(alloc, text),
             Err(_) => text.miss(),
         }

@@ -1,7 +1,7 @@
 // Commands as they are told: `add d/undo` for two of them.
 
 use crate::scenarios::data::Indexes;
-use edits::Edit;
+use edits::{Edit, Pool};
 use journal::Command;
 use lists::{Seq, Text};
 use std::alloc::Global;
@@ -44,8 +44,8 @@ fn command_of<'a>(alloc: Global, indexes: &'a Indexes, told: &str) -> Option<Com
     match told {
         "undo" => Some(Command::Undo),
         "redo" => Some(Command::Redo),
-        "relock" => Some(Command::Edit(Edit::Relock, &indexes.later)),
-        _ => Some(Command::Edit(edit_of(alloc, told)?, &indexes.now)),
+        "relock" => Some(Command::Edit(Edit::Relock, Pool::whole(&indexes.later))),
+        _ => Some(Command::Edit(edit_of(alloc, told)?, Pool::whole(&indexes.now))),
     }
 }
 

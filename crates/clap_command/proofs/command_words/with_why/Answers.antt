@@ -16,7 +16,7 @@ taking-requires c =
     let upgrade = ap (λ (a : Arg). a.global) c.help-upgrade.ensures ∙ c.upgrades.ensures.local in
     let remove = ap (λ (a : Arg). a.global) c.help-remove.ensures ∙ c.option.ensures.local in
     let release = ap (λ (a : Arg). a.global) c.help-release.ensures ∙ c.option-2.ensures.local in
-    record { local = subst (AllByRecursion (λ (a : Arg). a.global ≡ false)) (sym c.in_ok-args.ensures.items) (explain, (line, (init, (constrain, (upgrade, (remove, (release, tt))))))) }
+    record { local = subst (AllByRecursion (λ (a : Arg). a.global ≡ false)) (sym c.in_ok-args.ensures.items) (explain, (c.keep_locked-keep.ensures.local, (line, (init, (constrain, (upgrade, (remove, (release, tt)))))))) }
 
 pub returns : goal.returns
 returns c =
@@ -27,5 +27,5 @@ returns c =
     let upgrade : rule_of c.help-upgrade.result ≡ ranged_rule (codes "upgrade") 1 0 usize_max = ap rule_of c.help-upgrade.ensures ∙ c.upgrades.ensures.rule in
     let remove : rule_of c.help-remove.result ≡ option_rule (codes "remove") = ap rule_of c.help-remove.ensures ∙ c.option.ensures.rule in
     let release : rule_of c.help-release.result ≡ option_rule (codes "not") = ap rule_of c.help-release.ensures ∙ c.option-2.ensures.rule in
-    let rules = ap (map rule_of) c.in_ok-args.ensures.items ∙ (λ i. explain i ∷ line i ∷ init i ∷ constrain i ∷ upgrade i ∷ remove i ∷ release i ∷ []) in
+    let rules = ap (map rule_of) c.in_ok-args.ensures.items ∙ (λ i. explain i ∷ c.keep_locked-keep.ensures.rule i ∷ line i ∷ init i ∷ constrain i ∷ upgrade i ∷ remove i ∷ release i ∷ []) in
     record { app = IfOk-weaker c.taking.result _ _ (λ made is. is ∙ (λ i. with_subcommand (app_of c.args.command) (shape_with (codes "why") (rules i)))) c.taking.ensures.app }

@@ -4,9 +4,9 @@ use Rattle.std.specs.Prelude.{◌≢◌, MatchOption}
 use Rattle.std.specs.List.{AllByRecursion}
 use Rattle.clap.specs.Words.{found_of, rows_of}
 use Rattle.command_line.specs.Options.{json_takers}
-use Rattle.command_line.specs.Subcommands.{IsAsked}
+use Rattle.command_line.specs.Subcommands.{IsSubcommand}
 use Rattle.command_line.specs.declared.invocation.Subcommand.{Subcommand}
-use Rattle.command_line.proofs.Lacking.{index_lacks, input_lacks, nothing_lacks, unasked_lacks}
+use Rattle.command_line.proofs.Lacking.{index_lacks, input_lacks, nothing_lacks, no_question_lacks}
 use Rattle.command_line.proofs.subcommand.read_subcommand.Goals as goal
 
 pub returns-in_err-needed_inputs-in-try-clause-fault : goal.returns-in_err-needed_inputs-in-try-clause-fault
@@ -16,12 +16,12 @@ returns-in_err-needed_inputs-in-try-clause-fault c =
     let p = err_from_is_err_and c.from_residual-in_err-needed_inputs-in-try.result c.from_residual-in_err-needed_inputs-in-try.ensures.1 in
     rw (p.1, p.2) (input_lacks before behind c.args.name.now _ (inr (inl c.in-try.is)) (inr (inl c.in-try.is)) c.in_err-needed_inputs-in-try.ensures.missing)
 
-pub returns-in_err-needed_index-in-batch-clause-fault : goal.returns-in_err-needed_index-in-batch-clause-fault
-returns-in_err-needed_index-in-batch-clause-fault c =
+pub returns-in_err-needed_edit_inputs-in-batch-clause-fault : goal.returns-in_err-needed_edit_inputs-in-batch-clause-fault
+returns-in_err-needed_edit_inputs-in-batch-clause-fault c =
     let before = rows_of (found_of c.args.before.now) in
     let behind = rows_of (found_of c.args.behind.now) in
-    let p = err_from_is_err_and c.from_residual-in_err-needed_index-in-batch.result c.from_residual-in_err-needed_index-in-batch.ensures.1 in
-    rw (p.1, p.2) (index_lacks before behind c.args.name.now _ (inr (inr (inl c.in-batch.is))) c.in_err-needed_index-in-batch.ensures.missing)
+    let p = err_from_is_err_and c.from_residual-in_err-needed_edit_inputs-in-batch.result c.from_residual-in_err-needed_edit_inputs-in-batch.ensures.1 in
+    rw (p.1, p.2) (index_lacks before behind c.args.name.now _ (inr (inr (inl c.in-batch.is))) c.in_err-needed_edit_inputs-in-batch.ensures.missing)
 
 pub returns-in_err-needed_index-in-skipped-clause-fault : goal.returns-in_err-needed_index-in-skipped-clause-fault
 returns-in_err-needed_index-in-skipped-clause-fault c =
@@ -35,13 +35,13 @@ returns-in_err-question-in-why-clause-fault c =
     let before = rows_of (found_of c.args.before.now) in
     let behind = rows_of (found_of c.args.behind.now) in
     let p = err_from_is_err_and c.from_residual-in_err-question-in-why.result c.from_residual-in_err-question-in-why.ensures.1 in
-    rw (p.1, p.2) (unasked_lacks before behind c.args.name.now _ c.in-why.is c.in_err-question-in-why.ensures.fault)
+    rw (p.1, p.2) (no_question_lacks before behind c.args.name.now _ c.in-why.is c.in_err-question-in-why.ensures.fault)
 
 pub returns-in_default-name-clause-fault : goal.returns-in_default-name-clause-fault
 returns-in_default-name-clause-fault c =
     let before = rows_of (found_of c.args.before.now) in
     let behind = rows_of (found_of c.args.behind.now) in
-    let P : Option Subcommand → Type 0 = λ view. MatchOption view (AllByRecursion (λ known. c.args.name.now ≢ known) json_takers) (IsAsked before behind c.args.name.now) in
-    let views = subst P c.in_default-2.is c.in_ok-view.ensures.asked in
+    let P : Option Subcommand → Type 0 = λ view. MatchOption view (AllByRecursion (λ known. c.args.name.now ≢ known) json_takers) (IsSubcommand before behind c.args.name.now) in
+    let views = subst P c.in_default-2.is c.in_ok-view.ensures.subcommand in
     let d = c.in_default-name in
     nothing_lacks before behind c.args.name.now _ (sym c.in_ok-edit.ensures.edit ∙ c.in_default.is) views d.not-init d.not-try d.not-batch d.not-undo d.not-redo d.not-skipped d.not-why c.no_subcommand.ensures.fault

@@ -1,14 +1,12 @@
-use Rattle.std.proofs.Common.{ap}
+use Rattle.std.proofs.Common.{refl}
 use Rattle.std.proofs.lemmas.Result.{err_from_is_err_and}
-use Rattle.commands.specs.Replies.{Telling}
 use Rattle.commands.proofs.Batches.{answered_with, ends_at_once}
 use Rattle.commands.proofs.batch.accepted_in.Goals as goal
 
 pub returns-clause-answered : goal.returns-clause-answered
-returns-clause-answered g c =
-    answered_with _ _ _ _ _ _ _ _ _ (ap (λ (t : Telling). t.has_accepted) c.in_ok-text.ensures.empty) c.has_accepted.ensures.accepted c.in_ok-answer_all.ensures.advances
+returns-clause-answered g c = answered_with _ _ _ _ _ _ _ _ _ refl refl c.in_ok-answer_all.ensures.advances
 
 pub returns-in_err-pending-clause-ends : goal.returns-in_err-pending-clause-ends
 returns-in_err-pending-clause-ends g c =
     let p = err_from_is_err_and c.from_residual-in_err-pending.result c.from_residual-in_err-pending.ensures.1 in
-    rw (p.1, p.2) (ends_at_once c.args.snapshot.now (g.S.Source.remaining c.args.source.now) c.args.session.now (g.K.Sink.contents c.args.sink.now) c.requires.source c.requires.sink)
+    rw (p.1, p.2) (ends_at_once c.args.pool.now (g.S.Source.remaining c.args.source.now) c.args.session.now (g.K.Sink.contents c.args.sink.now) c.requires.source c.requires.sink)

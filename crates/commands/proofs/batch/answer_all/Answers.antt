@@ -7,7 +7,7 @@ pub returns-clause-advances : goal.returns-clause-advances
 returns-clause-advances g c =
     let lines = c.in_ok-answer_lines.ensures in
     let last = c.answer_last.new in
-    IfOk-weaker c.answer_last.result _ _ (λ _ advances. advances_end _ _ _ _ _ _ (standing last.session (g.K.Sink.contents last.sink) last.text) lines.reads lines.ends.end advances)
+    IfOk-weaker c.answer_last.result _ _ (λ _ advances. advances_end _ _ _ _ _ _ (standing last.session (g.K.Sink.contents last.sink) last.batch.has_accepted) lines.reads lines.ends.end advances)
     c.answer_last.ensures.advances
 
 pub returns-clause-ends : goal.returns-clause-ends

@@ -6,7 +6,7 @@ pub pieces-preserved : goal.pieces-preserved
 pieces-preserved g c = (
   c.in-Ok.ensures.failure,
   c.in_ok-answer_piece.ensures.sink.failure,
-  reads_piece _ _ _ _ c.pieces.pending _ _ _ _ _ c.pieces.invariant.2 c.in-Ok.ensures.bytes c.in_ok-answer_piece.ensures.answers c.in_ok-answer_piece.ensures.unbroken,
+  reads_piece _ _ _ _ c.pieces.batch.pending _ _ _ _ _ c.pieces.invariant.2 c.in-Ok.ensures.bytes c.in_ok-answer_piece.ensures.answers c.in_ok-answer_piece.ensures.unbroken,
 )
 
 pub returns-in-Err-clause-ends : goal.returns-in-Err-clause-ends
@@ -16,7 +16,7 @@ returns-in-Err-clause-ends g c =
       end = tt;
       source = c.in-Err.ensures.failure;
       sink = c.pieces.invariant.1;
-      left = ends_in_reading _ _ _ _ c.pieces.pending _ _ c.pieces.invariant.2 c.in-Err.ensures.kept;
+      left = ends_in_reading _ _ _ _ c.pieces.batch.pending _ _ c.pieces.invariant.2 c.in-Err.ensures.kept;
     })
 
 pub returns-in_err-answer_piece-clause-ends : goal.returns-in_err-answer_piece-clause-ends
@@ -28,5 +28,5 @@ returns-in_err-answer_piece-clause-ends g c =
       end = tt;
       source = c.in-Ok.ensures.failure;
       sink = sink.failure;
-      left = ends_in_writing _ _ _ _ c.pieces.pending _ _ _ _ c.pieces.invariant.2 c.in-Ok.ensures.bytes c.in_err-answer_piece.ensures.breaks;
+      left = ends_in_writing _ _ _ _ c.pieces.batch.pending _ _ _ _ c.pieces.invariant.2 c.in-Ok.ensures.bytes c.in_err-answer_piece.ensures.breaks;
     })

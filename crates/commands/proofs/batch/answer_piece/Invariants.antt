@@ -6,7 +6,7 @@ use Rattle.commands.proofs.batch.answer_piece.Given as goal
 abbrev pub invariant-lines : goal.invariant-lines
 invariant-lines g l =
     (g.K.Sink.has_failed l.sink ≡ false)
-    × AnswersAllBut l.snapshot (l.fn.pending ++ l.piece) (l.pending ++ l.rest) (standing l.fn.session (g.K.Sink.contents l.fn.sink) l.fn.text) (standing l.session (g.K.Sink.contents l.sink) l.text)
+    × AnswersAllBut l.pool (l.fn.batch.pending ++ l.piece) (l.batch.pending ++ l.rest) (standing l.fn.session (g.K.Sink.contents l.fn.sink) l.fn.batch.has_accepted) (standing l.session (g.K.Sink.contents l.sink) l.batch.has_accepted)
 
 abbrev pub decreases-lines : goal.decreases-lines
 decreases-lines g l = length l.rest

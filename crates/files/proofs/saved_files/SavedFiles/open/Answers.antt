@@ -1,6 +1,6 @@
 use Rattle.std.proofs.Common.{◌≡◌, ◌⊎◌, ◌∙◌, Err, Result, ap, inl, inr}
 use Rattle.std.proofs.lemmas.Result.{err_from_is_err_and}
-use Rattle.journal.specs.Opening.{Opens}
+use Rattle.journal.specs.Opens.{Opens}
 use Rattle.states.specs.declared.refusal.Refusal.{Refusal}
 use Rattle.states.specs.declared.refusal.Refusal.TheVariants as refusals
 use Rattle.files.specs.Faults.{fault_of}
@@ -20,4 +20,4 @@ returns-in_err-open c =
     let p = err_from_is_err_and c.from_residual.result c.from_residual.ensures.1 in
     let opens = c.in_err-open.ensures.opens in
     let files = c.args.self.now in
-    rw p.1 (told (Opens files.requirements.items files.locks.entries files.journal.items) _ _ p.2 (rw (c.as_slice-requirements.ensures.value, c.as_slice.ensures.value) at opens))
+    rw p.1 (told (Opens files.requirements.items files.locks.entries files.journal) _ _ p.2 (rw c.as_slice-requirements.ensures.value at opens))

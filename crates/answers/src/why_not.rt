@@ -1,0 +1,210 @@
+// What `why --not` prints: why a lock hasn't a release.
+
+use crate::shown::refuted_by_sets;
+use crate::why::explained_text;
+use calls::{Call, Stop, show};
+use edits::{
+    Cause, Edit, Learning, Line, Name, Pool, Problem, Refusal, Resolver, State, Target,
+    problem_after, problems_with,
+};
+use explain::{ChangedLine, ChangedLines, WantedRelease, add_difference, add_same, add_uncounted};
+use files::LockFile;
+use files::saved_history::session_over;
+use lists::Text;
+use pep440::Version;
+use phrases::add_target_line;
+use resolve::Answer;
+use snapshot::Snapshot;
+use std::alloc::{AllocError, Global};
+use std::io::Write;
+use std::rt::Files;
+
+/// What a question is about: a release, or a name that the index has no release of.
+#[derive(Drop)]
+struct NamedRelease {
+    name: Name,
+    version: Option<Version>,
+    /// The requirement that takes it.
+    text: Text,
+}
+
+/// Prints why the present lock hasn't the release that the text names, as `NAME==VERSION`, or the newest
+/// one of the index, as `NAME`: of the first target whose lock has the name and not the release.
+pub fn print_why_not<R: Files + AllocGlobal, O: Write>(
+    call: &mut Call<'_, R, O>,
+    text: &str,
+    index: &str,
+) -> Result<(), Stop>
+where
+    R::File: LockFile,
+{
+    let alloc = call.rt.alloc();
+    let (session, snapshot) = session_over(call.rt, call.dir, index)?;
+    let named = release_in(alloc, text, &snapshot)?;
+    let answer = why_not(alloc, session.state(), &named, &snapshot)?;
+    show(&mut call.output, answer.as_str().as_bytes())?;
+    Ok(())
+}
+
+fn release_in(alloc: Global, text: &str, snapshot: &Snapshot) -> Result<NamedRelease, Stop> {
+    let (name, version) = match text.split_once("==") {
+        Some((name, version)) => (name_in(alloc, name)?, Some(version_in(alloc, version)?)),
+        None => (name_in(alloc, text)?, None),
+    };
+    let version = match version {
+        Some(version) => Some(version),
+        None => match snapshot.releases(&name).first() {
+            Some(release) => Some(release.version().clone()?),
+            None => None,
+        },
+    };
+    let normal = name.normal();
+    let text = match &version {
+        Some(version) => format!(in alloc; "{normal}=={version}")?,
+        None => String::from_str(alloc, normal)?,
+    };
+    Ok(NamedRelease {
+        name,
+        version,
+        text: Text::from_string(text),
+    })
+}
+
+fn name_in(alloc: Global, text: &str) -> Result<Name, Refusal> {
+    match Name::parse(alloc, text.trim()) {
+        Ok(name) => Ok(name),
+        Err(fault) => match fault.cause {
+            Cause::OutOfMemory => Err(Refusal::OutOfMemory),
+            _ => Err(Refusal::BadText),
+        },
+    }
+}
+
+fn version_in(alloc: Global, text: &str) -> Result<Version, Refusal> {
+    match Version::parse(alloc, text) {
+        Ok(version) => Ok(version),
+        Err(pep440::Fault::OutOfMemory) => Err(Refusal::OutOfMemory),
+        Err(_) => Err(Refusal::BadText),
+    }
+}
+
+// The answer of the first target whose lock has the name and not the release. A name that is in no lock is
+// refused.
+fn why_not(
+    alloc: Global,
+    state: &State,
+    named: &NamedRelease,
+    snapshot: &Snapshot,
+) -> Result<String, Stop> {
+    let present = problem_after(alloc, state, &Edit::Relock, &Pool::whole(snapshot))?;
+    let problems = problems_with(alloc, state, &named.text, snapshot)?;
+    let name = &named.name;
+    if !state
+        .targets()
+        .iter()
+        .any(|target| target.locked(name).is_some())
+    {
+        return Err(Stop::from(Refusal::NotLocked(Text::copy_of(alloc, name.normal())?)));
+    }
+    let lines = ChangedLines {
+        lines: state.lines().lines(),
+        changed: ChangedLine::Wanted(&named.text),
+    };
+    let both = present.as_slice().iter().zip(problems.as_slice());
+    for (target, ((_, before), (_, problem))) in state.targets().iter().zip(both) {
+        if lacks(target, named) {
+            let mut text = String::new(alloc);
+            add_target_line(&mut text, target.name.as_str())?;
+            if is_told(alloc, &mut text, named, before, problem)? {
+                return Ok(text);
+            }
+            return refuted_text(alloc, text, target, problem, lines);
+        }
+    }
+    Ok(same_text(alloc, named)?)
+}
+
+// Whether the lock of a target has the name, and not the release.
+fn lacks(target: &Target, named: &NamedRelease) -> bool {
+    match (target.locked(&named.name), &named.version) {
+        (Some(locked), Some(version)) => !version.cmp(locked).is_eq(),
+        (Some(_), None) => true,
+        (None, _) => false,
+    }
+}
+
+fn same_text(alloc: Global, named: &NamedRelease) -> Result<String, AllocError> {
+    let mut text = String::new(alloc);
+    if let Some(version) = &named.version {
+        add_same(
+            &mut text,
+            WantedRelease {
+                name: &named.name,
+                version,
+            },
+        )?;
+        text.push_str("\n")?;
+    }
+    Ok(text)
+}
+
+// Tells why the release counts for nothing, or which name would have to give; nothing where there is no solution
+// with it.
+fn is_told(
+    alloc: Global,
+    text: &mut String,
+    named: &NamedRelease,
+    before: &Problem<'_>,
+    problem: &Problem<'_>,
+) -> Result<bool, Stop> {
+    let Some(version) = &named.version else {
+        return Ok(false);
+    };
+    let wanted = WantedRelease {
+        name: &named.name,
+        version,
+    };
+    if is_uncounted(alloc, text, before, wanted)? {
+        return Ok(true);
+    }
+    match Learning.resolve(alloc, problem)? {
+        Answer::Solution(best) => {
+            add_difference(alloc, text, problem, wanted, &best)?;
+            Ok(true)
+        }
+        Answer::NoSolution => Ok(false),
+    }
+}
+
+// Why there is no solution with the release.
+fn refuted_text(
+    alloc: Global,
+    text: String,
+    target: &Target,
+    problem: &Problem<'_>,
+    lines: ChangedLines<'_>,
+) -> Result<String, Stop> {
+    match refuted_by_sets(alloc, problem)? {
+        Some(explanation) => {
+            let text = explained_text(alloc, &target.name, problem, &explanation, lines)?;
+            Err(Stop::Explained(text))
+        }
+        None => Ok(text),
+    }
+}
+
+fn is_uncounted(
+    alloc: Global,
+    text: &mut String,
+    before: &Problem<'_>,
+    wanted: WantedRelease<'_>,
+) -> Result<bool, AllocError> {
+    match Line::read(alloc, wanted.name.normal()) {
+        Ok(line) => match line.requirement() {
+            Some(requirement) => add_uncounted(alloc, text, before, requirement, wanted),
+            None => Ok(false),
+        },
+        Err(Cause::OutOfMemory) => Err(AllocError),
+        Err(_) => Ok(false),
+    }
+}

@@ -1,0 +1,28 @@
+-- How a call stops at a fault of its files. All of it is reqlock's own rule.
+use Rattle.std.specs.Prelude.{◌≡◌, ◌⊎◌, ℕ, ◌<◌, ◌≤◌, length}
+use Rattle.command_line.specs.declared.usage.RequestFault.{RequestFault}
+use Rattle.command_line.specs.declared.usage.RequestFault.TheVariants as requests
+use Rattle.commands.specs.declared.batch.BatchFault.TheVariants as batches
+use Rattle.files.specs.declared.fault.Fault.{Fault}
+use Rattle.files.specs.declared.fault.Fault.TheVariants as faults
+use Rattle.journal.specs.Past.{Past}
+use Rattle.calls.specs.declared.stop.Stop.{Stop}
+use Rattle.calls.specs.declared.stop.Stop.TheVariants as stops
+
+-- how a call stops at a fault of the files
+abbrev pub stop_of : Fault → Stop
+stop_of (faults.Input file fault) = stops.Input file fault
+stop_of (faults.Unwritten file) = stops.Unwritten file
+stop_of (faults.Refused refusal) = stops.Refused refusal
+stop_of faults.OutOfMemory = stops.Fault batches.OutOfMemory
+
+-- how a call stops at words that are no request
+abbrev pub stop_of_request : RequestFault → Stop
+stop_of_request (requests.Usage error) = stops.Usage error
+stop_of_request (requests.Needed option) = stops.Needed option
+stop_of_request requests.OutOfMemory = stops.Fault batches.OutOfMemory
+
+-- how a call stops between two places of a history: at the first that the history hasn't, or for want of memory
+abbrev pub StopsBetween : Past → ℕ → ℕ → Stop → Type 0
+StopsBetween past from to stop =
+    ((stop ≡ stops.NoPlace from) × (length past.states ≤ from)) ⊎ ((stop ≡ stops.NoPlace to) × (from < length past.states) × (length past.states ≤ to)) ⊎ (stop ≡ stops.Fault batches.OutOfMemory)

@@ -1,0 +1,30 @@
+// What changed between two places of the history.
+
+ghost use Rattle.std.specs.Prelude.{IfErr, IfOk};
+ghost use Rattle.calls.specs.Stops.{StopsBetween};
+ghost use Rattle.journal.specs.Places.{IsBetween};
+
+use crate::stop::Stop;
+use edits::Change;
+use journal::Session;
+use std::alloc::Global;
+
+/// The change that leads from one place of the history to another. The first place behind its last one is refused.
+pub fn change_between(
+    alloc: Global,
+    session: &Session,
+    from: usize,
+    to: usize,
+) -> Result<Change, Stop>
+    ensures between { IfOk result (IsBetween session.now.past from to) }
+    ensures refused { IfErr result (StopsBetween session.now.past from to) }
+{
+    let last = session.steps();
+    if from > last {
+        return Err(Stop::NoPlace(from));
+    }
+    if to > last {
+        return Err(Stop::NoPlace(to));
+    }
+    Ok(session.change_between(alloc, from, to)?)
+}

@@ -1,0 +1,136 @@
+// Why the conflicts of a set refutation follow.
+
+use crate::exclusion::{Earlier, Exclusion};
+use crate::placed_term::{PlacedTerm, are_one, candidate_places};
+use lists::Bits;
+use problems::parts::copy_of;
+use problems::{Node, Problem};
+use refutations::{SetGround, SetNeed};
+use std::alloc::{AllocError, Global};
+
+/// Why a conflict follows from those before it.
+#[derive(Drop)]
+pub enum Derivation {
+    /// The line at this place among the active ones admits nothing of the term at this place.
+    Line(usize, usize),
+    /// No release of the one term can stand together with any of the other.
+    Clash(usize, usize),
+    /// No release of a node is left.
+    Exhausted(ExhaustedNode),
+}
+
+/// A node of which no release is left beside a conflict.
+#[derive(Drop)]
+pub struct ExhaustedNode {
+    pub node: Node,
+    /// What needs the node. Nothing where a term of the conflict is on it, whose releases alone are excluded.
+    pub need: Option<SetNeed>,
+    /// The earlier conflicts by which they are excluded.
+    pub exclusions: Vec<Exclusion>,
+}
+
+impl Derivation {
+    /// Whether a sentence can name it without a step of its own.
+    pub fn is_plain(&self) -> bool {
+        match self {
+            Derivation::Line(_, _) | Derivation::Clash(_, _) => true,
+            Derivation::Exhausted(_) => false,
+        }
+    }
+
+    /// The node of which no release is left.
+    pub fn exhausted(&self) -> Option<&ExhaustedNode> {
+        match self {
+            Derivation::Exhausted(exhausted) => Some(exhausted),
+            _ => None,
+        }
+    }
+
+    /// Whether the conflict joins others at the node.
+    pub fn joins_at(&self, node: &Node) -> bool {
+        match self {
+            Derivation::Exhausted(
+                ExhaustedNode {
+                    node: own,
+                    need: None,
+                    ..
+                },
+            ) => are_one(own, node),
+            _ => false,
+        }
+    }
+
+    /// The earlier conflicts that it rests on.
+    pub fn exclusions(&self) -> &[Exclusion] {
+        match self {
+            Derivation::Exhausted(exhausted) => exhausted.exclusions.as_slice(),
+            _ => &[],
+        }
+    }
+}
+
+/// Why each of the conflicts follows, by its ground.
+pub fn derivations(
+    alloc: Global,
+    problem: &Problem<'_>,
+    conflicts: &[Vec<PlacedTerm>],
+    grounds: &[SetGround<'_>],
+) -> Result<Vec<Derivation>, AllocError> {
+    let mut derived = Vec::new(alloc);
+    for (conflict, ground) in conflicts.iter().zip(grounds) {
+        let earlier = Earlier {
+            conflicts,
+            derivations: derived.as_slice(),
+        };
+        let derivation = derivation_by(alloc, problem, earlier, conflict.as_slice(), *ground)?;
+        derived.push(derivation)?;
+    }
+    Ok(derived)
+}
+
+// A ground with the earlier conflicts that are told of it.
+fn derivation_by(
+    alloc: Global,
+    problem: &Problem<'_>,
+    earlier: Earlier<'_>,
+    conflict: &[PlacedTerm],
+    ground: SetGround<'_>,
+) -> Result<Derivation, AllocError> {
+    match ground {
+        SetGround::LineRefuses(line, term) => Ok(Derivation::Line(line, term)),
+        SetGround::TermsClash(one, other) => Ok(Derivation::Clash(one, other)),
+        SetGround::EachVersion(place) => {
+            // a ground names a term that is there
+            let Some(term) = conflict.get(place) else {
+                return Ok(Derivation::Clash(place, place));
+            };
+            let node = term.node.clone()?;
+            exhausted(alloc, earlier, conflict, (node, None), &term.places)
+        }
+        SetGround::NoneLeft(need, name, extra) => {
+            let left = candidate_places(alloc, problem, name)?;
+            let node = Node {
+                name: name.clone()?,
+                extra: copy_of(extra)?,
+            };
+            exhausted(alloc, earlier, conflict, (node, Some(need)), &left)
+        }
+    }
+}
+
+// A node with what needs it, of which these releases are excluded beside the conflict.
+fn exhausted(
+    alloc: Global,
+    earlier: Earlier<'_>,
+    conflict: &[PlacedTerm],
+    needed: (Node, Option<SetNeed>),
+    wanted: &Bits,
+) -> Result<Derivation, AllocError> {
+    let (node, need) = needed;
+    let exclusions = earlier.exclusions(alloc, conflict, &node, wanted)?;
+    Ok(Derivation::Exhausted(ExhaustedNode {
+        node,
+        need,
+        exclusions,
+    }))
+}

@@ -1,0 +1,153 @@
+// Why a problem has no solution.
+
+ghost use Rattle.std.specs.Prelude.{IfOk, MatchOption};
+ghost use Rattle.search.specs.SetConflicts.{IsSetRefutation};
+ghost use Rattle.problems.specs.Rules.{rules_of, same_version};
+
+use crate::changed_lines::ChangedLines;
+use crate::derivation::{Derivation, derivations};
+use crate::grounds::grounds_of;
+use crate::line_name::line_names;
+use crate::narrowed_refutation::narrowed_refutation;
+use crate::placed_term::{PlacedTerm, placed_conflicts};
+use crate::sentences::Sentences;
+use crate::sentences::steps::told_steps;
+use problems::Problem;
+use refutations::SetRefutation;
+use std::alloc::{AllocError, Global};
+use std::marker::Model;
+
+/// The conflicts of a refutation, each with why it follows from those before it.
+struct Derived {
+    conflicts: Vec<Vec<PlacedTerm>>,
+    derivations: Vec<Derivation>,
+}
+
+impl Drop for Derived {
+    fn drop(self) {
+        let Derived {
+            conflicts: _,
+            derivations: _,
+        } = self;
+    }
+}
+
+/// A set refutation of a problem, with why each of its conflicts follows. In a clause it is the refutation.
+pub struct Explanation {
+    refutation: SetRefutation,
+    derived: Derived,
+}
+
+impl Drop for Explanation {
+    fn drop(self) {
+        let Explanation {
+            refutation: _,
+            derived: _,
+        } = self;
+    }
+}
+
+impl Model for Explanation {
+    ghost use Rattle.std.specs.Prelude.{List};
+    ghost use Rattle.refutations.specs.SetRefutations.{TermParts};
+
+    ghost Value = { List (List TermParts) };
+
+    ghost view = { λ e. e.refutation };
+}
+
+/// Why each conflict of a refutation of the problem follows; nothing where the list is none.
+fn conflicts_of(
+    alloc: Global,
+    problem: &Problem<'_>,
+    refutation: &SetRefutation,
+) -> Result<Option<Derived>, AllocError>
+    ensures { IfOk result
+        (λ found. MatchOption found
+        (IsSetRefutation (rules_of problem.now) same_version refutation.now → ⊥)
+        (λ _. IsSetRefutation (rules_of problem.now) same_version refutation.now)) }
+{
+    match grounds_of(alloc, problem, refutation)? {
+        Some(grounds) => {
+            let conflicts = placed_conflicts(alloc, problem, refutation.conflicts())?;
+            let derivations = derivations(
+                alloc,
+                problem,
+                conflicts.as_slice(),
+                grounds.as_slice(),
+            )?;
+            Ok(Some(Derived {
+                conflicts,
+                derivations,
+            }))
+        }
+        None => Ok(None),
+    }
+}
+
+/// Explains why a problem has no solution: by the refutation, mostly without what its last conflict doesn't
+/// rest on. Nothing where the list is no refutation.
+pub fn explained(
+    alloc: Global,
+    problem: &Problem<'_>,
+    refutation: SetRefutation,
+) -> Result<Option<Explanation>, AllocError>
+    ensures { IfOk result
+        (λ found. MatchOption found
+        (IsSetRefutation (rules_of problem.now) same_version refutation → ⊥)
+        (IsSetRefutation (rules_of problem.now) same_version)) }
+{
+    match conflicts_of(alloc, problem, &refutation)? {
+        Some(whole) => Ok(Some(narrowed(alloc, problem, refutation, whole)?)),
+        None => Ok(None),
+    }
+}
+
+/// The same of a refutation, given why each of its conflicts follows.
+fn narrowed(
+    alloc: Global,
+    problem: &Problem<'_>,
+    refutation: SetRefutation,
+    whole: Derived,
+) -> Result<Explanation, AllocError>
+    requires { IsSetRefutation (rules_of problem.now) same_version refutation }
+    ensures { IfOk result (IsSetRefutation (rules_of problem.now) same_version) }
+{
+    let conflicts = whole.conflicts.as_slice();
+    let fewer = narrowed_refutation(alloc, problem, conflicts, whole.derivations.as_slice())?;
+    match conflicts_of(alloc, problem, &fewer)? {
+        Some(derived) => Ok(Explanation {
+            refutation: fewer,
+            derived,
+        }),
+        None => Ok(Explanation {
+            refutation,
+            derived: whole,
+        }),
+    }
+}
+
+impl Explanation {
+    /// Puts behind the text which lines have no solution, and then a sentence for each conflict on which
+    /// that rests, with its number. A sentence cites only sentences above it. The problem is the one that
+    /// it was made for.
+    pub fn add_sentences(
+        &self,
+        alloc: Global,
+        text: &mut String,
+        problem: &Problem<'_>,
+        lines: ChangedLines<'_>,
+    ) -> Result<(), AllocError> {
+        let lines = line_names(alloc, problem, lines)?;
+        let steps = told_steps(alloc, self.derived.derivations.as_slice())?;
+        let sentences = Sentences {
+            alloc,
+            problem,
+            conflicts: self.derived.conflicts.as_slice(),
+            derivations: self.derived.derivations.as_slice(),
+            lines: lines.as_slice(),
+            steps: steps.as_slice(),
+        };
+        sentences.add_all(text)
+    }
+}

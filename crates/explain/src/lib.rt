@@ -1,0 +1,24 @@
+//! Why lines have no solution, and why a lock hasn't a release: refutations as they are written, and in sentences.
+#![tactic(auto)]
+
+mod absent_release;
+mod changed_lines;
+mod dependencies;
+mod derivation;
+mod exclusion;
+mod explanation;
+mod grounds;
+mod idle_terms;
+mod line_breaks;
+mod line_name;
+mod narrowed_refutation;
+mod placed_term;
+mod reasons;
+mod refutation_text;
+mod release_set;
+mod sentences;
+
+pub use crate::absent_release::{WantedRelease, add_difference, add_same, add_uncounted};
+pub use crate::changed_lines::{ChangedLine, ChangedLines};
+pub use crate::explanation::{Explanation, explained};
+pub use crate::refutation_text::add_refutation;

@@ -1,0 +1,149 @@
+// Some releases of a name, as runs of versions.
+
+use lists::Bits;
+use snapshot::Release;
+use std::alloc::{AllocError, Global};
+
+/// How many versions and runs are told of a set.
+const PIECES: usize = 6;
+
+/// Some of the releases of a name, by their places. The releases are listed newest first.
+#[derive(Clone, Copy)]
+pub struct ReleaseSet<'a> {
+    pub releases: &'a [Release],
+    pub places: &'a Bits,
+}
+
+/// The releases between two places, both among them. The older one has the greater place.
+#[derive(Debug, Clone, Copy)]
+struct Run {
+    oldest: usize,
+    newest: usize,
+}
+
+// The runs of places that stand side by side, from the oldest on.
+fn runs_of(alloc: Global, places: &[usize]) -> Result<Vec<Run>, AllocError> {
+    let mut runs: Vec<Run> = Vec::new(alloc);
+    for place in places.iter().rev() {
+        match runs.last_mut() {
+            Some(run) if run.newest == place.saturating_add(1) => run.newest = *place,
+            _ => runs.push(Run {
+                oldest: *place,
+                newest: *place,
+            })?,
+        }
+    }
+    Ok(runs)
+}
+
+fn version_text(alloc: Global, releases: &[Release], place: usize) -> Result<String, AllocError> {
+    match releases.get(place) {
+        Some(release) => {
+            let version = release.version();
+            format!(in alloc; "{version}")
+        }
+        None => Ok(String::new(alloc)),
+    }
+}
+
+// The versions and runs to be told: two versions side by side are told as two.
+fn pieces_of(alloc: Global, releases: &[Release], runs: &[Run]) -> Result<Vec<String>, AllocError> {
+    let mut pieces = Vec::new(alloc);
+    for run in runs {
+        let oldest = version_text(alloc, releases, run.oldest)?;
+        let newest = version_text(alloc, releases, run.newest)?;
+        if run.oldest == run.newest {
+            pieces.push(oldest)?;
+        } else if run.oldest == run.newest.saturating_add(1) {
+            pieces.push(oldest)?;
+            pieces.push(newest)?;
+        } else {
+            pieces.push(format!(in alloc; "{oldest} to {newest}")?)?;
+        }
+    }
+    Ok(pieces)
+}
+
+/// Puts texts behind another, with commas between them and `word` before the last one.
+pub fn add_listed(text: &mut String, items: &[String], word: &str) -> Result<(), AllocError> {
+    let last = items.len().saturating_sub(1);
+    for (place, item) in items.iter().enumerate() {
+        if place > 0 {
+            if place == last {
+                write!(text, " {word} ")?;
+            } else {
+                text.push_str(", ")?;
+            }
+        }
+        text.push_str(item.as_str())?;
+    }
+    Ok(())
+}
+
+impl ReleaseSet<'_> {
+    /// Whether these are all releases of the name.
+    pub fn are_all(&self, alloc: Global) -> Result<bool, AllocError> {
+        Ok(self.places.places(alloc)?.len() == self.releases.len())
+    }
+
+    /// Whether these are all releases of the name, which are several.
+    pub fn are_every(&self, alloc: Global) -> Result<bool, AllocError> {
+        if self.releases.len() > 1 {
+            return self.are_all(alloc);
+        }
+        Ok(false)
+    }
+
+    /// The verb behind these releases, which is given in the singular and in the plural.
+    pub fn add_verb(
+        &self,
+        alloc: Global,
+        text: &mut String,
+        verbs: (&str, &str),
+    ) -> Result<(), AllocError> {
+        let count = self.places.places(alloc)?.len();
+        let many = count > 1 && count != self.releases.len();
+        text.push_str(if many { verbs.1 } else { verbs.0 })
+    }
+
+    /// The versions of these releases: `every release` where they are all, and there are several.
+    pub fn add_runs(&self, alloc: Global, text: &mut String) -> Result<(), AllocError> {
+        if self.are_every(alloc)? {
+            return text.push_str("every release");
+        }
+        self.add_versions(alloc, text)
+    }
+
+    /// The versions as runs, and how many they are where a run has more than two. Of many runs only the
+    /// first and the last version are told.
+    pub fn add_versions(&self, alloc: Global, text: &mut String) -> Result<(), AllocError> {
+        let places = self.places.places(alloc)?;
+        let count = places.len();
+        let runs = runs_of(alloc, places.as_slice())?;
+        let pieces = pieces_of(alloc, self.releases, runs.as_slice())?;
+        if pieces.len() > PIECES {
+            return self.add_ends(alloc, text, runs.as_slice(), count);
+        }
+        add_listed(text, pieces.as_slice(), "and")?;
+        if count > pieces.len() {
+            write!(text, " ({count} releases)")?;
+        }
+        Ok(())
+    }
+
+    // The first and the last version of these runs of so many releases.
+    fn add_ends(
+        &self,
+        alloc: Global,
+        text: &mut String,
+        runs: &[Run],
+        count: usize,
+    ) -> Result<(), AllocError> {
+        if let (Some(first), Some(last)) = (runs.first(), runs.last()) {
+            let oldest = version_text(alloc, self.releases, first.oldest)?;
+            let newest = version_text(alloc, self.releases, last.newest)?;
+            write!(text, "{count} releases between {oldest} and {newest}")?;
+        }
+        Ok(())
+    }
+}

@@ -1,0 +1,95 @@
+// Links in the places of the files that a first save writes.
+
+use crate::fault::{Fault, passed_over};
+use crate::input_files::{InputFile, read_bytes};
+use crate::saved_files::path_of;
+use edits::Refusal;
+use journal::{Journal, Session};
+use lists::Seq;
+use std::alloc::AllocError;
+use std::path::Path;
+use std::rt::Files;
+use std::{fs, io};
+
+// The line with which a lock of reqlock begins.
+const MADE_BY_US: &[u8] = b"created-by = \"reqlock\"\n";
+
+/// A link that leads out of the folder, in the place of a file.
+#[derive(Drop)]
+pub struct LinkOut {
+    pub file: InputFile,
+    /// Where it leads.
+    pub place: String,
+}
+
+/// The first of the files that a first save writes whose place is a link out of the folder, to a file that is
+/// no lock and no journal of reqlock: the save would overwrite that one. A later save finds such files
+/// not to be its own. The requirements file stays as it is.
+pub fn link_out<R: Files + AllocGlobal>(
+    rt: &R,
+    dir: &str,
+    session: &Session,
+) -> Result<Option<LinkOut>, Fault> {
+    for target in session.state().targets() {
+        let link = link_of(rt, dir, InputFile::Lock(target.name.clone()?))?;
+        if link.is_some() {
+            return Ok(link);
+        }
+    }
+    link_of(rt, dir, InputFile::Journal)
+}
+
+// The link in the place of a file, where it leads to what isn't ours. What can't be told here, the save tells.
+fn link_of<R: Files + AllocGlobal>(
+    rt: &R,
+    dir: &str,
+    file: InputFile,
+) -> Result<Option<LinkOut>, Fault> {
+    let path = path_of(rt.alloc(), dir, &file)?;
+    match place_outside(rt, dir, path.as_str()) {
+        Ok(None) => Ok(None),
+        Ok(Some(place)) => {
+            if is_ours(rt, file.clone()?, place.as_str())? {
+                return Ok(None);
+            }
+            Ok(Some(LinkOut { file, place }))
+        }
+        Err(error) => passed_over(&error),
+    }
+}
+
+// Where a link leads, if that is outside of the folder.
+fn place_outside<R: Files + AllocGlobal>(
+    rt: &R,
+    dir: &str,
+    path: &str,
+) -> io::Result<Option<String>> {
+    if !fs::symlink_metadata(rt, path)?.is_symlink() {
+        return Ok(None);
+    }
+    let place = fs::canonicalize(rt, path)?.into_string();
+    let folder = fs::canonicalize(rt, dir)?.into_string();
+    if Path::new(place.as_str()).starts_with(folder.as_str()) {
+        return Ok(None);
+    }
+    Ok(Some(place))
+}
+
+// Whether a file is a lock or a journal that reqlock wrote.
+fn is_ours<R: Files + AllocGlobal>(rt: &R, file: InputFile, place: &str) -> Result<bool, Fault> {
+    let is_journal = matches!(file, InputFile::Journal);
+    let bytes = match read_bytes(rt, file, place) {
+        Ok(bytes) => bytes,
+        Err(Fault::OutOfMemory) => return Err(Fault::OutOfMemory),
+        Err(_) => return Ok(false),
+    };
+    if !is_journal {
+        return Ok(bytes.starts_with(MADE_BY_US));
+    }
+    let journal = Journal::read(rt.alloc(), Seq::from_vec(bytes))?;
+    match journal.targets(rt.alloc()) {
+        Ok(_) => Ok(true),
+        Err(Refusal::OutOfMemory) => Err(Fault::from(AllocError)),
+        Err(_) => Ok(false),
+    }
+}

@@ -1,0 +1,21 @@
+//! What printed texts are put together of: requirements, words of causes, texts of files as a terminal may have them,
+//! words of a command, rows of a table.
+#![tactic(auto)]
+
+pub mod cause_word;
+mod near_names;
+mod plain_text;
+mod requirement_text;
+mod shell_word;
+pub mod skipped_text;
+mod table;
+mod target_line;
+mod text_column;
+
+pub use crate::near_names::{add_near_names, has_package};
+pub use crate::plain_text::add_plain;
+pub use crate::requirement_text::{add_clause, add_requirement, add_specifiers};
+pub use crate::shell_word::add_word;
+pub use crate::table::add_table;
+pub use crate::target_line::add_target_line;
+pub use crate::text_column::{clause_column, column_of};

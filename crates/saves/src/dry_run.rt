@@ -1,0 +1,60 @@
+// What `--dry-run` prints: an edit, `undo` or `redo` as it would be, of which nothing is saved.
+
+use crate::details::Details;
+use crate::edit::applied;
+use calls::{Call, Stop, change_between, pool_of, print};
+use command_line::request::EditInputs;
+use commands::ReplyText;
+use edits::Edit;
+use files::LockFile;
+use files::saved_history::{saved_session, session_over};
+use journal::{Command, Session};
+use std::io::Write;
+use std::rt::Files;
+use texts::diff_text::diff_text;
+
+/// Makes one edit over an index, and prints the reply and what changed. A save that was stopped isn't ended:
+/// its files are read as they stand.
+pub fn rehearse_edit<R: Files + AllocGlobal, O: Write>(
+    call: &mut Call<'_, R, O>,
+    details: &mut Details,
+    edit: Edit,
+    inputs: EditInputs<'_>,
+) -> Result<(), Stop>
+where
+    R::File: LockFile,
+{
+    let (session, snapshot) = session_over(call.rt, call.dir, inputs.index)?;
+    let command = Command::Edit(edit, pool_of(&snapshot, inputs));
+    rehearse(call, details, session, &command)
+}
+
+/// Does one command that needs no index, in the same way.
+pub fn rehearse_step<R: Files + AllocGlobal, O: Write>(
+    call: &mut Call<'_, R, O>,
+    details: &mut Details,
+    command: &Command<'_>,
+) -> Result<(), Stop>
+where
+    R::File: LockFile,
+{
+    let session = saved_session(call.rt, call.dir)?;
+    rehearse(call, details, session, command)
+}
+
+fn rehearse<R: AllocGlobal, O: Write>(
+    call: &mut Call<'_, R, O>,
+    details: &mut Details,
+    mut session: Session,
+    command: &Command<'_>,
+) -> Result<(), Stop> {
+    let alloc = call.rt.alloc();
+    let from = session.cursor();
+    let mut text = ReplyText::new(alloc)?;
+    text.set(&applied(alloc, details, &mut session, command)?);
+    let change = change_between(alloc, &session, from, session.cursor())?;
+    details.add_moved(alloc, &session, from, command, &change)?;
+    let change = diff_text(alloc, &change)?;
+    print(&mut call.output, text.as_bytes())?;
+    Ok(print(&mut call.output, change.as_bytes())?)
+}

@@ -1,0 +1,78 @@
+// What an edit, `undo` and `redo` do.
+
+use crate::details::Details;
+use calls::{Call, Stop, pool_of, print};
+use command_line::request::EditInputs;
+use commands::{ReplyText, is_accepted};
+use edits::Edit;
+use files::SavedFiles;
+use files::saved_history::{SavedHistory, history_to_save};
+use journal::{Command, Reply, Session};
+use resolve::RESOLVER;
+use std::alloc::Global;
+use std::io::Write;
+use std::rt::Files;
+
+/// Makes one edit over an index.
+pub fn edit_once<R: Files + AllocGlobal, O: Write>(
+    call: &mut Call<'_, R, O>,
+    details: &mut Details,
+    edit: Edit,
+    inputs: EditInputs<'_>,
+) -> Result<(), Stop> {
+    let SavedHistory {
+        files,
+        session,
+        snapshot,
+    } = history_to_save(call.rt, call.dir, inputs.index)?;
+    let command = Command::Edit(edit, pool_of(&snapshot, inputs));
+    apply(call, details, &files, session, &command)
+}
+
+/// Does one command that needs no index.
+pub fn step_once<R: Files + AllocGlobal, O: Write>(
+    call: &mut Call<'_, R, O>,
+    details: &mut Details,
+    command: &Command<'_>,
+) -> Result<(), Stop> {
+    let (rt, dir) = (call.rt, call.dir);
+    let (files, session) = SavedFiles::read_to_save(rt, dir)?.open_to_save(rt, dir)?;
+    apply(call, details, &files, session, command)
+}
+
+// Does one command, saves where it was accepted, and prints the reply. What changed is worked out before anything is
+// saved, since memory may be wanting for it.
+fn apply<R: Files + AllocGlobal, O: Write>(
+    call: &mut Call<'_, R, O>,
+    details: &mut Details,
+    files: &SavedFiles,
+    mut session: Session,
+    command: &Command<'_>,
+) -> Result<(), Stop> {
+    let alloc = call.rt.alloc();
+    let from = session.cursor();
+    let mut text = ReplyText::new(alloc)?;
+    let reply = applied(alloc, details, &mut session, command)?;
+    text.set(&reply);
+    details.add_change(alloc, &session, from, command)?;
+    if is_accepted(&reply) {
+        files.replace(call.rt, call.dir, &session)?;
+    }
+    Ok(print(&mut call.output, text.as_bytes())?)
+}
+
+/// Does one command on a history. Where it is refused, what is known is noted, and the call stops.
+pub fn applied(
+    alloc: Global,
+    details: &mut Details,
+    session: &mut Session,
+    command: &Command<'_>,
+) -> Result<Reply, Stop> {
+    match session.apply(alloc, command, &RESOLVER) {
+        Reply::Refused(refusal) => {
+            details.add_refusal(alloc, session.state(), command, &refusal)?;
+            Err(Stop::from(refusal))
+        }
+        reply => Ok(reply),
+    }
+}

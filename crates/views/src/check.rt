@@ -1,0 +1,118 @@
+// What `check` prints: whether the files belong together, and whether the lock is that of the index at hand.
+
+ghost use Rattle.std.specs.Prelude.{IfErr, IfOk, IfSome, MatchOption};
+ghost use Rattle.changes.specs.Changes.{ChangeParts};
+ghost use Rattle.journal.specs.Past.{present};
+ghost use Rattle.views.specs.Views.{IsCurrent, IsRelock, IsStale, StopsRelock};
+
+use calls::{Call, Stop, print};
+use command_line::request::Format;
+use commands::ReplyText;
+use edits::{Change, Edit, Pool, Refusal, State, edit};
+use files::LockFile;
+use files::saved_history::{saved_session, session_over};
+use journal::{Reply, Session};
+use resolve::RESOLVER;
+use snapshot::Snapshot;
+use std::alloc::{AllocError, Global};
+use std::io::Write;
+use std::rt::Files;
+use texts::check_json::{check_json, current_json};
+use texts::diff_text::diff_text;
+
+/// Prints the place of the present state, as the reply of a command that led to it would. Where an index is given,
+/// prints whether a new lock over it would change something, and what.
+pub fn print_check<R: Files + AllocGlobal, O: Write>(
+    call: &mut Call<'_, R, O>,
+    index: Option<&str>,
+    format: Format,
+) -> Result<(), Stop>
+where
+    R::File: LockFile,
+{
+    let alloc = call.rt.alloc();
+    match index {
+        None => {
+            let session = saved_session(call.rt, call.dir)?;
+            print_place(alloc, session.cursor(), format, &mut call.output)
+        }
+        Some(index) => {
+            let (session, snapshot) = session_over(call.rt, call.dir, index)?;
+            print_current(alloc, &session, &snapshot, format, &mut call.output)
+        }
+    }
+}
+
+fn print_place<O: Write>(
+    alloc: Global,
+    place: usize,
+    format: Format,
+    output: &mut O,
+) -> Result<(), Stop> {
+    match format {
+        Format::Lines => {
+            let mut text = ReplyText::new(alloc)?;
+            text.set(&Reply::Done(place));
+            Ok(print(output, text.as_bytes())?)
+        }
+        Format::Json => Ok(print(output, check_json(alloc, place)?.as_bytes())?),
+    }
+}
+
+// A lock that isn't current is told by the stop, which has its own status.
+fn print_current<O: Write>(
+    alloc: Global,
+    session: &Session,
+    snapshot: &Snapshot,
+    format: Format,
+    output: &mut O,
+) -> Result<(), Stop>
+    ensures current { IfOk result (λ _. IfSome (present session.now.past)
+        (λ state. IsCurrent state snapshot.now)) }
+    ensures stale { IfErr result (λ stop. IsStale stop → IfSome (present session.now.past)
+        (λ state. (change : ChangeParts) × IsRelock state snapshot.now change)) }
+{
+    let change = relock_change(alloc, session.state(), snapshot)?;
+    let text = current_text(alloc, session.cursor(), change.as_ref(), format)?;
+    match change {
+        Some(_) => Err(Stop::Stale(text)),
+        None => Ok(print(output, text.as_bytes())?),
+    }
+}
+
+fn current_text(
+    alloc: Global,
+    place: usize,
+    change: Option<&Change>,
+    format: Format,
+) -> Result<String, AllocError> {
+    match (format, change) {
+        (Format::Json, _) => current_json(alloc, place, change),
+        (Format::Lines, None) => String::from_str(alloc, "current\n"),
+        (Format::Lines, Some(change)) => {
+            let mut text = String::from_str(alloc, "stale\n")?;
+            text.push_str(diff_text(alloc, change)?.as_str())?;
+            Ok(text)
+        }
+    }
+}
+
+// What a new lock over the index would change; nothing where it would change nothing.
+fn relock_change(alloc: Global, state: &State, snapshot: &Snapshot) -> Result<Option<Change>, Stop>
+    ensures change { IfOk result (λ change. MatchOption change
+        (IsCurrent state.now snapshot.now)
+        (IsRelock state.now snapshot.now)) }
+    ensures refused { IfErr result (StopsRelock state.now snapshot.now) }
+{
+    match edit(
+        alloc,
+        state,
+        &Edit::Relock,
+        &Pool::whole(snapshot),
+        &RESOLVER,
+    ) {
+        Ok(edited) => Ok(Some(edited.change)),
+        Err(Refusal::NothingChanges) => Ok(None),
+        Err(refusal) => Err(Stop::from(refusal)),
+    }
+}

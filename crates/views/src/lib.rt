@@ -1,0 +1,17 @@
+//! What the subcommands print that only read: a lock, a history, what changed, which releases are newer or left out, and whether
+//! the files belong together.
+#![tactic(auto)]
+
+mod check;
+mod diff;
+mod log;
+mod outdated;
+mod show;
+mod skipped;
+
+pub use crate::check::print_check;
+pub use crate::diff::print_diff;
+pub use crate::log::print_history;
+pub use crate::outdated::print_outdated;
+pub use crate::show::print_shown;
+pub use crate::skipped::print_skipped;

@@ -1,0 +1,28 @@
+// What `outdated` prints.
+
+use calls::{Call, Stop, show};
+use command_line::request::Format;
+use files::LockFile;
+use files::saved_history::session_over;
+use std::io::Write;
+use std::rt::Files;
+use texts::outdated_text::{outdated_json, outdated_text};
+
+/// Prints the entries of each target that have newer releases in the index, and who holds them back.
+pub fn print_outdated<R: Files + AllocGlobal, O: Write>(
+    call: &mut Call<'_, R, O>,
+    index: &str,
+    format: Format,
+) -> Result<(), Stop>
+where
+    R::File: LockFile,
+{
+    let alloc = call.rt.alloc();
+    let (session, snapshot) = session_over(call.rt, call.dir, index)?;
+    let text = match format {
+        Format::Lines => outdated_text(alloc, session.state(), &snapshot)?,
+        Format::Json => outdated_json(alloc, session.state(), &snapshot)?,
+    };
+    show(&mut call.output, text.as_bytes())?;
+    Ok(())
+}

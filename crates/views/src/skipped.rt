@@ -1,0 +1,20 @@
+// What `skipped` prints.
+
+use calls::{Call, Stop, show};
+use files::{InputFile, in_file, read_bytes, read_index};
+use phrases::skipped_text::skipped_text;
+use std::io::Write;
+use std::rt::Files;
+
+/// Prints what was left out of an index.
+pub fn print_skipped<R: Files + AllocGlobal, O: Write>(
+    call: &mut Call<'_, R, O>,
+    index: &str,
+) -> Result<(), Stop> {
+    let alloc = call.rt.alloc();
+    let bytes = read_bytes(call.rt, InputFile::Index, index)?;
+    let snapshot = in_file(InputFile::Index, read_index(alloc, bytes.as_slice()))?;
+    let text = skipped_text(alloc, snapshot.skipped())?;
+    show(&mut call.output, text.as_bytes())?;
+    Ok(())
+}
