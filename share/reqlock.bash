@@ -8,7 +8,7 @@ _reqlock_names() {
 _reqlock() {
     local subcommands="init add remove constrain upgrade relock undo redo batch try show log diff check outdated skipped why help"
     local common="--dir --index --env --help"
-    local options="$common --dry-run --verbose --json --version"
+    local options="$common --keep-locked --dry-run --verbose --json --version"
     local word=${COMP_WORDS[COMP_CWORD]} before=${COMP_WORDS[COMP_CWORD - 1]}
     local place subcommand="" folder=. words=""
     COMPREPLY=()
@@ -19,16 +19,20 @@ _reqlock() {
             ((place++))
             ;;
         --index | --env) ((place++)) ;;
+        =) ((place++)) ;; # (bash takes NAME=FILE for three words)
         -*) ;;
         *) subcommand=${subcommand:-${COMP_WORDS[place]}} ;;
         esac
     done
+    if [ "$word" = = ]; then
+        word="" before==
+    fi
     case $before in
     --dir)
         mapfile -t COMPREPLY < <(compgen -d -- "$word")
         return
         ;;
-    --index | --env)
+    --index | --env | =)
         mapfile -t COMPREPLY < <(compgen -f -- "$word")
         return
         ;;
@@ -37,19 +41,20 @@ _reqlock() {
     "") words="$subcommands $options" ;;
     help) words=$subcommands ;;
     init) words="$common --verbose" ;;
-    add) words="$common --dry-run --verbose" ;;
-    remove) words="$common --dry-run --verbose" ;;
-    constrain) words="$common --dry-run --verbose" ;;
-    upgrade) words="$common --dry-run --verbose" ;;
-    relock) words="$common --dry-run --verbose" ;;
+    add) words="$common --keep-locked --dry-run --verbose" ;;
+    remove) words="$common --keep-locked --dry-run --verbose" ;;
+    constrain) words="$common --keep-locked --dry-run --verbose" ;;
+    upgrade) words="$common --keep-locked --dry-run --verbose" ;;
+    relock) words="$common --keep-locked --dry-run --verbose" ;;
     undo) words="$common --dry-run --verbose" ;;
     redo) words="$common --dry-run --verbose" ;;
+    batch) words="$common --keep-locked" ;;
     show) words="$common --tree --json" ;;
     log) words="$common --long --json" ;;
     diff) words="$common --json" ;;
     check) words="$common --current --json" ;;
     outdated) words="$common --json" ;;
-    why) words="$common --explain --init --constrain --upgrade --remove --not" ;;
+    why) words="$common --explain --keep-locked --init --constrain --upgrade --remove --not" ;;
     *) words="$common" ;;
     esac
     case $subcommand,$before in

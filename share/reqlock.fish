@@ -57,6 +57,7 @@ complete -c reqlock -n __reqlock_before -a why -d 'Print a proof that nothing ca
 complete -c reqlock -n __reqlock_before -a help -d 'Print help of the program or of a subcommand'
 complete -c reqlock -n '__reqlock_in help' -a 'init add remove constrain upgrade relock undo redo batch try show log diff check outdated skipped why help'
 complete -c reqlock -n '__reqlock_in remove constrain upgrade show' -a '(__reqlock_names)'
+complete -c reqlock -n '__reqlock_in add remove constrain upgrade relock batch why' -l keep-locked -d 'Move no locked version that is still needed'
 complete -c reqlock -n '__reqlock_in add remove constrain upgrade relock undo redo' -l dry-run -d 'Save nothing; print what would change'
 complete -c reqlock -n '__reqlock_in init add remove constrain upgrade relock undo redo' -s v -l verbose -d 'Tell what changed, or what is known of a refusal'
 complete -c reqlock -n '__reqlock_in show log diff check outdated' -l json -d 'Print JSON'

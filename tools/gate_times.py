@@ -9,13 +9,18 @@ took, that is done every half minute: by it the figures of two machines compare,
 edits are those of the folder that it is called in.
 """
 
+import argparse
 import os
 import resource
 import subprocess
 import sys
 import threading
 import time
+from collections.abc import Iterator
 
+# A crate and a kind of work, or an edit of it; the number of a process and its start.
+Work = tuple[str, str]
+Key = tuple[str, str]
 KINDS = "proofs", "tests", "second proofs", "edits"
 DEAREST = 10
 # How often the piece of work is done that tells how fast the processors are, in seconds, and over how many keys it goes.
@@ -23,9 +28,9 @@ PACE_EVERY = 30
 PACE_KEYS = 400_009
 
 
-def replacements(edit):
+def replacements(edit: str) -> tuple[str, list[list[str]]]:
     """The file that a must-fail edit is for, and each text that it takes away, with what comes in its place."""
-    file, pairs = None, []
+    file, pairs = "", list[list[str]]()
     with open(edit, encoding="utf-8") as lines:
         for line in lines:
             word, _, text = line.rstrip("\n").partition(":")
@@ -39,7 +44,7 @@ def replacements(edit):
     return file, pairs
 
 
-def edit_in(crate, folder):
+def edit_in(crate: str, folder: str) -> str | None:
     """The name of the edit that a copy of a crate in a folder has; None where it has none."""
     home = os.path.join("crates", crate)
     for name in sorted(os.listdir(os.path.join(home, "must-fail"))):
@@ -54,7 +59,7 @@ def edit_in(crate, folder):
     return None
 
 
-def check_of(words, folder):
+def check_of(words: list[str], folder: str) -> Work | None:
     """The crate and the kind of work of a process, by its words and its folder; None where it is no check of a crate."""
     if len(words) < 2 or os.path.basename(words[0]) != "rattle" or words[1] not in ("check", "build"):
         return None
@@ -66,7 +71,7 @@ def check_of(words, folder):
     return crate, "tests" if "--test" in words else "proofs"
 
 
-def processes():
+def processes() -> Iterator[tuple[Key, list[str], str, float]]:
     """Each process that can be read: its number and start, its words, its folder, and the processor seconds it has used."""
     tick = os.sysconf("SC_CLK_TCK")
     for number in filter(str.isdigit, os.listdir("/proc")):
@@ -82,9 +87,9 @@ def processes():
         yield (number, fields[19]), words, folder, (int(fields[11]) + int(fields[12])) / tick
 
 
-def pace():
+def pace() -> float:
     """The processor seconds that a piece of work takes which is always the same: it goes through a large table out of order."""
-    start, table = time.thread_time(), {}
+    start, table = time.thread_time(), dict[int, int]()
     for number in range(PACE_KEYS):
         table[number * 7919 % PACE_KEYS] = number
     return time.thread_time() - start
@@ -94,13 +99,13 @@ class Watch:
     """Samples the processes until it is stopped; `used` has the seconds of each crate and kind, `edits` those of each edit, and
     `paces` those of the piece of work, each time that it was done."""
 
-    def __init__(self):
-        self.known = {}
-        self.seen = {}
-        self.paces = []
+    def __init__(self) -> None:
+        self.known: dict[Key, tuple[str, str | None]] = {}
+        self.seen: dict[Key, tuple[Work, float]] = {}
+        self.paces: list[float] = []
         self.is_over = threading.Event()
 
-    def name(self, key, crate, folder):
+    def name(self, key: Key, crate: str, folder: str) -> tuple[str, str | None]:
         """The crate and the name of the edit that a process tries; the name is None where it proves the crate as it is."""
         if key not in self.known:
             try:
@@ -109,7 +114,7 @@ class Watch:
                 return crate, None
         return self.known[key]
 
-    def look(self):
+    def look(self) -> None:
         for key, words, folder, seconds in processes():
             found = check_of(words, folder)
             if found and found[1] == "edits" and self.name(key, found[0], folder)[1] is None:
@@ -117,7 +122,7 @@ class Watch:
             if found:
                 self.seen[key] = found, seconds
 
-    def run(self):
+    def run(self) -> None:
         next_pace = time.monotonic()
         while not self.is_over.wait(0.3):
             self.look()
@@ -125,21 +130,21 @@ class Watch:
                 self.paces.append(pace())
                 next_pace += PACE_EVERY
 
-    def used(self):
-        used = {}
+    def used(self) -> dict[Work, float]:
+        used: dict[Work, float] = {}
         for found, seconds in self.seen.values():
             used[found] = used.get(found, 0) + seconds
         return used
 
-    def edits(self):
-        spent = {}
-        for key, found in self.known.items():
-            if found[1] is not None:
-                spent[found] = spent.get(found, 0) + self.seen[key][1]
+    def edits(self) -> dict[Work, float]:
+        spent: dict[Work, float] = {}
+        for key, (crate, name) in self.known.items():
+            if name is not None:
+                spent[crate, name] = spent.get((crate, name), 0) + self.seen[key][1]
         return spent
 
 
-def table(used, whole, wall):
+def table(used: dict[Work, float], whole: float, wall: float) -> list[str]:
     """The lines of the table, the crates with the most time first."""
     crates = sorted({crate for crate, _ in used}, key=lambda crate: -sum(used.get((crate, kind), 0) for kind in KINDS))
     lines = ["| Crate | Proofs | Tests | Second proofs | Must-fail edits | Together |", "|---|---|---|---|---|---|"]
@@ -151,13 +156,13 @@ def table(used, whole, wall):
     return [*lines, f"{whole / 60:.0f} processor minutes in {wall / 60:.0f} minutes"]
 
 
-def dearest(spent):
+def dearest(spent: dict[Work, float]) -> list[str]:
     """A line for each of the edits that took the most seconds."""
     found = sorted(spent.items(), key=lambda item: -item[1])[:DEAREST]
     return [f"{seconds:.0f} s {crate} {name}" for (crate, name), seconds in found]
 
 
-def told_pace(paces):
+def told_pace(paces: list[float]) -> list[str]:
     """The line on the piece of work; none where it was never done."""
     if not paces:
         return []
@@ -165,10 +170,14 @@ def told_pace(paces):
     return [f"the same piece of work took {mean:.2f} s on average, {min(paces):.2f} to {max(paces):.2f} s, {len(paces)} times"]
 
 
-def main(words):
+def main(arguments: list[str]) -> int:
+    parser = argparse.ArgumentParser(
+        prog="gate_times.py", description=__doc__, formatter_class=argparse.RawDescriptionHelpFormatter
+    )
+    parser.add_argument("command", metavar="COMMAND", nargs=argparse.REMAINDER, help="the command and its words, as ./check")
+    words = parser.parse_args(arguments).command
     if not words:
-        print(__doc__.split("\n\n")[1], file=sys.stderr)
-        return 2
+        parser.error("it takes a command, as in tools/gate_times.py ./check")
     watch = Watch()
     sampling = threading.Thread(target=watch.run)
     start = time.monotonic()

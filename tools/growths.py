@@ -23,8 +23,10 @@ import shutil
 import subprocess
 import sys
 import tempfile
+from collections.abc import Iterable, Iterator, Sequence
 from dataclasses import dataclass, field
 from pathlib import Path
+from typing import Any
 
 SOURCE = Path(__file__).resolve().parent / "refuse_growth.c"
 
@@ -44,26 +46,29 @@ class Run:
     files: dict[str, bytes]
 
 
-def compiler():
+def compiler() -> list[str]:
     """The words that call the C compiler; none where there is none."""
     words = shlex.split(os.environ.get("CC", "cc"))
     return words if words and shutil.which(words[0]) else []
 
 
-def compiled(folder):
+def compiled(folder: str | Path) -> Path:
     """Compiles the C file into a folder, and gives the path of the library."""
     library = Path(folder).resolve() / "refuse_growth.so"
-    command = [*compiler(), "-shared", "-fPIC", "-O2", "-fno-builtin", "-o", library, SOURCE, "-ldl"]
+    command = [*compiler(), "-shared", "-fPIC", "-O2", "-fno-builtin", "-o", str(library), str(SOURCE), "-ldl"]
     subprocess.run(command, check=True)
     return library
 
 
-def files_in(folder):
+def files_in(folder: Path) -> dict[str, bytes]:
     paths = [path for path in sorted(folder.rglob("*")) if path.is_file()]
     return {str(path.relative_to(folder)): path.read_bytes() for path in paths}
 
 
-def run_once(command, library, number, data=b"", mark=None, end=None, folder=None, seconds=60):
+def run_once(
+    command: Sequence[str | Path], library: Path, number: int, data: bytes = b"", mark: str | None = None, end: str | None = None,
+    folder: str | Path | None = None, seconds: float = 60,
+) -> Run:
     """Runs a command with one growth refused, in a copy of a folder."""
     variables = {**os.environ, "LD_PRELOAD": str(library), "REFUSE_GROWTH": str(number)}
     variables |= {} if mark is None else {"REFUSE_GROWTH_MARK": mark}
@@ -80,14 +85,15 @@ def run_once(command, library, number, data=b"", mark=None, end=None, folder=Non
                 command, input=data, env=variables, cwd=place, capture_output=True, timeout=seconds, check=False,
                 pass_fds=[report.fileno()],
             )
-            status, output, errors = done.returncode, done.stdout, done.stderr
+            status: int | None = done.returncode
+            output, errors = done.stdout, done.stderr
         except subprocess.TimeoutExpired as ended:
             status, output, errors = None, ended.stdout or b"", ended.stderr or b""
         report.seek(0)
         return Run(number, *read_report(report.read().decode()), status, output, errors, files_in(place))
 
 
-def read_report(text):
+def read_report(text: str) -> tuple[str | None, int | None]:
     """The call that was refused and the count of all growths."""
     lines = text.splitlines()
     counts = [int(line.removeprefix("growths ")) for line in lines if line.startswith("growths ")]
@@ -95,7 +101,7 @@ def read_report(text):
     return next(iter(refused), None), next(iter(counts), None)
 
 
-def runs(command, library, **others):
+def runs(command: Sequence[str | Path], library: Path, **others: Any) -> Iterator[Run]:
     """The runs with the first growth refused, the second, and so on. The last one is the first that meets none."""
     for number in itertools.count(1):
         run = run_once(command, library, number, **others)
@@ -104,14 +110,14 @@ def runs(command, library, **others):
             return
 
 
-def shown(run):
+def shown(run: Run) -> str:
     """A run's status, and the last line of what it wrote."""
     lines = [*run.output.splitlines(), *run.errors.splitlines()] or [b""]
     status = "no end in time" if run.status is None else f"status {run.status}"
     return f"{status}  {lines[-1].decode('utf-8', 'backslashreplace')}".rstrip()
 
 
-def told(found):
+def told(found: list[Run]) -> str:
     """A line for runs in turn that show the same."""
     first, last = found[0], found[-1]
     if last.refused is None:
@@ -120,9 +126,10 @@ def told(found):
     return f"{numbers}: {shown(first)}"
 
 
-def show(all_runs):
+def show(all_runs: Iterable[Run]) -> bool:
     """Prints the runs, those that show the same together, and tells whether each ended."""
-    together, has_ended = [], True
+    together: list[Run] = []
+    has_ended = True
     for run in all_runs:
         has_ended = has_ended and run.status is not None
         if together and (run != together[0] or run.refused is None):
@@ -134,7 +141,7 @@ def show(all_runs):
     return has_ended
 
 
-def request_of(arguments):
+def request_of(arguments: list[str]) -> argparse.Namespace:
     parser = argparse.ArgumentParser(
         prog="growths.py", description=__doc__, formatter_class=argparse.RawDescriptionHelpFormatter
     )
@@ -149,7 +156,7 @@ def request_of(arguments):
     return options
 
 
-def main(arguments):
+def main(arguments: list[str]) -> int:
     options = request_of(arguments)
     command = options.command[options.command[0] == "--" :]
     command[0] = os.path.abspath(shutil.which(command[0]) or command[0])

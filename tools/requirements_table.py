@@ -8,10 +8,12 @@ in the first lines; their class is told from the text, never from reqlock's answ
 import json
 import re
 import sys
+from collections.abc import Callable
 from pathlib import Path
+from typing import Any
 
 import packaging
-from conformance_rows import headlines, print_rows, row_of, told
+from conformance_rows import Row, headlines, print_rows, row_of, told
 from packaging._parser import Variable, parse_requirement
 from packaging.markers import Marker, UndefinedComparison
 from packaging.requirements import InvalidRequirement, Requirement
@@ -153,7 +155,7 @@ QUOTED = re.compile("'[^']*'|\"[^\"]*\"")
 LEGACY_WORD = re.compile(r"\b(os|sys|platform)\.[a-z]|\bpython_implementation\b")
 
 
-def deepest(text):
+def deepest(text: str) -> int:
     depth, most = 0, 0
     for letter in text:
         depth += {"(": 1, ")": -1}.get(letter, 0)
@@ -161,7 +163,7 @@ def deepest(text):
     return most
 
 
-def form_class(text):
+def form_class(text: str) -> str | None:
     """The class of a text by its letters alone."""
     quoted, bare = "".join(QUOTED.findall(text)), QUOTED.sub(" ", text)
     wanted = re.split("[;@]", bare)[0]
@@ -186,7 +188,7 @@ def form_class(text):
     return ENDINGS if re.search(r"[a-zA-Z0-9][._-]*_(?![a-zA-Z0-9._-])", wanted) else None
 
 
-def reads(kind, fault, text):
+def reads(kind: Callable[[str], Any], fault: type[Exception], text: str) -> bool:
     try:
         kind(text)
     except fault:
@@ -194,7 +196,7 @@ def reads(kind, fault, text):
     return True
 
 
-def atom_class(left, sign, right):
+def atom_class(left: Any, sign: Any, right: Any) -> str | None:
     """The class of a comparison."""
     sign, words = str(sign), [isinstance(side, Variable) for side in (left, right)]
     if words == [False, False]:
@@ -213,9 +215,10 @@ def atom_class(left, sign, right):
     return None if reads(Version, InvalidVersion, left) else UNREAD
 
 
-def atoms(text):
+def atoms(text: str) -> list[Any]:
     """The comparisons of a text's marker, as they are written."""
-    found, left = [], [parse_requirement(text).marker or []]
+    found: list[Any] = []
+    left: list[Any] = [parse_requirement(text).marker or []]
     while left:
         for part in left.pop():
             if isinstance(part, list):
@@ -225,7 +228,7 @@ def atoms(text):
     return found
 
 
-def mark(marker, extra):
+def mark(marker: Any, extra: str) -> str:
     """Whether a marker holds with this extra."""
     try:
         return str(int(marker.evaluate({**ENVIRONMENT, "extra": extra})))
@@ -233,7 +236,7 @@ def mark(marker, extra):
         sys.exit(f"requirements_table: {marker} isn't decided: {fault!r}")
 
 
-def read(text, left_out):
+def read(text: str, left_out: dict[str, int]) -> Requirement | None:
     """What packaging reads, or nothing where the text is left out."""
     requirement = Requirement(text)
     kind = form_class(text) or next(filter(None, (atom_class(*atom) for atom in atoms(text))), None)
@@ -243,7 +246,7 @@ def read(text, left_out):
     return None
 
 
-def marker_row(text, left_out):
+def marker_row(text: str, left_out: dict[str, int]) -> Row | None:
     """A marker, and whether it holds with no extra, unless that is left out, and with the one asked."""
     # Packaging 23.0's `Marker(text)` ignores what stands behind a whole marker; a requirement's is read to its end.
     requirement = read(f"a;{text}", left_out)
@@ -256,7 +259,7 @@ def marker_row(text, left_out):
     return row_of("marker", text, *marks), "".join(marks.values())
 
 
-def requirement_row(text, left_out):
+def requirement_row(text: str, left_out: dict[str, int]) -> Row | None:
     """A requirement: the normal name, the extras, how many clauses, the versions that match, and whether the marker holds."""
     requirement = read(text, left_out)
     if requirement is None:
@@ -268,7 +271,7 @@ def requirement_row(text, left_out):
     return row_of("requirement", text), f"{name} [{extras}] {clauses} {marks} {active}"
 
 
-def environment_row():
+def environment_row() -> Row:
     """The environment, its version, and the marker that holds in it alone."""
     marker = " and ".join(f'{name} == "{value}"' for name, value in sorted(ENVIRONMENT.items()))
     if not Marker(marker).evaluate(ENVIRONMENT):
@@ -276,16 +279,16 @@ def environment_row():
     return row_of("environment", json.dumps(ENVIRONMENT)), f"{ENVIRONMENT['python_full_version']}: {marker}"
 
 
-def refuses_each(texts, before):
+def refuses_each(texts: list[str], before: str) -> None:
     """Stops where packaging reads one of the texts with `before` in front of it."""
     for text in texts:
         if reads(Requirement, InvalidRequirement, before + text):
             sys.exit(f"requirements_table: packaging reads {text!r}")
 
 
-def refused_rows(texts):
+def refused_rows(texts: list[str]) -> list[Row]:
     """Rows of texts that are no requirements, each of about a line's length."""
-    rows = [[]]
+    rows: list[list[str]] = [[]]
     for text in texts:
         if rows[-1] and len(row_of("requirements", *rows[-1], text)) > 100:
             rows.append([])
@@ -293,7 +296,7 @@ def refused_rows(texts):
     return [(row_of("requirements", *row), "0" * len(row)) for row in rows]
 
 
-def main():
+def main() -> None:
     every = [MARKERS, REFUSED_MARKERS, REQUIREMENTS, REFUSED]
     for texts in every:
         if len(texts) != len(set(texts)):

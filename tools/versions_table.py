@@ -6,9 +6,10 @@ part of crates/conformance/stdout. Pairs on which reqlock's rules differ by desi
 """
 import re
 import sys
+from collections.abc import Iterator
 
 import packaging
-from conformance_rows import headlines, print_rows, row_of, told
+from conformance_rows import Row, headlines, print_rows, row_of, told
 from packaging.specifiers import Specifier, SpecifierSet
 from packaging.version import InvalidVersion, Version
 
@@ -72,20 +73,20 @@ ABOVE = "`>V` and a candidate above V, of its epoch and release, with a local pa
 EPOCHS = "`.*` or `~=` where packaging 23.0 pads or cuts behind an epoch"
 
 
-def read(text):
+def read(text: str) -> Version | None:
     try:
         return Version(text)
     except InvalidVersion:
         return None
 
 
-def numbers(version):
+def numbers(version: Version) -> list[int]:
     parts = [version.epoch, *version.release, version.post or 0, version.dev or 0]
     parts += [version.pre[1]] if version.pre else []
     return parts + [int(part) for part in re.split(r"\D+", version.local or "") if part]
 
 
-def text_class(text):
+def text_class(text: str) -> str | None:
     """The class of texts by which reqlock refuses, by design, what packaging reads."""
     if max(numbers(Version(text))) > LARGEST:
         return TEXTS[0]
@@ -94,14 +95,14 @@ def text_class(text):
     return None if text.isascii() else TEXTS[2]
 
 
-def trimmed(release):
-    release = list(release)
-    while len(release) > 1 and release[-1] == 0:
-        release.pop()
-    return release
+def trimmed(release: tuple[int, ...]) -> list[int]:
+    kept = list(release)
+    while len(kept) > 1 and kept[-1] == 0:
+        kept.pop()
+    return kept
 
 
-def misreads_epoch(specifier, candidate):
+def misreads_epoch(specifier: Specifier, candidate: Version) -> bool:
     """Whether packaging keeps an epoch and the number behind it as one part where it compares a prefix."""
     if not (specifier.operator == "~=" or specifier.version.endswith(".*")):
         return False
@@ -115,7 +116,7 @@ def misreads_epoch(specifier, candidate):
     return len(release) < len(prefix) or (len(release) == 1 and candidate.pre is not None)
 
 
-def pair_class(specifiers, candidate):
+def pair_class(specifiers: list[Specifier], candidate: Version) -> str | None:
     """The class of pairs by which reqlock's answer differs by design, or packaging's is a mistake."""
     for specifier in specifiers:
         if misreads_epoch(specifier, candidate):
@@ -128,11 +129,11 @@ def pair_class(specifiers, candidate):
     return None
 
 
-def answers(text, candidates, left_out):
+def answers(text: str, candidates: list[tuple[Version, int]], left_out: dict[str, int]) -> str:
     """A mark for each rank: whether the set accepts the versions of this rank, or `-`."""
     specifiers = [Specifier(piece) for piece in text.split(",") if piece.strip()]
     whole = SpecifierSet(text)
-    marks = {}
+    marks: dict[int, str] = {}
     for version, rank in candidates:
         pair = pair_class(specifiers, version)
         if pair is not None:
@@ -143,7 +144,7 @@ def answers(text, candidates, left_out):
     return "".join(marks[rank] for rank in sorted(marks))
 
 
-def read_texts(left_out):
+def read_texts(left_out: dict[str, int]) -> list[list[str]]:
     """The texts of versions that are equal, in rising order."""
     texts = []
     for text in READ + SPACED:
@@ -152,7 +153,7 @@ def read_texts(left_out):
             texts.append(text)
         else:
             left_out[kind] += 1
-    ranks = []
+    ranks: list[list[str]] = []
     for text in sorted(texts, key=Version):
         if ranks and Version(ranks[-1][0]) == Version(text):
             ranks[-1].append(text)
@@ -161,19 +162,19 @@ def read_texts(left_out):
     return ranks
 
 
-def rank_rows(ranks):
+def rank_rows(ranks: list[list[str]]) -> Iterator[Row]:
     """A row for the texts of each rank, from the lowest one on."""
     for place, texts in enumerate(ranks):
         yield row_of("above" if place else "lowest", *texts), "; ".join(told(Version(text)) for text in texts)
 
 
-def set_row(text, marks):
+def set_row(text: str, marks: str) -> Row:
     """A row that asks which ranks a set accepts, but for those that are left out."""
     asked = re.sub("[01]", "?", marks)
     return row_of("accept", text, asked) if "-" in asked else row_of("accept", text), marks
 
 
-def main():
+def main() -> None:
     left_out = dict.fromkeys([*TEXTS, ABOVE, EPOCHS], 0)
     ranks = read_texts(left_out)
     for text in REFUSED:

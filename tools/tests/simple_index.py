@@ -12,12 +12,14 @@ from unittest import mock
 
 from made.served_index import MadeIndex
 from places import TOP
+from wanted_libraries import ASKING, want_libraries
 
-import snapshot  # (it stands in tools/)
+from reqlock_tools import snapshot
 
 LINUX = TOP / "examples" / "web" / "environment.json"
 
 
+@want_libraries(*ASKING)
 class Simple(unittest.TestCase):
     """A test with a folder, where a cache and the snapshot are, and an index."""
 

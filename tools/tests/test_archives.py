@@ -1,6 +1,7 @@
 """Tests of tools/snapshot.py over wheels and sdists, which the tests make."""
 
 import hashlib
+import os
 import subprocess
 import sys
 import unittest
@@ -8,6 +9,8 @@ import unittest
 from made.archives import headers, sdist, tarred, wheel, zipped
 from terminals import shown_on_terminal
 from test_snapshot import SCRIPT, Folder, body, file
+
+from reqlock_tools.libraries import library
 
 
 class Archives(Folder):
@@ -205,18 +208,21 @@ class Refusals(Archives):
 
     def test_of_metadata_that_is_too_large(self):
         wheel(self.folder, "a", "1", summary="x" * 2**24)
-        self.check_refused_here("a-1-py3-none-any.whl: its metadata has over 16777216 bytes$")
+        self.check_refused_here("a-1-py3-none-any.whl: over 16777216 bytes of a METADATA or PKG-INFO; --limit metadata=NUMBER takes more$")
 
     def test_of_two_files_of_one_name(self):
         one, other = wheel(self.folder / "x", "a", "1"), wheel(self.folder / "y", "a", "1")
         self.check_refused_here(f"y/{other.name}: x/{one.name} has the same name$")
 
 
+@unittest.skipUnless(library("rich.progress"), "python3 has neither rich nor pip")
 class Progress(Archives):
     def on_terminal(self):
         """What a terminal shows that is standard error, as lines are told on it."""
-        command = [sys.executable, "-B", SCRIPT, self.folder]
-        status, shown = shown_on_terminal(lambda terminal: subprocess.Popen(command, stdout=subprocess.DEVNULL, stderr=terminal))
+        command, variables = [sys.executable, "-B", SCRIPT, self.folder], {**os.environ, "TERM": "xterm"}
+        status, shown = shown_on_terminal(
+            lambda terminal: subprocess.Popen(command, stdout=subprocess.DEVNULL, stderr=terminal, env=variables)
+        )
         self.assertEqual(status, 0)
         return shown
 
@@ -224,8 +230,8 @@ class Progress(Archives):
         for version in range(30):
             wheel(self.folder, "a", str(version))
         shown = self.on_terminal()
-        self.assertTrue(shown.startswith("\r0 of 30 archives read"))
-        self.assertTrue(shown.endswith("\r\033[K"))
+        self.assertIn("0 of 30 archives read ", shown)
+        self.assertTrue(shown.endswith("\033[2K"))
         self.assertEqual(self.run_here()[2], [])
 
 

@@ -59,6 +59,15 @@ class Check(unittest.TestCase):
         _, lines, _ = self.check(python3=(good, 0))
         self.assertEqual(lines[0], "jobs 1")
 
+    def test_tells_how_far_the_gate_is(self):
+        good = "1 passed, 0 failed\\n"
+        said = "== lists\\nrt: lists proved\\nrt: lists: trying its must-fail edits (4)\\nrt: pep440 is kept: x\\nrt: x: its tests are proved\\n"
+        status, lines, errors = self.check(rt=(said + good, 0), python3=(good, 0))
+        self.assertEqual((status, lines[:2], lines[-1]), (0, ["== lists", "rt: lists proved"], "2 passed, 0 failed"))
+        crates = len((TOP / "crates.txt").read_text(encoding="utf-8").splitlines())
+        told = [f"check: {proved} of {crates} crates are proved, and the must-fail edits of {tried} are begun; 0 min" for proved, tried in ((1, 0), (1, 1), (2, 1))]
+        self.assertEqual(errors.splitlines(), told)
+
     def test_stops_where_a_program_is_missing(self):
         status, lines, errors = self.check()
         self.assertEqual((status, lines, errors.count("\n")), (1, [], 1))

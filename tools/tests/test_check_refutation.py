@@ -16,12 +16,13 @@ from made.releases import index_of
 from made.sessions import VERSIONS, Draw
 from places import IS_LONG, TOOLS
 from program import Program
+from rules.edits import KEEP
 from rules.locks import Problem, is_refutation, read_index, read_refutation
 from rules.requirements import Fault, cut_lines, holds, matches, read_line, read_marker, read_requirement, read_set, read_version
 
 SCRIPT = TOOLS / "check_refutation.py"
 try:
-    import check_refutation as checker
+    from reqlock_tools import check_refutation as checker
 except SystemExit:
     checker = None
 
@@ -65,7 +66,7 @@ def answer(read, text, *values):
     """What is read of a text, by its parts; None where it has a fault."""
     try:
         return read(text, *values)
-    except (Fault, checker.Fault):
+    except (Fault, checker.Refusal):
         return None
 
 
@@ -108,7 +109,7 @@ def is_blank(read, text):
     """Whether a text asks for nothing and has no fault."""
     try:
         return read(text) is None
-    except (Fault, checker.Fault):
+    except (Fault, checker.Refusal):
         return False
 
 
@@ -162,6 +163,39 @@ class Faults(Program):
             (self.outside / name).write_text(text, encoding="utf-8")
             self.check_fault(f"{name}: {told}")
 
+    def test_of_a_lock_that_is_kept(self):
+        """`a` 1 needs another `b` than the locked one."""
+        self.begin(b"a\nb\n", ("a", "1", ["b>1"]), ("b", "1", []), ("b", "2", []))
+        lock = self.outside / "lock.toml"
+        lock.write_text("[[packages]]\nname = 'b'\nversion = '1.0'\n", encoding="utf-8")
+        lines, keep = "a==1 b==1\na==1\n-\n", ["--keep", lock]
+        self.assertEqual(self.run_on(lines, *keep), (0, "accepted\n", ""))
+        for words in [], [*keep, "--upgrade", "B"]:
+            status, told, errors = self.run_on(lines, *words)
+            self.assertEqual((status, errors), (1, ""))
+            self.assertIn("line 2: a==1 doesn't follow from those before\n", told)
+            self.assertIn("  a==1 needs b>1, and b==2 is left\n", told)
+        self.assertEqual(self.run_on(lines, *keep, "--upgrade", "a"), (0, "accepted\n", ""))
+        # a version that the index hasn't is no candidate, and neither is another one
+        lock.write_text("[[packages]]\nname = 'b'\nversion = '3'\n", encoding="utf-8")
+        self.assertEqual(self.run_on("-\n", *keep), (0, "accepted\n", ""))
+
+    def test_faults_of_a_lock(self):
+        self.begin(b"a\n", ("a", "1", []))
+        lock = self.outside / "lock.toml"
+        form, package = "it isn't of the form that docs/RULES.md tells", "[[packages]]\nname = 'b'\nversion = '1'\n"
+        for text, told in (
+            ("", form), ("packages = 1", form), ("packages = [1]", form), ("[[packages]]\nname = 'a'\n", form),
+            ("[[packages]]\nname = 1\nversion = '1'\n", form), ("[[packages]]\nname = 'b'\nversion = 'x'\n", "bad-version"),
+            ("[[packages]]\nname = '_'\nversion = '1'\n", "bad-name"), (package * 2, "a name stands twice in it"),
+            ("a = '", "it is no TOML: a text in it has no end"),
+        ):
+            lock.write_text(text, encoding="utf-8")
+            self.check_fault(f"lock.toml: {told}", "-\n", "--keep", lock)
+        lock.unlink()
+        self.check_fault("lock.toml: No such file or directory", "-\n", "--keep", lock)
+        self.check_fault("--upgrade: bad-name", "-\n", "--upgrade", "_")
+
     def test_usage(self):
         done = subprocess.run([sys.executable, "-B", SCRIPT, "a", "--lines"], capture_output=True, check=False)
         self.assertEqual((done.returncode, done.stdout), (2, b""))
@@ -213,6 +247,7 @@ class Drawn(Program):
             if left <= 0:
                 break
         self.assertLess(100 * self.seen["dropped", True], self.seen["dropped", False], "hardly a conflict can be spared")
+        self.assertGreater(self.seen["with the option"], 0)
         for case in ("dropped", False), ("changed", True), ("changed", False), ("exchanged", True), ("exchanged", False):
             self.assertGreater(self.seen[case], 0, self.seen)
 
@@ -226,20 +261,23 @@ class Drawn(Program):
         if self.call("init")[0] != 0:
             return 0
         for _ in range(4):
-            line = draw.line()
-            status, output = self.call("why", "--", line)
+            line, option = draw.line(), [KEEP] * draw.happens(50)
+            status, output = self.call("why", *option, "--", line)
             if status == 3 and found < left:
                 found += 1
-                with self.subTest(text=text, line=line, output=output):
-                    self.check(draw.random, index, text, line, output)
+                self.seen["with the option"] += len(option)
+                with self.subTest(text=text, line=line, output=output, option=option):
+                    self.check(draw.random, index, [*cut_lines(text), line], output, self.locked() if option else {})
         return found
 
-    def check(self, draw, index, text, line, output):
-        """The checker and the rules in Python answer alike, of what was printed and of what was altered."""
-        self.assertEqual(self.told(line, output), (0, "accepted\n", ""))
-        theirs = Problem([*cut_lines(text), line], LINUX, read_index(index), {})
-        lines = [checker.read_line(it) for it in [*cut_lines(text), line]]
-        ours = checker.Problem(checker.read_index(index), checker.read_environment(json.dumps(LINUX)), lines)
+    def check(self, draw, index, texts, output, held):
+        """The checker and the rules in Python answer alike, of what was printed and of what was altered, where these versions are kept."""
+        self.assertEqual(self.answered_of(texts[-1], output, held), (0, "accepted\n", ""))
+        kept = {name: read_version(version) for name, version in held.items()}
+        theirs = Problem(texts, LINUX, read_index(index), kept, only_kept=True)
+        environment, packages = checker.read_environment(json.dumps(LINUX)), checker.read_index(index)
+        kept = {name: checker.read_version(version) for name, version in held.items()}
+        ours = checker.Problem(packages, environment, list(map(checker.read_line, texts)), kept)
         self.assertTrue(is_refutation(theirs, read_refutation(output)))
         for kind, some in altered(draw, output.splitlines()):
             wanted = is_refutation(theirs, read_refutation("".join(f"{it}\n" for it in some)))
@@ -247,11 +285,11 @@ class Drawn(Program):
             self.assertEqual(against == [], wanted, (kind, some, against))
             self.seen[kind, wanted] += 1
 
-    def told(self, line, output):
+    def answered_of(self, line, output, held):
         """What the checker answers: as a process for the first few, since each takes a while to begin."""
         self.seen["processes"] += 1
         paths = [str(self.outside / "index.json"), str(self.outside / "environment.json"), str(self.folder / "requirements.txt")]
-        words = [*paths, f"--line={line}"]
+        words = [*paths, f"--line={line}", *(["--keep", str(self.folder / "pylock.toml")] if held else [])]
         if self.seen["processes"] > PROCESSES:
             return self.answer(words, output)
         command = [sys.executable, "-B", SCRIPT, *words]

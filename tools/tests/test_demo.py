@@ -1,5 +1,6 @@
-"""Tests of ./demo in a copy of what git lists, with an rt that proves nothing: it makes the program only where the real one
-would, and fails where a file `fail` names the crate."""
+"""Tests of ./demo in a copy of what git lists, with an rt that proves nothing: it tells of each crate as the real one does, makes the
+program only where that would, and fails where a file `fail` names the crate. Where a file `wait` names one, it waits in it until that
+file is gone."""
 
 import os
 import shutil
@@ -10,28 +11,79 @@ from pathlib import Path
 
 from places import TOP
 
-RT = """#!/bin/bash
+RT = r"""#!/bin/bash
 name=$(basename "$PWD")
-echo "$name: $1" >>"$CALLS"
-if [ -e "$FAIL" ] && [ "$(cat "$FAIL")" = "$name $1" ]; then
+fail=$(cat "$FAIL" 2>/dev/null)
+has_failed=false
+
+fault() {
     echo "src/lib.rt:1:1: error: it is not proved"
-    exit 1
-fi
+}
+
+prove() {
+    local rlib=../$1/out/rlib
+    if [ -e "$rlib/stamp" ]; then
+        echo "== $1"
+        return
+    fi
+    echo "$1: prove" >>"$CALLS"
+    mkdir -p "$rlib" "../$1/out/incremental/kept"
+    : >"../$1/out/incremental/kept/first.Lts.oantt"
+    for _ in {1..300}; do
+        [ "$(cat "$WAIT" 2>/dev/null)" = "$1" ] || break
+        sleep 0.1
+    done
+    echo "== $1"
+    if [ "$fail" = "$1 prove" ]; then
+        fault
+        has_failed=true
+        return
+    fi
+    echo "fn $1::first: proved"
+    echo "logic=proved functions=2 sum=0"
+    if [ "$1" != reqlock ]; then : >"$rlib/stamp"; fi
+}
+
 case $1 in
-check)
-    mkdir -p out
-    echo "checked $name::first, 1 of 2"
-    echo "checked $name::second, 2 of 2"
-    echo "logic=proved functions=2 sum=0" ;;
+all)
+    echo "$name: $*" >>"$CALLS"
+    for crate in $ORDER; do $has_failed || prove "$crate"; done
+    echo "== summary"
+    if $has_failed; then exit 1; fi ;;
 run)
+    echo "$name: $1" >>"$CALLS"
+    if [ "$fail" = "$name run" ]; then
+        fault
+        exit 1
+    fi
     mkdir -p out
-    printf '#!/bin/bash\\necho "built: $*"\\ncat\\n' >out/reqlock
+    printf '#!/bin/bash\necho "built: $*"\ncat\n' >out/reqlock
     chmod +x out/reqlock ;;
 try)
+    echo "$name: $1" >>"$CALLS"
+    if [ "$fail" = "$name try" ]; then
+        fault
+        exit 1
+    fi
     echo "tried: $*"
     cat ;;
 esac
 """
+
+
+def cone(top):
+    """The crates that one is made of, each behind those below it and itself last, as crates.txt names them."""
+    below = dict(line.split(":") for line in (TOP / "crates.txt").read_text(encoding="utf-8").splitlines())
+    found = []
+
+    def add(name):
+        for other in below[name].split():
+            if other in below and other not in found:
+                add(other)
+        found.append(name)
+
+    add(top)
+    return found
 
 
 class Demo(unittest.TestCase):
@@ -47,7 +99,7 @@ class Demo(unittest.TestCase):
                 shutil.copy(TOP / name, self.copy / name)
         self.programs = self.folder / "programs"
         self.programs.mkdir()
-        for name in "bash", "basename", "cat", "chmod", "dirname", "env", "mkdir", "sed", "tail":
+        for name in "bash", "basename", "cat", "chmod", "dirname", "env", "mkdir", "sed", "sleep", "tail":
             os.symlink(shutil.which(name), self.programs / name)
         self.calls = self.folder / "calls"
         self.calls.touch()
@@ -56,12 +108,17 @@ class Demo(unittest.TestCase):
         (self.programs / "rt").write_text(RT, encoding="utf-8")
         (self.programs / "rt").chmod(0o755)
 
+    def variables(self):
+        return {
+            "PATH": str(self.programs), "CALLS": str(self.calls), "FAIL": str(self.folder / "fail"), "WAIT": str(self.folder / "wait"),
+            "ORDER": " ".join(cone("reqlock")), "RT_JOBS": "3",
+        }
+
     def demo(self, *words):
         """The status, the standard output and the standard error of ./demo, and what it asked rt for."""
         self.calls.write_text("")
-        variables = {"PATH": str(self.programs), "CALLS": str(self.calls), "FAIL": str(self.folder / "fail")}
         done = subprocess.run(
-            [self.copy / "demo", *words], env=variables, capture_output=True, encoding="utf-8", check=False, cwd="/"
+            [self.copy / "demo", *words], env=self.variables(), capture_output=True, encoding="utf-8", check=False, cwd="/"
         )
         return done.returncode, done.stdout, done.stderr, self.calls.read_text().splitlines()
 
@@ -72,15 +129,51 @@ class Demo(unittest.TestCase):
         self.give_rt()
         status, output, errors, calls = self.demo()
         self.assertEqual((status, errors), (0, ""))
-        self.assertEqual(calls[0], "lists: check")
-        self.assertEqual(calls[-2:], ["reqlock: check", "reqlock: run"])
-        self.assertNotIn("conformance: check", calls)
-        for call in calls[:-1]:
-            self.assertIn(f"  {call.removesuffix(': check'):9}    2 functions proved, 0 min 0", output)
+        self.assertEqual(calls, ["reqlock: all check --jobs 3", *(f"{name}: prove" for name in cone("reqlock")), "reqlock: run"])
+        self.assertNotIn("conformance", cone("reqlock"))
+        for name in cone("reqlock"):
+            self.assertIn(f"  {name:15}    2 functions proved, 0 min 0", output)
         self.check_session(output)
         status, again, errors, calls = self.demo()
         self.assertEqual((status, errors, calls), (0, "", []))
         self.check_session(again)
+
+    def test_what_was_proved_stays(self):
+        self.give_rt()
+        (self.folder / "fail").write_text("states prove")
+        self.assertEqual(self.demo()[0], 1)
+        (self.folder / "fail").unlink()
+        status, output, errors, calls = self.demo()
+        self.assertEqual((status, errors), (0, ""))
+        order = cone("reqlock")
+        self.assertNotIn("lists: prove", calls)
+        self.assertEqual([call for call in calls if call.endswith(": prove")], [f"{name}: prove" for name in order[order.index("states"):]])
+        self.assertIn(f"  {'lists':15} was proved before\n", output)
+
+    def test_what_is_being_proved_is_told(self):
+        self.give_rt()
+        (self.folder / "wait").write_text("states")
+        process = subprocess.Popen([self.copy / "demo"], env=self.variables(), stdout=subprocess.PIPE, encoding="utf-8", cwd="/")
+        with process:
+            told = []
+            for line in process.stdout:
+                told.append(line)
+                if line == f"  {'states':15} ..\n":
+                    (self.folder / "wait").unlink()
+        self.assertEqual(process.returncode, 0)
+        self.assertIn(f"  {'states':15} ..\n", told)
+
+    def test_a_proof_ends_with_the_demo(self):
+        self.give_rt()
+        (self.folder / "wait").write_text("states")
+        process = subprocess.Popen([self.copy / "demo"], env=self.variables(), stdout=subprocess.PIPE, encoding="utf-8", cwd="/")
+        with process:
+            for line in process.stdout:
+                if line == f"  {'states':15} ..\n":
+                    process.terminate()
+        (self.folder / "wait").unlink()
+        self.assertEqual(process.returncode, -15)
+        self.assertNotIn("edits: prove", self.calls.read_text())
 
     def check_session(self, output):
         files = "--index examples/web/index.json --env examples/web/environment.json"
@@ -92,22 +185,13 @@ class Demo(unittest.TestCase):
         copied = (self.copy / "crates" / "reqlock" / "out" / "demo" / "requirements.txt").read_text(encoding="utf-8")
         self.assertEqual(copied, (TOP / "examples" / "web" / "requirements.txt").read_text(encoding="utf-8"))
 
-    def test_each_crate_comes_behind_those_that_it_stands_on(self):
-        self.give_rt()
-        order = [call.split(":")[0] for call in self.demo()[3][:-1]]
-        self.assertEqual(order[-1], "reqlock")
-        for line in (TOP / "crates.txt").read_text(encoding="utf-8").splitlines():
-            name, below = line.split(":")
-            for other in below.split():
-                if name in order and other in order:
-                    self.assertLess(order.index(other), order.index(name))
-
     def test_a_build_that_fails_shows_the_end_of_its_log(self):
         self.give_rt()
-        for step, told in ("search check", "the proof of search failed"), ("reqlock run", "the build failed"):
+        for step, told in ("search prove", "the proof of search failed"), ("reqlock run", "the build failed"):
             (self.folder / "fail").write_text(step)
             status, output, errors, calls = self.demo()
-            self.assertEqual((status, calls[-1]), (1, step.replace(" ", ": ")))
+            self.assertEqual(status, 1)
+            self.assertIn(step.replace(" ", ": "), calls)
             self.assertIn("src/lib.rt:1:1: error: it is not proved\n", errors)
             self.assertIn(f"demo: {told}; the whole log is {self.copy}/crates/reqlock/out/demo.log\n", errors)
             self.assertNotIn("built:", output)
@@ -140,6 +224,32 @@ class Demo(unittest.TestCase):
         self.assertTrue(output.endswith(self.commands()))
         (self.folder / "fail").write_text("reqlock try")
         self.assertEqual(self.demo("--quick")[0], 1)
+
+    def test_no_link_is_followed(self):
+        self.give_rt()
+        outside = self.folder / "outside"
+        outside.mkdir()
+        out = Path("crates", "reqlock", "out")
+        for place in out / "demo", out / "demo.log", out / "demo" / "requirements.txt", out / "demo" / "pylock.toml":
+            (self.copy / place).parent.mkdir(parents=True, exist_ok=True)
+            (self.copy / place).symlink_to(outside / place.name)
+            for words in (), ("--quick",):
+                status, _, errors, calls = self.demo(*words)
+                self.assertEqual((status, calls), (1, []))
+                self.assertTrue(errors.endswith(f"{place}: a link stands there; remove it first\n"), errors)
+            (self.copy / place).unlink()
+        self.assertEqual(list(outside.iterdir()), [])
+
+    def test_another_tree_of_the_path_is_not_taken(self):
+        self.give_rt()
+        other = self.folder / "other" / "copy"
+        other.mkdir(parents=True)
+        done = subprocess.run(
+            ["bash", "copy/demo", "--quick"], env={**self.variables(), "CDPATH": str(other.parent)}, capture_output=True,
+            encoding="utf-8", check=False, cwd=self.folder,
+        )
+        self.assertEqual((done.returncode, done.stderr), (0, ""))
+        self.assertTrue(done.stdout.startswith("Without any proof"))
 
     def test_other_words_are_refused(self):
         self.assertEqual(self.demo("--fast")[:3], (2, "", "usage: ./demo [--quick]\n"))

@@ -3,10 +3,12 @@ adds. The changes that it tells in JSON are applied as the rules have it to the 
 people are those of that JSON. There are 12 sessions, or 200 with LONG_TESTS=1."""
 
 import fcntl
+import itertools
 import json
 import os
 import unittest
 
+from drawn_sessions import locked_names, names_on
 from made.environments import LINUX, OLDER, WINDOWS
 from made.sessions import Draw
 from places import IS_LONG
@@ -15,7 +17,6 @@ from rules.journals import file_name
 from rules.lock_tables import read_lock
 from rules.requirements import cut_lines
 from rules.states import Change, State, Target, after, inverse, is_minimal, places_of
-from test_drawn_sessions import locked_names, names_on
 
 SESSIONS = 200 if IS_LONG else 12
 COMMANDS = 6
@@ -122,7 +123,7 @@ class DrawnChanges(Changes):
 
     def check_command(self, command):
         """A dry run says what the command and `diff` then do, and leaves all as it was. With `--verbose` the command prints the same on
-        standard error."""
+        standard error, and behind it the versions that moved unasked."""
         before, old, place = self.times(), self.state(), self.cursor()
         dry = self.told(*command, "--dry-run")
         self.assertEqual(self.times(), before, command)
@@ -135,7 +136,8 @@ class DrawnChanges(Changes):
             return
         diff = self.succeeds("diff", str(place))
         self.assertEqual(dry, (0, told[1] + diff, ""), command)
-        self.assertEqual(told[2], diff, command)
+        changed = itertools.takewhile(lambda line: not line.startswith("moved: "), told[2].splitlines(keepends=True))
+        self.assertEqual("".join(changed), diff, command)
         self.assertEqual(after(old, self.change(place)), self.state())
 
     def cursor(self):

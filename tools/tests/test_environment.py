@@ -8,7 +8,7 @@ from collections import namedtuple
 
 from places import TOOLS
 
-import environment  # (it stands in tools/)
+from reqlock_tools import environment
 
 Info = namedtuple("Info", "major minor micro releaselevel serial")
 VARIABLES = (

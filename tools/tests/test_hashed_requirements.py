@@ -7,6 +7,7 @@ import unittest
 from pathlib import Path
 
 from places import TOOLS
+from wanted_libraries import want_libraries
 
 SCRIPT = TOOLS / "hashed_requirements.py"
 
@@ -60,6 +61,7 @@ def spelled(text):
     return text
 
 
+@want_libraries("packaging.version")
 class HashedRequirements(unittest.TestCase):
     def run_on(self, text):
         with tempfile.TemporaryDirectory() as folder:

@@ -13,14 +13,89 @@ from pathlib import Path
 from made.environments import LINUX
 from made.releases import index_of
 from places import PROGRAM, TOP
+from program import NOBODY
 
 INSTALL = TOP / "install"
 SHARE = TOP / "share"
 EVERYWHERE = {"--dir", "--index", "--env", "--help"}  # the options of each subcommand
 COMMANDS = (
-    "reqlock", "reqlock-adopt", "reqlock-check-refutation", "reqlock-environment", "reqlock-hashes", "reqlock-portable-lock",
-    "reqlock-snapshot",
+    "reqlock", "reqlock-adopt", "reqlock-check-refutation", "reqlock-environment", "reqlock-fleet", "reqlock-hashes",
+    "reqlock-portable-lock", "reqlock-snapshot",
 )
+
+
+class Places(unittest.TestCase):
+    """Where files are put, with another program in the place of the built one."""
+
+    def setUp(self):
+        folder = tempfile.TemporaryDirectory()
+        self.addCleanup(folder.cleanup)
+        self.folder = Path(folder.name)
+        self.tree, self.prefix, self.outside = self.folder / "tree", self.folder / "prefix", self.folder / "outside"
+        copy_tree(self.tree)
+        self.outside.mkdir()
+
+    def install(self, *words, status=0, user=None, **variables):
+        command, variables = ["bash", "tree/install", *words, self.prefix], {**os.environ, **variables}
+        done = subprocess.run(
+            command, cwd=self.folder, env=variables, capture_output=True, encoding="utf-8", check=False, **user or {}
+        )
+        self.assertEqual(done.returncode, status, done.stdout + done.stderr)
+        return done.stdout + done.stderr
+
+    def test_no_link_is_followed(self):
+        (self.prefix / "bin").mkdir(parents=True)
+        for name in "reqlock", "reqlock.new", "reqlock-snapshot":
+            (self.prefix / "bin" / name).symlink_to(self.outside / name)
+        self.install()
+        self.assertEqual(list(self.outside.iterdir()), [])
+        self.assertFalse((self.prefix / "bin" / "reqlock").is_symlink())
+        self.assertEqual(os.readlink(self.prefix / "bin" / "reqlock-snapshot"), "../lib/reqlock/snapshot.py")
+        self.assertEqual([path.name for path in (self.prefix / "lib" / "reqlock").glob("*.py.*")], [])
+        self.install("--remove")
+        self.assertEqual([path.name for path in self.prefix.rglob("*")], ["bin", "reqlock.new"])
+
+    def test_a_link_in_the_place_of_its_own_folder_is_refused(self):
+        (self.prefix / "lib").mkdir(parents=True)
+        (self.prefix / "lib" / "reqlock").symlink_to(self.outside)
+        (self.outside / "__pycache__").mkdir()
+        for words in [], ["--remove"]:
+            fault = f"install: {self.prefix}/lib/reqlock: a link stands there; remove it first\n"
+            self.assertEqual(self.install(*words, status=1), fault)
+        self.assertEqual([path.name for path in self.outside.iterdir()], ["__pycache__"])
+
+    @unittest.skipUnless(os.geteuid() == 0, "only root can be another user")
+    def test_a_folder_that_cannot_be_written_is_told_before_anything_is_done(self):
+        self.folder.chmod(0o755)
+        (self.prefix / "share" / "man").mkdir(parents=True)
+        self.prefix.chmod(0o777)
+        user = {"user": NOBODY, "group": NOBODY, "extra_groups": []}
+        place = self.prefix / "share" / "bash-completion" / "completions"
+        fault = f"install: {place}: it can't be written; give a PREFIX that can, as ~/.local\n"
+        self.assertEqual(self.install(status=1, user=user), fault)
+        self.assertEqual([path for path in self.prefix.rglob("*") if path.is_file()], [])
+        self.install()
+        stood = sorted(self.prefix.rglob("*"))
+        fault = f"install: {place}: it can't be written, so nothing is removed\n"
+        self.assertEqual(self.install("--remove", status=1, user=user), fault)
+        self.assertEqual(sorted(self.prefix.rglob("*")), stood)
+
+    def test_another_tree_of_the_path_is_not_taken(self):
+        copy_tree(self.outside / "tree")
+        (self.outside / "tree" / "share" / "reqlock.1").write_text("another", encoding="utf-8")
+        told = self.install(CDPATH=str(self.outside))
+        self.assertTrue(told.startswith("reqlock is installed in "), told)
+        self.assertNotEqual((self.prefix / "share/man/man1/reqlock.1").read_text(encoding="utf-8"), "another")
+
+
+def copy_tree(place):
+    """What ./install copies, and itself, with another program."""
+    for name in "tools", "share":
+        shutil.copytree(TOP / name, place / name, ignore=shutil.ignore_patterns("tests", "__pycache__", ".*"))
+    shutil.copy(INSTALL, place)
+    program = place / "crates" / "reqlock" / "out" / "reqlock"
+    program.parent.mkdir(parents=True)
+    shutil.copy(shutil.which("true"), program)
 
 
 @unittest.skipUnless(PROGRAM.exists(), "the program isn't built")
@@ -86,18 +161,20 @@ class Installed(unittest.TestCase):
             self.install("file", status=1), f"install: {self.folder}/file: it can't be written; give a PREFIX that can, as ~/.local\n"
         )
         script = Path(shutil.copy(INSTALL, self.folder))
-        self.assertEqual(self.install("x", status=1, script=script), "install: build the program first, by ./demo\n")
+        self.assertEqual(self.install("x", status=1, script=script), "install: crates/reqlock/out/reqlock isn't there: build the program first, by ./demo\n")
 
     def test_bash_completes(self):
         self.install(self.prefix)
         saving = {*EVERYWHERE, "--dry-run", "--verbose"}
+        editing = {"a", *saving, "--keep-locked"}
         for words, wanted in (
             (["reqlock", "re"], {"remove", "relock", "redo"}), (["reqlock", "--i"], {"--index"}),
-            (["reqlock", "--index", "x", "why", "--ex"], {"--explain"}), (["reqlock", "--dir", "d", "upgrade", ""], {"a", *saving}),
-            (["reqlock", "upgrade", "--dir", "d", ""], {"a", *saving}), (["reqlock", "log", "--l"], {"--long"}),
+            (["reqlock", "--index", "x", "why", "--ex"], {"--explain"}), (["reqlock", "--dir", "d", "upgrade", ""], editing),
+            (["reqlock", "upgrade", "--dir", "d", ""], editing), (["reqlock", "log", "--l"], {"--long"}),
             (["reqlock", "--dir", "a p"], {"a prefix"}), (["reqlock", "help", "ba"], {"batch"}), (["reqlock", "undo", ""], saving),
             (["reqlock", "--dir", "d", "why", "--not", ""], {"a"}), (["reqlock", "--dr"], {"--dry-run"}),
             (["reqlock", "--index", "file"], {"file.json"}), (["reqlock", "add", "a", "--index", "file"], {"file.json"}),
+            (["reqlock", "--env", "one", "=", "file"], {"file.json"}), (["reqlock", "--env", "one", "=", "x", "undo", ""], saving),
         ):
             with self.subTest(words=words):
                 self.assertEqual(self.completed(words), wanted)
@@ -118,6 +195,34 @@ class Installed(unittest.TestCase):
         lines = told.splitlines()
         self.assertIn("complete -F _reqlock reqlock", lines)
         return {line for line in lines if line != "complete -F _reqlock reqlock"}
+
+
+def fish_options(text):
+    """The options of each subcommand that has some of its own, by the completions of fish."""
+    found = {}
+    for names, option in re.findall(r"(?m)^complete .*'__reqlock_in ([a-z ]+)'(?: -s [a-z])? -l ([a-z-]+)", text):
+        for name in names.split():
+            found.setdefault(name, set()).add(f"--{option}")
+    return found
+
+
+def zsh_options(text):
+    """The same by those of zsh."""
+    lists = {
+        "$keeping": {"--keep-locked"}, "$saving[2,-1]": {"--verbose"}, "$saving": {"--dry-run", "--verbose"}, "$json": {"--json"},
+    }
+    found = {}
+    arms = text.split("case $line[1] in")[1].split("esac")[0]
+    for names, words in re.findall(r"(?ms)^ {8}([a-z][a-z |]*)\)(.*?);;", arms):
+        options = set(re.findall(r"'(--[a-z-]+)\[", words))
+        for name, more in lists.items():
+            if name in words:
+                options |= more
+                words = words.replace(name, "")
+        for name in names.split(" | "):
+            if options:
+                found[name] = options
+    return found
 
 
 @unittest.skipUnless(PROGRAM.exists(), "the program isn't built")
@@ -167,6 +272,11 @@ class Words(unittest.TestCase):
             about = self.help_of(name).splitlines()[0]
             self.assertIn(f"'{name}:{about}'", zsh)
             self.assertIn(f"-a {name} -d '{about}'", fish)
+
+    def test_zsh_and_fish_know_the_options_of_each_subcommand(self):
+        self.assertEqual(fish_options(self.read("reqlock.fish")), {name: options for name, options in self.own.items() if options})
+        found = zsh_options(self.read("_reqlock"))
+        self.assertEqual(found, {name: options for name, options in self.own.items() if options})
 
     def test_other_shells_read_them(self):
         for shell, name in ("bash", "reqlock.bash"), ("zsh", "_reqlock"), ("fish", "reqlock.fish"):

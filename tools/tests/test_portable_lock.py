@@ -7,6 +7,7 @@ import re
 import subprocess
 import sys
 import tempfile
+import time
 import tomllib
 import unittest
 from pathlib import Path
@@ -100,6 +101,16 @@ class PortableLock(unittest.TestCase):
             (self.folder / "pylock.toml").write_bytes(text.replace(line, other).encode())
             self.check_keeps(*KEPT)
 
+    def test_comments_in_the_environments_take_no_time(self):
+        text = (self.folder / "pylock.toml").read_text(encoding="utf-8")
+        marker = tomllib.loads(text)["environments"][0]
+        other = "environments = [\n" + "# ]\n" * 5000 + f"'{marker}',\n]\n"
+        text = text.replace(f"environments = [{json.dumps(marker)}]\n", other)
+        (self.folder / "pylock.toml").write_text(text, encoding="utf-8")
+        start = time.monotonic()
+        self.check_keeps(*KEPT)
+        self.assertLess(time.monotonic() - start, 10)
+
     def test_keeps_nothing_where_nothing_matters(self):
         self.write(b"a\n", {"a": entry("a", "1")}, ("a", "1", []))
         self.check_keeps()
@@ -123,7 +134,7 @@ class PortableLock(unittest.TestCase):
         (self.folder / "index.json").write_text(json.dumps(index_of(("a", "1", []))))
         self.check_refused("index.json: the lock was made of another index; relock over this one first")
         (self.folder / "index.json").write_text("")
-        self.check_refused("index.json: Expecting value: line 1 column 1 (char 0)")
+        self.check_refused("index.json: not JSON: Expecting value: line 1 column 1 (char 0)")
         self.check_refused("nothing.json: No such file or directory", "pylock.toml", "--index", "nothing.json")
 
     def test_refuses_what_is_no_lock_of_reqlock(self):

@@ -1,5 +1,6 @@
-"""The program with one growth of its memory refused: each in turn with LONG_TESTS=1 in the environment, without it each 50th and
-the last 40, which save. A run shows what a run with ample memory does, or that memory was refused, and then nothing has changed."""
+"""The program with one growth of its memory refused: each in turn with LONG_TESTS=1 in the environment, without it each 50th and the
+last ones, which save or tell sentences. A run shows what a run with ample memory does, or that memory was refused, and then nothing has
+changed."""
 
 import functools
 import subprocess
@@ -13,10 +14,11 @@ from made.environments import LINUX, WINDOWS
 from places import IS_LONG, PROGRAM
 
 import growths  # (these stand in tools/)
-from snapshot_output import compact
+from reqlock_tools.snapshot_output import compact
 
 PACE = 1 if IS_LONG else 50
 LAST = 40
+TOLD = 300
 AMPLE = 10**12
 NEVER = b"refused nothing-to-undo", b"refused nothing-to-redo"
 OUT_OF_MEMORY = b"reqlock: out of memory\n"
@@ -26,6 +28,8 @@ INDEX = {
     "a": {"1": ["b-b"], "2": ["b-b<2"]}, "b-b": {"1": [], "2": []}, "c": {"1": ["b-b>=2"]}, "d": {"1": []},
     "x": {"1": ["d>=2; extra == 'e'"], "zero": []},
 }
+# The same packages, of which none goes with `a`.
+UNSOLVABLE = INDEX | {"a": {"1": ["b-b>=3"], "2": ["b-b>=3"]}}
 REQUIREMENTS = b"# web\r\nB.b (>=1) ; os_name=='posix' # keep\r\na"
 COMMANDS = [
     b"add d", b"bogus", b"undo", b"undo", b"redo", b"constrain a >=1", b"add c", b"redo", b"upgrade a", b"remove d", b"undo",
@@ -33,9 +37,9 @@ COMMANDS = [
 ]
 
 
-def index_text():
+def index_text(index):
     packages = []
-    for name, releases in INDEX.items():
+    for name, releases in index.items():
         package = {"name": name, "releases": []}
         for version, requires in releases.items():
             file = f"{name.replace('-', '_')}-{version}-py3-none-any.whl"
@@ -45,9 +49,9 @@ def index_text():
     return compact({"snapshot": 1, "packages": packages})
 
 
-def numbers(ample):
-    """The growths that are refused, of those that a run with ample memory has."""
-    return sorted({*range(1, ample.growths + 1, PACE), *range(max(1, ample.growths - LAST + 1), ample.growths + 1)})
+def numbers(ample, last=LAST):
+    """The growths that are refused, of those that a run with ample memory has: each that PACE meets, and the last ones."""
+    return sorted({*range(1, ample.growths + 1, PACE), *range(max(1, ample.growths - last + 1), ample.growths + 1)})
 
 
 def is_refused_whole(run, before):
@@ -130,9 +134,12 @@ class Growths(unittest.TestCase):
         self.folder.mkdir()
         self.library = growths.compiled(folder.name)
         (self.folder / "requirements.txt").write_bytes(REQUIREMENTS)
-        (self.folder / "index.json").write_text(index_text(), encoding="utf-8")
+        self.put_index(INDEX)
         for name, environment in self.environments.items():
             (self.folder / self.environment_file(name)).write_text(compact(environment), encoding="utf-8")
+
+    def put_index(self, index):
+        (self.folder / "index.json").write_text(index_text(index), encoding="utf-8")
 
     @staticmethod
     def environment_file(name):
@@ -157,17 +164,17 @@ class Growths(unittest.TestCase):
         self.assertNotIn(b"memory", ample.output + ample.errors)
         return ample
 
-    def check_growths(self, command):
+    def check_growths(self, command, last=LAST):
         """Each growth of a command is refused in turn. It gives the run with ample memory."""
         before, ample = growths.files_in(self.folder), self.ample_run(command)
-        for number in numbers(ample):
+        for number in numbers(ample, last):
             run = growths.run_once(command, self.library, number, folder=self.folder)
             self.assertTrue(is_lawful(run, ample, before), (command, run))
         return ample
 
-    def check_single(self, *words, starts):
+    def check_single(self, *words, starts, last=LAST):
         """Each growth of a subcommand is refused in turn; with ample memory its reply starts so."""
-        ample = self.check_growths(self.words(*words))
+        ample = self.check_growths(self.words(*words), last)
         self.assertTrue(ample.output.startswith(starts.encode()), ample)
 
     def check_fault(self, command, status, errors):
@@ -245,8 +252,26 @@ class Program(Growths):
         for words, starts in (
             (["why"], "solvable"), (["why", "x[e]"], "d==1 x[e]==1"), (["why", "A"], "refused already-present"),
             (["why", "--explain", "x[e]"], "No choice of versions meets the new line (x[e]).\n1. "),
+            (["why", "--not", "b-b==2"], "With b-b 2 "),
         ):
             self.check_single(*words, starts=starts)
+        self.put_index(UNSOLVABLE)
+        for words in ["--remove", "b-b"], ["--constrain", "a", ">=3"], ["--upgrade", "a"], ["--init"]:
+            self.check_single("why", *words, starts="a==")
+
+    def test_why_in_sentences(self):
+        """Each growth behind the search is refused: a line that is forgotten there shows in the numbers of the others."""
+        self.prepare("init")
+        self.put_index(UNSOLVABLE)
+        for words, cited in (
+            (["--remove", "b-b"], "line 3 (a)"), (["--constrain", "a", "==1"], "line 3 as constrained (a==1)"),
+            (["--upgrade", "a"], "line 3 (a)"), (["--init"], "line 3 (a)"),
+        ):
+            ample = self.check_growths(self.words("why", "--explain", *words), TOLD)
+            told = " ".join(ample.output.decode().split())
+            self.assertTrue(told.startswith("No choice of versions meets "), ample)
+            self.assertIn(cited, told)
+        self.check_single("why", "--not", "a==1", starts="No choice of versions meets ", last=TOLD)
 
     def test_undo_and_redo(self):
         self.prepare("init")

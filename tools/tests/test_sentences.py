@@ -2,18 +2,21 @@
 which one thing is changed."""
 
 import json
+import re
 import unittest
 
 from made.environments import LINUX
 from made.releases import index_in
-from made.unsolved import Draw
+from made.unsolved import NAMES, Draw
 from places import IS_LONG
 from program import Program
+from rules.edits import KEEP
 from rules.explanations import check, lines_of, numbered
 from rules.locks import Problem, left_out, read_index
-from rules.requirements import Fault, read_line
+from rules.requirements import Fault, read_line, read_version
+from rules.sentences import HELD
 
-COUNT = 1000 if IS_LONG else 100
+COUNT, COUNT_OF_KEPT = (1000, 300) if IS_LONG else (100, 30)
 # lines over an index, and a text on them as it is printed but for the ends of lines
 FILE = "# web", "a  # why", "c", "b"
 INDEX = (
@@ -29,7 +32,26 @@ No choice of versions meets line 2 (a  # why) and line 3 (c).
 pre-release, which counts where a line names one or no final release fits; 6 needs Python >=3.99, the environment has \
 {LINUX["python_full_version"]}.
 """
-# changes of it by which something in it isn't true, or isn't told
+# the same lines where the lock keeps `b` at 1, and at a version that the index hasn't
+KEPT = """\
+No choice of versions that keeps what is locked meets line 3 (c).
+1. the only release of c needs b>=2, and no release of b is left: the lock keeps 1; 1 doesn't match >=2.
+2. line 3 (c) needs c, and no release of c is left: 1 by 1.
+"""
+GONE = KEPT.replace("1; 1 doesn't match >=2", "4, which the index doesn't have")
+PLANTED_KEPT = (
+    (" that keeps what is locked", ""),
+    ("the lock keeps 1; ", ""), ("the lock keeps 1; 1", "the lock keeps 2; 1"), ("keeps 1; 1", "keeps 1, which the index doesn't have; 1"),
+    ("; 1 doesn't match >=2", ""), ("; 1 doesn't match >=2", "; 2 doesn't match >=2"), ("; 1 doesn't", "; 1 to 3 (3 releases) don't"),
+    ("keeps 1; 1 doesn't match >=2", "keeps 1, which the index doesn't have"), ("the lock keeps 1; 1", "1; the lock keeps 1; 1"),
+    ("is left: 1 by", "is left: the lock keeps 1; 1 by"), ("no release of c is left: 1 by 1", "no release of c is left: the lock keeps 1"),
+)
+PLANTED_GONE = (
+    ("the lock keeps 4, which the index doesn't have", "none matches >=2"), (", which the index doesn't have", ""), ("keeps 4", "keeps 3"),
+    (", which the index doesn't have", "; 4 doesn't match >=2"), ("doesn't have.\n", "doesn't have; 1 doesn't match >=2.\n"),
+    ("needs b>=2", "needs b>=3"), ("keeps 4, which", "keeps 4 which"),
+)
+# changes of TOLD by which something in it isn't true, or isn't told
 PLANTED = (
     # numbers of sentences
     ("1 by 1", "1 by 2"), ("1 by 1", "1 by 0"), ("by 2;", "by 1;"), ("by 2;", "by 3;"), ("\n2. ", "\n3. "),
@@ -65,7 +87,10 @@ PLANTED = (
 
 
 class Drawn(Program):
-    """The sentences of drawn problems: of a file, of a file with a line more, of a changed line, and of a release that is wanted."""
+    """The sentences of drawn problems: of a file, of a file with a line more, of a changed line, of a release that is wanted, and where
+    what is locked is kept."""
+
+    kept_told = set()
 
     def begin_drawn(self, draw):
         """Puts a drawn file over a drawn index."""
@@ -73,17 +98,18 @@ class Drawn(Program):
         (self.outside / "index.json").write_bytes(self.index)
         self.put({"requirements.txt": "".join(f"{line}\n" for line in self.file).encode()})
 
-    def asked(self, named, *words):
-        """Whether a question about these lines is told in sentences, which are true then."""
+    def asked(self, named, *words, kept=None):
+        """Whether a question about these lines is told in sentences, which are true then. It may be one where these versions are kept."""
         status, told = self.call("why", *words)
         if status != 3:
             return False
         with self.subTest(words=words, file=self.file, index=self.index, told=told):
-            problem = Problem([text for _, text in named], LINUX, read_index(self.index), {})
+            problem = Problem([text for _, text in named], LINUX, read_index(self.index), kept or {}, kept is not None)
             try:
                 check(problem, lines_of(problem, named), told, left_out(self.index))
             except Fault as fault:
                 self.fail(f"{fault}\n{told}")
+        self.kept_told |= set(re.findall(HELD, " ".join(told.split())))
         return True
 
     def named(self, place, short, text):
@@ -123,13 +149,30 @@ class Drawn(Program):
             else:
                 count += sum(self.questions(draw))
 
+    def test_each_sentence_is_true_where_what_is_locked_is_kept(self):
+        draw, count, self.kept_told = Draw(2), 0, set()
+        while count < COUNT_OF_KEPT:
+            self.begin_drawn(draw)
+            if self.call("init")[0] != 0:
+                continue
+            kept = {name: read_version(version) for name, version in self.locked().items()}
+            if draw.happens(50):
+                self.index = json.dumps(draw.index()).encode()
+                (self.outside / "index.json").write_bytes(self.index)
+            named, line = numbered(self.file), draw.line(draw.one([name for name in NAMES if name not in kept] or NAMES))
+            if self.asked(named, KEEP, "--explain", kept=kept):
+                count += 1
+            elif self.asked([*named, ("the new line", line)], KEEP, "--explain", "--", line, kept=kept):
+                count += 1
+        self.assertEqual({told.endswith("doesn't have") for told in self.kept_told}, {True, False})
+
 
 class Planted(unittest.TestCase):
     """The reader over one text and changed ones."""
 
-    def check(self, told, *releases):
+    def check(self, told, *releases, kept=None):
         file = [f"{line}\n" for line in FILE]
-        problem = Problem(file, LINUX, index_in(*INDEX), {})
+        problem = Problem(file, LINUX, index_in(*INDEX), {"b": read_version(kept)} if kept else {}, kept is not None)
         return check(problem, lines_of(problem, numbered(file)), told, releases)
 
     def test_the_text_is_accepted(self):
@@ -151,6 +194,22 @@ class Planted(unittest.TestCase):
         for releases in (), [("a", 6)], [("a", 5), ("c", 1)], [("a", 6), ("b", 3), ("c", 1)]:
             with self.subTest(releases=releases), self.assertRaises(Fault):
                 self.check(told, *releases)
+
+    def test_what_the_lock_keeps_is_accepted_where_it_does(self):
+        for told, kept, others in (KEPT, "1", (None, "2", "4")), (GONE, "4", (None, "1", "5")):
+            with self.subTest(kept=kept):
+                self.assertEqual([[term.name for term in conflict] for conflict in self.check(told, kept=kept)], [["c"], []])
+                for other in others:
+                    with self.assertRaises(Fault):
+                        self.check(told, kept=other)
+
+    def test_a_changed_text_on_what_the_lock_keeps_is_refused(self):
+        for text, kept, changes in (KEPT, "1", PLANTED_KEPT), (GONE, "4", PLANTED_GONE):
+            for old, new in changes:
+                with self.subTest(old=old, new=new):
+                    self.assertIn(old, text)
+                    with self.assertRaises(Fault):
+                        self.check(text.replace(old, new, 1), kept=kept)
 
     def test_a_changed_text_is_refused(self):
         for old, new in PLANTED:

@@ -8,10 +8,12 @@ import unittest
 from made.served_index import sdist_of, wheel_of
 from rules.requirements import Fault, holds, read_environment, read_requirement
 from simple_index import LINUX, Simple, snapshot
+from wanted_libraries import ASKING, want_libraries
 
 from conformance_rows import printed_rows  # (these stand in tools/)
-from needs import NO_EXTRA, Markers, doubt_of, need_of
-from packaging_library import tags
+from reqlock_tools.markers import NO_EXTRA, Markers
+from reqlock_tools.requirements import doubt_of, need_of
+from reqlock_tools.libraries import needed
 
 WINDOWS = {"sys_platform": "win32", "platform_system": "Windows", "os_name": "nt"}
 
@@ -79,6 +81,7 @@ class Following(Simple):
         self.assertIn("there is no such file", self.call(index.url, "a", "--env", path)[1][0])
 
 
+@want_libraries(*ASKING)
 class Rules(unittest.TestCase):
     """Where a marker can hold, beside the reading of the rules that the tests have."""
 
@@ -174,7 +177,7 @@ class Choices(Simple):
         self.assertEqual(index.counts()["GET", "/files/a-1.tar.gz"], 0)
 
     def test_for_this_machine(self):
-        ours = str(next(iter(tags.sys_tags())))
+        ours = str(next(iter(needed("packaging.tags").sys_tags())))
         files = [wheel_of("a", "1", tag=ours), wheel_of("a", "1", tag="py3-none-wasi"), sdist_of("a", "2")]
         files += [wheel_of("a", version, tag="cp311-cp311-wasi") for version in "23"]
         files += [wheel_of("a", "4", tag="py2.py3-none-any.wasi"), wheel_of("a", "5", tag="cp27-none-any")]
@@ -196,6 +199,108 @@ class Choices(Simple):
         ]))
 
 
+@want_libraries(*ASKING)
+class Kept(Simple):
+    """What stays since a lock has it."""
+
+    def lock(self, name, *packages):
+        """A lock of packages, each a name and a version."""
+        path = self.folder / name
+        path.write_text("".join(f"[[packages]]\nname = '{name}'\nversion = '{version}'\n" for name, version in packages), encoding="utf-8")
+        return path
+
+    def kept(self, index, versions, *words):
+        """The names of the files of `a` by version, where a lock has these versions of it, and the lines of standard error."""
+        locks = [word for version in versions for word in ("--keep", self.lock(f"{version}.toml", ("A", version)))]
+        made, lines = self.made(index, "a", *words, *locks)
+        return {version: "+".join(file["name"].rpartition(".")[2] for file in it["files"]) for version, it in made["a"].items()}, lines
+
+    def test_of_the_newest(self):
+        index = self.serve({"a": [wheel_of("a", version) for version in Choices.VERSIONS]})
+        kept, lines = self.kept(index, ["1.1.0", "2.1.dev1"], "--newest", 1)
+        self.assertEqual(list(kept), ["1.1", "2.0", "2.1.dev1", "2.1rc2"])
+        self.assertEqual(lines, ["left out by --newest 1: 6 files, with 6 whole releases"])
+        self.assertEqual(list(self.kept(index, ["2.0"], "--newest", 1)[0]), ["2.0", "2.1rc2"])
+
+    def test_of_pre_releases(self):
+        index = self.serve({"a": [wheel_of("a", version) for version in ("1", "2a1", "3rc1")]})
+        self.assertEqual(self.kept(index, ["2a1"], "--no-pre"), (
+            {"1": "whl", "2a1": "whl"}, ["left out by --no-pre: 1 file, with 1 whole release"],
+        ))
+        self.assertEqual(list(self.kept(index, ["2a1"], "--no-pre", "--newest", 1)[0]), ["1", "2a1"])
+
+    def test_of_sdists(self):
+        """A locked release that has a wheel is without its sdist, as any other."""
+        index = self.serve({"a": [sdist_of("a", "1"), sdist_of("a", "2"), sdist_of("a", "3"), wheel_of("a", "3")]})
+        self.assertEqual(self.kept(index, ["1", "3"], "--only-binary"), (
+            {"1": "gz", "3": "whl"}, ["left out by --only-binary: 2 files, with 1 whole release"],
+        ))
+
+    def test_of_what_came_later(self):
+        times = "2024-05-01T00:00:00Z", "2024-06-01T00:00:00Z"
+        early, late = ({"upload-time": time} for time in times)
+        index = self.serve({"a": [
+            wheel_of("a", "1", told=early), sdist_of("a", "1", told=late), wheel_of("a", "2", told=late), sdist_of("a", "2", told=late),
+            wheel_of("a", "3", told=late),
+        ]})
+        words = "--exclude-newer", "2024-05-01"
+        self.assertEqual(self.kept(index, ["1", "2"], *words), (
+            {"1": "whl", "2": "whl+gz"}, ["left out by --exclude-newer 2024-05-01: 2 files, with 1 whole release"],
+        ))
+        index.files["a-3-py3-none-any.whl"].told.clear()
+        self.check_untold(index, *words)
+
+    def check_untold(self, index, *words):
+        status, lines = self.call(index.url, "a", *words, "--keep", self.lock("pylock.toml", ("a", "3")))
+        self.assertEqual(status, 1)
+        self.assertRegex(lines[0], "it doesn't tell when a-3-py3-none-any.whl was uploaded")
+
+    def test_not_of_another_machine(self):
+        """A locked release goes where this machine takes none of its files. What it takes stays, though other options leave it out."""
+        foreign = {version: wheel_of("a", version, tag="cp311-cp311-wasi") for version in ("1", "2")}
+        index = self.serve({"a": [foreign["1"], foreign["2"], sdist_of("a", "2"), wheel_of("a", "3")]})
+        kept, lines = self.kept(index, ["1", "2"], "--for-this-machine", "--only-binary")
+        self.assertEqual(kept, {"2": "gz", "3": "whl"})
+        self.assertEqual(lines, [
+            "left out by --for-this-machine: 2 files, with 1 whole release", "locked, but not in the snapshot: a 1",
+        ])
+
+    def test_and_what_it_depends_on(self):
+        index = self.serve({"a": [wheel_of("a", "1", "b"), wheel_of("a", "2")], "b": [wheel_of("b", version) for version in "123"]})
+        lock = self.lock("pylock.toml", ("a", "1"), ("b", "2"), ("c", "1"))
+        self.assertEqual(self.versions(index, "a", "--newest", 1)[0], {"a": ["2"]})
+        self.assertEqual(self.versions(index, "a", "--newest", 1, "--keep", lock), (
+            {"a": ["1", "2"], "b": ["2", "3"]}, ["left out by --newest 1: 1 file, with 1 whole release"],
+        ))
+
+    def test_but_not_what_the_index_has_no_more(self):
+        index = self.serve({"a": [wheel_of("a", "1", "b"), wheel_of("a", "2")]})
+        locks = [self.lock("one", ("a", "1"), ("b", "1"), ("c", "1")), self.lock("two", ("a", "0.9"), ("a", "0.10"))]
+        lines = self.versions(index, "a", "--keep", locks[0], "--keep", locks[1])[1]
+        self.assertEqual(lines, [
+            "the index has no packages of these names, which others depend on: b",
+            "locked, but not in the snapshot: a 0.9, a 0.10, b 1",
+        ])
+
+    def test_of_a_lock_that_can_be_read(self):
+        index = self.serve({"a": [wheel_of("a", "1")]})
+        path = self.folder / "pylock.toml"
+        for text, fault in (
+            ("", "/packages: an array is wanted"), ("packages = [1]", "/packages/0: an object is wanted"),
+            ("[[packages]]\nname = '_'\nversion = '1'\n", "/packages/0/name: a name is wanted"),
+            ("[[packages]]\nname = 'a'\nversion = 'x'\n", "/packages/0/version: a version is wanted"),
+            ("[[packages]]\nname = 'a'\nversion = 1\n", "/packages/0/version: a text is wanted"),
+            ("a = '", "it is no TOML: a text in it has no end"),
+        ):
+            path.write_text(text, encoding="utf-8")
+            self.assertEqual(self.call(index.url, "a", "--keep", path), (1, [f"{path}: {fault}"]))
+        path.write_text("[[packages]]\nname = 'a'\n[packages.directory]\npath = '.'\n", encoding="utf-8")
+        self.assertEqual(self.versions(index, "a", "--keep", path), ({"a": ["1"]}, []))
+        path.unlink()
+        self.assertEqual(self.call(index.url, "a", "--keep", path), (1, [f"{path}: No such file or directory"]))
+
+
+@want_libraries(*ASKING)
 class Words(unittest.TestCase):
     """Words that are no request end with status 2, and what is wrong with them."""
 

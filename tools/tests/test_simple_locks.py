@@ -140,6 +140,25 @@ class Locks(Simple):
         self.assertEqual((answer, self.reqlock(folder, "add", "sockish[socks]")), ("ok 0\n", "ok 1\n"))
         self.check_installs(folder, index)
 
+    def test_stay_over_a_snapshot_of_the_newest_releases(self):
+        """`ant` is locked at its oldest release, which no line asks for any more. With the lock given, the snapshot has it."""
+        index = self.serve({"ant": [wheel_of("ant", str(number)) for number in range(1, 13)], "bee": [wheel_of("bee", "1")]})
+        folder, answer = self.begin("kept", "ant==1\n", index, "bee")
+        self.assertEqual((answer, self.reqlock(folder, "constrain", "ant")), ("ok 0\n", "ok 1\n"))
+        words = index.url, "bee", "--for", folder / "requirements.txt", "--env", self.environment, "--newest", 2
+        self.assertEqual(self.call(*words, "--keep", folder / "pylock.toml")[0], 0)
+        self.assertEqual(self.reqlock(folder, "add", "bee", "--keep-locked"), "ok 2\n")
+        self.check_locked(folder, {"ant": "1", "bee": "1"})
+        self.reqlock(folder, "undo")
+        self.assertEqual(self.call(*words)[0], 0)
+        self.assertEqual(self.reqlock(folder, "add", "bee", "--keep-locked"), "refused no-solution\n")
+        self.assertEqual(self.reqlock(folder, "add", "bee"), "ok 2\n")
+        self.check_locked(folder, {"ant": "12", "bee": "1"})
+
+    def check_locked(self, folder, versions):
+        lock = tomllib.loads((folder / "pylock.toml").read_text(encoding="utf-8"))
+        self.assertEqual({it["name"]: it["version"] for it in lock["packages"]}, versions)
+
     def test_of_releases_that_have_wheels_for_others_alone(self):
         index = self.serve({"ant": [wheel_of("ant", "1"), wheel_of("ant", "2", tag="py3-none-win32")]})
         folder, answer = self.begin("ours", "ant\n", index)

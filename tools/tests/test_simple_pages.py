@@ -8,6 +8,8 @@ import unittest
 from made.served_index import HTML_TYPE, JSON_TYPE, sdist_of, wheel_of
 from simple_index import Simple
 
+from reqlock_tools.limits import Limits
+from reqlock_tools.simple.pages import read_page
 
 PYTHON = ">=3.8, <4"
 
@@ -111,8 +113,14 @@ class OtherPages(Simple):
         index.instead["/simple/cup/"] = [lambda to: to.give(200, body, kind)]
         self.check_refused(index, "cup", fault=f"^/simple/cup/: {fault}")
 
-    def test_that_are_no_html_are_refused_or_passed_over(self):
-        self.check_page(b"<![odd[", HTML_TYPE, "no HTML, though it is sent as such")
+    def test_are_read_as_far_as_browsers_read_them(self):
+        link = b"<a href='../../files/cup-1.0%2Bb-py3-none-any.whl#sha256=" + b"0" * 64 + b"'>"
+        for before, found in (
+            (b"<!-->", 1), (b"<!-- <b> -->", 1), (b"<!--", 0), (b"<![odd[ ", 0), (b"<?x>", 1), (b"</a x>", 1), (b"<b x='>' y=\">\" z=>>", 1),
+            (b"<b '", 0), (b"<script><a></script x>", 1), (b"<title>", 0), (b"< a>", 1), (b"<b href=x href=y/>", 1), (b"<A HREF=x>", 1),
+        ):
+            page = read_page("https://i.example/simple/cup/", HTML_TYPE, before + link, "cup", Limits())
+            self.assertEqual(len(page.by_name), found, before)
 
     def test_are_refused_with_the_place_of_the_fault(self):
         meta = {"meta": {"api-version": "1.0"}}

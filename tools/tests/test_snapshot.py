@@ -11,6 +11,7 @@ import unittest
 from pathlib import Path
 
 from places import TESTS, TOOLS
+from wanted_libraries import want_libraries
 
 SCRIPT = TOOLS / "snapshot.py"
 ZEROS = "0" * 64
@@ -63,6 +64,7 @@ def body(version="1", urls=(), name="a", releases=None, **info):
     return {"info": {"name": name, "version": version, **info}, "urls": list(urls), **others}
 
 
+@want_libraries("packaging.version")
 class Folder(unittest.TestCase):
     """A test with a folder of documents."""
 
@@ -106,6 +108,7 @@ class Folder(unittest.TestCase):
         self.assertRegex(lines[0], f"^{fault}")
 
 
+@want_libraries("packaging.version")
 class Shipped(unittest.TestCase):
     """The documents that are shipped give the snapshot beside them."""
 
@@ -366,13 +369,13 @@ class Around(Folder):
         self.assertTrue(Path("/dev/null").is_char_device())
 
     def test_is_stopped_by_the_keyboard(self):
-        os.mkfifo(self.folder / "a.json")
-        output = self.folder / "index"
-        command = [sys.executable, "-B", SCRIPT, self.folder, "--output", output]
+        pipe_path, output = self.folder / "in", self.folder / "index"
+        os.mkfifo(pipe_path)
+        command = [sys.executable, "-B", SCRIPT, self.folder, "--for", pipe_path, "--output", output]
         streams = {"stdout": subprocess.PIPE, "stderr": subprocess.PIPE, "encoding": "utf-8"}
         call = subprocess.Popen(command, preexec_fn=heed_keyboard, **streams)
         self.addCleanup(call.kill)
-        pipe = open_beside_a_reader(self.folder / "a.json")
+        pipe = open_beside_a_reader(pipe_path)
         errors = interrupted(call)
         os.close(pipe)
         self.assertEqual((call.returncode, errors), (130, "snapshot.py: stopped; no snapshot is written\n"))

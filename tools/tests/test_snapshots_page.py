@@ -1,5 +1,6 @@
 """What docs/SNAPSHOTS.md shows being typed is typed, with an index of the tests' own in place of the one that it names."""
 
+import dataclasses
 import os
 import re
 import shutil
@@ -10,6 +11,9 @@ from pathlib import Path
 from made.served_index import MadeIndex, sdist_of, wheel_of
 from places import TOP
 from shown import printed_by, typed_blocks
+from wanted_libraries import ASKING, want_libraries
+
+from reqlock_tools.limits import Limits
 
 NAMED = "https://index.example"
 FIGURES = re.compile(r"[0-9.]+ [kM]B, [0-9.]+ s$", re.MULTILINE)
@@ -34,6 +38,7 @@ def packages():
     }
 
 
+@want_libraries(*ASKING)
 class Page(unittest.TestCase):
     def setUp(self):
         folder = tempfile.TemporaryDirectory()
@@ -60,6 +65,12 @@ class Page(unittest.TestCase):
             with self.subTest(block=block[0][0]):
                 printed = [FIGURES.sub("..", text).splitlines() for text in self.run_block(block)]
                 self.assertEqual(printed, [[FIGURES.sub("..", line) for line in shown] for _, shown in block])
+
+    def test_the_limits_are_those_of_the_tool(self):
+        text = (TOP / "docs" / "SNAPSHOTS.md").read_text(encoding="utf-8")
+        found = re.findall(r"(?m)^\| `([a-z]+)` \| ([0-9,]+) \| (.*) \|$", text)
+        wanted = [(it.name, f"{it.default:,}", it.metadata["meaning"]) for it in dataclasses.fields(Limits)]
+        self.assertEqual(found, wanted)
 
 
 if __name__ == "__main__":

@@ -108,7 +108,7 @@ class Shell(unittest.TestCase):
 class Wheels(Shell):
     def setUp(self):
         super().setUp()
-        self.begin, self.install, self.later, self.attributes, self.job = indented_blocks(section(HEAD))
+        self.begin, self.install, self.later, self.attributes, self.job, _ = indented_blocks(section(HEAD))
 
     def check_installs(self, wanted):
         """What is installed anew is what the lock says, and that is what is wanted."""

@@ -17,7 +17,7 @@ from rules.locks import Problem, best_solution, needed_nodes, read_index  # noqa
 from rules.requirements import cut_lines, marker_text, read_line, read_name  # noqa: E402
 
 from conformance_rows import headlines, print_rows, row_of  # noqa: E402  (these stand in tools/)
-from versions import canonical  # noqa: E402
+from rules.versions import canonical  # noqa: E402
 
 TOOL = "tests/made/drawn_rows.py"
 INDEXES, PROBLEMS_EACH = 1000, 1

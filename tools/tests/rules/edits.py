@@ -1,12 +1,14 @@
 """What edits make of a requirements file and its locks, what is refused, and the history of states that undo and redo go through.
 The rules are read plainly, for tests that ask what an answer must be. It is written from the rules alone, so that it shares no
-mistake with the program. A command is a tuple of words, as they stand on the command line."""
+mistake with the program. A command is a tuple of words, as they stand on the command line; an edit may have KEEP in front."""
 
 import re
 
 from rules.locks import Problem, best_solution, entries_of
 from rules.requirements import BLANK, Fault, read_line, read_name, read_set, read_version
 from rules.states import State, Target
+
+KEEP = "--keep-locked"
 
 
 class Refused(Exception):
@@ -110,10 +112,12 @@ def kept_after(entries, given_up):
 
 def problems_after(state, command, index):
     """What an edit would lock: the edited lines, and the problem of each target by name."""
+    only_kept = command[0] == KEEP
+    command = command[only_kept:]
     lines = lines_after(state.lines, command)
     given_up = names_given_up(state, command) if command[0] == "upgrade" else []
     targets = state.targets.items()
-    return lines, {name: Problem(lines, it.environment, index, kept_after(it.entries, given_up)) for name, it in targets}
+    return lines, {name: Problem(lines, it.environment, index, kept_after(it.entries, given_up), only_kept) for name, it in targets}
 
 
 def locked(lines, problems, index):

@@ -10,7 +10,7 @@ from rules import sentences
 from rules.locks import needs_of_choice
 from rules.requirements import Requirement, clause_matches, holds, is_pre, read_line, read_requirement, read_set, want
 from rules.set_refutations import Term, case_of, clash, completes
-from versions import canonical, order_key, read_version
+from rules.versions import canonical, order_key, read_version
 
 # how many lines of the file a conclusion names, and how many different requirements a sentence tells
 MOST_LINES, MOST_REQUIREMENTS = 6, 3
@@ -219,6 +219,13 @@ class Reader:
         others = near.split(", ") if near else []
         return name not in self.problem.releases and all(other in self.problem.releases for other in others)
 
+    def held(self, name):
+        """What is told of a name of which no version counts beside the kept one; None of another name."""
+        version = self.problem.held.get(name)
+        if version is None:
+            return None
+        return f"the lock keeps {canonical(version)}" + ("" if self.problem.candidates(name) else ", which the index doesn't have")
+
     def step(self, text):
         """Reads a sentence, and keeps the conflict that it states."""
         step = sentences.read_step(text, [line.text for line in self.lines])
@@ -227,7 +234,9 @@ class Reader:
         joins = step.need is None
         need = None if joins else self.needing(step, terms)
         want(step.missing is None or self.is_missing(step), f"what the index lacks: {step.missing}")
-        wanted = terms[0].keys if joins else frozenset(self.problem.places.get(node[0], {}))
+        tells_of_all = not joins and step.missing is None
+        want(step.held == (self.held(node[0]) if tells_of_all else None), f"what the lock keeps: {step.held}")
+        wanted = terms[0].keys if joins else self.problem.candidate_keys(node[0])
         told, earlier = [], []
         for cause in step.causes:
             keys, conflicts = self.excluded(cause, terms, node, need)
@@ -242,7 +251,7 @@ class Reader:
     def conclusion(self, text):
         """Whether the lines on which the sentences rest, and no others, are told with what they ask for."""
         words = sentences.Words(text)
-        words.must("No choice of versions meets ")
+        words.must("No choice of versions that keeps what is locked meets " if self.problem.only_kept else "No choice of versions meets ")
         named = []
         while words.rest:
             line = next((line for line in self.lines if words.rest.startswith(line.text)), None)

@@ -12,7 +12,7 @@ from rules.requirements import (
     BLANK, NAME, Fault, Requirement, active_requirements, holds, is_pre, matches, order_key, read_name, read_requirement,
     read_set, read_version, want,
 )
-from versions import Version, canonical
+from rules.versions import Version, canonical
 
 Node = tuple[str, str | None]
 
@@ -119,10 +119,11 @@ def pins(requirement):
 
 
 class Problem:
-    """What is to be locked: the requirements of the active lines, an environment, an index, and the versions that are kept. A
-    release is told by its name and its place among the releases of the name, from 0; a place that is None is no release."""
+    """What is to be locked: the requirements of the active lines, an environment, an index, the versions that are kept, and whether
+    others count beside these. A release is told by its name and its place among the releases of the name, from 0; a place that is None
+    is no release."""
 
-    def __init__(self, lines, environment, index, kept):
+    def __init__(self, lines, environment, index, kept, only_kept=False):
         self.asked = active_requirements(lines, environment)
         self.environment = environment
         self.releases = index.releases
@@ -131,12 +132,24 @@ class Problem:
             for name, releases in index.releases.items()
         }
         self.kept = {name: self.place_of(name, order_key(version)) for name, version in kept.items()}
+        self.only_kept = only_kept
+        self.held = kept if only_kept else {}
         self.active = [self.need_of(requirement) for requirement in self.asked]
         self.needs = {}
 
     def place_of(self, name, key):
         """The place of the release whose version has this key in the order."""
         return self.places.get(name, {}).get(key)
+
+    def candidates(self, name):
+        """The places of a name's candidates in their turn: the kept version, and then the others from the newest, where they count."""
+        kept = self.kept.get(name)
+        if name in self.held:
+            return [] if kept is None else [kept]
+        return sorted(range(len(self.releases.get(name, []))), key=lambda place: (place != kept, place))
+
+    def candidate_keys(self, name):
+        return {order_key(self.releases[name][place].version) for place in self.candidates(name)}
 
     def runs(self, release):
         """Whether what a release asks of Python is met."""
@@ -220,7 +233,7 @@ def is_solution(problem, chosen):
 def solutions(problem):
     """All solutions, of all maps."""
     names = list(problem.releases)
-    for places in product(*([None, *range(len(problem.releases[name]))] for name in names)):
+    for places in product(*([None, *problem.candidates(name)] for name in names)):
         chosen = {name: place for name, place in zip(names, places) if place is not None}
         if is_solution(problem, chosen):
             yield chosen
@@ -228,14 +241,12 @@ def solutions(problem):
 
 def turns(problem, solution):
     """The turns of a solution's versions: names are taken as they are needed, the least one first, and the turn of a version is
-    its place among the candidates of its name, which are the kept version and then the others from the newest."""
+    its place among the candidates of its name."""
     taken, found = {}, []
     while taken.keys() != solution.keys():
         name = min(name for name, _ in needed_nodes(problem, taken) if name not in taken)
-        kept = problem.kept.get(name)
-        candidates = sorted(range(len(problem.releases[name])), key=lambda place: (place != kept, place))
         taken[name] = solution[name]
-        found.append(candidates.index(solution[name]))
+        found.append(problem.candidates(name).index(solution[name]))
     return found
 
 
@@ -295,9 +306,8 @@ def lacks(problem, need, choice):
 
 
 def is_left_without(problem, node, conflict, earlier):
-    """Whether no release of a node is left: with each of them the conflict has an earlier one in it."""
-    keys = problem.places.get(node[0], {})
-    return all(any(map((conflict | {Choice(*node, key)}).issuperset, earlier)) for key in keys)
+    """Whether no release of a node is left: with each candidate the conflict has an earlier one in it."""
+    return all(any(map((conflict | {Choice(*node, key)}).issuperset, earlier)) for key in problem.candidate_keys(node[0]))
 
 
 def case_of(problem, conflict, earlier):

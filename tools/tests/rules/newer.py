@@ -3,7 +3,7 @@ what an answer must be. It is written from the rules alone, so that it shares no
 
 from rules.locks import needed_nodes
 from rules.requirements import Requirement, holds, order_key, read_line, read_version
-from versions import canonical
+from rules.versions import canonical
 
 
 def requirement_text(requirement):

@@ -5,7 +5,7 @@ import re
 from typing import NamedTuple
 
 import places  # noqa: F401  (tools/ is on the path from here on)
-from versions import SPACE, Version, order_key, read_version, without_zeros
+from rules.versions import SPACE, Version, order_key, read_version, without_zeros
 
 BLANK = " \t"
 NAME = "[A-Za-z0-9](?:[A-Za-z0-9._-]*[A-Za-z0-9])?"

@@ -26,6 +26,7 @@ RELEASES = rf"(?:every release|{VERSIONS})"
 TERM = rf"(?:(?:every|any|the only) release of {NODE}|{NODE} {VERSIONS})"
 REQUIREMENTS = listed(REQUIREMENT, "or")
 MISSING = rf"the index has no (?:package ({NAME})(?:; near names: {NAME}(?:, {NAME})*)?|release of ({NAME}) that can be used)"
+HELD = rf"the lock keeps {VERSION}(?:, which the index doesn't have)?"
 # who asks: a line, as it is told in short, or each release of a term, which is told by its node
 WHO = rf"line [0-9]+(?: as constrained)?|the new line|the version asked for|{NODE}"
 # what may exclude releases, by what is told
@@ -66,7 +67,8 @@ class Cause(NamedTuple):
 class Step(NamedTuple):
     """A numbered sentence. Without `need` it says that the releases of the first term aren't left, or don't go with the others; else that
     no release of `node` is left, which a line needs (its text with what it asks for) or a term, the first one, by these requirements; they
-    are None where each release has some of its own. `missing` says what the index lacks where no release is told of."""
+    are None where each release has some of its own. `missing` says what the index lacks where no release is told of; `held` which
+    version of the name the lock keeps, where no other one counts."""
 
     terms: list[Term]
     node: str
@@ -74,6 +76,7 @@ class Step(NamedTuple):
     requirements: list[str] | None
     causes: list[Cause]
     missing: str | None
+    held: str | None = None
 
 
 class Explanation(NamedTuple):
@@ -186,4 +189,8 @@ def read_step(text, lines):
     node = words.must(NODE)
     want(needed in (None, node), "the node that is needed")
     words.must(" is left: ")
-    return Step(terms, node, need, requirements, read_causes(words.rest), None)
+    held = words.take(HELD)
+    if held is not None and words.rest:
+        words.must("; ")
+    causes = read_causes(words.rest) if words.rest or held is None else []
+    return Step(terms, node, need, requirements, causes, None, held)

@@ -84,7 +84,7 @@ def case_of(problem, conflict, earlier):
     if any(all(completes(conflict, term[:2], key, earlier) for key in term.keys) for term in conflict):
         return "each version of a term has an earlier conflict"
     for node in needed_nodes(problem, conflict):
-        if all(completes(conflict, node, key, earlier) for key in problem.places.get(node[0], {})):
+        if all(completes(conflict, node, key, earlier) for key in problem.candidate_keys(node[0])):
             return "no candidate of a needed node is left"
     return None
 

@@ -3,7 +3,7 @@
 import re
 
 from rules.requirements import NAME, normal, read_set, read_version, want
-from versions import canonical
+from rules.versions import canonical
 
 LARGEST = 2**64 - 1
 LARGEST_SIZE = 2**63 - 1

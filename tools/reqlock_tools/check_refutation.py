@@ -1,0 +1,359 @@
+"""Check a refutation that `reqlock why` printed, without reqlock.
+
+Give the files over which `why TEXT` was asked; REFUTATION is what it printed. `accepted` is printed, with status 0, where each
+conflict follows from those before it and the last one is empty: then no choice of versions meets the file. Else the first one
+that doesn't follow is printed, and what is left, with status 1. Where an input can't be read, the fault is told on standard
+error, with status 2. docs/RULES.md has the rules.
+
+Where `why` was asked with --keep-locked, give the lock with --keep: of each name that it has, its version alone counts then, but
+for names that are given with --upgrade, as they were to `why`.
+
+No line is shared with reqlock or its tests. Versions are read and ordered by packaging, or by pip's copy of it. Specifiers and
+markers are read here, since packaging differs from the rules: by its release it takes `===`, empty clauses, `==1a1.*` and older
+variables; 1.2a1 doesn't match `==1.2.0.*`, nor 1.0+local `>1.0a1`; and texts that are no versions are compared otherwise.
+"""
+
+import argparse
+import json
+import operator
+import re
+import sys
+from collections.abc import Callable, Iterable
+from typing import Any, NamedTuple
+
+from reqlock_tools.names import called, tool
+from reqlock_tools.refusal import Refusal, speaker
+from reqlock_tools.toml import read_toml
+
+say = speaker("check_refutation")
+
+Version: Any
+try:
+    from packaging.version import Version
+except ImportError:
+    try:
+        from pip._vendor.packaging.version import Version
+    except ImportError:
+        say(f"{sys.executable} has neither packaging nor pip; install one of them")
+        sys.exit(2)
+
+SPACE, BLANK = " \t\n\r\f\v", " \t"
+NAME = "[A-Za-z0-9](?:[A-Za-z0-9._-]*[A-Za-z0-9])?"
+ODD = re.compile("[\0-\x08\n-\x1f\x7f\x85\u2028\u2029]|^\ufeff")
+PARTS = re.compile(r"([A-Za-z0-9._-]*)[ \t]*(?:\[([^]]*)\])?[ \t]*([^;]*)(?:;(.*))?", re.DOTALL)
+SIDE = r"""('[ -&(-[\]-~]*'|"[ !#-[\]-~]*"|\b[a-z_]+\b)"""
+ATOM = re.compile(rf"{SIDE}[ \t]*(~=|==|!=|<=|>=|<|>|(?:\bnot[ \t]+)?\bin\b)[ \t]*{SIDE}")
+VARIABLES = (
+    "implementation_name implementation_version os_name platform_machine platform_python_implementation platform_release"
+    " platform_system platform_version python_full_version python_version sys_platform"
+).split()
+SIGNS: dict[str, Callable[[Any, Any], bool]] = {
+    "==": operator.eq, "!=": operator.ne, "<": operator.lt, "<=": operator.le, ">": operator.gt, ">=": operator.ge,
+}
+LARGEST, MOST_OPEN, MOST_TOLD = 2**64 - 1, 64, 10
+
+Extra = str | None
+Choice = tuple[str, Extra, Any]
+Conflict = frozenset[Choice]
+
+
+class Clause(NamedTuple):
+    sign: str
+    version: Any
+    is_prefix: bool
+
+
+class Requirement(NamedTuple):
+    text: str
+    name: str
+    nodes: list[tuple[str, Extra]]
+    clauses: list[Clause]
+    marker: str | None
+
+
+class Release(NamedTuple):
+    version: Any
+    python: list[Clause]
+    needs: list[Requirement]
+    is_yanked: bool
+
+
+def want(holds: object, fault: str) -> None:
+    if not holds:
+        raise Refusal(fault)
+
+
+def read_version(text: str) -> Any:
+    text = text.strip(SPACE)
+    want(re.fullmatch("[!-~]+", text), "bad-version")
+    try:
+        found = Version(text)
+    except ValueError:
+        raise Refusal("bad-version") from None
+    numbers = [found.epoch, *found.release, *(found.pre or ())[1:], found.post or 0, found.dev or 0]
+    numbers += [int(part) for part in (found.local or "").split(".") if part.isdigit()]
+    want(max(numbers) <= LARGEST, "number-too-large")
+    return found
+
+
+def parts_of(pattern: str | re.Pattern[str], text: str, flags: int = 0) -> tuple[Any, ...]:
+    """The groups of a pattern that each text matches."""
+    found = re.fullmatch(pattern, text, flags)
+    want(found, "bad-text")
+    return found.groups() if found else ()
+
+
+def read_clause(text: str) -> Clause:
+    sign, rest, star = parts_of(r"(~=|==|!=|<=|>=|<|>|)(.*?)(\.\*)?", text.strip(BLANK), re.DOTALL)
+    rest = rest.lstrip(BLANK)
+    want(sign and rest == rest.strip(SPACE), "bad-clause")
+    version = read_version(rest)
+    is_bare = {version.pre, version.post, version.dev, version.local} == {None}
+    want(sign in ("==", "!=") or not star and not version.local, "bad-clause")
+    want((is_bare or not star) and (sign != "~=" or len(version.release) > 1), "bad-clause")
+    return Clause(sign, version, star is not None)
+
+
+def read_set(text: str) -> list[Clause]:
+    pieces = text.split(",") if text.strip(BLANK) else []
+    return list(map(read_clause, pieces[:-1] if len(pieces) > 1 and not pieces[-1].strip(BLANK) else pieces))
+
+
+def matches(clauses: Iterable[Clause], version: Any) -> bool:
+    public = Version(version.public) if version.local else version
+    for sign, wanted, is_prefix in clauses:
+        begin = wanted.release[: -1 if sign == "~=" else None]
+        begins = version.epoch == wanted.epoch and (version.release + (0,) * len(begin))[: len(begin)] == begin
+        ours = version if wanted.local else public
+        is_odd = {"<": ours.is_prerelease > wanted.is_prerelease, ">": ours.is_postrelease > wanted.is_postrelease}.get(sign)
+        if is_prefix or sign == "~=":
+            is_met = begins == (sign != "!=") and (is_prefix or ours >= wanted)
+        else:
+            is_met = SIGNS[sign](ours, wanted) and not (is_odd and Version(ours.base_version) == Version(wanted.base_version))
+        if not is_met:
+            return False
+    return True
+
+
+def atom_holds(left: str, sign: str, right: str, environment: dict[str, str], extra: Extra) -> bool:
+    for side in left, right:
+        want(side[0] in "'\"" or side in VARIABLES or side == "extra" and sign in ("==", "!="), "bad-marker")
+    if "extra" in (left, right):
+        quoted = right if left == "extra" else left
+        want(quoted[0] in "'\"", "bad-marker")
+        return (re.sub("[-_.]+", "-", quoted[1:-1]).lower() == extra) == (sign == "==")
+    left, right = (side[1:-1] if side[0] in "'\"" else environment.get(side, "") for side in (left, right))
+    if sign.endswith("in"):
+        return (left in right) == (sign == "in")
+    try:
+        want("," not in right, "bad-clause")
+        return matches([read_clause(sign + right)], read_version(left))
+    except Refusal:
+        return sign in SIGNS and SIGNS[sign](left, right)
+
+
+def joined(text: str) -> str:
+    want(re.fullmatch("[TF]((and|or)[TF])*", text), "bad-marker")
+    return "T" if any("F" not in part for part in text.split("or")) else "F"
+
+
+def holds(marker: str | None, environment: dict[str, str], extra: Extra = None) -> bool:
+    """Whether a marker holds, or there is none: its atoms are answered, then what stands in parentheses, the innermost first."""
+    if marker is None:
+        return True
+    text = ATOM.sub(lambda it: " T " if atom_holds(it[1], it[2], it[3], environment, extra) else " F ", marker)
+    text = re.sub("[ \t]+(?![a-z])|(?<![a-z])[ \t]+", "", text)
+    for _ in range(MOST_OPEN):
+        text = re.sub(r"\(([^()]*)\)", lambda it: joined(it[1]), text)
+    return joined(text) == "T"
+
+
+def read_name(text: str) -> str:
+    want(re.fullmatch(NAME, text), "bad-name")
+    return re.sub("[-_.]+", "-", text).lower()
+
+
+def read_requirement(text: str) -> Requirement:
+    text = text.strip(BLANK)
+    name, extras, part, marker = parts_of(PARTS, text)
+    name, part = read_name(name), part.strip(BLANK)
+    want(part[:1] not in ("[", "@"), "url-requirement" if part[:1] == "@" else "bad-name")
+    extras = [read_name(piece.strip(BLANK)) for piece in extras.split(",")] if (extras or "").strip(BLANK) else []
+    clauses = read_set(part[1:-1] if part[:1] == "(" and part[-1] == ")" else part)
+    holds(marker, {})
+    return Requirement(text, name, [(name, extra) for extra in (None, *extras)], clauses, marker)
+
+
+def read_line(line: str) -> Requirement | None:
+    body = re.sub("\r?\n\\Z", "", line)
+    want(not ODD.search(body), "odd-character")
+    want(not body.endswith("\\"), "continuation")
+    want(not body.lstrip(BLANK).startswith("-"), "option-line")
+    text = re.split(r"(?:^|(?<=[ \t]))#", body, maxsplit=1)[0]
+    return read_requirement(text) if text.strip(BLANK) else None
+
+
+def read_conflict(line: str) -> Conflict:
+    texts = line.removesuffix("\n").split(" ") if line != "-\n" else []
+    found = [re.fullmatch(r"([a-z0-9-]+)(?:\[([a-z0-9-]+)\])?==([!-~]+)", text) for text in texts]
+    want(all(found) and texts == sorted(set(texts)), "no conflict, which is - or sorted choices NAME==VERSION")
+    return frozenset((it[1], it[2], read_version(it[3])) for it in found if it)
+
+
+def read_index(text: str) -> dict[str, list[dict[str, Any]]]:
+    """The releases of each name, as they stand there. Their form is tested as far as they are read."""
+    value, found = json.loads(text), dict[str, list[dict[str, Any]]]()
+    want(isinstance(value, dict) and value.get("snapshot") == 1, called("no index of reqlock; tools/snapshot.py makes one"))
+    for package in value["packages"]:
+        for release in package["releases"]:
+            texts = [release["version"], release.get("requires_python") or "", *(release.get("requires_dist") or [])]
+            texts += [file["name"] for file in release["files"]]
+            want(all(isinstance(text, str) for text in texts), f"in {package['name']!a} something is no text that should be one")
+        name = read_name(package["name"])
+        want(name not in found, f"duplicate-package {name}")
+        found[name] = package["releases"]
+    return found
+
+
+def read_held(text: str) -> dict[str, Any]:
+    """The versions that a lock has, by name."""
+    packages = read_toml(text)["packages"]
+    found = {read_name(package["name"]): read_version(package["version"]) for package in packages}
+    want(len(found) == len(packages), "a name stands twice in it")
+    return found
+
+
+def read_environment(text: str) -> dict[str, str]:
+    value = json.loads(text)
+    for name in VARIABLES:
+        want(re.fullmatch(r"[ !#-[\]-~]*", value[name]), called(f"bad-environment {name}; tools/environment.py makes one"))
+    value["python_full_version"] = value["python_full_version"].removesuffix("+")
+    list(map(read_version, (value["python_version"], value["python_full_version"])))
+    return {name: value[name] for name in VARIABLES}
+
+
+def at(place: str, read: Callable[..., Any], *values: Any) -> Any:
+    """What is read of the values. A fault tells the place."""
+    try:
+        return read(*values)
+    except (TypeError, LookupError, AttributeError):
+        raise Refusal(f"{place}: it isn't of the form that docs/RULES.md tells") from None
+    except (OSError, ValueError, RecursionError, Refusal) as fault:
+        raise Refusal(f"{place}: {getattr(fault, 'strerror', None) or fault}") from None
+
+
+def of_file(path: str | int, read: Callable[[str], Any], is_by_line: bool = False) -> Any:
+    with open(path, "rb") as file:
+        text = file.read().decode()
+    lines = re.findall(r"[^\n]*\n|[^\n]+\Z", text)
+    return [at(f"line {number}", read, line) for number, line in enumerate(lines, 1)] if is_by_line else read(text)
+
+
+class Problem:
+    """What has no solution. Of a name that is held, its version alone is a candidate."""
+
+    def __init__(
+        self, packages: dict[str, list[dict[str, Any]]], environment: dict[str, str], lines: list[Requirement | None],
+        held: dict[str, Any] | None = None,
+    ) -> None:
+        self.packages, self.environment, self.held = packages, environment, held or {}
+        self.read: dict[str, dict[Any, Release]] = {}
+        self.admitted: dict[str, set[Any]] = {}
+        self.python = read_version(environment["python_full_version"])
+        self.lines = [line for line in lines if line and holds(line.marker, environment)]
+
+    def releases(self, name: str) -> dict[Any, Release]:
+        """The releases of a name by version, without those that can't be read, have no file or stand twice."""
+        if name not in self.read:
+            found: dict[Any, Release] = {}
+            self.read[name] = found
+            for it in self.packages.get(name, []):
+                try:
+                    version, python = read_version(it["version"]), read_set(it.get("requires_python") or "")
+                    needs = list(map(read_requirement, it.get("requires_dist") or []))
+                except Refusal:
+                    continue
+                if any(file["name"].endswith((".whl", ".tar.gz", ".zip")) for file in it["files"]):
+                    found.setdefault(version, Release(version, python, needs, it.get("yanked", False)))
+        return self.read[name]
+
+    def candidates(self, name: str) -> list[Any]:
+        """The versions of a name that a solution may have."""
+        return [version for version in self.releases(name) if self.held.get(name, version) == version]
+
+    def all_admitted(self, requirement: Requirement) -> set[Any]:
+        """The versions of the releases that a requirement admits."""
+        if requirement.text not in self.admitted:
+            found = [it for it in self.releases(requirement.name).values() if matches(requirement.clauses, it.version)]
+            found = [it for it in found if matches(it.python, self.python)]
+            clauses = [clause for it in [requirement, *self.lines] if it.name == requirement.name for clause in it.clauses]
+            pins = any(clause.sign == "==" and not clause.is_prefix for clause in clauses)
+            pre = any(clause.sign != "!=" and clause.version.is_prerelease for clause in clauses)
+            pre = pre or all(it.version.is_prerelease or it.is_yanked for it in found)
+            found = [it for it in found if (pins or not it.is_yanked) and (pre or not it.version.is_prerelease)]
+            self.admitted[requirement.text] = {it.version for it in found}
+        return self.admitted[requirement.text]
+
+    def left(self, conflict: Conflict, earlier: dict[Choice | None, list[Conflict]]) -> list[str] | None:
+        """For each needed node a release that is left; None where the conflict follows. Earlier ones stand under a choice."""
+        versions = {name: version for name, _, version in conflict}
+        needs, found = [("a line", line) for line in self.lines], dict[tuple[str, Extra], str]()
+        for name, extra, version in conflict:
+            asked = getattr(self.releases(name).get(version), "needs", [])
+            needs += [(told([(name, extra, version)]), it) for it in asked if holds(it.marker, self.environment, extra)]
+        refuses = any(it.name in versions and versions[it.name] not in self.all_admitted(it) for _, it in needs)
+        if refuses or any(versions[name] != version for name, _, version in conflict):
+            return None
+        for who, node, text in ((who, node, it.text) for who, it in needs for node in it.nodes):
+            for version in self.candidates(node[0]):
+                choices = conflict | {(*node, version)}
+                if not any(it <= choices for choice in (None, *choices) for it in earlier.get(choice, ())):
+                    break
+            else:
+                return None
+            found[node] = f"{who} needs {text.encode('unicode_escape').decode()}, and {told([(*node, version)])} is left"
+        return list(found.values())
+
+
+def told(conflict: Iterable[Choice]) -> str:
+    return " ".join(sorted(f"{name}[{extra}]=={it}" if extra else f"{name}=={it}" for name, extra, it in conflict)) or "-"
+
+
+def check(problem: Problem, conflicts: list[Conflict]) -> list[str]:
+    """What there is to say against a refutation, in lines; none where it is accepted."""
+    earlier: dict[Choice | None, list[Conflict]] = {}
+    for number, conflict in enumerate(conflicts, 1):
+        if (left := problem.left(conflict, earlier)) is not None:
+            return [f"line {number}: {told(conflict)} doesn't follow from those before", *(f"  {it}" for it in left[:MOST_TOLD])]
+        rarest = min(conflict, key=lambda choice: len(earlier.get(choice, ())), default=None)
+        earlier.setdefault(rarest, []).append(conflict)
+    end = f"line {len(conflicts)}: the last conflict isn't the empty one, -" if conflicts else "there is no conflict at all"
+    return [] if conflicts and not conflicts[-1] else [end]
+
+
+def main(words: list[str]) -> int:
+    parser = argparse.ArgumentParser(
+        prog=tool("check_refutation"), description=called(__doc__ or ""), formatter_class=argparse.RawDescriptionHelpFormatter
+    )
+    for name in "INDEX", "ENVIRONMENT", "REQUIREMENTS":
+        parser.add_argument(name)
+    parser.add_argument("--line", metavar="TEXT", default="", help="the text that `why` was given")
+    parser.add_argument("--keep", metavar="LOCK", help="the lock, where `why` was asked with --keep-locked")
+    parser.add_argument(
+        "--upgrade", metavar="NAME", action="append", default=[], help="a name whose versions all count; may stand several times"
+    )
+    options = parser.parse_args(words)
+    try:
+        packages = at(options.INDEX, of_file, options.INDEX, read_index)
+        environment = at(options.ENVIRONMENT, of_file, options.ENVIRONMENT, read_environment)
+        lines = at(options.REQUIREMENTS, of_file, options.REQUIREMENTS, read_line, True) + [at("--line", read_line, options.line)]
+        held = at(options.keep, of_file, options.keep, read_held) if options.keep is not None else {}
+        freed = [at("--upgrade", read_name, name) for name in options.upgrade]
+        held = {name: version for name, version in held.items() if name not in freed}
+        against = check(Problem(packages, environment, lines, held), at("standard input", of_file, 0, read_conflict, True))
+    except Refusal as fault:
+        say(str(fault))
+        return 2
+    print("\n".join(against) or "accepted")
+    return int(against != [])
+

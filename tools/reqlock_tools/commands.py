@@ -1,0 +1,59 @@
+"""The commands that an installed wheel has, and what the scripts of a checkout run. Each is a module's `main`."""
+
+import importlib
+import os
+import sys
+
+from reqlock_tools.refusal import speaker
+
+FAILED = 1
+
+
+def call(module: str) -> int:
+    """The status of a tool. An output that nobody reads any more ends it without a word, one that can't be written is told."""
+    try:
+        status: int = importlib.import_module(f"reqlock_tools.{module}").main(sys.argv[1:])
+        sys.stdout.flush()
+    except BrokenPipeError:
+        forget_output()
+        return FAILED
+    except OSError as fault:
+        if fault.filename is not None:
+            raise
+        forget_output()
+        speaker(module)(f"standard output: {fault.strerror}")
+        return FAILED
+    return status
+
+
+def forget_output() -> None:
+    """Has python3 end without another try to write what is left."""
+    os.dup2(os.open(os.devnull, os.O_WRONLY), sys.stdout.fileno())
+
+
+def adopt() -> int:
+    return call("adopt")
+
+
+def check_refutation() -> int:
+    return call("check_refutation")
+
+
+def environment() -> int:
+    return call("environment")
+
+
+def fleet() -> int:
+    return call("fleet")
+
+
+def hashes() -> int:
+    return call("hashed_requirements")
+
+
+def portable_lock() -> int:
+    return call("portable_lock")
+
+
+def snapshot() -> int:
+    return call("snapshot")

@@ -1,0 +1,179 @@
+"""What a fleet is asked: the folders, the words of the program, and the tests that are made before any folder is touched."""
+
+import argparse
+import os
+import tempfile
+from dataclasses import dataclass
+from difflib import get_close_matches
+from typing import NamedTuple
+
+from reqlock_tools.fleet_call import NO_PROGRAM, Told, tell
+from reqlock_tools.refusal import Refusal, Say
+
+# The subcommands that have one reply for a folder, each with the words of the `why` that asks about it.
+WHY: dict[str, list[str]] = {
+    "init": ["--init"], "add": ["--"], "remove": ["--remove"], "constrain": ["--constrain"], "upgrade": ["--upgrade"], "relock": [],
+    "check": [], "undo": [], "redo": [],
+}
+# The others, with what to do in their place.
+OTHERS = {
+    "batch": "it reads standard input, which folders can't share: ask its lines one by one",
+    "try": "it reads standard input, which folders can't share: ask its lines one by one, with --dry-run",
+    "skipped": "it reads the index and no folder: type reqlock --index FILE skipped",
+    "why": "with --explain before -- each folder without a solution is asked why",
+    "help": "type reqlock help",
+} | {name: f"it has no reply: type reqlock --dir FOLDER {name} for each folder" for name in ("show", "log", "diff", "outdated")}
+FLAGS = "--dry-run", "--keep-locked", "--verbose", "-v", "--current"
+OWN = "--index", "--env", "--json"
+
+
+class Usage(Refusal):
+    """Words that are no request."""
+
+
+class Words(NamedTuple):
+    """The words of the program: a subcommand, its flags, and the texts behind it."""
+
+    subcommand: str
+    flags: list[str]
+    texts: list[str]
+
+    def is_dry(self) -> bool:
+        """Whether the call saves nothing."""
+        return self.subcommand == "check" or "--dry-run" in self.flags
+
+    def of_call(self) -> list[str]:
+        """What is called in a folder. A call that saves tells on standard error what changed."""
+        flags = list(self.flags)
+        if not self.is_dry() and "-v" not in flags and "--verbose" not in flags:
+            flags.append("--verbose")
+        return [self.subcommand, *flags, "--", *self.texts] if self.texts else [self.subcommand, *flags]
+
+    def of_why(self) -> list[str]:
+        kept = [flag for flag in self.flags if flag == "--keep-locked"]
+        return ["why", "--explain", *kept, *WHY[self.subcommand], *self.texts]
+
+
+class Task(NamedTuple):
+    """A folder, by its place in the order and its name as it was given, with the calls that are made in it, and whether they begin
+    its history."""
+
+    place: int
+    folder: str
+    path: str
+    command: list[str]
+    why: list[str]
+    begins: bool
+
+
+def read_words(words: list[str]) -> Words:
+    flags: list[str] = []
+    texts: list[str] = []
+    for place, word in enumerate(words):
+        if word == "--":
+            texts += words[place + 1 :]
+            break
+        option = word.partition("=")[0]
+        if option in OWN:
+            raise Usage(f"{option} stands before --, with the folders")
+        if option == "--dir":
+            raise Usage("--dir isn't given to a fleet: the folders stand before --")
+        (flags if word.startswith("-") and word != "-" else texts).append(word)
+    known = f"a fleet is asked {', '.join(WHY)}"
+    if not texts:
+        raise Usage(f"a subcommand is missing: it stands behind --; {known}")
+    subcommand, *rest = texts
+    if subcommand in OTHERS:
+        raise Usage(f"{subcommand}: {OTHERS[subcommand]}; {known}")
+    if subcommand not in WHY:
+        near = "".join(f"; did you mean {name}?" for name in get_close_matches(subcommand, WHY, 1))
+        raise Usage(f"{subcommand}: reqlock has no such subcommand{near}; {known}")
+    return Words(subcommand, flags, rest)
+
+
+def folders_of(given: list[str], say: Say) -> list[str]:
+    """The folders in their order, each once."""
+    found: dict[str, str] = {}
+    for folder in given:
+        if not folder:
+            raise Usage("an empty text is no folder")
+        if found.setdefault(os.path.realpath(folder), folder) is not folder:
+            say(f"{folder}: this folder is named twice; it is asked once")
+    return list(found.values())
+
+
+@dataclass(frozen=True)
+class Request:
+    """What is done: these words, by this program, with this index and these environments."""
+
+    words: Words
+    program: str
+    index: str | None
+    environments: list[str]
+    explains: bool
+
+    def options(self, folder: str) -> list[str]:
+        index = [f"--index={self.index}"] if self.index else []
+        return [f"--dir={folder}", *index, *(f"--env={it}" for it in self.environments)]
+
+    def files(self) -> list[str]:
+        """The files that each call reads beside those of its folder."""
+        return [*([self.index] if self.index else []), *(it.partition("=")[2] or it for it in self.environments)]
+
+    def task(self, place: int, folder: str, path: str) -> Task:
+        start = [self.program, *self.options(path)]
+        why = [*start, *self.words.of_why()] if self.explains else []
+        return Task(place, folder, path, [*start, *self.words.of_call()], why, self.words.subcommand == "init")
+
+
+def request_of(options: argparse.Namespace, words: list[str]) -> Request:
+    """The request of the options. For workers all paths are whole."""
+    index, environments, program = options.index or os.environ.get("REQLOCK_INDEX") or None, options.env, options.program
+    if options.dask:
+        index = index and os.path.abspath(index)
+        environments = [f"{name}={os.path.abspath(file)}" for name, file in map(divided, environments)]
+        program = os.path.abspath(program)
+    elif os.path.exists(program):
+        program = os.path.abspath(program)
+    return Request(read_words(words), program, index, environments, options.explain)
+
+
+def divided(environment: str) -> tuple[str, str]:
+    """The name and the file of a value of --env."""
+    name, sign, file = environment.partition("=")
+    return (name, file) if sign else ("", name)
+
+
+def checked(told: Told, request: Request) -> Told:
+    """A call that was made; where none could be made, the program is refused."""
+    if told[0] == NO_PROGRAM or told[0] < 0:
+        fault = told[2].strip() or f"{request.program}: signal {-told[0]} ended it"
+        raise Refusal(f"{fault}; give the program by --program, or put reqlock on the PATH")
+    return told
+
+
+def check_request(request: Request) -> None:
+    """The program reads the words, the index and the environments. It is asked in an empty folder, so no other is touched."""
+    with tempfile.TemporaryDirectory() as folder:
+        status, _, errors = checked(tell([request.program, *request.options(folder), *request.words.of_call()]), request)
+        if status == 2:
+            raise Usage(errors.strip().removeprefix("error: ").removeprefix("reqlock: "))
+        begins = request.words.subcommand == "init"
+        if begins:
+            with open(os.path.join(folder, "requirements.txt"), "wb"):
+                pass
+        if request.index:
+            subcommand = "try" if begins else "skipped"
+            status, _, errors = checked(tell([request.program, *request.options(folder), subcommand]), request)
+            if status not in (0, 3):
+                raise Refusal(input_fault(errors, request))
+
+
+def input_fault(errors: str, request: Request) -> str:
+    """What the program told of an input, with the name of the file."""
+    what, _, word = errors.strip().removeprefix("reqlock: ").partition(": ")
+    name = what.removeprefix("environment").strip()
+    files = {f"environment {name}".strip(): file for name, file in map(divided, request.environments)}
+    path = request.index if what == "index" else files.get(f"environment {name}".strip(), what)
+    maker = {"index": "reqlock-snapshot", "environment": "reqlock-environment"}.get(what.partition(" ")[0], "")
+    return f"{path}: {word or what}" + (f"; {maker} makes such a file" if maker else "")

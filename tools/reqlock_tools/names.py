@@ -1,0 +1,29 @@
+"""The names of the tools: each is a command where it is installed, and a script in a checkout."""
+
+import os
+import re
+import sys
+
+# The command of each module that has a `main`.
+COMMANDS = {
+    "adopt": "reqlock-adopt", "check_refutation": "reqlock-check-refutation", "environment": "reqlock-environment",
+    "fleet": "reqlock-fleet", "hashed_requirements": "reqlock-hashes", "portable_lock": "reqlock-portable-lock",
+    "snapshot": "reqlock-snapshot",
+}
+SCRIPT = re.compile(rf"(?:tools/)?\b({'|'.join(COMMANDS)})\.py\b")
+
+
+def is_installed() -> bool:
+    """Whether the tool that runs was called as a command."""
+    return os.path.basename(sys.argv[0]) in COMMANDS.values()
+
+
+def tool(module: str) -> str:
+    """How a tool is called here."""
+    return COMMANDS[module] if is_installed() else f"{module}.py"
+
+
+def called(text: str) -> str:
+    """A text for the user, in which scripts stand as NAME.py or tools/NAME.py, with the names of the commands where they are
+    installed."""
+    return SCRIPT.sub(lambda found: COMMANDS[found[1]], text) if is_installed() else text

@@ -1,0 +1,43 @@
+"""A bar on the terminal at standard error, where that is one: the library `rich` draws it."""
+
+import sys
+import time
+from typing import Any
+
+from reqlock_tools.libraries import library
+
+SECONDS_BETWEEN_LOOKS = 0.1
+
+
+class Progress:
+    """What is done so far. It is shown now and then, and leaves nothing behind."""
+
+    def __init__(self) -> None:
+        self.start, self.looked = time.monotonic(), 0.0
+        self.rich = library("rich.progress") if sys.stderr.isatty() else None
+        self.bar: Any = None
+
+    def seconds(self) -> float:
+        return time.monotonic() - self.start
+
+    def is_due(self) -> bool:
+        """Whether it is worth while to show what is done."""
+        return self.rich is not None and time.monotonic() - self.looked >= SECONDS_BETWEEN_LOOKS
+
+    def show(self, text: str, done: int, count: int) -> None:
+        if not self.is_due():
+            return
+        self.looked = time.monotonic()
+        if self.bar is None:
+            rich = self.rich
+            columns = rich.TextColumn("{task.description}", markup=False), rich.BarColumn(), rich.TimeElapsedColumn()
+            console = library("rich.console").Console(stderr=True)
+            self.bar = rich.Progress(*columns, console=console, transient=True, redirect_stdout=False, redirect_stderr=False)
+            self.bar.add_task(text)
+            self.bar.start()
+        self.bar.update(self.bar.task_ids[0], description=text, completed=done, total=max(count, 1))
+
+    def clear(self) -> None:
+        if self.bar is not None:
+            self.bar.stop()
+            self.bar = None

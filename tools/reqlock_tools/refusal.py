@@ -1,0 +1,35 @@
+"""What a tool refuses, and how it tells so."""
+
+import sys
+from collections.abc import Callable
+
+from reqlock_tools.names import tool
+
+Say = Callable[[str], None]
+# A line on standard error has no more characters than these.
+LONGEST_LINE = 2**15
+
+
+class Refusal(Exception):
+    """What is wrong, beginning with the file, folder or URL."""
+
+
+def shown(text: str) -> str:
+    """A text in which nothing can act on a terminal."""
+    return "".join(it if it.isprintable() else it.encode("unicode_escape").decode() for it in text)
+
+
+def speaker(module: str) -> Say:
+    """What tells lines on standard error, each behind the name of the tool that has this module."""
+
+    def say(text: str) -> None:
+        print(f"{tool(module)}: {shown(text[:LONGEST_LINE])}{' ..' if len(text) > LONGEST_LINE else ''}", file=sys.stderr)
+
+    return say
+
+
+def fault_text(fault: Exception) -> str:
+    """What is told of a refusal, or of a file that can't be read or written."""
+    if isinstance(fault, OSError) and fault.filename is not None:
+        return f"{fault.filename}: {fault.strerror}"
+    return str(fault)

@@ -1,0 +1,39 @@
+"""What locks have, which stays in a snapshot."""
+
+from collections.abc import Iterable
+
+from reqlock_tools.files import Node, read_text
+from reqlock_tools.refusal import Refusal
+from reqlock_tools.toml import read_toml
+from reqlock_tools.versions import Version, normal, read_version
+
+Locked = dict[str, set[Version]]
+
+
+def read_lock(path: str) -> Node:
+    text = read_text(path)
+    try:
+        return Node(path, read_toml(text))
+    except Refusal as fault:
+        raise Refusal(f"{path}: {fault}") from None
+
+
+def version_of_package(package: Node) -> Version | None:
+    """The version of a package; None where the lock tells none, as it may of a folder or a repository."""
+    told = package.member("version")
+    if told.value is None:
+        return None
+    found = read_version(told.text())
+    told.want(found is not None, "a version")
+    return found
+
+
+def locked_versions(paths: Iterable[str]) -> Locked:
+    """The versions that locks have, by the normal names of packages."""
+    found: Locked = {}
+    for path in paths:
+        for package in read_lock(path).member("packages").items():
+            version = version_of_package(package)
+            if version is not None:
+                found.setdefault(normal(package.member("name").name()), set()).add(version)
+    return found

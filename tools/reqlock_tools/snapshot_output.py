@@ -1,0 +1,55 @@
+"""What snapshot.py writes: its lines on standard error, and the snapshot."""
+
+import json
+import os
+import sys
+from typing import Any
+
+from reqlock_tools.files import is_own, usual_mode, write_whole
+from reqlock_tools.refusal import Refusal, speaker
+
+Packages = dict[str, dict[str, Any]]
+
+say = speaker("snapshot")
+
+
+def plural(count: int, noun: str) -> str:
+    return f"{count} {noun}" + ("" if count == 1 else "s")
+
+
+def compact(value: object) -> str:
+    return json.dumps(value, ensure_ascii=False, separators=(",", ":"))
+
+
+def snapshot_text(packages: Packages) -> str:
+    """The snapshot, with a line for each release."""
+    texts = []
+    for package in packages.values():
+        releases = ",\n".join(map(compact, package["releases"]))
+        texts.append(f'{{"name":{compact(package["name"])},"releases":[\n{releases}]}}')
+    return '{"snapshot":1,"packages":[\n' + ",\n".join(texts) + "]}\n"
+
+
+def refuse_place(output: str | None) -> None:
+    """Refuses, before anything is read, a place where no file can come to stand."""
+    if output is not None and os.path.isdir(output):
+        raise Refusal(f"{output}: it is a folder; --output names a file")
+    if output is not None and not os.path.isdir(os.path.dirname(os.path.realpath(output))):
+        raise Refusal(f"{output}: the folder for it isn't there")
+    if output is not None and os.path.islink(output):
+        owner, folder = os.lstat(output).st_uid, os.stat(os.path.dirname(output) or ".")
+        if not is_own(os.lstat(output)) and owner != folder.st_uid:
+            raise Refusal(f"{output}: a link of another user stands there")
+
+
+def write_snapshot(packages: Packages, output: str | None) -> None:
+    """Writes the snapshot to a file, whole or not at all, or to standard output where none is named."""
+    data = snapshot_text(packages).encode()
+    if output is None:
+        sys.stdout.buffer.write(data)
+        sys.stdout.buffer.flush()
+    elif os.path.exists(output) and not os.path.isfile(output):
+        with open(output, "wb") as file:
+            file.write(data)
+    else:
+        write_whole(os.path.realpath(output), data, usual_mode())

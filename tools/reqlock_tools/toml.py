@@ -1,0 +1,44 @@
+"""TOML that others wrote, read within bounds: Python's own reader takes time and memory without measure for some short texts."""
+
+import re
+import tomllib
+from typing import Any
+
+from reqlock_tools.refusal import Refusal
+
+# No key has so many parts, and no number so many digits.
+MOST_PARTS = 32
+MOST_DIGITS = 64
+STRING = r'"""(?:[^"\\]|\\.|"(?!""))*"{3,5}' r"|'''(?:[^']|'(?!''))*'{3,5}" r'|"(?:[^"\\\n]|\\.)*"' r"|'[^'\n]*'"
+TOKEN = re.compile(
+    rf"(?:{STRING}|#[^\n]*)|(?P<open>[\"'])|(?P<mark>[.\n=,{{}}\[\]])|(?P<digits>[0-9_]{{{MOST_DIGITS},}})", re.DOTALL
+)
+
+
+def refuse_long(text: str) -> None:
+    """Refuses keys of many parts, and numbers of many digits."""
+    parts = 0
+    for found in TOKEN.finditer(text):
+        if found["open"]:
+            raise Refusal("it is no TOML: a text in it has no end")
+        if found["digits"]:
+            raise Refusal(f"it has a number or a key of over {MOST_DIGITS} digits")
+        if found["mark"]:
+            parts = parts + 1 if found["mark"] == "." else 0
+        if parts >= MOST_PARTS:
+            raise Refusal(f"it has a key of over {MOST_PARTS} parts")
+
+
+def read_toml(text: str) -> dict[str, Any]:
+    refuse_long(text)
+    try:
+        return tomllib.loads(text)
+    except (ValueError, RecursionError) as error:
+        raise Refusal(f"it is no TOML: {error}") from None
+
+
+def array_end(text: str, start: int) -> int | None:
+    """The place behind the bracket that ends an array of texts, which begins at a place; None where none does."""
+    marks = (found for found in TOKEN.finditer(text, start) if found["mark"] == "]" or found["open"])
+    end = next(marks, None)
+    return end.end() if end and end["mark"] else None

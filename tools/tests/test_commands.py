@@ -1,0 +1,83 @@
+"""Tests of what the tools have in common: their names as scripts of a checkout and as installed commands, and what they tell of words
+and of an output that are wrong."""
+
+import os
+import subprocess
+import sys
+import tempfile
+import unittest
+from pathlib import Path
+from unittest import mock
+
+from places import TOOLS
+from test_install import COMMANDS
+
+from reqlock_tools import names
+
+
+class Names(unittest.TestCase):
+    def test_are_those_by_which_a_tool_is_called(self):
+        with mock.patch.object(sys, "argv", ["/usr/bin/reqlock-hashes"]):
+            self.assertEqual(names.tool("snapshot"), "reqlock-snapshot")
+            self.assertEqual(names.called("`snapshot.py simple` and tools/environment.py"), "`reqlock-snapshot simple` and reqlock-environment")
+            self.assertEqual(names.called("my_snapshot.py, other.py"), "my_snapshot.py, other.py")
+        with mock.patch.object(sys, "argv", ["tools/hashed_requirements.py"]):
+            self.assertEqual(names.tool("snapshot"), "snapshot.py")
+            self.assertEqual(names.called("tools/environment.py"), "tools/environment.py")
+
+    def test_are_of_all_commands(self):
+        self.assertEqual(["reqlock", *sorted(names.COMMANDS.values())], sorted(COMMANDS))
+
+
+class Calls(unittest.TestCase):
+    """The scripts, and the same under the names of commands."""
+
+    def setUp(self):
+        folder = tempfile.TemporaryDirectory()
+        self.addCleanup(folder.cleanup)
+        self.folder = Path(folder.name)
+        for module, command in names.COMMANDS.items():
+            (self.folder / command).symlink_to(TOOLS / f"{module}.py")
+
+    def run_tool(self, command, *words, output=subprocess.PIPE):
+        return subprocess.run(
+            [sys.executable, "-B", self.folder / command, *words], cwd=self.folder, stdin=subprocess.DEVNULL, stdout=output,
+            stderr=subprocess.PIPE, encoding="utf-8", check=False,
+        )
+
+    def test_help_and_wrong_words(self):
+        for command in names.COMMANDS.values():
+            with self.subTest(command=command):
+                done = self.run_tool(command, "--help")
+                self.assertEqual((done.returncode, done.stderr), (0, ""))
+                self.assertTrue(done.stdout.startswith(f"usage: {command} "), done.stdout)
+                self.assertNotRegex(done.stdout, r"\w\.py\b")
+                for words in ["--hlep"], ["a"] * 9:
+                    done = self.run_tool(command, *words)
+                    self.assertEqual((done.returncode, done.stdout), (2, ""))
+                    self.assertIn(f"{command}: error: ", done.stderr)
+
+    def test_a_file_that_is_not_there_is_named(self):
+        for command, *words in (
+            ("reqlock-snapshot", "none"), ("reqlock-hashes", "none"), ("reqlock-portable-lock", "none", "--index", "none"),
+            ("reqlock-adopt", "none", "none", "--index", "none", "--env", "none"), ("reqlock-check-refutation", "none", "none", "none"),
+            ("reqlock-snapshot", "simple", "http://127.0.0.1:1/simple/", "--for", "none"),
+        ):
+            with self.subTest(command=command):
+                done = self.run_tool(command, *words)
+                self.assertEqual((done.stdout, done.stderr), ("", f"{command}: none: No such file or directory\n"))
+                self.assertEqual(done.returncode, 2 if command == "reqlock-check-refutation" else 1)
+
+    def test_an_output_that_is_full_or_closed(self):
+        with open("/dev/full", "w", encoding="utf-8") as full:
+            done = self.run_tool("reqlock-environment", output=full)
+        self.assertEqual((done.returncode, done.stderr), (1, "reqlock-environment: standard output: No space left on device\n"))
+        readings, writings = os.pipe()
+        os.close(readings)
+        done = self.run_tool("reqlock-environment", output=writings)
+        os.close(writings)
+        self.assertEqual((done.returncode, done.stderr), (1, ""))
+
+
+if __name__ == "__main__":
+    unittest.main()

@@ -1,0 +1,133 @@
+"""Tests of the wheel where it is installed: by pip into an empty environment, and by pipx for a user. The program, each tool and the
+manual page are there, and go when it is removed. The CI job that stands in examples/ci runs as it is. Nothing is fetched."""
+
+import json
+import re
+import shutil
+import subprocess
+import sys
+import unittest
+
+from made.archives import wheel
+from made.environments import LINUX
+from made.releases import index_of
+from packaged import PAGES, Packaged, own_variables
+from places import PROGRAM, TOP
+from test_install import COMMANDS
+
+TOOLS = [command for command in COMMANDS if command != "reqlock"]
+
+
+class Wheeled(Packaged):
+    """A test with a wheel, and with a home for a user."""
+
+    def setUp(self):
+        super().setUp()
+        self.build()
+        (self.folder / "home").mkdir()
+
+    def venv(self):
+        """An empty environment with pip alone."""
+        place = self.folder / "venv"
+        done = subprocess.run([sys.executable, "-m", "venv", place], capture_output=True, check=False, env=own_variables(self.folder))
+        if done.returncode != 0:
+            self.skipTest("python3 makes no venv with pip: apt-get install python3-venv")
+        return place
+
+
+class Installed(Wheeled):
+    def check_runs(self, folder):
+        """The program and each tool run from a folder, by their names."""
+        for command in TOOLS:
+            told = self.run_in(self.folder, folder / command, "--help")
+            self.assertTrue(told.startswith(f"usage: {command} "), told)
+            self.assertNotRegex(told, r"\w\.py\b")
+        told = self.run_in(self.folder, folder / "reqlock-snapshot", "simple", "--help")
+        self.assertTrue(told.startswith("usage: reqlock-snapshot simple "), told)
+        if PROGRAM.exists():
+            self.check_locks(folder)
+
+    def check_locks(self, folder):
+        version = self.wheel().name.split("-")[1]
+        self.assertEqual(self.run_in(self.folder, folder / "reqlock", "--version"), f"reqlock {version}\n")
+        place = self.folder / "project"
+        place.mkdir()
+        (place / "requirements.txt").write_bytes(b"a\n")
+        (place / "index.json").write_text(json.dumps(index_of(("a", "1", []))), encoding="utf-8")
+        (place / "environment.json").write_text(self.run_in(place, folder / "reqlock-environment"), encoding="utf-8")
+        words = "--index", "index.json", "--env", "environment.json", "init"
+        self.assertEqual(self.run_in(place, folder / "reqlock", *words), "ok 0\n")
+        self.assertIn("a==1 \\\n    --hash=sha256:", self.run_in(place, folder / "reqlock-hashes", "pylock.toml"))
+
+    def check_page(self, share):
+        for page in PAGES:
+            self.assertTrue((share / page).is_file(), page)
+        if shutil.which("man"):
+            self.assertIn("REQLOCK(1)", self.run_in(self.folder, "man", "-M", share / "man", "reqlock", MANPAGER="cat", TERM="dumb"))
+
+    def test_by_pip_and_removed(self):
+        venv = self.venv()
+        pip = venv / "bin" / "python", "-m", "pip"
+        self.run_in(self.folder, *pip, "install", "--no-index", self.wheel())
+        self.check_runs(venv / "bin")
+        self.check_page(venv / "share")
+        self.run_in(self.folder, *pip, "uninstall", "--yes", "reqlock")
+        self.assertEqual([path.name for path in venv.rglob("*reqlock*") if "__pycache__" not in str(path)], [])
+
+    def test_tools_without_pip_tell_what_to_install(self):
+        venv = self.venv()
+        pip = venv / "bin" / "python", "-m", "pip"
+        self.run_in(self.folder, *pip, "install", "--no-index", self.wheel())
+        self.run_in(self.folder, *pip, "uninstall", "--yes", "pip")
+        words = "simple", "http://127.0.0.1:1/simple/", "a"
+        told = self.run_in(self.folder, venv / "bin" / "reqlock-snapshot", *words, status=2)
+        self.assertIn("has neither the library packaging nor pip, which has a copy: install reqlock with its extra", told)
+        (self.folder / "pylock.toml").write_text('lock-version = "1.0"\n[[packages]]\nname = "a"\nversion = "1"\n', encoding="utf-8")
+        told = self.run_in(self.folder, venv / "bin" / "reqlock-hashes", "pylock.toml", status=1)
+        self.assertIn("install reqlock with its extra, as 'reqlock[index]'", told)
+
+    @unittest.skipUnless(shutil.which("pipx"), "there is no pipx")
+    def test_by_pipx_and_removed(self):
+        local = self.folder / "home" / ".local"
+        self.run_in(self.folder, "pipx", "install", "--pip-args=--no-index", self.wheel())
+        self.assertEqual(sorted(path.name for path in (local / "bin").iterdir()), sorted(COMMANDS))
+        self.check_runs(local / "bin")
+        [venv] = [path.parent for path in local.glob("**/venvs/reqlock/share")]
+        self.check_page(venv / "share")
+        self.run_in(self.folder, "pipx", "uninstall", "reqlock")
+        self.assertEqual(list((local / "bin").iterdir()), [])
+        self.assertEqual([path.name for path in local.rglob("*reqlock*") if not path.name.endswith(".log")], [])
+
+
+@unittest.skipUnless(PROGRAM.exists(), "the program isn't built")
+class Job(Wheeled):
+    """The file that a user copies."""
+
+    def project(self):
+        """A repository with all that the job reads."""
+        place = self.folder / "repository"
+        (place / "ci").mkdir(parents=True)
+        shutil.copy(self.wheel(), place / "ci")
+        wheel(place / "wheels", "a", "1")
+        (place / "requirements.txt").write_bytes(b"a\n")
+        (place / "environment.json").write_text(json.dumps(LINUX), encoding="utf-8")
+        snapshot = sys.executable, TOP / "tools" / "snapshot.py", "wheels", "--output", "index.json"
+        self.run_in(place, *snapshot, PYTHONDONTWRITEBYTECODE="1")
+        self.run_in(place, PROGRAM, "--index", "index.json", "--env", "environment.json", "init")
+        return place
+
+    def test_runs_as_it_stands(self):
+        text = (TOP / "examples" / "ci" / "reqlock.yml").read_text(encoding="utf-8")
+        steps = re.findall(r"(?m)^      - run: (.*)$", text)
+        self.assertEqual((len(steps), "reqlock check" in steps), (4, True))
+        venv, place = self.venv(), self.project()
+        path = {"PATH": f"{venv / 'bin'}:/usr/bin:/bin"}
+        for step in steps:
+            self.run_in(place, "bash", "-e", "-c", step, **path)
+        self.assertTrue(list(venv.glob("lib/*/site-packages/a-1.dist-info")))
+        (place / "requirements.txt").write_bytes(b"a # by hand\n")
+        self.assertEqual(self.run_in(place, "bash", "-e", "-c", steps[1], status=4, **path), "reqlock: requirements.txt: files-disagree\n")
+
+
+if __name__ == "__main__":
+    unittest.main()
