@@ -217,10 +217,10 @@ class Odd(Hostile):
 
     def test_headers(self):
         for text in "²", "9" * 5000, "Wed, 99 Foo 99999999999 25:61:61 GMT", "-1":
-            self.index.instead[PATH] = [lambda to, text=text: self.busy(to, text), self.index.usual]
+            self.index.instead[PATH] = [lambda to, text=text: self.head(to, 503, "Retry-After", text), self.index.usual]
             self.assertEqual(self.taken("--cache", self.folder / "cache" / str(len(text))), [])
         for place in "http://[", "http://a:99999999/", "http://a:0/", "//[::1", "http://\u0661\u0661.example:x/":
-            self.check(PATH, lambda to, place=place: self.moved(to, place), f"^{PATH}: it leads to '.*', which is no URL$")
+            self.check(PATH, lambda to, place=place: self.head(to, 302, "Location", place), f"^{PATH}: it leads to '.*', which is no URL$")
         self.check(PATH, raw(b"HTTP/1.1 200 OK\r\nContent-Length: " + b"9" * 5000 + b"\r\n\r\n"), f"^{PATH}: ")
         self.check(PATH, raw(b"HTTP/1.1 " + b"9" * 5000 + b" OK\r\n\r\n"), f"^{PATH}: ")
         folded = b"HTTP/1.1 200 OK\r\nContent-Type: text/html\r\nETag: a\r\n b\r\nConnection: close\r\n\r\n<a href=x>"
@@ -230,8 +230,8 @@ class Odd(Hostile):
     def test_places_that_lead_elsewhere(self):
         for place in "file:///etc/passwd", "ftp://i.example/a/", "data:text/html,x":
             fault = f"^{place.partition(',')[0]}.*: an http or https URL with a host is wanted, "
-            self.check(PATH, lambda to, place=place: self.moved(to, place), fault)
-        self.check(PATH, lambda to: self.moved(to, PATH), f"^{PATH}: over 10 redirects led to it$")
+            self.check(PATH, lambda to, place=place: self.head(to, 302, "Location", place), fault)
+        self.check(PATH, lambda to: self.head(to, 302, "Location", PATH), f"^{PATH}: over 10 redirects led to it$")
         self.assertEqual(self.index.counts()["GET", PATH], 13)
 
     def test_lengths(self):
@@ -264,16 +264,10 @@ class Odd(Hostile):
         self.check(PATH, lambda to: to.give(200, b"<div>" * 2**18, HTML_TYPE), "^/simple/: it has no file of a; ")
 
     @staticmethod
-    def busy(to, text):
-        to.send_response(503)
-        to.send_header("Retry-After", text.encode().decode("latin-1"))
-        to.send_header("Content-Length", "0")
-        to.end_headers()
-
-    @staticmethod
-    def moved(to, place):
-        to.send_response(302)
-        to.send_header("Location", place.encode().decode("latin-1"))
+    def head(to, status, name, value):
+        """Answers with one header and nothing else."""
+        to.send_response(status)
+        to.send_header(name, value.encode().decode("latin-1"))
         to.send_header("Content-Length", "0")
         to.end_headers()
 
