@@ -7,13 +7,13 @@ ghost use Rattle.answers.specs.Answers.{IsSolvable};
 use crate::shown::{Shown, first_refuted};
 use calls::{Call, Stop, pool_of, print};
 use command_line::request::EditInputs;
-use edits::{Edit, Problem, Refutation, TargetName, problem_after, problems_of_init};
+use edits::{Edit, FirstTargets, Problem, Refutation, TargetName, problem_after, problems_of_init};
 use explain::{ChangedLine, ChangedLines, Explanation, add_refutation};
 use files::LockFile;
 use files::first_inputs::{FirstInputs, first_inputs};
 use files::saved_history::session_over;
 use files::target_files::TargetFile;
-use lists::Text;
+use lists::{Seq, Text};
 use phrases::add_target_line;
 use std::alloc::{AllocError, Global};
 use std::io::Write;
@@ -68,7 +68,9 @@ pub fn print_why_init<R: Files + AllocGlobal, O: Write>(
         Some(text) => Edit::Add(Text::copy_of(alloc, text)?),
         None => Edit::Relock,
     };
-    let problems = problems_of_init(alloc, &lines, &edit, targets, &snapshot)?;
+    let pins = Seq::new(alloc);
+    let first = FirstTargets { targets, pins };
+    let problems = problems_of_init(alloc, &lines, &edit, first, &snapshot)?;
     let lines = ChangedLines {
         lines: lines.lines(),
         changed: changed_by(&edit),
@@ -88,7 +90,9 @@ fn changed_by(edit: &Edit) -> ChangedLine<'_> {
         Edit::Add(text) => ChangedLine::Added(text),
         Edit::Remove(name) => ChangedLine::Removed(name),
         Edit::Constrain(name, _) => ChangedLine::Constrained(name),
-        Edit::Upgrade(_) | Edit::UpgradeAll | Edit::Relock => ChangedLine::Same,
+        Edit::Upgrade(_) | Edit::UpgradeAll | Edit::Relock | Edit::Replace(_, _) => {
+            ChangedLine::Same
+        }
     }
 }
 

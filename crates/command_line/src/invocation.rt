@@ -4,7 +4,7 @@ use edits::Edit;
 use lists::{Seq, Text};
 
 /// What the words of the command line mean. The texts are those of the words.
-#[derive(Debug, Drop)]
+#[derive(Drop)]
 pub struct Invocation<'a> {
     /// The folder of the three files.
     pub dir: &'a str,
@@ -15,7 +15,7 @@ pub struct Invocation<'a> {
 }
 
 /// What the program is to do, with the files that it needs for it.
-#[derive(Debug, Drop)]
+#[derive(Drop)]
 pub enum Subcommand<'a> {
     /// Locks the requirements file, and begins a history.
     Init(Inputs<'a>),
@@ -45,7 +45,7 @@ pub enum Subcommand<'a> {
 }
 
 /// The files that a new history begins with, beside the requirements file.
-#[derive(Debug, Drop)]
+#[derive(Drop)]
 pub struct Inputs<'a> {
     pub index: &'a str,
     /// The values of `--env` as they stand, in their order; there is at least one.
@@ -99,7 +99,7 @@ pub enum DiffRange {
 }
 
 /// The question of `why`.
-#[derive(Debug, Drop)]
+#[derive(Drop)]
 pub enum Question<'a> {
     /// Why this edit of the present state has no solution over an index.
     Edit(Edit, EditInputs<'a>),

@@ -13,7 +13,7 @@ use std::str;
 pub const LONGEST_LINE: usize = 65_536;
 
 /// The command of a line of a batch.
-#[derive(Debug, Drop)]
+#[derive(Drop)]
 pub enum Item {
     Edit(Edit),
     Undo,

@@ -25,6 +25,7 @@ fn push_edit(text: &mut Telling, edit: &Edit) {
         }
         Edit::UpgradeAll => text.push_str("(upgrade)"),
         Edit::Relock => text.push_str("(relock)"),
+        Edit::Replace(_, _) => text.push_str("(replace)"),
     }
 }
 

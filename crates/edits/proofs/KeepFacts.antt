@@ -9,6 +9,7 @@ use Rattle.states.specs.declared.locks.Unlocked.{Unlocked}
 use Rattle.states.specs.declared.target.Target.{Target}
 use Rattle.edits.specs.Edits.{first_problem, problem_for}
 use Rattle.edits.specs.KeptVersions.{Kept, kept_first, kept_for, kept_of}
+use Rattle.edits.specs.declared.pins.TargetPins.{TargetPins}
 use Rattle.edits.specs.declared.request.Edit.{Edit}
 
 -- the problem of a name, an environment and versions that are kept
@@ -32,11 +33,11 @@ givens-after lines edit pool targets all kept =
     ∙ sym (through (given_from lines pool) (kept_for edit) (problem_for lines edit pool) (λ t. refl) targets)
 
 -- the problems of named environments at the beginning
-pub givens-first : (lines : List (List ℕ)) (index : Index) (pool : PoolParts) (targets : List (List ℕ × Texts)) (all : List Unlocked) → pool ≡ whole index → map kept_of all ≡ map kept_first targets
-    → map (given_for lines pool) all ≡ map (first_problem lines index) targets
-givens-first lines index pool targets all is kept =
+pub givens-first : (lines : List (List ℕ)) (pins : List TargetPins) (index : Index) (pool : PoolParts) (targets : List (List ℕ × Texts)) (all : List Unlocked) → pool ≡ whole index → map kept_of all ≡ map (kept_first pins) targets
+    → map (given_for lines pool) all ≡ map (first_problem lines pins index) targets
+givens-first lines pins index pool targets all is kept =
     ap (λ p. map (given_for lines p) all) is ∙ given-parts lines (whole index) all ∙ ap (map (given_from lines (whole index))) kept
-    ∙ sym (through (given_from lines (whole index)) kept_first (first_problem lines index) (λ t. refl) targets)
+    ∙ sym (through (given_from lines (whole index)) (kept_first pins) (first_problem lines pins index) (λ t. refl) targets)
 
 name-parts : (all : List Unlocked) → map (λ u. u.name) all ≡ map (λ (k : Kept). k.0) (map kept_of all)
 name-parts all = through (λ (k : Kept). k.0) kept_of (λ u. u.name) (λ u. refl) all
@@ -46,9 +47,9 @@ pub names-after : (edit : Edit) (targets : List Target) (all : List Unlocked) �
 names-after edit targets all kept =
     name-parts all ∙ ap (map (λ (k : Kept). k.0)) kept ∙ sym (through (λ (k : Kept). k.0) (kept_for edit) (λ t. t.name) (λ t. refl) targets)
 
-pub names-first : (targets : List (List ℕ × Texts)) (all : List Unlocked) → map kept_of all ≡ map kept_first targets → map (λ u. u.name) all ≡ map (λ p. p.0) targets
-names-first targets all kept =
-    name-parts all ∙ ap (map (λ (k : Kept). k.0)) kept ∙ sym (through (λ (k : Kept). k.0) kept_first (λ (p : List ℕ × Texts). p.0) (λ t. refl) targets)
+pub names-first : (pins : List TargetPins) (targets : List (List ℕ × Texts)) (all : List Unlocked) → map kept_of all ≡ map (kept_first pins) targets → map (λ u. u.name) all ≡ map (λ p. p.0) targets
+names-first pins targets all kept =
+    name-parts all ∙ ap (map (λ (k : Kept). k.0)) kept ∙ sym (through (λ (k : Kept). k.0) (kept_first pins) (λ (p : List ℕ × Texts). p.0) (λ t. refl) targets)
 
 -- where there is a target, there is one that isn't locked yet
 pub some-kept : {A : Type 0} (f : A → Kept) (targets : List A) (all : List Unlocked) → map kept_of all ≡ map f targets → targets ≢ [] → all ≢ []

@@ -1,8 +1,7 @@
 -- Edits beside whose kept versions no others count.
-use Rattle.std.proofs.Common.{◌≡◌, ◌≢◌, ◌↔◌, inl, inr, ℕ, true, List, [], ◌∷◌, Option, Some, None, Ok, Err, Contains, map, refl}
+use Rattle.std.proofs.Common.{◌≡◌, ◌↔◌, inl, inr, ℕ, true, List, [], ◌∷◌, Option, Some, None, Ok, Err, Contains, map, refl}
 use Rattle.std.specs.List.{AllZip}
 use Rattle.pep440.specs.Version.{VersionParts}
-use Rattle.pylock.specs.Locks.{LockParts}
 use Rattle.pylock.specs.Packages.{EntryParts}
 use Rattle.snapshot.specs.Packages.{Index}
 use Rattle.problems.specs.Laws.{AKeptVersionIsThatOfItsRelease, BestKeepsAll, KeepsAll, NeedsForgetKeptVersions, SolutionsKeepAll, alone}

@@ -3,7 +3,10 @@ pub mod ChangedLines
 pub mod EditFacts
 pub mod KeepFacts
 pub mod KeepLaws
+pub mod KeptStay
 pub mod LinesOnName
+pub mod MergesAgree
 pub mod NamesRead
+pub mod NewerVersions
 pub mod Refusals
 pub mod WorkedRows

@@ -1,5 +1,6 @@
 -- Refusals that calls pass on.
 use Rattle.std.proofs.Common.{◌≡◌, ◌⊎◌, Bool, true, false, Option, Some, None, Ok, Err, refl, ap, inl, inr, if◌then◌else◌}
+use Rattle.std.specs.Option.{option_or}
 use Rattle.edits.specs.Refused.{or_refused}
 use Rattle.states.specs.declared.refusal.Refusal.{Refusal}
 use Rattle.states.specs.declared.refusal.Refusal.TheVariants.{BadText, OutOfMemory}
@@ -32,3 +33,10 @@ pub bad-on : {A B : Type 0} (b : Bool) (x : A) (given : Option Refusal) (y : B) 
 bad-on b x given y e (inl memory) = inl memory
 bad-on true x given y e (inr refused) = cc
 bad-on false x given y e (inr refused) = let same : BadText ≡ e = cc in inr (ap (λ (r : Refusal). Err r) same)
+
+-- the first of two refusals refuses both
+pub first-on : {A B : Type 0} (refusal other : Option Refusal) (a : A) (b : B) (e : Refusal) → (e ≡ OutOfMemory) ⊎ (or_refused refusal a ≡ Err e)
+    → (e ≡ OutOfMemory) ⊎ (or_refused (option_or refusal other) b ≡ Err e)
+first-on refusal other a b e (inl memory) = inl memory
+first-on None other a b e (inr refused) = cc
+first-on (Some r) other a b e (inr refused) = let same : r ≡ e = cc in inr (ap (λ (x : Refusal). Err x) same)

@@ -17,7 +17,9 @@ use Rattle.edits.specs.Addition.{with_line}
 use Rattle.edits.specs.LinesOnName.{with_set_on, without_line}
 use Rattle.edits.specs.Refused.{refused_by_lines, refused_by_locks}
 use Rattle.edits.specs.declared.request.Edit.{Edit}
-use Rattle.edits.specs.declared.request.Edit.TheVariants.{Add, Constrain, Remove, Upgrade, UpgradeAll}
+use Rattle.edits.specs.Pins.{newer_of, pins_for}
+use Rattle.edits.specs.declared.pins.TargetPins.{TargetPins}
+use Rattle.edits.specs.declared.request.Edit.TheVariants.{Add, Constrain, Remove, Replace, Upgrade, UpgradeAll}
 use Rattle.states.specs.declared.refusal.Refusal.{Refusal}
 use Rattle.states.specs.declared.refusal.Refusal.TheVariants.{NoSolution, NothingChanges}
 
@@ -33,13 +35,17 @@ Locks old givens lines (Ok state) = IsLocked givens lines state × IsNew old sta
 Locks old givens lines (Err refusal) =
     ((refusal ≡ NoSolution) × HasUnsolved givens) ⊎ ((refusal ≡ NothingChanges) × IsSomeAnd old (IsLocked givens lines))
 
--- the problem that a history begins with in a named environment: no version is kept
-abbrev pub first_problem : List (List ℕ) → Index → List ℕ × Texts → List ℕ × ProblemParts
-first_problem lines index target = (target.0, given_of lines target.1 (whole index) [])
+-- the problem that a history begins with in a named environment: the versions that are handed in for its target are kept
+abbrev pub first_problem : List (List ℕ) → List TargetPins → Index → List ℕ × Texts → List ℕ × ProblemParts
+first_problem lines pins index target = (target.0, given_of lines target.1 (whole index) (newer_of [] (pins_for pins target.0)))
 
--- what a history of these lines begins with in named environments: there is no old state
+-- what a history of these lines begins with in named environments, where these versions are handed in: there is no old state
+abbrev pub FirstResult : List (List ℕ) → List (List ℕ × Texts) → List TargetPins → Index → Result StateParts Refusal → Type 0
+FirstResult lines targets pins index answer = Locks None (map (first_problem lines pins index) targets) lines answer
+
+-- the same where none is handed in, so that none is kept
 abbrev pub InitResult : List (List ℕ) → List (List ℕ × Texts) → Index → Result StateParts Refusal → Type 0
-InitResult lines targets index answer = Locks None (map (first_problem lines index) targets) lines answer
+InitResult lines targets index answer = FirstResult lines targets [] index answer
 
 -- the first refusal that lines and locks alone give
 abbrev pub refusal_of : StateParts → Edit → Option Refusal
@@ -50,22 +56,25 @@ abbrev pub lines_after : List (List ℕ) → Edit → List (List ℕ)
 lines_after lines (Add text) = with_line lines text
 lines_after lines (Remove name) = without_line (normal_of name) lines
 lines_after lines (Constrain name specifiers) = with_set_on (normal_of name) (trim specifiers) lines
+lines_after lines (Replace new pins) = new
 lines_after lines edit = lines
 
 -- the names with versions, without those named
 abbrev pub without_pins : List (List ℕ) → List (List ℕ × VersionParts) → List (List ℕ × VersionParts)
 without_pins names pins = filter (λ pin. not (list_any (bytes_eq pin.0) names)) pins
 
--- what an edit keeps of the versions of an old lock
-abbrev pub kept_pins : List (List ℕ × VersionParts) → Edit → List (List ℕ × VersionParts)
-kept_pins pins (Upgrade names) = without_pins (map normal_of names) pins
-kept_pins pins UpgradeAll = []
-kept_pins pins edit = pins
+-- the versions that an edit keeps for a target: those of its lock, without those that an upgrade drops, or with newer ones that are
+-- handed in for it
+abbrev pub kept_pins : Target → Edit → List (List ℕ × VersionParts)
+kept_pins target (Upgrade names) = without_pins (map normal_of names) (versions_of target.lock.entries)
+kept_pins target UpgradeAll = []
+kept_pins target (Replace lines pins) = newer_of (versions_of target.lock.entries) (pins_for pins target.name)
+kept_pins target edit = versions_of target.lock.entries
 
 -- the problem whose best solution an edit locks for a target, under its name: that of the lines after the edit in the target's
--- environment over the index, with the versions that the edit keeps of the target's own lock, alone or before others
+-- environment over the index, with the versions that the edit keeps for the target, alone or before others
 abbrev pub problem_for : List (List ℕ) → Edit → PoolParts → Target → List ℕ × ProblemParts
-problem_for lines edit pool target = (target.name, given_of lines target.environment pool (kept_pins (versions_of target.lock.entries) edit))
+problem_for lines edit pool target = (target.name, given_of lines target.environment pool (kept_pins target edit))
 
 -- the problems of an edit, one for each target
 abbrev pub problems_after : StateParts → Edit → PoolParts → List (List ℕ × ProblemParts)

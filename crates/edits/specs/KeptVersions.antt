@@ -4,10 +4,11 @@ use Rattle.std.specs.Prelude.{ℕ, List, [], map}
 use Rattle.markers.specs.Environment.{Texts}
 use Rattle.markers.specs.Names.{normal_of}
 use Rattle.pep440.specs.Version.{VersionParts}
-use Rattle.states.specs.Locks.{versions_of}
 use Rattle.states.specs.declared.locks.Unlocked.{Unlocked}
 use Rattle.states.specs.declared.target.Target.{Target}
 use Rattle.edits.specs.Edits.{kept_pins}
+use Rattle.edits.specs.Pins.{newer_of, pins_for}
+use Rattle.edits.specs.declared.pins.TargetPins.{TargetPins}
 use Rattle.edits.specs.declared.request.Edit.{Edit}
 use Rattle.edits.specs.declared.request.Edit.TheVariants.{Upgrade}
 
@@ -26,8 +27,8 @@ kept_of unlocked = (unlocked.name, (unlocked.environment, unlocked.kept.entries)
 
 -- those of a target that an edit leaves
 abbrev pub kept_for : Edit → Target → Kept
-kept_for edit target = (target.name, (target.environment, kept_pins (versions_of target.lock.entries) edit))
+kept_for edit target = (target.name, (target.environment, kept_pins target edit))
 
--- those of a named environment at the beginning
-abbrev pub kept_first : List ℕ × Texts → Kept
-kept_first target = (target.0, (target.1, []))
+-- those of a named environment at the beginning, of these that are handed in
+abbrev pub kept_first : List TargetPins → List ℕ × Texts → Kept
+kept_first pins target = (target.0, (target.1, newer_of [] (pins_for pins target.0)))

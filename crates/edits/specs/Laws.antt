@@ -19,7 +19,7 @@ use Rattle.edits.specs.declared.request.Edit.{Edit}
 -- of each name that both locks have, and whose version the edit doesn't drop, the new one has the old one's version
 abbrev pub KeepsPins : Edit → Target → Target → Type 0
 KeepsPins edit old new =
-    (name : List ℕ) (kept version : VersionParts) → version_for (kept_pins (versions_of old.lock.entries) edit) name ≡ Some kept → version_for (versions_of new.lock.entries) name ≡ Some version
+    (name : List ℕ) (kept version : VersionParts) → version_for (kept_pins old edit) name ≡ Some kept → version_for (versions_of new.lock.entries) name ≡ Some version
     → same_version kept version ≡ true
 
 -- no edit over `kept_alone` moves a version that it keeps

@@ -2,7 +2,10 @@ pub mod Required
 pub mod Addition
 pub mod LinesOnName
 pub mod Refused
+pub mod ExchangedLine
+pub mod Pins
 pub mod Edits
 pub mod KeptVersions
 pub mod Questions
 pub mod Laws
+pub mod ReplaceLaws

@@ -41,7 +41,7 @@ pub(crate) fn line_in(alloc: Global, text: &Text) -> Result<Option<Line>, AllocE
 }
 
 /// The number, from 1, of the first line on the name.
-fn line_number(lines: &[Line], name: &Name) -> Option<usize>
+pub(crate) fn line_number(lines: &[Line], name: &Name) -> Option<usize>
     ensures { result ≡ line_number name.now lines.now }
 {
     for (place, line) in lines.iter().enumerate() {

@@ -4,6 +4,7 @@ ghost use Rattle.lists.specs.Answers.{Answers};
 ghost use Rattle.std.specs.Prelude.{◌≡◌, ◌≢◌, ◌⊎◌, ◌≤◌, [], length, map, IfOk, IfErr, None, Some, Ok, Err, true};
 ghost use Rattle.edits.specs.Edits.{
   EditResult,
+  FirstResult,
   InitResult,
   Locks,
   lines_after,
@@ -18,6 +19,7 @@ ghost use Rattle.states.specs.declared.refusal.Refusal.TheVariants.{OutOfMemory}
 
 use crate::addition::added;
 use crate::constraint::constrained;
+use crate::first_targets::FirstTargets;
 use crate::kept_versions::{all_first, unlocked};
 use crate::removal::removed;
 use crate::request::{Edit, Edited};
@@ -50,7 +52,8 @@ fn with_locks<R: Resolver>(
     }
 }
 
-/// The state that a history of the file begins with: its lines, with a lock for each of the targets.
+/// The state that a history of the file begins with: its lines, with a lock for each of the targets. No
+/// version is kept.
 pub fn init<R: Resolver>(
     alloc: Global,
     lines: ReqFile,
@@ -62,7 +65,31 @@ pub fn init<R: Resolver>(
     ensures err { IfErr result (λ refusal. (refusal ≡ OutOfMemory)
         ⊎ InitResult lines targets snapshot.now (Err refusal)) }
 {
-    let targets = all_first(alloc, targets)?;
+    let pins = Seq::new(alloc);
+    init_keeping(
+        alloc,
+        lines,
+        FirstTargets { targets, pins },
+        snapshot,
+        resolver,
+    )
+}
+
+/// The same, where the versions that are handed in for a target are kept in its lock, as an edit keeps those of
+/// an old lock.
+pub fn init_keeping<R: Resolver>(
+    alloc: Global,
+    lines: ReqFile,
+    first: FirstTargets,
+    snapshot: &Snapshot,
+    resolver: &R,
+) -> Result<State, Refusal>
+    ensures ok { IfOk result
+        (λ state. FirstResult lines first.targets first.pins snapshot.now (Ok state)) }
+    ensures err { IfErr result (λ refusal. (refusal ≡ OutOfMemory)
+        ⊎ FirstResult lines first.targets first.pins snapshot.now (Err refusal)) }
+{
+    let targets = all_first(alloc, first)?;
     with_locks(alloc, lines, targets, &Pool::whole(snapshot), resolver)
 }
 
@@ -75,6 +102,7 @@ pub(crate) fn lines_after(alloc: Global, lines: &ReqFile, edit: &Edit) -> Result
         Edit::Add(text) => added(alloc, lines, text),
         Edit::Remove(name) => removed(alloc, lines, name),
         Edit::Constrain(name, specifiers) => constrained(alloc, lines, name, specifiers),
+        Edit::Replace(new, _) => Ok(new.clone()?),
         Edit::Upgrade(_) | Edit::UpgradeAll | Edit::Relock => Ok(lines.clone()?),
     }
 }

@@ -7,15 +7,16 @@ ghost use Rattle.edits.specs.Edits.{kept_pins, without_pins};
 ghost use Rattle.edits.specs.KeptVersions.{kept_first, kept_for, kept_of, named_in};
 ghost use Rattle.edits.specs.Refused.{refused_by_locks};
 ghost use Rattle.lists.specs.Rising.{rises};
-ghost use Rattle.states.specs.Locks.{versions_of};
 ghost use Rattle.states.specs.declared.refusal.Refusal.TheVariants.{OutOfMemory};
 
+use crate::first_targets::FirstTargets;
+use crate::pins::{TargetPins, with_pins};
 use crate::request::Edit;
 use crate::upgrade::named_in;
 use lists::Seq;
 use pep440::Version;
 use pep508::{Environment, Name};
-use states::{Refusal, State, Target, TargetName, Targets, Unlocked};
+use states::{Refusal, State, Target, TargetName, Unlocked};
 use std::alloc::{AllocError, Global};
 use std::collections::BTreeMap;
 
@@ -34,7 +35,7 @@ fn without(mut versions: BTreeMap<Name, Version>, names: &[Name]) -> BTreeMap<Na
     versions
 }
 
-/// The locked versions of the target that the edit keeps, given the names that it drops.
+/// The versions that the edit keeps for the target, given the names that it drops.
 fn kept_pins(
     alloc: Global,
     target: &Target,
@@ -43,11 +44,12 @@ fn kept_pins(
 ) -> Result<BTreeMap<Name, Version>, AllocError>
     requires { names.now ≡ named_in edit.now }
     ensures { IfOk result (λ kept. kept.entries
-        ≡ kept_pins (versions_of target.now.lock.entries) edit.now) }
+        ≡ kept_pins target.now edit.now) }
 {
     match edit {
         Edit::Upgrade(_) => Ok(without(target.kept(alloc)?, names)),
         Edit::UpgradeAll => Ok(BTreeMap::new(alloc)),
+        Edit::Replace(_, pins) => with_pins(target.kept(alloc)?, pins.as_slice(), &target.name),
         Edit::Add(_) | Edit::Remove(_) | Edit::Constrain(_, _) | Edit::Relock => target.kept(alloc),
     }
 }
@@ -105,37 +107,46 @@ pub(crate) fn unlocked(alloc: Global, state: &State, edit: &Edit) -> Result<Seq<
     Ok(without_locks(alloc, state.targets(), edit, names.as_slice())?)
 }
 
-/// A named environment, for which no version is kept.
-fn first(alloc: Global, name: TargetName, environment: Environment) -> Unlocked
-    ensures { kept_of result ≡ kept_first (name, environment) }
+/// A named environment, with the versions that are handed in for it.
+fn first(
+    alloc: Global,
+    name: TargetName,
+    environment: Environment,
+    pins: &[TargetPins],
+) -> Result<Unlocked, AllocError>
+    ensures { IfOk result
+        (λ unlocked. kept_of unlocked ≡ kept_first pins.now (name, environment)) }
 {
-    Unlocked {
+    let kept = with_pins(BTreeMap::new(alloc), pins, &name)?;
+    Ok(Unlocked {
         name,
         environment,
-        kept: BTreeMap::new(alloc),
-    }
+        kept,
+    })
 }
 
-/// The named environments, for which no version is kept.
+/// The named environments, with the versions that are handed in for each.
 fn each_first(
     alloc: Global,
     targets: Seq<(TargetName, Environment)>,
+    pins: &[TargetPins],
 ) -> Result<Seq<Unlocked>, AllocError>
-    ensures { IfOk result (λ all. map kept_of all ≡ map kept_first targets) }
+    ensures { IfOk result (λ all. map kept_of all ≡ map (kept_first pins.now) targets) }
 {
     let mut all = Vec::with_capacity(alloc, targets.len())?;
     for (name, environment) in targets.into_vec() {
-        all.push(first(alloc, name, environment))?;
+        all.push(first(alloc, name, environment, pins)?)?;
     }
     Ok(Seq::from_vec(all))
 }
 
-/// The targets before they are locked for the first time: no version is kept.
-pub(crate) fn all_first(alloc: Global, targets: Targets) -> Result<Seq<Unlocked>, AllocError>
-    ensures kept { IfOk result (λ all. map kept_of all ≡ map kept_first targets) }
+/// The targets before they are locked for the first time, each with the versions that are handed in for it.
+pub(crate) fn all_first(alloc: Global, first: FirstTargets) -> Result<Seq<Unlocked>, AllocError>
+    ensures kept { IfOk result (λ all. map kept_of all ≡ map (kept_first first.pins) first.targets) }
     ensures some { IfOk result (λ all. all ≢ []) }
     ensures rising { IfOk result (λ all. rises (map (λ u. u.name) all) ≡ true) }
 {
+    let FirstTargets { targets, pins } = first;
     targets.recall_invariant();
-    Ok(each_first(alloc, targets.into_list())?)
+    Ok(each_first(alloc, targets.into_list(), pins.as_slice())?)
 }

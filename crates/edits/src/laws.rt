@@ -3,6 +3,10 @@
 
 ghost use Rattle.edits.specs.Laws.{EditsFindWhatKeepsAll, EditsKeepPins, EditsThatKeepAllAreOne};
 
+pub use crate::replace_laws::{
+    a_merge_is_the_same_from_both_sides, kept_versions_that_fit_stay,
+    replacing_lines_by_themselves_is_a_relock,
+};
 pub use changes::laws::{
     a_change_can_be_taken_back, a_change_leads_to_one_state, a_change_leads_where_it_carries,
     a_difference_can_be_taken_back, back_and_back_is_the_change, equal_lines_differ_nowhere,

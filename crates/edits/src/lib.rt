@@ -13,15 +13,22 @@
 mod addition;
 mod constraint;
 mod edit_result;
+mod exchanged_line;
+mod first_targets;
 mod kept_versions;
 pub mod laws;
 mod lines_on_name;
+mod pins;
 mod questions;
 mod removal;
+mod replace_laws;
 mod request;
 mod upgrade;
 
-pub use crate::edit_result::{edit, init, problem_after};
+pub use crate::edit_result::{edit, init, init_keeping, problem_after};
+pub use crate::exchanged_line::with_line_exchanged;
+pub use crate::first_targets::FirstTargets;
+pub use crate::pins::TargetPins;
 pub use crate::questions::{problems_of_init, problems_with};
 pub use crate::request::{Edit, Edited};
 pub use changes::{Change, DigestChange, EntryChange, Splice, difference};

@@ -10,32 +10,34 @@ ghost use Rattle.states.specs.declared.refusal.Refusal.TheVariants.{OutOfMemory}
 
 use crate::addition::{line_in, with_line};
 use crate::edit_result::{lines_after, problems_for};
+use crate::first_targets::FirstTargets;
 use crate::kept_versions::{all_first, unlocked};
 use crate::request::Edit;
 use lists::{Seq, Text};
 use pep508::ReqFile;
 use resolve::Problem;
 use snapshot::Snapshot;
-use states::{Pool, Refusal, State, TargetName, Targets};
+use states::{Pool, Refusal, State, TargetName};
 use std::alloc::Global;
 
 /// The problems whose best solutions `init` would lock for the lines after the edit, over the snapshot:
-/// for each target, under its name and in the order of names. No version is kept. Where lines refuse the
-/// edit, that is answered.
+/// for each target, under its name and in the order of names, with the versions that are handed in for it.
+/// Where lines refuse the edit, that is answered.
 pub fn problems_of_init<'a>(
     alloc: Global,
     lines: &ReqFile,
     edit: &Edit,
-    targets: Targets,
+    first: FirstTargets,
     snapshot: &'a Snapshot,
 ) -> Result<Seq<(TargetName, Problem<'a>)>, Refusal>
     ensures ok { IfOk result (λ problems. (refused_by_lines lines.now edit.now ≡ None)
-        × (problems ≡ map (first_problem (lines_after lines.now edit.now) snapshot.now) targets)) }
+        × (problems ≡ map
+        (first_problem (lines_after lines.now edit.now) first.pins snapshot.now) first.targets)) }
     ensures err { IfErr result (λ refusal. (refusal ≡ OutOfMemory)
         ⊎ (refused_by_lines lines.now edit.now ≡ Some refusal)) }
 {
     let after = lines_after(alloc, lines, edit)?;
-    let targets = all_first(alloc, targets)?;
+    let targets = all_first(alloc, first)?;
     let problems = problems_for(alloc, &after, targets, &Pool::whole(snapshot))?;
     Ok(problems)
 }

@@ -1,12 +1,14 @@
 // Edits of a state, and what an accepted one leads to.
 
+use crate::pins::TargetPins;
 use changes::Change;
 use lists::{Seq, Text};
+use pep508::ReqFile;
 use states::State;
 
 /// An edit of the requirements file. Names, lines and specifiers are texts that are read when the edit
 /// is made.
-#[derive(Debug, Drop)]
+#[derive(Drop)]
 pub enum Edit {
     /// Puts the text behind the other lines. It has no LF and reads as a requirement; a comment may
     /// follow.
@@ -22,6 +24,9 @@ pub enum Edit {
     UpgradeAll,
     /// Resolves again.
     Relock,
+    /// Puts the lines of another file in the place of all lines. Of the versions that a target's lock has
+    /// and of those that are handed in for the target the newer ones are kept.
+    Replace(ReqFile, Seq<TargetPins>),
 }
 
 /// What an accepted edit leads to.

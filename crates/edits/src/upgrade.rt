@@ -66,7 +66,11 @@ pub(crate) fn named_in(alloc: Global, targets: &[Target], edit: &Edit) -> Result
 {
     match edit {
         Edit::Upgrade(texts) => upgraded(alloc, targets, texts.as_slice()),
-        Edit::Add(_) | Edit::Remove(_) | Edit::Constrain(_, _) | Edit::UpgradeAll | Edit::Relock =>
-            Ok(Seq::new(alloc)),
+        Edit::Add(_)
+        | Edit::Remove(_)
+        | Edit::Constrain(_, _)
+        | Edit::UpgradeAll
+        | Edit::Relock
+        | Edit::Replace(_, _) => Ok(Seq::new(alloc)),
     }
 }

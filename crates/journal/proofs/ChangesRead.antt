@@ -71,7 +71,7 @@ module _ (change : ChangeParts) where
   ]
 
   -- both digests of the change are those of lawful locks
-  on-first : (olds news : List Target) → olds ≢ [] → AllZip (ChangesTarget change) olds news → AllByRecursion HasLawfulLock olds → AllByRecursion HasLawfulLock news → AreDigests change.digests
+  pub on-first : (olds news : List Target) → olds ≢ [] → AllZip (ChangesTarget change) olds news → AllByRecursion HasLawfulLock olds → AllByRecursion HasLawfulLock news → AreDigests change.digests
   on-first [] news some h old_all new_all = absurd (some refl)
   on-first (o ∷ olds) [] some h old_all new_all = absurd h
   on-first (o ∷ olds) (n ∷ news) some h old_all new_all = digests-of change.digests o.lock n.lock old_all.0 new_all.0 h.0.lock.digest
@@ -79,7 +79,7 @@ module _ (change : ChangeParts) where
 -- ---- states
 
 -- the locks of a state are lawful
-locks-lawful : (lines : List (List ℕ)) (targets : List Target) → AllByRecursion (λ t. IsLockFor lines t.environment t.lock) targets → AllByRecursion HasLawfulLock targets
+pub locks-lawful : (lines : List (List ℕ)) (targets : List Target) → AllByRecursion (λ t. IsLockFor lines t.environment t.lock) targets → AllByRecursion HasLawfulLock targets
 locks-lawful lines [] all = tt
 locks-lawful lines (t ∷ ts) all = (all.0.lawful, locks-lawful lines ts all.1)
 
@@ -99,7 +99,7 @@ pub record IsRead (header : Header) (change : ChangeParts) : Type 0 where
   pub back : step_in header (step_data change) ≡ Ok change
 
 module _ (reads : ReadsVersions) (header : Header) where
-  lawful-changes : (old : State) (change : ChangeParts) (new : State) → Knows header (names_of old) → IsState old → IsState new → IsChange old change new
+  pub lawful-changes : (old : State) (change : ChangeParts) (new : State) → Knows header (names_of old) → IsState old → IsState new → IsChange old change new
       → (cs : List EntryChange) → ((c : EntryChange) → Contains cs c → Contains change.entries c) → AllByRecursion (λ c. Contains (names_of old) c.target) cs → AllByRecursion IsEntryChange cs
       → AllByRecursion (IsLawfulChange header) cs
   lawful-changes old change new knows h g is [] from known each = tt

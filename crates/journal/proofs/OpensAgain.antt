@@ -63,11 +63,11 @@ digest-bytes h zero i = omega arith
 digest-bytes h (suc n) i = bytes-append (digest_bytes h n) (to_be_bytes w32 (slice_index h n)) (digest-bytes h n) (word-bytes (slice_index h n)) i
 
 -- what is computed is a digest
-sha256-digest : (text : List ℕ) → IsDigest (sha256 text)
+pub sha256-digest : (text : List ℕ) → IsDigest (sha256 text)
 unfolding sha256
 sha256-digest text = record { size = length-sha256 text; bytes = digest-bytes _ 8 }
 
-json-back : (d : Data) → IsWritten d → json_of (compact_text d) ≡ Ok d
+pub json-back : (d : Data) → IsWritten d → json_of (compact_text d) ≡ Ok d
 unfolding json_of
 json-back d h = rw (h.utf8, h.reads) refl
 
@@ -103,7 +103,7 @@ named-again : (lines : List (List ℕ)) (targets : List Target) → AllByRecursi
 named-again lines [] locks = tt
 named-again lines (t ∷ targets) locks = (locks.0.named, named-again lines targets locks.1)
 
-present-again : (state : State) (cursor steps : ℕ) (requirements : List ℕ) (locks : LockTexts) → IsState state → requirements ≡ concat state.lines → AllZip IsWrittenLock state.targets locks
+pub present-again : (state : State) (cursor steps : ℕ) (requirements : List ℕ) (locks : LockTexts) → IsState state → requirements ≡ concat state.lines → AllZip IsWrittenLock state.targets locks
     → Present (header_for state cursor steps requirements locks) requirements locks (Ok state)
 present-again state cursor steps requirements locks is lines written =
     let header = header_for state cursor steps requirements locks in
@@ -128,7 +128,7 @@ targets-rise [] locks written some rise = absurd (some refl)
 targets-rise (t ∷ targets) [] written some rise = absurd written
 targets-rise (t ∷ targets) (l ∷ locks) written some rise = ap rises (names-for (t ∷ targets) (l ∷ locks) written) ∙ rise
 
-name-lawful : (targets : List Target) (name : List ℕ) → AllByRecursion IsLawfulTarget targets → Contains (names targets) name → is_target_name name ≡ true
+pub name-lawful : (targets : List Target) (name : List ℕ) → AllByRecursion IsLawfulTarget targets → Contains (names targets) name → is_target_name name ≡ true
 name-lawful [] name lawful there = absurd (Contains-nil name there)
 name-lawful (t ∷ targets) name lawful there = elim (Contains-cons_cases t.name (names targets) name there) [
   | inl same ↦ subst (λ (n : List ℕ). is_target_name n ≡ true) same lawful.0.name

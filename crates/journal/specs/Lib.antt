@@ -13,3 +13,4 @@ pub mod Saved
 pub mod LocksWritten
 pub mod Opens
 pub mod Tied
+pub mod VersionOne

@@ -1,7 +1,8 @@
 -- What commands do to a history, over whole states. All of it is reqlock's own rule.
 use Rattle.std.specs.Prelude.{◌≡◌, ◌≢◌, ◌⊎◌, List, [], ◌∷◌, Result, Ok, Err, IsSomeAnd}
 use Rattle.journal.specs.Values.{State, Targets, Edit, Pool, Snapshot, ReqFile, Refusal, NothingChanges, NothingToUndo, NothingToRedo, OutOfMemory}
-use Rattle.edits.specs.Edits.{InitResult, EditResult}
+use Rattle.edits.specs.Edits.{FirstResult, EditResult}
+use Rattle.edits.specs.declared.pins.TargetPins.{TargetPins}
 use Rattle.journal.specs.declared.commands.Reply.{Reply}
 use Rattle.journal.specs.declared.commands.Reply.TheVariants.{Done, Same, Refused}
 use Rattle.journal.specs.Past.{Past, present, starts, pushed, IsAtStart, IsAtEnd, IsUndone, IsRedone}
@@ -38,6 +39,10 @@ Run old (asked ∷ more) (reply ∷ replies) new = (next : Past) × Step old ask
 Run old [] (reply ∷ replies) new = ⊥
 Run old (asked ∷ more) [] new = ⊥
 
--- the history begins with the state of these lines for the targets
+-- the history begins with the state of these lines for the targets, where these versions are handed in
+abbrev pub BeginsWith : ReqFile → Targets → List TargetPins → Snapshot → Past → Type 0
+BeginsWith lines targets pins snapshot past = (state : State) × FirstResult lines targets pins snapshot (Ok state) × (past ≡ starts state)
+
+-- the same where none is handed in
 abbrev pub IsStart : ReqFile → Targets → Snapshot → Past → Type 0
-IsStart lines targets snapshot past = (state : State) × InitResult lines targets snapshot (Ok state) × (past ≡ starts state)
+IsStart lines targets snapshot past = BeginsWith lines targets [] snapshot past

@@ -24,6 +24,7 @@ mod places;
 mod runs;
 mod saved;
 mod session;
+pub mod version_one;
 mod whole;
 
 pub use crate::change_history::ChangeHistory;

@@ -1,7 +1,7 @@
 // A history that begins with a requirements file.
 
 ghost use Rattle.std.specs.Prelude.{◌≡◌, ◌⊎◌, ◌+◌, ◌-◌, ◌<◌, [], length, map, Some, slice_get, IfOk, IfErr, OnErr};
-ghost use Rattle.edits.specs.Edits.{InitResult};
+ghost use Rattle.edits.specs.Edits.{FirstResult, InitResult};
 ghost use Rattle.journal.specs.Past.{present};
 ghost use Rattle.journal.specs.Changes.{AreSteps, IsStepOf};
 ghost use Rattle.journal.specs.Opens.{Opens, Tells};
@@ -9,7 +9,7 @@ ghost use Rattle.journal.specs.Saved.{IsSaved, OpensAs};
 ghost use Rattle.journal.specs.Commands.{asked_of};
 ghost use Rattle.journal.specs.Histories.{ChangesAfter, RunWithChanges};
 ghost use Rattle.journal.specs.Places.{IsBetween};
-ghost use Rattle.journal.specs.Steps.{Step, Run, IsStart};
+ghost use Rattle.journal.specs.Steps.{BeginsWith, IsStart, Run, Step};
 ghost use Rattle.journal.specs.Values.{Refusal as RefusalValue};
 ghost use Rattle.journal.specs.declared.commands.Reply.TheVariants as replies;
 
@@ -19,7 +19,9 @@ use crate::history::History;
 use crate::journal::Journal;
 use crate::saved::{self, Saved};
 use crate::{history_reader, places, runs};
-use edits::{Change, Refusal, ReqFile, Resolver, Snapshot, State, TargetName, Targets};
+use edits::{
+    Change, FirstTargets, Refusal, ReqFile, Resolver, Snapshot, State, TargetName, Targets,
+};
 use lists::Seq;
 use std::alloc::{AllocError, Global};
 use std::collections::BTreeMap;
@@ -61,6 +63,25 @@ impl Session {
             ⊎ InitResult lines targets snapshot.now (Err r)) }
     {
         let state = edits::init(alloc, lines, targets, snapshot, resolver)?;
+        let history = ChangeHistory::new(alloc, state);
+        Ok(Session { history })
+    }
+
+    /// The same, where the versions that are handed in for a target are kept in its lock.
+    pub fn init_keeping<R: Resolver>(
+        alloc: Global,
+        lines: ReqFile,
+        first: FirstTargets,
+        snapshot: &Snapshot,
+        resolver: &R,
+    ) -> Result<Session, Refusal>
+        ensures start { IfOk result (λ session.
+            BeginsWith lines first.targets first.pins snapshot.now session.past) }
+        ensures changes { IfOk result (λ session. session.changes ≡ []) }
+        ensures refused { IfErr result (λ r. (r ≡ Refusal.OutOfMemory)
+            ⊎ FirstResult lines first.targets first.pins snapshot.now (Err r)) }
+    {
+        let state = edits::init_keeping(alloc, lines, first, snapshot, resolver)?;
         let history = ChangeHistory::new(alloc, state);
         Ok(Session { history })
     }

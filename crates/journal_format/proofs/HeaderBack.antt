@@ -53,7 +53,7 @@ environment_by : (texts : Texts) → texts_in (environment_data texts) all_varia
 unfolding environment_in environment_data
 environment_by texts all = rw all refl
 
-environment-back : (texts : Texts) → IsEnvironment texts → environment_in (environment_data texts) ≡ Ok texts
+pub environment-back : (texts : Texts) → IsEnvironment texts → environment_in (environment_data texts) ≡ Ok texts
 environment-back texts h = environment_by texts (texts-back texts h all_variables ∙ ap (λ t. Ok t) (eleven texts h.count))
 
 -- what a target has to have to be read back

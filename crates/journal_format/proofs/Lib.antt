@@ -6,3 +6,4 @@ pub mod KeptTexts
 pub mod StepsBack
 pub mod HeaderBack
 pub mod LinesCut
+pub mod VersionOneBack

@@ -41,7 +41,7 @@ module _ {X : Type 0} (form : X → Data) (reading : Data → Result X Flaw) whe
 texts-back : (texts : List (List ℕ)) → each text_of (items_of (map string texts)) ≡ Ok texts
 texts-back texts = list-back string text_of texts (all-back string text_of texts (λ _. refl))
 
-name-back : (name : List ℕ) → is_normal name ≡ true → name_in (string name) ≡ Ok name
+pub name-back : (name : List ℕ) → is_normal name ≡ true → name_in (string name) ≡ Ok name
 unfolding name_in
 name-back name normal = rw normal refl
 
@@ -80,7 +80,7 @@ entry-back reads p h =
     let wheels = list-back file_data file_in p.wheels (all-back file_data file_in p.wheels file-back) in
     rw (dependencies, python, sdist, version, wheels, h.parts) refl
 
-entry-there : (p : EntryParts) → is_some (as_null (entry_data p)) ≡ false
+pub entry-there : (p : EntryParts) → is_some (as_null (entry_data p)) ≡ false
 unfolding entry_data
 entry-there p = refl
 
@@ -88,7 +88,7 @@ entry-there p = refl
 abbrev pub IsEntryOn : List ℕ → Option EntryParts → Type 0
 IsEntryOn name o = IfSome o (λ p. IsPackage p × (p.name ≡ name))
 
-entry-on-back : ReadsVersions → (name : List ℕ) (o : Option EntryParts) → IsEntryOn name o → IfSome o (λ p. entry_in name (entry_data p) ≡ Ok p)
+pub entry-on-back : ReadsVersions → (name : List ℕ) (o : Option EntryParts) → IsEntryOn name o → IfSome o (λ p. entry_in name (entry_data p) ≡ Ok p)
 entry-on-back reads name None h = tt
 entry-on-back reads name (Some p) h = subst (λ n. entry_in n (entry_data p) ≡ Ok p) h.1 (entry-back reads p h.0)
 
@@ -112,7 +112,7 @@ module _ (reads : ReadsVersions) (header : Header) (version : header.version ≡
   changes-back [] h = tt
   changes-back (c ∷ cs) h = (entry_change-back c h.0, changes-back cs h.1)
 
-splice-back : (s : Splice) → splice_in (splice_data s) ≡ Ok s
+pub splice-back : (s : Splice) → splice_in (splice_data s) ≡ Ok s
 unfolding splice_in splice_data
 splice-back s = rw (texts-back s.old, texts-back s.new) refl
 
@@ -125,7 +125,7 @@ pub digest-back : (bytes : List ℕ) → IsDigest bytes → digest_in (digest_da
 unfolding digest_in
 digest-back bytes h = lower-back bytes h.size h.bytes
 
-digests-there : (d : DigestChange) → is_some (as_null (digests_data d)) ≡ false
+pub digests-there : (d : DigestChange) → is_some (as_null (digests_data d)) ≡ false
 unfolding digests_data
 digests-there d = refl
 
@@ -133,7 +133,7 @@ digests-there d = refl
 abbrev pub AreDigests : Option DigestChange → Type 0
 AreDigests o = IfSome o (λ d. IsDigest d.old × IsDigest d.new)
 
-digests-back : (o : Option DigestChange) → AreDigests o → IfSome o (λ d. digests_in (digests_data d) ≡ Ok d)
+pub digests-back : (o : Option DigestChange) → AreDigests o → IfSome o (λ d. digests_in (digests_data d) ≡ Ok d)
 unfolding digests_in digests_data
 digests-back None h = tt
 digests-back (Some d) h = rw (digest-back d.old h.0, digest-back d.new h.1) refl

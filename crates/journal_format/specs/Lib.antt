@@ -4,3 +4,4 @@ pub mod Forms
 pub mod Entries
 pub mod Lines
 pub mod Written
+pub mod VersionOne

@@ -44,7 +44,6 @@ pub enum Found {
 
 /// Refuses a candidate for a clash with a choice, which it records.
 fn refuse_for(
-    alloc: Global,
     conflicts: &mut Conflicts,
     queue: &mut CandidateQueue,
     count: usize,
@@ -60,7 +59,7 @@ fn refuse_for(
         node: queue.node,
         version: place,
     };
-    let conflict = conflict_of(alloc, candidate, other)?;
+    let conflict = conflict_of(*conflicts.list.allocator(), candidate, other)?;
     queue.refuse(count, place, conflict.as_slice())?;
     conflicts.record(conflict)?;
     Ok(())
@@ -69,20 +68,18 @@ fn refuse_for(
 /// Refuses the candidate of this turn, if it completes a recorded conflict or clashes. A clash is
 /// recorded.
 fn refuse(
-    alloc: Global,
     table: &Table,
     partial: &PartialSolution,
     conflicts: &mut Conflicts,
     queue: &mut CandidateQueue,
-    count: usize,
     place: usize,
 ) -> Result<bool, AllocError>
     requires table { in_range table.now ≡ true }
     requires learned { IsLearned table.now partial.now conflicts.old.list.items }
     requires queue { IsCandidateQueue (rules_of table.now) conflicts.old.list.items partial.now.assignments.items
         queue.old }
-    requires count { count ≡ length (candidates_of table.now (name_of table.now queue.old.node)) }
-    requires turn { queue.old.turn < count }
+    requires turn { queue.old.turn
+        < length (candidates_of table.now (name_of table.now queue.old.node)) }
     requires place { slice_index_or (candidates_of table.now (name_of table.now queue.old.node))
         queue.old.turn place ≡ place }
     ensures learned { IfOk result (λ _. IsLearned table.now partial.now conflicts.new.list.items) }
@@ -94,6 +91,7 @@ fn refuse(
     ensures fits { IfOk result (λ refused. IsFalse refused → (queue.new ≡ queue.old)
         × FitsBefore (rules_of table.now) partial.now.assignments.items (decision queue.old.node place)) }
 {
+    let count = table.candidates(table.name_of(queue.node)).len();
     let candidate = Decision {
         node: queue.node,
         version: place,
@@ -105,7 +103,7 @@ fn refuse(
     match clash(table, partial, candidate) {
         None => Ok(false),
         Some(other) => {
-            refuse_for(alloc, conflicts, queue, count, place, other)?;
+            refuse_for(conflicts, queue, count, place, other)?;
             Ok(true)
         }
     }
@@ -179,7 +177,6 @@ fn learn(
 
 /// Goes on with the next node, if there is one.
 fn onward(
-    alloc: Global,
     table: &Table,
     partial: &mut PartialSolution,
     conflicts: &Conflicts,
@@ -191,7 +188,7 @@ fn onward(
     ensures assignments { partial.new.assignments ≡ partial.old.assignments }
     ensures first { TriesFirst result }
 {
-    let _known = conflicts.list.len();
+    let alloc = *conflicts.list.allocator();
     match next(alloc, table, partial, cursor) {
         None => Progress::Solved,
         Some(queue) => Progress::Trying(queue),
@@ -200,7 +197,6 @@ fn onward(
 
 /// Tries the candidate of this turn; where none is left, learns from that.
 fn step(
-    alloc: Global,
     table: &Table,
     partial: &mut PartialSolution,
     conflicts: &mut Conflicts,
@@ -218,18 +214,17 @@ fn step(
         progress) }
 {
     let candidates = table.candidates(table.name_of(queue.node));
-    let count = candidates.len();
-    if queue.turn >= count {
+    if queue.turn >= candidates.len() {
         let progress = learn(table, partial, conflicts, queue)?;
         return Ok(progress);
     }
     let place = candidates[queue.turn];
     let mut queue = queue;
-    if refuse(alloc, table, partial, conflicts, &mut queue, count, place)? {
+    if refuse(table, partial, conflicts, &mut queue, place)? {
         return Ok(Progress::Trying(queue));
     }
     partial.push(table, queue, place)?;
-    Ok(onward(alloc, table, partial, conflicts, cursor))
+    Ok(onward(table, partial, conflicts, cursor))
 }
 
 /// The place of a choice, where there is one.
@@ -285,7 +280,7 @@ pub fn learned_or_refuted(alloc: Global, table: &Table) -> Result<Found, AllocEr
         demand: 0,
         extra: 0,
     };
-    let mut progress = onward(alloc, table, &mut partial, &conflicts, &mut cursor);
+    let mut progress = onward(table, &mut partial, &conflicts, &mut cursor);
     'search: loop {
         match progress {
             Progress::Refuted => return Ok(Found::Refuted(conflicts.into_list())),
@@ -294,14 +289,7 @@ pub fn learned_or_refuted(alloc: Global, table: &Table) -> Result<Found, AllocEr
                 return Ok(Found::Best(choices));
             }
             Progress::Trying(queue) => {
-                progress = step(
-                    alloc,
-                    table,
-                    &mut partial,
-                    &mut conflicts,
-                    &mut cursor,
-                    queue,
-                )?;
+                progress = step(table, &mut partial, &mut conflicts, &mut cursor, queue)?;
             }
         }
     }

@@ -9,6 +9,7 @@ ghost use Rattle.pep508.specs.Requirement.{IsLine, file_of, lines_read};
 
 use crate::line::Line;
 use crate::parts::split_line;
+use crate::short_lines::ShortLines;
 use lists::{Faithful, Seq, Text};
 use markers::{Cause, Fault};
 use std::alloc::{AllocError, Global};
@@ -103,10 +104,11 @@ fn read_lines(alloc: Global, text: &str) -> Result<ReqFile, Fault>
     ensures { Answers memory_fault (lines_read text.now) result }
 {
     let mut lines = Seq::new(alloc);
+    let mut short = ShortLines::new(alloc);
     let mut rest = text;
     while !rest.is_empty() {
         let (line, after) = split_line(rest);
-        match Line::read(alloc, line) {
+        match short.read(alloc, line) {
             Ok(line) => lines.push(line)?,
             Err(cause) => return Err(Fault::at(lines.len() + 1, cause)),
         }

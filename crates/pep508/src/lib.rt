@@ -15,6 +15,7 @@ mod line;
 mod parts;
 mod req_line;
 mod requirement;
+mod short_lines;
 mod slices;
 mod specifier_text;
 

@@ -16,24 +16,37 @@ use markers::{Cause, Environment, Fault, Marker, Name};
 use pep440::SpecifierSet;
 use std::alloc::{AllocError, Global};
 use std::marker::Model;
+use std::rc::Rc;
 
-/// What a line or a release asks for: a project by its name, extras of it, specifiers that its
-/// version has to match, and a marker that says where it counts (PEP 508, "Grammar").
-pub struct Requirement {
+/// The parts of a requirement.
+struct Parts {
     name: Name,
     extras: Seq<Name>,
     specifiers: SpecifierSet,
     marker: Option<Marker>,
 }
 
-impl Drop for Requirement {
+impl Drop for Parts {
     fn drop(self) {
-        let Requirement {
+        let Parts {
             name: _,
             extras: _,
             specifiers: _,
             marker: _,
         } = self;
+    }
+}
+
+/// What a line or a release asks for: a project by its name, extras of it, specifiers that its
+/// version has to match, and a marker that says where it counts (PEP 508, "Grammar"). Clones of a
+/// requirement share it.
+pub struct Requirement {
+    shared: Rc<Parts>,
+}
+
+impl Drop for Requirement {
+    fn drop(self) {
+        let Requirement { shared: _ } = self;
     }
 }
 
@@ -47,10 +60,10 @@ impl Model for Requirement {
     ghost coded = { Prim.hlevel (codes, tree_code) };
 
     ghost view = { λ r. record {
-      name = r.name;
-      extras = r.extras;
-      clauses = r.specifiers;
-      marker = r.marker;
+      name = r.shared.value.name;
+      extras = r.shared.value.extras;
+      clauses = r.shared.value.specifiers;
+      marker = r.shared.value.marker;
     } };
 }
 
@@ -124,12 +137,14 @@ fn wanted_in(alloc: Global, slices: &Slices<'_>) -> Result<Requirement, Cause>
     let extras = extras_of(alloc, slices.extras)?;
     let specifiers = clauses_of(alloc, slices.version)?;
     let marker = condition_of(alloc, slices.marker)?;
-    Ok(Requirement {
+    let parts = Parts {
         name,
         extras,
         specifiers,
         marker,
-    })
+    };
+    let shared = Rc::new(alloc, parts)?;
+    Ok(Requirement { shared })
 }
 
 impl Requirement {
@@ -163,28 +178,28 @@ impl Requirement {
     pub fn name(&self) -> &Name
         ensures { result.now ≡ self.now.name }
     {
-        &self.name
+        &self.shared.as_ref().name
     }
 
     /// The extras in the order in which they are written.
     pub fn extras(&self) -> &[Name]
         ensures { result.now ≡ self.now.extras }
     {
-        self.extras.as_slice()
+        self.shared.as_ref().extras.as_slice()
     }
 
     /// The specifiers; none where every version is admitted.
     pub fn specifiers(&self) -> &SpecifierSet
         ensures { result.now ≡ self.now.clauses }
     {
-        &self.specifiers
+        &self.shared.as_ref().specifiers
     }
 
     /// The marker, where there is one.
     pub fn marker(&self) -> Option<&Marker>
         ensures { option_copied result ≡ self.now.marker }
     {
-        self.marker.as_ref()
+        self.shared.as_ref().marker.as_ref()
     }
 
     /// Whether the requirement counts in an environment: it has no marker, or its marker holds with
@@ -192,7 +207,7 @@ impl Requirement {
     pub fn is_active(&self, environment: &Environment) -> bool
         ensures { result ≡ spec.is_active self.now environment.now }
     {
-        match &self.marker {
+        match self.marker() {
             None => true,
             Some(marker) => marker.holds(environment, None),
         }
@@ -203,16 +218,8 @@ impl Clone for Requirement {
     ghost is_clone = { λ r q. q ≡ r };
 
     fn clone(&self) -> Result<Requirement, AllocError> {
-        let name = self.name.clone()?;
-        let extras = self.extras.clone()?;
-        let specifiers = self.specifiers.clone()?;
-        let marker = self.marker.clone()?;
-        Ok(Requirement {
-            name,
-            extras,
-            specifiers,
-            marker,
-        })
+        let shared = self.shared.clone()?;
+        Ok(Requirement { shared })
     }
 }
 

@@ -1,15 +1,6 @@
--- Walks over a list that test what is left of it.
-use Rattle.std.proofs.Common.{IfSome, Option, Some, None, is_some, ◌≡◌, ◌∙◌, ◌<◌, ◌+◌, ◌&&◌, ◌||◌, ℕ, zero, suc, Bool, true, false, List, [], ◌∷◌, drop, get_or, length, ap, refl, sym}
-use Rattle.std.specs.List.{list_all, list_any}
-use Rattle.std.proofs.lemmas.List.{at_drop_more}
-
-pub all-past : {X : Type 0} (p : X → Bool) (xs : List X) (k : ℕ) (x : X) → k < length xs → x ≡ get_or xs k x → p x ≡ true
-    → list_all p xs ≡ list_all p (drop k xs) → list_all p xs ≡ list_all p (drop (k + 1) xs)
-all-past p xs k x within is passes so_far = so_far ∙ at_drop_more (list_all p) xs k x within ∙ ap (λ b. b && list_all p (drop (k + 1) xs)) (ap p (sym is) ∙ passes)
-
-pub all-stop : {X : Type 0} (p : X → Bool) (xs : List X) (k : ℕ) (x : X) → k < length xs → x ≡ get_or xs k x → p x ≡ false
-    → list_all p xs ≡ list_all p (drop k xs) → list_all p xs ≡ false
-all-stop p xs k x within is fails so_far = so_far ∙ at_drop_more (list_all p) xs k x within ∙ ap (λ b. b && list_all p (drop (k + 1) xs)) (ap p (sym is) ∙ fails)
+-- What is found behind a place of a list is found in the list.
+use Rattle.std.proofs.Common.{IfSome, Option, Some, None, is_some, ◌≡◌, ◌||◌, ℕ, zero, suc, Bool, true, false, List, [], ◌∷◌, drop, refl, sym}
+use Rattle.std.specs.List.{list_any}
 
 either-more : (a b : Bool) → b ≡ true → (a || b) ≡ true
 either-more true b e = refl

@@ -28,21 +28,27 @@ fn mark(marks: &mut [bool], place: usize) {
     }
 }
 
+/// A conflict, those before it, and where to look among these.
+#[derive(Clone, Copy)]
+struct Examined<'l, 'c> {
+    earlier: &'l [Seq<Choice>],
+    hints: &'l Hints<'l, 'c>,
+    conflict: &'l [Choice],
+}
+
 /// Marks for each candidate at the node an earlier conflict that the conflict contains with it.
 fn mark_completed(
     marks: &mut [bool],
     problem: &Problem<'_>,
-    earlier: &[Seq<Choice>],
-    hints: &Hints<'_, '_>,
-    conflict: &[Choice],
+    examined: Examined<'_, '_>,
     name: &Name,
     extra: Option<&Name>,
 ) {
     for release in problem.eligible(name) {
         if let Some(place) = completed_at(
-            earlier,
-            Some(hints),
-            conflict,
+            examined.earlier,
+            Some(examined.hints),
+            examined.conflict,
             name,
             extra,
             release.version(),
@@ -53,20 +59,14 @@ fn mark_completed(
 }
 
 /// Marks the earlier conflicts that a conflict rests on.
-fn mark_grounds(
-    marks: &mut [bool],
-    problem: &Problem<'_>,
-    earlier: &[Seq<Choice>],
-    hints: &Hints<'_, '_>,
-    conflict: &[Choice],
-) {
+fn mark_grounds(marks: &mut [bool], problem: &Problem<'_>, examined: Examined<'_, '_>) {
     if let Some(Ground::NoneLeft(_, name, extra)) = found_ground(
         problem,
-        earlier,
-        Some(hints),
-        conflict,
+        examined.earlier,
+        Some(examined.hints),
+        examined.conflict,
     ) {
-        mark_completed(marks, problem, earlier, hints, conflict, name, extra);
+        mark_completed(marks, problem, examined, name, extra);
     }
 }
 
@@ -83,7 +83,12 @@ fn mark_back(
         if is_marked(marks, place) {
             let (earlier, conflict) = (&conflicts[..place], conflicts[place].as_slice());
             let hints = places.hints(earlier, conflict)?;
-            mark_grounds(marks, problem, earlier, &hints, conflict);
+            let examined = Examined {
+                earlier,
+                hints: &hints,
+                conflict,
+            };
+            mark_grounds(marks, problem, examined);
         }
     }
     Ok(())

@@ -1,7 +1,8 @@
 // The names of other packages that packages need.
 
-ghost use Rattle.std.specs.Prelude.{◌≡◌, ℕ, List, [], IfOk, OnOk};
+ghost use Rattle.std.specs.Prelude.{◌≡◌, ℕ, List, [], ◌∷◌, IfOk, OnOk};
 ghost use Rattle.std.specs.Option.{option_copied};
+ghost use Rattle.pep508.specs.Requirement.{RequirementParts};
 ghost use Rattle.problems.specs.Solutions.{version_for};
 ghost use Rattle.states.specs.Dependencies.{leads_away, names_at, names_in, names_over, names_wanted, release_chosen, with_names};
 
@@ -19,6 +20,25 @@ fn leads_away(problem: &Problem<'_>, node: &Node, dependency: &Requirement) -> b
     problem.does_count(node, dependency) && node.name.normal() != dependency.name().normal()
 }
 
+/// Puts the name of the dependency to the names, where it leads away from the node.
+fn add_name(
+    problem: &Problem<'_>,
+    node: &Node,
+    dependency: &Requirement,
+    names: &mut BTreeSet<Name>,
+) -> Result<(), AllocError>
+    ensures { OnOk result ((rest : List RequirementParts)
+        → with_names names.new.keys (names_wanted problem.now.environment node.now rest)
+        ≡ with_names names.old.keys
+        (names_wanted problem.now.environment node.now (dependency.now ∷ rest))) }
+{
+    if leads_away(problem, node, dependency) {
+        let name = dependency.name().clone()?;
+        names.insert(name)?;
+    }
+    Ok(())
+}
+
 /// Puts the names of the dependencies that lead away from the node to the names.
 fn add_names(
     problem: &Problem<'_>,
@@ -31,9 +51,7 @@ fn add_names(
         (names_wanted problem.now.environment node.now dependencies.now)) }
 {
     for dependency in dependencies {
-        if leads_away(problem, node, dependency) {
-            names.insert(dependency.name().clone()?)?;
-        }
+        add_name(problem, node, dependency, names)?;
     }
     Ok(())
 }

@@ -1,6 +1,7 @@
 // The history for people: a line for each step.
 
 use crate::diff_text::add_entry_change;
+use crate::line_edit::{Told, told_as};
 use edits::{Cause, Change, EntryChange, Line, Splice, TargetName};
 use journal::Session;
 use lists::Text;
@@ -89,19 +90,29 @@ fn add_new_lock(text: &mut String, change: &Change) -> Result<(), AllocError> {
     write!(text, "{entries} {word}")
 }
 
-// The line that came behind others, the one that went, or the one with other specifiers.
+// The line that came behind others, the one that went, the one with other specifiers, or how many were replaced.
 fn add_edit(alloc: Global, text: &mut String, splice: &Splice) -> Result<(), AllocError> {
     let (old, new) = (splice.old.as_slice(), splice.new.as_slice());
-    if new.len() > old.len() {
-        text.push_str("add ")?;
-        return add_line(text, new.last());
+    match told_as(alloc, old, new)? {
+        Told::Addition => {
+            text.push_str("add ")?;
+            add_line(text, new.last())
+        }
+        Told::Removal => {
+            text.push_str("remove ")?;
+            add_name(alloc, text, old.first(), false)
+        }
+        Told::Constraint => {
+            text.push_str("constrain ")?;
+            add_name(alloc, text, new.first(), true)
+        }
+        Told::Replacement => add_replaced(text, old.len().max(new.len())),
     }
-    if new.len() < old.len() {
-        text.push_str("remove ")?;
-        return add_name(alloc, text, old.first(), false);
-    }
-    text.push_str("constrain ")?;
-    add_name(alloc, text, new.first(), true)
+}
+
+fn add_replaced(text: &mut String, lines: usize) -> Result<(), AllocError> {
+    let word = if lines == 1 { "line" } else { "lines" };
+    write!(text, "replace: {lines} {word}")
 }
 
 // A line without its ending.

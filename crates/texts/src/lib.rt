@@ -9,6 +9,7 @@ mod entry_json;
 pub mod entry_text;
 pub mod history_text;
 pub mod json_text;
+mod line_edit;
 pub mod lock_json;
 pub mod lock_text;
 pub mod log_json;

@@ -97,7 +97,7 @@ fn add_bad_text(alloc: Global, text: &mut String, edit: &Edit) -> Result<(), All
             }
             Ok(())
         }
-        Edit::UpgradeAll | Edit::Relock => Ok(()),
+        Edit::UpgradeAll | Edit::Relock | Edit::Replace(_, _) => Ok(()),
     }
 }
 
@@ -240,6 +240,7 @@ pub fn add_question(text: &mut String, options: &str, edit: &Edit) -> Result<(),
         }
         Edit::UpgradeAll => text.push_str(" --upgrade")?,
         Edit::Relock => {}
+        Edit::Replace(_, _) => text.push_str(" --replace")?,
     }
     text.push_str("\n")
 }

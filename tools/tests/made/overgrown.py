@@ -48,6 +48,15 @@ def lines(count):
     return requirements("".join(f"p{number} ; os_name == 'nt'  # {number}\n" for number in range(count)))
 
 
+def blank_lines(count):
+    return requirements("\n" * count)
+
+
+def short_comments(count):
+    """None is like the one before it."""
+    return requirements("#\n \n" * (count // 2))
+
+
 def long_line(count):
     return requirements("a  # " + "x" * count, ONE)
 
@@ -182,12 +191,12 @@ def keys_of_a_lock(count):
 
 # Each input with its largest count.
 SIZES = {
-    lines: 1_000_000, long_line: 10_000_000, atoms: 1_000_000, clauses: 1_000_000, extras: 200_000, packages: 100_000,
-    releases: 100_000, lines_that_count: 100_000, chain: 100_000, chain_back: 100_000, steps_opened: 100_000,
-    steps_undone: 100_000, steps_shown: 100_000, commands: 1_000_000, commands_refused: 1_000_000,
-    commands_that_edit: 100_000, long_command: 10_000_000, parentheses: 1_000_000, arrays_of_an_index: 1_000_000,
-    arrays_of_an_environment: 1_000_000, arrays_of_a_journal: 1_000_000, arrays_of_a_lock: 1_000_000,
-    tables_of_a_lock: 1_000_000, keys_of_a_lock: 1_000_000,
+    lines: 1_000_000, blank_lines: 10_000_000, short_comments: 5_000_000, long_line: 10_000_000, atoms: 1_000_000,
+    clauses: 1_000_000, extras: 200_000, packages: 100_000, releases: 100_000, lines_that_count: 100_000, chain: 100_000,
+    chain_back: 100_000, steps_opened: 100_000, steps_undone: 100_000, steps_shown: 100_000, commands: 1_000_000,
+    commands_refused: 1_000_000, commands_that_edit: 100_000, long_command: 10_000_000, parentheses: 1_000_000,
+    arrays_of_an_index: 1_000_000, arrays_of_an_environment: 1_000_000, arrays_of_a_journal: 1_000_000,
+    arrays_of_a_lock: 1_000_000, tables_of_a_lock: 1_000_000, keys_of_a_lock: 1_000_000,
 }
 
 SMALL = {steps_opened: 10_000}

@@ -6,10 +6,10 @@ use Rattle.edits.proofs.kept_versions.all_first.Goals as goal
 
 pub returns-clause-some : goal.returns-clause-some
 returns-clause-some c =
-    let kept = rw c.into_list.ensures at c.in_ok-each_first.ensures in
-    some-kept kept_first c.args.targets c.in_ok-each_first.field-0 kept c.recall_invariant.ensures.some
+    let kept = rw (c.into_list.ensures, c.as_slice.ensures) at c.in_ok-each_first.ensures in
+    some-kept (kept_first c.args.first.pins) c.args.first.targets c.in_ok-each_first.field-0 kept c.recall_invariant.ensures.some
 
 pub returns-clause-rising : goal.returns-clause-rising
 returns-clause-rising c =
-    let kept = rw c.into_list.ensures at c.in_ok-each_first.ensures in
-    ap rises (names-first c.args.targets c.in_ok-each_first.field-0 kept) ∙ c.recall_invariant.ensures.rising
+    let kept = rw (c.into_list.ensures, c.as_slice.ensures) at c.in_ok-each_first.ensures in
+    ap rises (names-first c.args.first.pins c.args.first.targets c.in_ok-each_first.field-0 kept) ∙ c.recall_invariant.ensures.rising

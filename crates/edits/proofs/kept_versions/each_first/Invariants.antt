@@ -3,4 +3,4 @@ use Rattle.edits.specs.KeptVersions.{kept_first, kept_of}
 use Rattle.edits.proofs.kept_versions.each_first.Given as goal
 
 abbrev pub invariant-loop-name : goal.invariant-loop-name
-invariant-loop-name l = map kept_of l.all.items ++ map kept_first l.name-iterator.rest.items ≡ map kept_first l.fn.targets
+invariant-loop-name l = map kept_of l.all.items ++ map (kept_first l.pins) l.name-iterator.rest.items ≡ map (kept_first l.pins) l.fn.targets

@@ -14,6 +14,9 @@ use Rattle.search.specs.Table.{TableParts, rules_of}
 use Rattle.learning_search.specs.Tied.Refusals.{RefusesOneMore}
 use Rattle.learning_search.proofs.learned_search.refuse.Goals as goal
 
+pub name_of-requires : goal.name_of-requires
+name_of-requires c = queue-known c.args.table.now c.requires.table c.args.conflicts.now.list.items c.args.partial.now.assignments.items c.args.queue.now c.requires.queue
+
 pub clash-requires-clause-node : goal.clash-requires-clause-node
 clash-requires-clause-node c = queue-known c.args.table.now c.requires.table c.args.conflicts.now.list.items c.args.partial.now.assignments.items c.args.queue.now c.requires.queue
 
@@ -28,7 +31,7 @@ returns-in-Some-clause-queue c =
     (subst (λ (xs : List (NodeChoice ℕ ℕ)). RefusesOneMore old c.refuse.new.self xs (decision old.node c.args.place)) c.at.ensures c.in_ok-refuse.ensures)
     (Contains-get_or cs c.in-Some.found [] c.in-Some.ensures.0)
     (subst (λ (ds : List (NodeChoice ℕ ℕ)). IsWithin conflict ds (decision old.node c.args.place)) (ap (map choice_at) c.requires.learned.partial.choices ∙ entries-decisions hs) c.in-Some.ensures.1)
-    (subst (λ k. old.turn < k) c.requires.count c.requires.turn) c.requires.place
+    c.requires.turn c.requires.place
 
 pub returns-in_ok-refuse_for-in-Some-clash-clause-learned :
     goal.returns-in_ok-refuse_for-in-Some-clash-clause-learned
@@ -39,7 +42,7 @@ returns-in_ok-refuse_for-in-Some-clash-clause-learned c =
     let old : CandidateQueue = c.args.queue.now in
     let candidate : NodeChoice ℕ ℕ = decision old.node c.args.place in
     let h : IsRefusedFor old c.refuse_for.new.queue cs c.refuse_for.new.conflicts.list.items candidate c.in-Some-clash.other = c.in_ok-refuse_for-in-Some-clash.ensures in
-    let own : IsKnown t candidate = candidate-known t old c.args.place (queue-known t c.requires.table cs hs old c.requires.queue) (subst (λ k. old.turn < k) c.requires.count c.requires.turn) c.requires.place in
+    let own : IsKnown t candidate = candidate-known t old c.args.place (queue-known t c.requires.table cs hs old c.requires.queue) c.requires.turn c.requires.place in
     subst (λ (xs : List (List (NodeChoice ℕ ℕ))). IsLearned t c.args.partial.now xs) (sym h.recorded)
     (learned-more t c.args.partial.now cs h.conflict c.requires.learned (c.in-Some-clash.ensures.follows cs h.conflict h.one h.two)
     (within-known t c.requires.table cs hs h.conflict candidate c.requires.learned.learning (clash-within (rules_of t) hs candidate c.in-Some-clash.other h.conflict c.in-Some-clash.ensures h.only) own))
@@ -55,4 +58,4 @@ returns-in_ok-refuse_for-in-Some-clash-clause-queue c =
     subst (λ (xs : List (List (NodeChoice ℕ ℕ))). IsCandidateQueue (rules_of t) xs hs c.refuse_for.new.queue) (sym h.recorded)
     (queue-refused (rules_of t) (cs ++ h.conflict ∷ []) hs old c.refuse_for.new.queue c.args.place h.conflict (queue-more (rules_of t) cs (h.conflict ∷ []) hs old c.requires.queue) h.refused (Contains-push cs h.conflict)
     (clash-within (rules_of t) hs (decision old.node c.args.place) c.in-Some-clash.other h.conflict c.in-Some-clash.ensures h.only)
-    (subst (λ k. old.turn < k) c.requires.count c.requires.turn) c.requires.place)
+    c.requires.turn c.requires.place)

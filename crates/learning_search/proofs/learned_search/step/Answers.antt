@@ -20,7 +20,7 @@ onward-requires-clause-learned c =
     let place : ℕ = get_or c.candidates-candidates.result.now old.turn 0 in
     let both : (c.refuse.new.queue ≡ old) × FitsBefore (rules_of t) c.args.partial.now.assignments.items (decision old.node place) = c.in_ok-refuse.ensures.fits c.if-branch.false in
     let same : c.candidates-candidates.result.now ≡ candidates_of t (name_of t old.node) = c.candidates-candidates.ensures ∙ ap (candidates_of t) c.name_of.ensures.name in
-    let within : old.turn < length c.candidates-candidates.result.now = (let k = c.if-queue-count.false in omega arith) in
+    let within : old.turn < length c.candidates-candidates.result.now = (let k = c.if-queue-candidates.false in omega arith) in
     learned-push t c.args.partial.now c.push.new.self c.refuse.new.conflicts.list.items c.refuse.new.queue place c.in_ok-refuse.ensures.learned c.in_ok-push.ensures.partial c.in_ok-push.ensures.assignments c.in_ok-refuse.ensures.queue
     (subst (λ (x : CandidateQueue). x.turn < length (candidates_of t (name_of t x.node))) (sym both.0) (subst (λ (xs : List ℕ). old.turn < length xs) same within))
     (subst (λ (x : CandidateQueue). get_or (candidates_of t (name_of t x.node)) x.turn place ≡ place) (sym both.0) (subst (λ (xs : List ℕ). get_or xs old.turn place ≡ place) same (get_or-any c.candidates-candidates.result.now old.turn place 0 within)))

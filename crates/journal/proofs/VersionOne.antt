@@ -1,0 +1,131 @@
+-- What version 1 saved of a history opens as that history.
+use Rattle.std.proofs.Common.{◌≡◌, ◌≤◌, ℕ, ◌+◌, true, List, [], ◌∷◌, ◌++◌, length, Ok, refl, sym, ap, subst, ◌∙◌, inl, inr, arith}
+use Rattle.std.specs.List.{AllByRecursion, AllZip, flat_map}
+use Rattle.std.specs.Str.{bytes_eq}
+use Rattle.std.proofs.lemmas.Bool.{cases_Bool}
+use Rattle.std.proofs.lemmas.Option.{slice_get_within}
+use Rattle.std.proofs.lemmas.Slice.Eq.{bytes_eq-Decides}
+use Rattle.serde_json.specs.Written.{compact_text}
+use Rattle.changes.specs.Changes.{ChangeParts, IsMinimal}
+use Rattle.changes.specs.declared.change.parts.EntryChange.{EntryChange}
+use Rattle.states.specs.State.{IsState}
+use Rattle.pylock.proofs.CanonicalBack.{ReadsVersions}
+use Rattle.journal.specs.Values.{State, Target}
+use Rattle.journal.specs.Changes.{AreSteps, HistoryParts, IsChange}
+use Rattle.journal.specs.LocksWritten.{IsLawfulTarget, IsWrittenLock}
+use Rattle.journal.specs.Opens.{BeginsWith, Opens, StepLines}
+use Rattle.journal.specs.Saved.{header_for, target_for, targets_for}
+use Rattle.journal.specs.Tied.{IsWritten}
+use Rattle.journal.specs.VersionOne.{IsSavedByOne}
+use Rattle.journal_format.specs.Lines.{IsStepLine, has_target, header_of_line, step_in, step_of_line}
+use Rattle.journal_format.specs.VersionOne.{header_one, step_one}
+use Rattle.journal_format.specs.Written.{line_of}
+use Rattle.journal_format.specs.declared.header.Header.{Header}
+use Rattle.journal_format.specs.declared.header.HeaderTarget.{HeaderTarget}
+use Rattle.journal_format.specs.declared.header.JournalVersion.TheVariants.{One}
+use Rattle.journal_format.proofs.LinesCut.{cut-written}
+use Rattle.journal_format.proofs.StepsBack.{IsLawfulChange}
+use Rattle.journal_format.proofs.VersionOneBack.{header_one-back, step_one-back}
+use Rattle.journal.proofs.ChangesRead.{Knows, all-known, lawful-changes, locks-lawful, names_of, on-first}
+use Rattle.journal.proofs.Histories.{AreSteps-count}
+use Rattle.journal.proofs.LocksAgain.{name-known, names}
+use Rattle.journal.proofs.OpensAgain.{json-back, name-lawful, present-again, sha256-digest}
+use Rattle.journal.proofs.StatesAgain.{past-again, state-at}
+
+-- the same header, of version 1
+abbrev as_one : Header → Header
+as_one header = record header { version = One }
+
+-- a target that a header of one target without a name knows has no name
+unnamed_by : (header : Header) (target : HeaderTarget) (name : List ℕ) → header.targets ≡ target ∷ [] → target.name ≡ [] → has_target header name ≡ true → name ≡ []
+unnamed_by header target name one unnamed known =
+    let here = subst (λ (ts : List HeaderTarget). has_target (record header { targets = ts }) name ≡ true) one known in
+    elim (cases_Bool (bytes_eq target.name name)) [
+      | inl same ↦ sym ((bytes_eq-Decides target.name name).0 same) ∙ unnamed
+      | inr apart ↦ absurd (let odd = rw apart at here in cc)
+    ]
+
+-- a minimal change that is read back behind the header, as version 1 wrote it
+record IsReadOne (header : Header) (change : ChangeParts) : Type 0 where
+  pub minimal : IsMinimal change
+  pub back : step_in (as_one header) (step_one change) ≡ Ok change
+
+module _ (reads : ReadsVersions) (header : Header) (target : HeaderTarget) (one : header.targets ≡ target ∷ []) (unnamed : target.name ≡ []) where
+  unnamed-entries : (cs : List EntryChange) → AllByRecursion (IsLawfulChange header) cs → AllByRecursion (λ c. c.target ≡ []) cs
+  unnamed-entries [] lawful = tt
+  unnamed-entries (c ∷ cs) lawful = (unnamed_by header target c.target one unnamed lawful.0.known, unnamed-entries cs lawful.1)
+
+  lawful-one : (cs : List EntryChange) → AllByRecursion (IsLawfulChange header) cs → AllByRecursion (IsLawfulChange (as_one header)) cs
+  lawful-one [] lawful = tt
+  lawful-one (c ∷ cs) lawful =
+      let h = lawful.0 in
+      (record { target = h.target; known = h.known; name = h.name; old = h.old; new = h.new }, lawful-one cs lawful.1)
+
+  change-one : (old : State) (change : ChangeParts) (new : State) → Knows header (names_of old) → IsState old → IsState new → IsChange old change new → step_in (as_one header) (step_one change) ≡ Ok change
+  change-one old change new knows h g is =
+      let lawful = lawful-changes reads header old change new knows h g is change.entries (λ c there. there) is.leads.known is.minimal.entries.each in
+      let digests = on-first change old.targets new.targets h.some is.leads.targets (locks-lawful old.lines old.targets h.locks) (locks-lawful new.lines new.targets g.locks) in
+      step_one-back reads (as_one header) refl change (unnamed-entries change.entries lawful) (lawful-one change.entries lawful) digests
+
+  changes-one : (states : List State) (changes : List ChangeParts) → AreSteps states changes → AllByRecursion IsState states → AllByRecursion (λ s. Knows header (names_of s)) states → AllByRecursion (IsReadOne header) changes
+  changes-one [] changes steps lawful knows = absurd steps
+  changes-one (s ∷ []) [] steps lawful knows = tt
+  changes-one (s ∷ []) (c ∷ cs) steps lawful knows = absurd steps
+  changes-one (s ∷ t ∷ states) [] steps lawful knows = absurd steps
+  changes-one (s ∷ t ∷ states) (c ∷ cs) steps lawful knows =
+      (record { minimal = steps.0.minimal; back = change-one s c t knows.0 lawful.0 lawful.1.0 steps.0 }, changes-one (t ∷ states) cs steps.1 lawful.1 knows.1)
+
+step_one-line : (header : Header) (c : ChangeParts) → IsWritten (step_one c) → IsReadOne header c → IsStepLine (as_one header) (compact_text (step_one c)) c
+unfolding step_of_line
+step_one-line header c written is = record { reads = rw (json-back (step_one c) written, is.back) refl; minimal = is.minimal }
+
+-- the lines of changes are read as these
+steps-one : (header : Header) (number : ℕ) (changes : List ChangeParts) → AllByRecursion (λ c. IsWritten (step_one c)) changes → AllByRecursion (IsReadOne header) changes
+    → StepLines (as_one header) (length changes) number (flat_map (λ c. line_of (step_one c)) changes) (Ok changes)
+steps-one header number [] written read = inl (refl, refl)
+steps-one header number (c ∷ cs) written read =
+    let rest = flat_map (λ c. line_of (step_one c)) cs in
+    inl ((c, rest), record { line = compact_text (step_one c); cut = cut-written (step_one c) rest; is_step = step_one-line header c written.0 read.0 }, (Ok cs, steps-one header (number + 1) cs written.1 read.1, refl))
+
+begins-one : (header : Header) (target : HeaderTarget) (rest : List ℕ) → IsWritten (header_one (as_one header) target) → header_of_line (compact_text (header_one (as_one header) target)) ≡ Ok (as_one header)
+    → BeginsWith (line_of (header_one (as_one header) target) ++ rest) (as_one header, rest)
+begins-one header target rest written reads = record {
+  line = compact_text (header_one (as_one header) target);
+  cut = cut-written (header_one (as_one header) target) rest;
+  header = reads;
+}
+
+-- what version 1 saved of a history opens as that history
+pub one-opens : ReadsVersions → (history : HistoryParts) (requirements lock journal : List ℕ) → IsSavedByOne history requirements lock journal → Opens requirements (([], lock) ∷ []) journal (Ok history)
+unfolding header_of_line
+one-opens reads history requirements lock journal is =
+    let past = history.past in
+    let changes = history.changes in
+    let state = is.state in
+    let locks : List (List ℕ × List ℕ) = ([], lock) ∷ [] in
+    let header = header_for state past.cursor (length changes) requirements locks in
+    let target = target_for is.target lock in
+    let rest = flat_map (λ c. line_of (step_one c)) changes in
+    let one : header.targets ≡ target ∷ [] = ap (λ (ts : List Target). targets_for ts locks) is.one in
+    let state_lawful : IsState state = state-at past.states past.cursor state is.lawful is.state_is in
+    let files : AllZip IsWrittenLock state.targets locks =
+    subst (λ (ts : List Target). AllZip IsWrittenLock ts locks) (sym is.one) (record { file = is.lock_is; reads = is.lock_reads }, tt) in
+    let target_lawful : IsLawfulTarget is.target = record { name = rw is.unnamed refl; environment = is.environment } in
+    let targets : AllByRecursion IsLawfulTarget state.targets = subst (λ (ts : List Target). AllByRecursion IsLawfulTarget ts) (sym is.one) (target_lawful, tt) in
+    let knows : Knows header (names state.targets) = record {
+      version = refl;
+      lawful = λ name there. name-lawful state.targets name targets there;
+      known = λ name there. name-known state.targets locks name files there;
+    } in
+    let count = AreSteps-count past.states changes is.steps in
+    let within = slice_get_within past.states past.cursor state is.state_is in
+    let least : past.cursor ≤ length changes = omega (arith, count, within) in
+    let back = header_one-back (as_one header) target refl one is.unnamed (sha256-digest requirements) least is.environment (sha256-digest lock) in
+    let begins : BeginsWith journal (as_one header, rest) =
+    subst (λ (bytes : List ℕ). BeginsWith bytes (as_one header, rest)) (sym is.journal_is)
+    (begins-one header target rest is.header_written (rw (json-back (header_one (as_one header) target) is.header_written, back) refl)) in
+    let present = present-again state past.cursor (length changes) requirements locks state_lawful is.requirements_is files in
+    let read = changes-one reads header target one is.unnamed past.states changes is.steps is.lawful (all-known header past.states changes past.cursor state is.steps is.state_is knows) in
+    let steps = steps-one header 2 changes is.steps_written read in
+    let walked = past-again past changes state is.steps is.lawful is.state_is in
+    inl ((as_one header, rest), begins, (Ok state, present, (Ok changes, steps, (Ok past, walked, refl))))

@@ -1,0 +1,41 @@
+-- What version 1 saved of a history. All of it is reqlock's own rule.
+use Rattle.std.specs.Prelude.{◌≡◌, ℕ, List, [], ◌∷◌, Some, length, Ok}
+use Rattle.std.specs.List.{AllByRecursion, concat}
+use Rattle.markers.specs.Environment.{IsEnvironment}
+use Rattle.pylock.specs.LockOfTable.{lock_in_text}
+use Rattle.states.specs.State.{IsState}
+use Rattle.journal.specs.Values.{State, Target}
+use Rattle.journal.specs.Past.{present}
+use Rattle.journal.specs.Changes.{AreSteps, HistoryParts}
+use Rattle.journal.specs.Opens.{Opens}
+use Rattle.journal.specs.Saved.{IsLockFile, header_for, target_for}
+use Rattle.journal.specs.Tied.{IsWritten}
+use Rattle.journal_format.specs.VersionOne.{header_one, journal_one, step_one}
+use Rattle.journal_format.specs.declared.header.Header.{Header}
+use Rattle.journal_format.specs.declared.header.JournalVersion.TheVariants.{One}
+
+-- the header of version 1 of a history with this present state, so many steps and these files
+abbrev pub header_one_for : State → ℕ → ℕ → List ℕ → List ℕ → Header
+header_one_for state cursor steps requirements lock = record (header_for state cursor steps requirements (([], lock) ∷ [])) { version = One }
+
+-- the files that version 1 saved of a history whose states have one target, without a name: the present lines joined, a file that is
+-- read as the target's lock, and a journal whose texts are read as the values that they are of
+pub record IsSavedByOne (history : HistoryParts) (requirements lock journal : List ℕ) : Type 0 where
+  pub state : State
+  pub target : Target
+  pub state_is : present history.past ≡ Some state
+  pub lawful : AllByRecursion IsState history.past.states
+  pub steps : AreSteps history.past.states history.changes
+  pub one : state.targets ≡ target ∷ []
+  pub unnamed : target.name ≡ []
+  pub environment : IsEnvironment target.environment
+  pub requirements_is : requirements ≡ concat state.lines
+  pub lock_is : IsLockFile target ([], lock)
+  pub lock_reads : lock_in_text lock ≡ Ok target.lock
+  pub journal_is : journal ≡ journal_one (header_one_for state history.past.cursor (length history.changes) requirements lock) (target_for target lock) history.changes
+  pub header_written : IsWritten (header_one (header_one_for state history.past.cursor (length history.changes) requirements lock) (target_for target lock))
+  pub steps_written : AllByRecursion (λ change. IsWritten (step_one change)) history.changes
+
+-- what version 1 saved of a history opens as that history
+abbrev pub WhatVersionOneSavedOpens : Type 0
+WhatVersionOneSavedOpens = (history : HistoryParts) (requirements lock journal : List ℕ) → IsSavedByOne history requirements lock journal → Opens requirements (([], lock) ∷ []) journal (Ok history)

@@ -1,0 +1,2 @@
+mod EachOf
+mod SameRules
