@@ -27,7 +27,7 @@ REFUSED = "out of memory", "line 0: out of memory", "memory allocation failed"
 NEVER = ("compare",)
 ALWAYS = ("state check add x[e]",)
 NOTHING = "there is nothing to undo", "there is nothing to redo"
-NEEDS_NONE = "read version 1..0", "whole undo", "whole redo"
+NEEDS_NONE = "clone requirement", "read version 1..0", "whole undo", "whole redo"
 
 
 def numbers(count):
