@@ -5,10 +5,24 @@ _reqlock_names() {
     reqlock --dir "$1" show 2>/dev/null | tail -n +2 | while read -r name _; do echo "$name"; done
 }
 
+# The names of its lines.
+_reqlock_line_names() {
+    sed -n 's/^[[:space:]]*\([A-Za-z0-9][A-Za-z0-9._-]*\).*/\1/p' "$1/requirements.txt" 2>/dev/null
+}
+
+# Files, also behind NAME=.
+_reqlock_files() {
+    local name=""
+    case $1 in
+    *=*) name=${1%%=*}= ;;
+    esac
+    mapfile -t COMPREPLY < <(compgen -P "$name" -f -- "${1#"$name"}")
+}
+
 _reqlock() {
-    local subcommands="init add remove constrain upgrade relock undo redo batch try show log diff check outdated skipped why help"
-    local common="--dir --index --env --help"
-    local options="$common --keep-locked --dry-run --verbose --json --version"
+    local subcommands="init add remove constrain upgrade relock replace undo redo batch try show log diff check outdated export skipped why help"
+    local common="--help --verbose --quiet --color"
+    local options="$common --dir --index --env --keep-locked --dry-run --json --version"
     local word=${COMP_WORDS[COMP_CWORD]} before=${COMP_WORDS[COMP_CWORD - 1]}
     local place subcommand="" folder=. words=""
     COMPREPLY=()
@@ -18,7 +32,7 @@ _reqlock() {
             folder=${COMP_WORDS[place + 1]:-.}
             ((place++))
             ;;
-        --index | --env) ((place++)) ;;
+        --index | --env | --color) ((place++)) ;;
         =) ((place++)) ;; # (bash takes NAME=FILE for three words)
         -*) ;;
         *) subcommand=${subcommand:-${COMP_WORDS[place]}} ;;
@@ -32,34 +46,49 @@ _reqlock() {
         mapfile -t COMPREPLY < <(compgen -d -- "$word")
         return
         ;;
-    --index | --env | =)
-        mapfile -t COMPREPLY < <(compgen -f -- "$word")
+    --index | --env | --pins | --was | =)
+        _reqlock_files "$word"
+        return
+        ;;
+    --color) words="auto always never" ;;
+    --format) words="hashes dot pylock" ;;
+    --target) return ;;
+    esac
+    case $subcommand,$before,$word in
+    *,*,-*) ;;
+    replace,replace,* | why,--replace,*)
+        _reqlock_files "$word"
         return
         ;;
     esac
-    case $subcommand in
+    [ -n "$words" ] || case $subcommand in
     "") words="$subcommands $options" ;;
     help) words=$subcommands ;;
-    init) words="$common --verbose" ;;
-    add) words="$common --keep-locked --dry-run --verbose" ;;
-    remove) words="$common --keep-locked --dry-run --verbose" ;;
-    constrain) words="$common --keep-locked --dry-run --verbose" ;;
-    upgrade) words="$common --keep-locked --dry-run --verbose" ;;
-    relock) words="$common --keep-locked --dry-run --verbose" ;;
-    undo) words="$common --dry-run --verbose" ;;
-    redo) words="$common --dry-run --verbose" ;;
-    batch) words="$common --keep-locked" ;;
-    show) words="$common --tree --json" ;;
-    log) words="$common --long --json" ;;
-    diff) words="$common --json" ;;
-    check) words="$common --current --json" ;;
-    outdated) words="$common --json" ;;
-    why) words="$common --explain --keep-locked --init --constrain --upgrade --remove --not" ;;
-    *) words="$common" ;;
+    init) words="$common --dir --index --env --pins" ;;
+    add) words="$common --dir --index --keep-locked --dry-run" ;;
+    remove) words="$common --dir --index --keep-locked --dry-run" ;;
+    constrain) words="$common --dir --index --keep-locked --dry-run" ;;
+    upgrade) words="$common --dir --index --keep-locked --dry-run" ;;
+    relock) words="$common --dir --index --keep-locked --dry-run" ;;
+    replace) words="$common --dir --index --keep-locked --dry-run --was --line --pins" ;;
+    undo) words="$common --dir --dry-run" ;;
+    redo) words="$common --dir --dry-run" ;;
+    batch) words="$common --dir --index --keep-locked" ;;
+    try) words="$common --dir --index --env" ;;
+    show) words="$common --dir --index --tree --json" ;;
+    log) words="$common --dir --long --json" ;;
+    diff) words="$common --dir --json" ;;
+    check) words="$common --dir --index --current --json" ;;
+    outdated) words="$common --dir --index --json" ;;
+    export) words="$common --dir --index --format --target" ;;
+    skipped) words="$common --index" ;;
+    why) words="$common --dir --index --env --explain --long --keep-locked --init --constrain --upgrade --remove --not --replace --was --line --pins" ;;
     esac
     case $subcommand,$before in
-    upgrade,* | remove,remove | constrain,constrain | show,show) words+=" $(_reqlock_names "$folder")" ;;
-    why,--constrain | why,--upgrade | why,--remove | why,--not) words=$(_reqlock_names "$folder") ;;
+    upgrade,* | show,show) words+=" $(_reqlock_names "$folder")" ;;
+    remove,remove | constrain,constrain) words+=" $(_reqlock_line_names "$folder")" ;;
+    why,--upgrade | why,--not) words=$(_reqlock_names "$folder") ;;
+    why,--constrain | why,--remove | why,--line | replace,--line) words=$(_reqlock_line_names "$folder") ;;
     esac
     mapfile -t COMPREPLY < <(compgen -W "$words" -- "$word")
 }

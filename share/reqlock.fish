@@ -6,7 +6,7 @@ function __reqlock_subcommand
     set words $words[2..-1]
     while set -q words[1]
         switch $words[1]
-            case --dir --index --env
+            case --dir --index --env --color
                 set words $words[3..-1]
             case '-*'
                 set words $words[2..-1]
@@ -31,11 +31,22 @@ function __reqlock_names
     reqlock show 2>/dev/null | tail -n +2 | string replace -r ' .*' ''
 end
 
+# The names of the lines.
+function __reqlock_line_names
+    string replace -rf '^\s*([A-Za-z0-9][A-Za-z0-9._-]*).*' '$1' <requirements.txt 2>/dev/null
+end
+
 complete -c reqlock -f
-complete -c reqlock -l dir -x -a '(__fish_complete_directories)' -d 'The folder of requirements.txt'
-complete -c reqlock -l index -r -F -d 'The snapshot of the index'
-complete -c reqlock -l env -r -F -d 'The environment that a lock is for; or NAME=FILE'
+complete -c reqlock -s v -l verbose -d 'Tell what changed, or what is known of a refusal'
+complete -c reqlock -s q -l quiet -d 'Tell nothing beside the answer'
+complete -c reqlock -l color -x -a 'auto always never' -d 'Use colors'
 complete -c reqlock -s h -l help -d 'Print help'
+complete -c reqlock -n __reqlock_before -l dir -x -a '(__fish_complete_directories)' -d 'The folder of requirements.txt'
+complete -c reqlock -n __reqlock_before -l index -r -F -d 'The snapshot of the index'
+complete -c reqlock -n __reqlock_before -l env -r -F -d 'The environment that a lock is for; or NAME=FILE'
+complete -c reqlock -n __reqlock_before -l keep-locked -d 'Move no locked version that is still needed, but for names to upgrade'
+complete -c reqlock -n __reqlock_before -l dry-run -d 'Save nothing; print what would change'
+complete -c reqlock -n __reqlock_before -l json -d 'Print JSON'
 complete -c reqlock -n __reqlock_before -s V -l version -d 'Print version'
 complete -c reqlock -n __reqlock_before -a init -d 'Lock the file and begin a new history'
 complete -c reqlock -n __reqlock_before -a add -d 'Put a line behind the others'
@@ -43,6 +54,7 @@ complete -c reqlock -n __reqlock_before -a remove -d 'Take the line of a name ou
 complete -c reqlock -n __reqlock_before -a constrain -d 'Put other specifiers in the line of a name'
 complete -c reqlock -n __reqlock_before -a upgrade -d 'Lock again without the locked versions of these names'
 complete -c reqlock -n __reqlock_before -a relock -d 'Lock again over the index at hand; versions stay where they can'
+complete -c reqlock -n __reqlock_before -a replace -d 'Put other lines in the place of those of the file; versions stay where they can'
 complete -c reqlock -n __reqlock_before -a undo -d 'Go back to the state before the last edit'
 complete -c reqlock -n __reqlock_before -a redo -d 'Go on to the state that an undo left'
 complete -c reqlock -n __reqlock_before -a batch -d 'Do the commands of standard input, and save at its end'
@@ -52,21 +64,33 @@ complete -c reqlock -n __reqlock_before -a log -d 'Print the history, a line for
 complete -c reqlock -n __reqlock_before -a diff -d 'Print what changed between two places of the history'
 complete -c reqlock -n __reqlock_before -a check -d 'Tell whether the three files belong together; change nothing'
 complete -c reqlock -n __reqlock_before -a outdated -d 'Print which locked releases have newer ones, and who holds them back'
+complete -c reqlock -n __reqlock_before -a export -d 'Print the lock in the form of another tool'
 complete -c reqlock -n __reqlock_before -a skipped -d 'Print which releases of the index are left out, and why'
 complete -c reqlock -n __reqlock_before -a why -d 'Print a proof that nothing can be locked with this line, where that is so'
 complete -c reqlock -n __reqlock_before -a help -d 'Print help of the program or of a subcommand'
-complete -c reqlock -n '__reqlock_in help' -a 'init add remove constrain upgrade relock undo redo batch try show log diff check outdated skipped why help'
-complete -c reqlock -n '__reqlock_in remove constrain upgrade show' -a '(__reqlock_names)'
-complete -c reqlock -n '__reqlock_in add remove constrain upgrade relock batch why' -l keep-locked -d 'Move no locked version that is still needed'
-complete -c reqlock -n '__reqlock_in add remove constrain upgrade relock undo redo' -l dry-run -d 'Save nothing; print what would change'
-complete -c reqlock -n '__reqlock_in init add remove constrain upgrade relock undo redo' -s v -l verbose -d 'Tell what changed, or what is known of a refusal'
+complete -c reqlock -n '__reqlock_in help' -a 'init add remove constrain upgrade relock replace undo redo batch try show log diff check outdated export skipped why help'
+complete -c reqlock -n '__reqlock_in upgrade show' -a '(__reqlock_names)'
+complete -c reqlock -n '__reqlock_in remove constrain' -a '(__reqlock_line_names)'
+complete -c reqlock -n '__reqlock_in replace' -F
+complete -c reqlock -n '__reqlock_in init add remove constrain upgrade relock replace undo redo batch try show log diff check outdated export why' -l dir -x -a '(__fish_complete_directories)' -d 'The folder of requirements.txt'
+complete -c reqlock -n '__reqlock_in init add remove constrain upgrade relock replace batch try show check outdated export skipped why' -l index -r -F -d 'The snapshot of the index'
+complete -c reqlock -n '__reqlock_in init try why' -l env -r -F -d 'The environment that a lock is for; or NAME=FILE'
+complete -c reqlock -n '__reqlock_in add remove constrain upgrade relock replace batch why' -l keep-locked -d 'Move no locked version that is still needed, but for names to upgrade'
+complete -c reqlock -n '__reqlock_in add remove constrain upgrade relock replace undo redo' -l dry-run -d 'Save nothing; print what would change'
 complete -c reqlock -n '__reqlock_in show log diff check outdated' -l json -d 'Print JSON'
+complete -c reqlock -n '__reqlock_in init replace why' -l pins -r -F -d 'Keep the versions of this lock, or of these lines; or NAME=FILE'
+complete -c reqlock -n '__reqlock_in replace why' -l was -r -F -d 'Take the lines of the file in the folder; OLD is what it was'
+complete -c reqlock -n '__reqlock_in replace why' -l line -x -a '(__reqlock_line_names)' -d 'Put the text in the place of the line of the name'
 complete -c reqlock -n '__reqlock_in show' -l tree -d 'Print the entries below the lines that ask for them'
 complete -c reqlock -n '__reqlock_in log' -l long -d 'Print each entry that a step changed on a line of its own'
 complete -c reqlock -n '__reqlock_in check' -l current -d 'Tell whether a relock over the index would change something'
+complete -c reqlock -n '__reqlock_in export' -l format -x -a 'hashes dot pylock' -d 'The form of the lock'
+complete -c reqlock -n '__reqlock_in export' -l target -x -d 'The target whose lock it is'
 complete -c reqlock -n '__reqlock_in why' -l explain -d 'Tell it in sentences'
+complete -c reqlock -n '__reqlock_in why' -l long -d 'With --explain, leave nothing out'
 complete -c reqlock -n '__reqlock_in why' -l init -d 'Ask about a first lock, for the environments given'
-complete -c reqlock -n '__reqlock_in why' -l constrain -x -a '(__reqlock_names)' -d 'Ask about other specifiers in the line of a name'
+complete -c reqlock -n '__reqlock_in why' -l constrain -x -a '(__reqlock_line_names)' -d 'Ask about other specifiers in the line of a name'
 complete -c reqlock -n '__reqlock_in why' -l upgrade -x -a '(__reqlock_names)' -d 'Ask about an upgrade of these names; without any, of all'
-complete -c reqlock -n '__reqlock_in why' -l remove -x -a '(__reqlock_names)' -d 'Ask about the removal of the line of a name'
+complete -c reqlock -n '__reqlock_in why' -l remove -x -a '(__reqlock_line_names)' -d 'Ask about the removal of the line of a name'
 complete -c reqlock -n '__reqlock_in why' -l not -x -a '(__reqlock_names)' -d 'Ask why the lock lacks this version; without one, the newest'
+complete -c reqlock -n '__reqlock_in why' -l replace -r -F -d 'Ask about other lines, those of NEW'

@@ -3,6 +3,7 @@
 import importlib
 import os
 import sys
+from functools import partial
 
 from reqlock_tools.refusal import speaker
 
@@ -31,29 +32,11 @@ def forget_output() -> None:
     os.dup2(os.open(os.devnull, os.O_WRONLY), sys.stdout.fileno())
 
 
-def adopt() -> int:
-    return call("adopt")
-
-
-def check_refutation() -> int:
-    return call("check_refutation")
-
-
-def environment() -> int:
-    return call("environment")
-
-
-def fleet() -> int:
-    return call("fleet")
-
-
-def hashes() -> int:
-    return call("hashed_requirements")
-
-
-def portable_lock() -> int:
-    return call("portable_lock")
-
-
-def snapshot() -> int:
-    return call("snapshot")
+adopt = partial(call, "adopt")
+check_refutation = partial(call, "check_refutation")
+environment = partial(call, "environment")
+fleet = partial(call, "fleet")
+hashes = partial(call, "hashed_requirements")
+merge = partial(call, "merge")
+portable_lock = partial(call, "portable_lock")
+snapshot = partial(call, "snapshot")

@@ -10,7 +10,7 @@ from reqlock_tools.refusal import shown
 HEAD = "folder", "reply", "changed, or why not"
 # The number of a line, as `why --explain` tells it, and its comment.
 COMMENT = re.compile(r" #.*?\)(?=[ .,;:]|$)")
-NUMBER = re.compile(r"(?<=\bof )line [0-9]+\b|\bline [0-9]+(?=(?: as constrained)? \()")
+NUMBER = re.compile(r"(?<=\bof )line [0-9]+\b|\bline [0-9]+(?=(?: as constrained)? (?:\(|allows ))")
 
 
 def table_text(rows: list[Row]) -> str:

@@ -7,8 +7,8 @@ import sys
 # The command of each module that has a `main`.
 COMMANDS = {
     "adopt": "reqlock-adopt", "check_refutation": "reqlock-check-refutation", "environment": "reqlock-environment",
-    "fleet": "reqlock-fleet", "hashed_requirements": "reqlock-hashes", "portable_lock": "reqlock-portable-lock",
-    "snapshot": "reqlock-snapshot",
+    "fleet": "reqlock-fleet", "hashed_requirements": "reqlock-hashes", "merge": "reqlock-merge",
+    "portable_lock": "reqlock-portable-lock", "snapshot": "reqlock-snapshot",
 }
 SCRIPT = re.compile(rf"(?:tools/)?\b({'|'.join(COMMANDS)})\.py\b")
 

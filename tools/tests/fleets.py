@@ -2,12 +2,10 @@
 
 import subprocess
 import sys
-import tempfile
 import time
 import unittest
-from pathlib import Path
 
-from places import TOOLS
+from places import TOOLS, new_folder
 
 SCRIPT = TOOLS / "fleet.py"
 HEAD = ("folder", "reply", "changed, or why not")
@@ -36,9 +34,7 @@ class Fleet(unittest.TestCase):
     python = sys.executable
 
     def setUp(self):
-        folder = tempfile.TemporaryDirectory()
-        self.addCleanup(folder.cleanup)
-        self.folder = Path(folder.name)
+        self.folder = new_folder(self.addCleanup)
         self.program = self.folder / "stand-in"
         self.program.write_text(STAND_IN, encoding="utf-8")
         self.program.chmod(0o755)

@@ -5,11 +5,9 @@ import os
 import shutil
 import subprocess
 import sys
-import tempfile
 import unittest
-from pathlib import Path
 
-from places import PROGRAM, TOP
+from places import PROGRAM, TOP, new_folder
 
 COPIED = "pyproject.toml", "package", "README.md", "LICENSE", "share", "tools/reqlock_tools", "tools/wheel_hook.py"
 VERSION_FILE = "crates/clap_command/src/command_words.rt"
@@ -49,9 +47,7 @@ def own_variables(folder, **more):
 @unittest.skipUnless(sys.platform == "linux", "the wheel is for Linux")
 class Packaged(unittest.TestCase):
     def setUp(self):
-        folder = tempfile.TemporaryDirectory()
-        self.addCleanup(folder.cleanup)
-        self.folder = Path(folder.name)
+        self.folder = new_folder(self.addCleanup)
         self.tree = self.folder / "tree"
         copy_tree(self.tree)
 

@@ -1,7 +1,9 @@
-"""Where things stand, and whether long tests are asked for. With this imported, the modules of tools/ are found by their names."""
+"""Where things stand, whether long tests are asked for, and a folder for a test. With this imported, the modules of tools/ are found by
+their names."""
 
 import os
 import sys
+import tempfile
 from pathlib import Path
 
 TESTS = Path(__file__).resolve().parent
@@ -11,3 +13,10 @@ PROGRAM = TOP / "crates" / "reqlock" / "out" / "reqlock"
 IS_LONG = os.environ.get("LONG_TESTS") == "1"
 
 sys.path.insert(0, str(TOOLS))
+
+
+def new_folder(add_cleanup):
+    """A new folder. What removes it is given to the `addCleanup` of a test, or to the `addClassCleanup` of a class."""
+    folder = tempfile.TemporaryDirectory()
+    add_cleanup(folder.cleanup)
+    return Path(folder.name)

@@ -7,13 +7,12 @@ import resource
 import shutil
 import signal
 import subprocess
-import tempfile
 import unittest
 from pathlib import Path
 
 from made.environments import LINUX
 from made.releases import index_of
-from places import PROGRAM
+from places import PROGRAM, new_folder
 from rules.journals import file_name
 from rules.lock_tables import read_lock
 
@@ -31,9 +30,7 @@ class Program(unittest.TestCase):
     environments = {"": LINUX}
 
     def setUp(self):
-        folder = tempfile.TemporaryDirectory()
-        self.addCleanup(folder.cleanup)
-        self.outside = Path(folder.name)
+        self.outside = new_folder(self.addCleanup)
         self.folder = self.outside / "folder"
         self.folder.mkdir()
         self.lock_for(self.environments)

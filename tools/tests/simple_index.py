@@ -5,13 +5,11 @@ import io
 import json
 import os
 import re
-import tempfile
 import unittest
-from pathlib import Path
 from unittest import mock
 
 from made.served_index import MadeIndex
-from places import TOP
+from places import TOP, new_folder
 from wanted_libraries import ASKING, want_libraries
 
 from reqlock_tools import snapshot
@@ -24,9 +22,7 @@ class Simple(unittest.TestCase):
     """A test with a folder, where a cache and the snapshot are, and an index."""
 
     def setUp(self):
-        folder = tempfile.TemporaryDirectory()
-        self.addCleanup(folder.cleanup)
-        self.folder = Path(folder.name)
+        self.folder = new_folder(self.addCleanup)
         self.output = self.folder / "index.json"
         without_proxy = mock.patch.dict(os.environ, {"no_proxy": "*", "NO_PROXY": "*"})
         without_proxy.start()

@@ -57,7 +57,7 @@ class Adopt(Program):
         lock = tomllib.loads((self.outside / "new" / FILES[1]).read_text(encoding="utf-8"))
         self.assertEqual({entry["name"]: entry["version"] for entry in lock["packages"]}, locked)
         done = subprocess.run([PROGRAM, "--dir", self.outside / "new", "check"], capture_output=True, encoding="utf-8", check=False)
-        self.assertRegex(done.stdout, r"\Aok [0-9]+\n\Z")
+        self.assertEqual(done.stdout, "ok 0\n")
 
     def check_refused(self, told, *given, place="new"):
         before = {path.name: path.read_bytes() for path in self.folder.iterdir()}
@@ -106,7 +106,7 @@ class Adopt(Program):
         said = "werkzeug 2.1: it isn't taken over: over this index it doesn't go with the lines and the other pins\n"
         locked = "werkzeug 3.0: it is locked, and no pin was taken over for it\n"
         self.check_adopts(b"flask\n", b"flask==3.0\nwerkzeug==2.1\n", {"flask": "3.0", "werkzeug": "3.0"}, said + locked, 3)
-        said = "flask 2.3: it isn't taken over: the lines on this name can't all be met with these pins\n"
+        said = "flask 2.3: it isn't taken over: over this index it doesn't go with the lines and the other pins\n"
         locked = "flask 3.0: it is locked, and no pin was taken over for it\n"
         self.check_adopts(b"flask (>=3)\n", b"flask==2.3\nwerkzeug==3.0\n", {"flask": "3.0", "werkzeug": "3.0"}, said + locked, 3)
 
@@ -180,7 +180,7 @@ class Page(unittest.TestCase):
                 ["bash", "-e"], input=text, env=variables, cwd=folder, capture_output=True, encoding="utf-8", check=False,
             )
             self.assertEqual(done.returncode, 0, done.stderr)
-            self.assertRegex(done.stdout, r"\A2 of 2 pins are taken over\nok [0-9]+\n\Z")
+            self.assertEqual(done.stdout, "2 of 2 pins are taken over\nok 0\n")
             self.assertEqual((folder / "requirements.txt").read_bytes(), b"Flask>=1  # web\n")
             lock = tomllib.loads((folder / "pylock.toml").read_text(encoding="utf-8"))
             self.assertEqual({entry["name"]: entry["version"] for entry in lock["packages"]}, {"click": "1.0", "flask": "1.0"})

@@ -3,20 +3,16 @@
 import os
 import shutil
 import subprocess
-import tempfile
 import unittest
-from pathlib import Path
 
-from places import TOP
+from places import TOP, new_folder
 
 CHECK = TOP / "check"
 
 
 class Check(unittest.TestCase):
     def setUp(self):
-        folder = tempfile.TemporaryDirectory()
-        self.addCleanup(folder.cleanup)
-        self.folder = Path(folder.name)
+        self.folder = new_folder(self.addCleanup)
         for name in "bash", "dirname", "mktemp", "rm", "tail", "tee":
             os.symlink(shutil.which(name), self.folder / name)
 

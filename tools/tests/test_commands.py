@@ -4,12 +4,10 @@ and of an output that are wrong."""
 import os
 import subprocess
 import sys
-import tempfile
 import unittest
-from pathlib import Path
 from unittest import mock
 
-from places import TOOLS
+from places import TOOLS, new_folder
 from test_install import COMMANDS
 
 from reqlock_tools import names
@@ -33,9 +31,7 @@ class Calls(unittest.TestCase):
     """The scripts, and the same under the names of commands."""
 
     def setUp(self):
-        folder = tempfile.TemporaryDirectory()
-        self.addCleanup(folder.cleanup)
-        self.folder = Path(folder.name)
+        self.folder = new_folder(self.addCleanup)
         for module, command in names.COMMANDS.items():
             (self.folder / command).symlink_to(TOOLS / f"{module}.py")
 

@@ -5,11 +5,10 @@ file is gone."""
 import os
 import shutil
 import subprocess
-import tempfile
 import unittest
 from pathlib import Path
 
-from places import TOP
+from places import TOP, new_folder
 
 RT = r"""#!/bin/bash
 name=$(basename "$PWD")
@@ -88,9 +87,7 @@ def cone(top):
 
 class Demo(unittest.TestCase):
     def setUp(self):
-        folder = tempfile.TemporaryDirectory()
-        self.addCleanup(folder.cleanup)
-        self.folder = Path(folder.name)
+        self.folder = new_folder(self.addCleanup)
         self.copy = self.folder / "copy"
         listed = subprocess.run(["git", "ls-files", "-z"], cwd=TOP, capture_output=True, check=True).stdout
         for name in filter(None, listed.decode().split("\0")):
@@ -122,6 +119,12 @@ class Demo(unittest.TestCase):
         )
         return done.returncode, done.stdout, done.stderr, self.calls.read_text().splitlines()
 
+    def waiting_demo(self):
+        """./demo, with an rt that waits in the proof of `states` until the file `wait` is gone."""
+        self.give_rt()
+        (self.folder / "wait").write_text("states")
+        return subprocess.Popen([self.copy / "demo"], env=self.variables(), stdout=subprocess.PIPE, encoding="utf-8", cwd="/")
+
     def commands(self):
         return (TOP / "examples" / "web" / "commands.txt").read_text(encoding="utf-8")
 
@@ -151,10 +154,7 @@ class Demo(unittest.TestCase):
         self.assertIn(f"  {'lists':15} was proved before\n", output)
 
     def test_what_is_being_proved_is_told(self):
-        self.give_rt()
-        (self.folder / "wait").write_text("states")
-        process = subprocess.Popen([self.copy / "demo"], env=self.variables(), stdout=subprocess.PIPE, encoding="utf-8", cwd="/")
-        with process:
+        with self.waiting_demo() as process:
             told = []
             for line in process.stdout:
                 told.append(line)
@@ -164,10 +164,7 @@ class Demo(unittest.TestCase):
         self.assertIn(f"  {'states':15} ..\n", told)
 
     def test_a_proof_ends_with_the_demo(self):
-        self.give_rt()
-        (self.folder / "wait").write_text("states")
-        process = subprocess.Popen([self.copy / "demo"], env=self.variables(), stdout=subprocess.PIPE, encoding="utf-8", cwd="/")
-        with process:
+        with self.waiting_demo() as process:
             for line in process.stdout:
                 if line == f"  {'states':15} ..\n":
                     process.terminate()

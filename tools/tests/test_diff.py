@@ -3,7 +3,6 @@ adds. The changes that it tells in JSON are applied as the rules have it to the 
 people are those of that JSON. There are 12 sessions, or 200 with LONG_TESTS=1."""
 
 import fcntl
-import itertools
 import json
 import os
 import unittest
@@ -21,6 +20,8 @@ from rules.states import Change, State, Target, after, inverse, is_minimal, plac
 SESSIONS = 200 if IS_LONG else 12
 COMMANDS = 6
 TARGETS = [{"": LINUX}, {"linux": LINUX, "win": WINDOWS}, {"": LINUX, "older": OLDER, "x-1": WINDOWS}]
+# a version that moved unasked; a locked release that is yanked, a pre-release, or without an extra that is asked for
+NOTE = r"^(moved: |\S+ \S+ is yanked: |\S+ \S+ is a pre-release, and |No release of \S+ in the index asks for anything by the extra )"
 DRY = {"add", "remove", "constrain", "upgrade", "relock", "undo", "redo"}
 
 
@@ -123,7 +124,7 @@ class DrawnChanges(Changes):
 
     def check_command(self, command):
         """A dry run says what the command and `diff` then do, and leaves all as it was. With `--verbose` the command prints the same on
-        standard error, and behind it the versions that moved unasked."""
+        standard error, and behind it notes: the versions that moved unasked, and what pip would warn of."""
         before, old, place = self.times(), self.state(), self.cursor()
         dry = self.told(*command, "--dry-run")
         self.assertEqual(self.times(), before, command)
@@ -136,8 +137,9 @@ class DrawnChanges(Changes):
             return
         diff = self.succeeds("diff", str(place))
         self.assertEqual(dry, (0, told[1] + diff, ""), command)
-        changed = itertools.takewhile(lambda line: not line.startswith("moved: "), told[2].splitlines(keepends=True))
-        self.assertEqual("".join(changed), diff, command)
+        self.assertTrue(told[2].startswith(diff), command)
+        for line in told[2][len(diff):].splitlines():
+            self.assertRegex(line, NOTE)
         self.assertEqual(after(old, self.change(place)), self.state())
 
     def cursor(self):
@@ -284,14 +286,6 @@ class Details(Changes):
         missing = f"{path}: No such file or directory (os error 2)\n`reqlock init` begins a history here\n"
         self.assertEqual(self.details("undo", status=4), missing)
         self.succeeds("init")
-        (self.folder / "requirements.txt").write_bytes(b"a # by hand\n")
-        self.assertEqual(
-            self.details("relock", status=4),
-            "requirements.txt isn't the one that was saved last: put that one back, or begin a new history by `reqlock init`\n",
-        )
-        (self.outside / "index.json").unlink()
-        missing = f"{self.outside / 'index.json'}: No such file or directory (os error 2)\n"
-        self.assertEqual(self.details("relock", status=4), missing)
 
     def test_without_details(self):
         self.begin(b"a\n", ("a", "1", []))

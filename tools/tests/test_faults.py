@@ -214,6 +214,149 @@ class Faults(Program):
         self.assertEqual((done.returncode, done.stdout, done.stderr), (2, b"", told))
 
 
+class NextSteps(Program):
+    """What is told beside the word of a fault, with `-v` in a pipe as at a terminal."""
+
+    def setUp(self):
+        super().setUp()
+        self.begin(b"a\n", ("a", "1", []), ("c", "1", []))
+        self.index = self.outside / "index.json"
+        self.making = f"    reqlock-snapshot simple https://index.example/simple/ --for {self.folder}/requirements.txt"
+
+    def notes(self, *words, status=4):
+        """What is told behind the first line of standard error, which is that of a call that isn't asked to tell more."""
+        plainly = self.told(*words)
+        told = self.told(*words, "-v")
+        self.assertEqual((plainly[0], plainly[1]), (status, ""))
+        self.assertEqual((told[0], told[1]), (status, ""))
+        self.assertTrue(told[2].startswith(plainly[2]))
+        return told[2][len(plainly[2]) :]
+
+    def bare_notes(self, *words):
+        """The same of a call with these words alone, in an empty folder or one with these files."""
+        done = subprocess.run([PROGRAM, *words, "-v"], cwd=self.folder, capture_output=True, check=False, encoding="utf-8")
+        self.assertEqual((done.returncode, done.stdout), (2, ""))
+        first, _, rest = done.stderr.partition("\n")
+        return first, rest
+
+    def test_of_an_option_that_is_needed(self):
+        first, rest = self.bare_notes("add", "flask>=2")
+        self.assertEqual(first, "reqlock: --index is needed")
+        making = "    reqlock-snapshot simple https://index.example/simple/ --for requirements.txt --output index.json\n"
+        self.assertTrue(rest.endswith(f"and gives it:\n{making}    reqlock --index index.json add 'flask>=2' -v\n"), rest)
+        (self.folder / "index.json").write_text("{}")
+        first, rest = self.bare_notes("--index", "index.json", "init")
+        self.assertEqual(first, "reqlock: --env is needed")
+        making = "    reqlock-environment >environment.json\n"
+        self.assertTrue(rest.endswith(f"{making}    reqlock --env environment.json --index index.json init -v\n"), rest)
+        (self.folder / "environment.json").write_text("{}")
+        self.assertNotIn("reqlock-environment", self.bare_notes("--index", "index.json", "init")[1])
+        self.assertTrue(self.bare_notes("undo", "--dir", "x", "--index")[0].startswith("error: "))
+        self.assertIn("index.json is here.", self.bare_notes("relock")[1])
+
+    def test_of_files_that_are_not_there(self):
+        absent = ": No such file or directory (os error 2)\n"
+        self.assertEqual(self.call("init"), (0, "ok 0\n"))
+        (self.folder / "pylock.toml").unlink()
+        told = self.notes("show")
+        self.assertTrue(told.startswith(f"{self.folder}/pylock.toml{absent}"), told)
+        self.assertIn(f"\n    git -C {self.folder} checkout HEAD -- pylock.toml\n", told)
+        self.index.unlink()
+        self.assertEqual(self.notes("init"), f"{self.index}{absent}This makes it:\n{self.making} --env {self.environment_file('')} --output {self.index}\n")
+        self.begin(b"a\n", ("a", "1", []))
+        self.environment_file("").unlink()
+        told = self.notes("init")
+        self.assertTrue(told.endswith(f"\n    reqlock-environment >{self.environment_file('')}\n"), told)
+        (self.folder / "requirements.txt").unlink()
+        self.assertIn("or give the folder that has it by --dir\n", self.notes("init"))
+        (self.folder / "requirements.in").write_bytes(b"a\n")
+        self.assertIn("reqlock-adopt takes it over", self.notes("init"))
+
+    def test_of_what_an_index_looks_like(self):
+        """Another file is never proposed to be written over."""
+        environment = self.environment_file("").read_text(encoding="utf-8")
+        for text, looks, output in (
+            (environment, " looks like an environment: ", "index.json"), ('lock-version = "1.0"\n', " looks like a lock: ", "index.json"),
+            ("<!DOCTYPE html>\n<html></html>\n", " looks like a page of an index: ", "index.json"),
+            ('{"meta": {"api-version": "1.0"}, "files": []}', " looks like a page of an index: ", "index.json"),
+            ("[]", " is no snapshot of an index. ", "index.json"), ("", " is empty. ", self.index),
+            ("\ufeff{}", " begins with a byte-order mark: ", self.index),
+            ('{"snapshot": 2, "packages": []}', " isn't as this reqlock reads a snapshot: ", self.index),
+        ):
+            with self.subTest(text=text):
+                self.index.write_text(text, encoding="utf-8")
+                told = self.notes("init")
+                self.assertTrue(told.startswith(f"{self.index}{looks}"), told)
+                self.assertTrue(told.endswith(f"\n{self.making} --env {self.environment_file('')} --output {output}\n"), told)
+        self.index.write_text("{\n<<<<<<< HEAD\n}\n", encoding="utf-8")
+        self.assertTrue(self.notes("init").startswith(f"{self.index}: git left a conflict at line 2: "))
+
+    def test_of_what_an_environment_looks_like(self):
+        path = self.environment_file("")
+        whole = path.read_text(encoding="utf-8")
+        for text, looks, output in (
+            (self.index.read_text(encoding="utf-8"), " looks like a snapshot of an index: ", "environment.json"),
+            ("{}", " is no environment. ", "environment.json"),
+            (whole.replace('"python_version"', '"python_verson"'), " has python_verson in the place of python_version: ", path),
+            (whole.replace('"os_name"', '"osname"'), " has osname in the place of os_name: ", path),
+            ('{"sys_platform": "linux"}', " lacks implementation_name. ", path), ("", " is empty. ", path),
+        ):
+            with self.subTest(text=text):
+                path.write_text(text, encoding="utf-8")
+                told = self.notes("init")
+                self.assertTrue(told.startswith(f"{path}{looks}"), told)
+                self.assertTrue(told.endswith(f"\n    reqlock-environment >{output}\n"), told)
+
+    def test_of_all_lines_that_do_not_read(self):
+        told = {
+            "flask=2": "line 1, column 6: flask=2: clause 1 is no version specifier\nA single = compares nothing: write flask==2\n",
+            "b=>2": "Write >= in the place of =>.\n", "b^2": "Write ~= in the place of ^.\n",
+            "b===2": "Write == in the place of ===.\n", "b 2": "A specifier is a comparison with a version, as in >=2,<3.\n",
+            'b ; python_verson < "3"': "A marker has no variable python_verson: write python_version.\n",
+            "b ; linux": "A marker compares a variable with a text in quotes, ",
+            "b==2 --hash=sha256:00": "The lock has the hashes: ", "b==2 \\": "Write the requirement on one line.\n",
+            "git+https://x.example/b.git": "reqlock locks releases of an index: ", "b @ https://x.example/b.whl": "reqlock locks releases of an index: ",
+            "-r more.txt": "Put the lines of that file ", "-c more.txt": "Put the bounds of that file ", "-e .": "A project in a folder is not locked: ",
+            "--index-url https://x": "Take the line out: ", "--pre": "Take the line out: ",
+            "<<<<<<< HEAD": "git left a conflict here: ", "=======": "git left a conflict here: ", ">>>>>>> b": "git left a conflict here: ",
+        }
+        (self.folder / "requirements.txt").write_text("\n".join(told) + "\n", encoding="utf-8")
+        notes = self.notes("init")
+        for number, (line, note) in enumerate(told.items(), 1):
+            with self.subTest(line=line):
+                self.assertIn(f"line {number}, column ", notes)
+                self.assertIn(note, notes)
+        (self.folder / "requirements.txt").write_text("\ufeffa\n", encoding="utf-8")
+        self.assertIn("The file begins with a byte-order mark: save it as UTF-8 without one.\n", self.notes("init"))
+        (self.folder / "requirements.txt").write_bytes(b"a\n# \xff\n")
+        self.assertEqual(self.notes("init"), "line 2 is no UTF-8: save the file as UTF-8\n")
+        (self.folder / "requirements.txt").write_bytes(b"-r x\n" * 23)
+        told = self.notes("init")
+        self.assertEqual((told.count("column 1: -r x"), told.endswith("and 3 more lines that do not read\n")), (20, True))
+
+    def test_of_files_that_others_changed(self):
+        self.assertEqual(self.call("init"), (0, "ok 0\n"))
+        files, git = self.files(), f"    git -C {self.folder}"
+        sides = "requirements.txt 'pylock*.toml' reqlock.journal\n"
+        self.put(files | {"requirements.txt": b"a\nc\n"})
+        told = self.notes("relock")
+        options = f"--dir {self.folder} --index {self.index}"
+        self.assertIn(f"\n{git} show HEAD:./requirements.txt | reqlock {options} replace --was -\n", told)
+        self.assertIn("`reqlock init` begins a new history", told)
+        self.put(files | {"requirements.txt": b"<<<<<<< HEAD\na\n=======\nc\n>>>>>>> b\n"})
+        self.assertIn("git left a conflict at line 1 of requirements.txt.", self.notes("relock"))
+        self.put(files | {"pylock.toml": b"x\n=======\n" + files["pylock.toml"]})
+        told = self.notes("check")
+        self.assertTrue(told.startswith("git left a conflict at line 2 of pylock.toml."), told)
+        self.assertIn(f"\n    reqlock-merge --dir {self.folder} --index ", told)
+        self.put(files | {"pylock.toml": files["pylock.toml"] + b"\n"})
+        self.assertIn(f"\n{git} checkout HEAD -- pylock.toml\n", self.notes("check"))
+        self.put(files | {"reqlock.journal": files["reqlock.journal"][:-9]})
+        self.assertIn(f"\n{git} checkout HEAD -- {sides}", self.notes("log"))
+        self.put(files | {"reqlock.journal": files["reqlock.journal"] + b">>>>>>> b\n"})
+        self.assertTrue(self.notes("log").startswith("git left a conflict at line 2 of reqlock.journal."))
+
+
 def closed():
     os.close(1)
 

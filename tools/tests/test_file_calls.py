@@ -17,12 +17,13 @@ import growths  # (it stands in tools/)
 SOURCE = TESTS / "file_calls.c"
 EDITS = (
     ["add", "p02"], ["remove", "p00"], ["constrain", "p00", "<2"], ["upgrade"], ["upgrade", "p00"], ["relock"], ["undo"], ["redo"],
+    ["replace", "-"],
 )
 READINGS = (
     ["show"], ["show", "p00"], ["show", "--tree"], ["show", "--json"], ["log"], ["log", "--long"], ["log", "--json"], ["diff"],
     ["diff", "0", "1"], ["diff", "--json"], ["check"], ["check", "--json"], ["check", "--current"], ["outdated"], ["outdated", "--json"],
     ["why"], ["why", "p02"], ["why", "--constrain", "p00", "<2"], ["why", "--upgrade"], ["why", "--remove", "p00"],
-    ["why", "--not", "p00==1"],
+    ["why", "--not", "p00==1"], ["why", "--replace", "-"],
 )
 # what reads no journal, and takes no lock
 UNLOCKED = ["skipped"], ["why", "--init"], ["try"]
@@ -126,6 +127,40 @@ class FileCalls(Fifty):
                 self.assertEqual(self.call("relock"), (0, "same\n"))
                 is_put = "rename requirements.txt" in calls[: number - 1]
                 self.assertEqual(self.files(), after if is_put else before)
+
+    def test_a_stop_at_each_call_of_a_replacement(self):
+        self.begin_all()
+        before, new = self.files(), self.outside / "new"
+        new.write_bytes(b"# fifty\r\np02\np01\n")
+        _, _, calls = self.watched("replace", new)
+        after = self.files()
+        for number, call in enumerate(calls, 1):
+            with self.subTest(number=number, call=call):
+                self.put(before)
+                self.assertEqual(self.watched("replace", new, FILE_CALLS_STOP=str(number))[:2], (-9, ""))
+                is_put = "rename requirements.txt" in calls[: number - 1]
+                self.assertEqual(self.call("replace", new), (0, "same\n" if is_put else "ok 1\n"))
+                self.assertEqual(self.files(), after)
+
+    def test_a_stop_at_each_call_of_a_replacement_of_what_was_changed(self):
+        """The requirements file is never written. Once a lock has changed, the next call that saves ends the save."""
+        self.begin_all()
+        old = self.outside / "old"
+        old.write_bytes(self.files()["requirements.txt"])
+        (self.folder / "requirements.txt").write_bytes(b"# fifty\r\np02\np01\n")
+        before = self.files()
+        _, _, calls = self.watched("replace", "--was", old)
+        after = self.files()
+        self.assertNotIn("rename requirements.txt", calls)
+        for number, call in enumerate(calls, 1):
+            with self.subTest(number=number, call=call):
+                self.put(before)
+                self.assertEqual(self.watched("replace", "--was", old, FILE_CALLS_STOP=str(number))[:2], (-9, ""))
+                is_put = f"rename {self.names()[1]}" in calls[: number - 1]
+                told = (4, "reqlock: requirements.txt: files-disagree\n") if is_put else (0, "ok 1\n")
+                self.assertEqual(self.call("replace", "--was", old), told)
+                self.assertEqual(self.call("relock"), (0, "same\n"))
+                self.assertEqual(self.files(), after)
 
     def test_a_stop_at_each_call_of_the_one_that_ends_a_save(self):
         self.begin_all()

@@ -28,8 +28,9 @@ class Parts(unittest.TestCase):
         self.assertEqual(read_changes(text), (lines, entries, True, moved))
 
     def test_which_reasons_are_the_same(self):
-        one = "No choice meets line 3 (a<2) and line 12 as constrained (b>=2).\n1. x doesn't match >=2 of\n   line 12."
-        other = "No choice meets line 30 (a<2  # old (as 1)) and\nline 1 as constrained (b>=2).\n1. x doesn't match >=2 of line 1."
+        one = "No choice meets line 3 (a<2) and line 12 as constrained (b>=2).\n1. x doesn't match >=2 of\n   line 12, and line 3 allows 1."
+        other = "No choice meets line 30 (a<2  # old (as 1)) and\nline 1 as constrained (b>=2).\n1. x doesn't match >=2 of line 1, "
+        other += "and line 30 allows 1."
         self.assertEqual(same_reason(one), same_reason(other))
         for text in one.replace("a<2", "a<3"), one.replace("x doesn't", "y doesn't"), one.replace("1. x", "1. line 2.0"):
             self.assertNotEqual(same_reason(one), same_reason(text))

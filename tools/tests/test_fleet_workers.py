@@ -6,13 +6,11 @@ import shutil
 import signal
 import subprocess
 import sys
-import tempfile
 import time
 import unittest
-from pathlib import Path
 
 from fleets import ASKED, Fleet, table
-from places import PROGRAM, TOP
+from places import PROGRAM, TOP, new_folder
 
 from reqlock_tools.fleet_dask import INSTALL, Dask
 from reqlock_tools.fleet_request import Request, read_words
@@ -78,9 +76,7 @@ class Workers(Fleet):
         cls.python = dask_python()
         if cls.python is None:
             raise unittest.SkipTest("no python3 has the library distributed: apt-get install python3-distributed")
-        folder = tempfile.TemporaryDirectory()
-        cls.addClassCleanup(folder.cleanup)
-        cls.cluster = Cluster(cls.python, Path(folder.name))
+        cls.cluster = Cluster(cls.python, new_folder(cls.addClassCleanup))
         cls.addClassCleanup(cls.cluster.close)
         cls.workers = [cls.cluster.worker() for _ in range(2)]
 

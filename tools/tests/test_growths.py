@@ -2,12 +2,10 @@
 
 import subprocess
 import sys
-import tempfile
 import unittest
 import unittest.mock
-from pathlib import Path
 
-from places import TOOLS
+from places import TOOLS, new_folder
 
 import growths  # (it stands in tools/)
 
@@ -64,9 +62,7 @@ def compile_program(folder):
 class Growths(unittest.TestCase):
     @classmethod
     def setUpClass(cls):
-        folder = tempfile.TemporaryDirectory()
-        cls.addClassCleanup(folder.cleanup)
-        cls.folder = Path(folder.name)
+        cls.folder = new_folder(cls.addClassCleanup)
         cls.library = growths.compiled(cls.folder)
         cls.program = compile_program(cls.folder)
 

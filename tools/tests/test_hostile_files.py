@@ -9,7 +9,6 @@ import resource
 import subprocess
 import sys
 import tarfile
-import tempfile
 import time
 import tracemalloc
 import unittest
@@ -18,7 +17,7 @@ from pathlib import Path
 from unittest import mock
 
 from made.archives import headers, tarred, zipped
-from places import IS_LONG, TOOLS
+from places import IS_LONG, TOOLS, new_folder
 from wanted_libraries import want_libraries
 
 from reqlock_tools import adopt
@@ -45,9 +44,7 @@ def tar_header(kind, size, name="a-1/PKG-INFO"):
 @want_libraries("packaging.version")
 class Hostile(unittest.TestCase):
     def setUp(self):
-        folder = tempfile.TemporaryDirectory()
-        self.addCleanup(folder.cleanup)
-        self.folder = Path(folder.name)
+        self.folder = new_folder(self.addCleanup)
 
     def run_tool(self, name, *words):
         """The status and standard error of a call that may have this memory and time."""
@@ -312,7 +309,7 @@ class Links(Hostile):
             place = self.folder / name
             place.symlink_to(self.folder / "else")
             with self.assertRaisesRegex(Refusal, f"^{place}: it stands there already"):
-                adopt.check_place(str(self.folder), adopt.Source("a\n"))
+                adopt.check_place(str(self.folder), "a\n")
             with self.assertRaisesRegex(Refusal, f"^{place}: it came to stand there meanwhile"):
                 adopt.put(place, b"x")
             place.unlink()

@@ -6,21 +6,20 @@ import os
 import re
 import shutil
 import subprocess
-import tempfile
 import unittest
 from pathlib import Path
 
 from made.environments import LINUX
 from made.releases import index_of
-from places import PROGRAM, TOP
+from places import PROGRAM, TOP, new_folder
 from program import NOBODY
 
 INSTALL = TOP / "install"
 SHARE = TOP / "share"
-EVERYWHERE = {"--dir", "--index", "--env", "--help"}  # the options of each subcommand
+EVERYWHERE = {"--verbose", "--quiet", "--color", "--help"}  # the options of each subcommand
 COMMANDS = (
     "reqlock", "reqlock-adopt", "reqlock-check-refutation", "reqlock-environment", "reqlock-fleet", "reqlock-hashes",
-    "reqlock-portable-lock", "reqlock-snapshot",
+    "reqlock-merge", "reqlock-portable-lock", "reqlock-snapshot",
 )
 
 
@@ -28,9 +27,7 @@ class Places(unittest.TestCase):
     """Where files are put, with another program in the place of the built one."""
 
     def setUp(self):
-        folder = tempfile.TemporaryDirectory()
-        self.addCleanup(folder.cleanup)
-        self.folder = Path(folder.name)
+        self.folder = new_folder(self.addCleanup)
         self.tree, self.prefix, self.outside = self.folder / "tree", self.folder / "prefix", self.folder / "outside"
         copy_tree(self.tree)
         self.outside.mkdir()
@@ -101,9 +98,7 @@ def copy_tree(place):
 @unittest.skipUnless(PROGRAM.exists(), "the program isn't built")
 class Installed(unittest.TestCase):
     def setUp(self):
-        folder = tempfile.TemporaryDirectory()
-        self.addCleanup(folder.cleanup)
-        self.folder = Path(folder.name)
+        self.folder = new_folder(self.addCleanup)
         self.prefix = self.folder / "a prefix"
 
     def install(self, *words, status=0, script=INSTALL):
@@ -165,26 +160,31 @@ class Installed(unittest.TestCase):
 
     def test_bash_completes(self):
         self.install(self.prefix)
-        saving = {*EVERYWHERE, "--dry-run", "--verbose"}
-        editing = {"a", *saving, "--keep-locked"}
+        stepping = {*EVERYWHERE, "--dir", "--dry-run"}
+        editing = {"a", "b", *stepping, "--index", "--keep-locked"}
         for words, wanted in (
-            (["reqlock", "re"], {"remove", "relock", "redo"}), (["reqlock", "--i"], {"--index"}),
+            (["reqlock", "re"], {"remove", "relock", "replace", "redo"}), (["reqlock", "--i"], {"--index"}),
             (["reqlock", "--index", "x", "why", "--ex"], {"--explain"}), (["reqlock", "--dir", "d", "upgrade", ""], editing),
             (["reqlock", "upgrade", "--dir", "d", ""], editing), (["reqlock", "log", "--l"], {"--long"}),
-            (["reqlock", "--dir", "a p"], {"a prefix"}), (["reqlock", "help", "ba"], {"batch"}), (["reqlock", "undo", ""], saving),
-            (["reqlock", "--dir", "d", "why", "--not", ""], {"a"}), (["reqlock", "--dr"], {"--dry-run"}),
+            (["reqlock", "--dir", "a p"], {"a prefix"}), (["reqlock", "help", "ba"], {"batch"}), (["reqlock", "undo", ""], stepping),
+            (["reqlock", "--dir", "d", "why", "--not", ""], {"a", "b"}), (["reqlock", "--dr"], {"--dry-run"}),
             (["reqlock", "--index", "file"], {"file.json"}), (["reqlock", "add", "a", "--index", "file"], {"file.json"}),
-            (["reqlock", "--env", "one", "=", "file"], {"file.json"}), (["reqlock", "--env", "one", "=", "x", "undo", ""], saving),
+            (["reqlock", "--env", "one", "=", "file"], {"file.json"}), (["reqlock", "--env", "one", "=", "x", "undo", ""], stepping),
+            (["reqlock", "init", "--env", "one=file"], {"one=file.json"}), (["reqlock", "undo", "--e"], set()),
+            (["reqlock", "--dir", "d", "remove", ""], editing - {"a"}),
+            (["reqlock", "--dir", "d", "why", "--constrain", ""], {"b"}), (["reqlock", "replace", "file"], {"file.json"}),
+            (["reqlock", "export", "--format", "d"], {"dot"}), (["reqlock", "--color", "n"], {"never"}),
         ):
             with self.subTest(words=words):
                 self.assertEqual(self.completed(words), wanted)
 
     def completed(self, words):
-        """What bash completes, in a folder in whose folder `d` the name `a` is locked."""
+        """What bash completes, in a folder in whose folder `d` the names `a` and `b` are locked, the latter for a line."""
         if not (self.folder / "d").exists():
             (self.folder / "d").mkdir()
-            (self.folder / "d" / "requirements.txt").write_bytes(b"a\n")
-            (self.folder / "file.json").write_text(json.dumps(index_of(("a", "1", []))), encoding="utf-8")
+            (self.folder / "d" / "requirements.txt").write_bytes(b"b\n")
+            index = index_of(("a", "1", []), ("b", "1", ["a"]))
+            (self.folder / "file.json").write_text(json.dumps(index), encoding="utf-8")
             (self.folder / "environment").write_text(json.dumps(LINUX), encoding="utf-8")
             self.run_installed("reqlock", "--dir", "d", "--index", "file.json", "--env", "environment", "init")
         script = (
@@ -194,7 +194,7 @@ class Installed(unittest.TestCase):
         status, told = self.run_installed("bash", "-c", script, "bash", *words)
         lines = told.splitlines()
         self.assertIn("complete -F _reqlock reqlock", lines)
-        return {line for line in lines if line != "complete -F _reqlock reqlock"}
+        return {line for line in lines if line not in ("", "complete -F _reqlock reqlock")}
 
 
 def fish_options(text):
@@ -209,7 +209,8 @@ def fish_options(text):
 def zsh_options(text):
     """The same by those of zsh."""
     lists = {
-        "$keeping": {"--keep-locked"}, "$saving[2,-1]": {"--verbose"}, "$saving": {"--dry-run", "--verbose"}, "$json": {"--json"},
+        "$dir": {"--dir"}, "$index": {"--index"}, "$environments": {"--env"}, "$keeping": {"--keep-locked"}, "$saving": {"--dry-run"},
+        "$json": {"--json"}, "$lines": {"--was", "--line"}, "$pins": {"--pins"},
     }
     found = {}
     arms = text.split("case $line[1] in")[1].split("esac")[0]
@@ -266,7 +267,7 @@ class Words(unittest.TestCase):
         self.assertEqual(set(re.findall(r"(?m)^        '([a-z]+):", zsh)), self.subcommands)
         self.assertEqual(set(re.findall(r"__reqlock_before -a ([a-z]+)", fish)), self.subcommands)
         self.assertEqual(set(re.search("__reqlock_in help' -a '([^']*)'", fish)[1].split()), self.subcommands)
-        self.assertEqual(set(re.findall(r"['{,](--[a-z-]+)", zsh)), self.all_options())
+        self.assertEqual(set(re.findall(r"['{,*](--[a-z-]+)", zsh)), self.all_options())
         self.assertEqual({f"--{name}" for name in re.findall(r"(?m)^complete.* -l ([a-z-]+)", fish)}, self.all_options())
         for name in self.subcommands - {"help"}:
             about = self.help_of(name).splitlines()[0]

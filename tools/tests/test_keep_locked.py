@@ -215,8 +215,8 @@ class Worked(Plugins):
     def test_a_locked_version_that_is_gone(self):
         self.begin_plugins()
         self.without("mid", "2.0")
-        told = "No choice of versions that keeps what is locked meets line 1 (mid). 1. line 1 (mid) needs mid, and no release of mid is left: " \
-            "the lock keeps 2.0, which the index doesn't have."
+        told = "No choice of versions that keeps what is locked meets line 1 (mid). 1. line 1 (mid) needs mid, and the lock keeps 2.0, " \
+            "which the index doesn't have."
         self.plays(
             (["relock", KEEP], 3, "refused no-solution\n"), (["add", "zz-plug", KEEP], 3, "refused no-solution\n"),
             (["why", KEEP], 3, "-\n"), (["why"], 0, "solvable\n"), (["why", "--upgrade", "mid", KEEP], 0, "solvable\n"),

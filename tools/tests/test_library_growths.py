@@ -7,10 +7,9 @@ may be answered so, and all else is as if it hadn't been given; or the `run` as 
 
 import functools
 import sys
-import tempfile
 import unittest
 
-from places import IS_LONG
+from places import IS_LONG, new_folder
 from rules.library_scenarios import CRATE, scenario_text, scenarios, wanted
 
 import growths  # (these stand in tools/)
@@ -127,9 +126,7 @@ class Scenarios(unittest.TestCase):
 class Calls(unittest.TestCase):
     @classmethod
     def setUpClass(cls):
-        folder = tempfile.TemporaryDirectory()
-        cls.addClassCleanup(folder.cleanup)
-        cls.library = growths.compiled(folder.name)
+        cls.library = growths.compiled(new_folder(cls.addClassCleanup))
 
     def play(self, scenario, number):
         run = growths.run_once([PROGRAM, scenario], self.library, number, mark="call\n", end="answer ")

@@ -64,14 +64,19 @@ class Printed(Program):
 
     def test_a_refutation_in_sentences(self):
         self.begin_refuted()
-        first, left = NAMES[0], "and no release of {} is left: 1"
-        causes = [f"the only release of {NAMES[-1]} needs z>=2, {left.format('z')} doesn't match >=2"]
-        for number, (name, other) in enumerate(zip(reversed(NAMES[:-1]), reversed(NAMES)), 1):
-            causes.append(f"the only release of {name} needs {other}, {left.format(other)} by {number}")
-        causes.append(f"the new line ({first}) needs {first}, {left.format(first)} by {COUNT}")
-        sentences = [f"No choice of versions meets the new line ({first})."]
-        sentences += [f"{number}. {cause}." for number, cause in enumerate(causes, 1)]
-        left_out = [f"{name} x: release 1: version bad-version" for name in (*NAMES, "z")]
+        first, by = NAMES[0], "needs {}, which is ruled out by {}"
+        sentences = [
+            f"No choice of versions meets the new line ({first}).",
+            f"1. the only release of {NAMES[-1]} needs z>=2, and the index has no such release.",
+            f"2. the only release of {NAMES[-2]} {by.format(NAMES[-1], 1)}.",
+            f"3 to {COUNT - 1}. So it goes on through {COUNT - 3} packages, from {NAMES[-3]} to {NAMES[1]}: each needs the one"
+            " before it, which",
+            "   is ruled out by the step before.",
+            f"{COUNT}. the only release of {first} {by.format(NAMES[1], COUNT - 1)}.",
+            f"{COUNT + 1}. the new line ({first}) {by.format(first, COUNT)}.",
+        ]
+        told = *NAMES[:2], *NAMES[-3:], "z"
+        left_out = [f"{name} x: release 1: version bad-version" for name in told]
         self.plays((["why", "--explain", first], 3, "".join(f"{line}\n" for line in sentences + left_out)))
 
 

@@ -6,16 +6,14 @@ import json
 import re
 import subprocess
 import sys
-import tempfile
 import time
 import tomllib
 import unittest
-from pathlib import Path
 
 from made.environments import LINUX
 from made.journals import entry, lock_text
 from made.releases import index_of
-from places import TOOLS
+from places import TOOLS, new_folder
 
 try:
     from packaging.markers import Marker
@@ -41,9 +39,7 @@ KEPT = "os_name", "platform_machine", "python_version", "sys_platform"
 @unittest.skipUnless(Marker, "python3 has neither packaging nor pip")
 class PortableLock(unittest.TestCase):
     def setUp(self):
-        folder = tempfile.TemporaryDirectory()
-        self.addCleanup(folder.cleanup)
-        self.folder = Path(folder.name)
+        self.folder = new_folder(self.addCleanup)
         self.write(LINES, ENTRIES, *RELEASES)
 
     def write(self, lines, entries, *releases):

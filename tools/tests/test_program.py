@@ -26,6 +26,7 @@ class Help(Program):
         "constrain": "Put other specifiers in the line of a name",
         "upgrade": "Lock again without the locked versions of these names",
         "relock": "Lock again over the index at hand; versions stay where they can",
+        "replace": "Put other lines in the place of those of the file; versions stay where they can",
         "undo": "Go back to the state before the last edit",
         "redo": "Go on to the state that an undo left",
         "batch": "Do the commands of standard input, and save at its end",
@@ -35,16 +36,24 @@ class Help(Program):
         "diff": "Print what changed between two places of the history",
         "check": "Tell whether the three files belong together; change nothing",
         "outdated": "Print which locked releases have newer ones, and who holds them back",
+        "export": "Print the lock in the form of another tool",
         "skipped": "Print which releases of the index are left out, and why",
         "why": "Print a proof that nothing can be locked with this line, where that is so",
     }
+    LINES = {
+        "--was <OLD>": "Take the lines of the file in the folder; OLD is what it was",
+        "--line <NAME> <TEXT>": "Put the text in the place of the line of the name",
+    }
+    PINS = {"--pins <FILE>": "Keep the versions of this lock, or of these lines; or NAME=FILE"}
     ARGUMENTS = {
+        "init": PINS,
         "add": {"<TEXT>": "The line, such as 'flask>=2  # the server'"},
         "remove": {"<NAME>": "The name of the line"},
         "constrain": {
             "<NAME>": "The name of the line", "[SPEC]": "The specifiers, such as '>=2,<3'; without them any version will do",
         },
         "upgrade": {"[NAME]...": "Names in the lock; without any, all of them"},
+        "replace": {"[NEW]": "The file with the new lines; - is standard input", **LINES, **PINS},
         "show": {
             "[NAME]": "Print the entry of this name, with its files", "--tree": "Print the entries below the lines that ask for them",
             "--json": "Print JSON",
@@ -56,6 +65,7 @@ class Help(Program):
         },
         "check": {"--current": "Tell whether a relock over the index would change something", "--json": "Print JSON"},
         "outdated": {"--json": "Print JSON"},
+        "export": {"--format <FORMAT>": "hashes, dot or pylock [default: hashes]", "--target <NAME>": "The target whose lock it is"},
         "why": {
             "[TEXT]": "The line; without it, the file as it stands", "--explain": "Tell it in sentences",
             "--init": "Ask about a first lock, for the environments given",
@@ -63,19 +73,23 @@ class Help(Program):
             "--upgrade [<NAME>...]": "Ask about an upgrade of these names; without any, of all",
             "--remove <NAME>": "Ask about the removal of the line of a name",
             "--not <NAME[==VERSION]>": "Ask why the lock lacks this version; without one, the newest",
+            "--long": "With --explain, leave nothing out", "--replace [<NEW>]": "Ask about other lines, those of NEW", **LINES, **PINS,
         },
     }
     OPTIONS = {
-        "--dir <DIR>": "The folder of requirements.txt [default: .]", "--index <FILE>": "The snapshot of the index",
+        "--dir <DIR>": "The folder of requirements.txt [env: REQLOCK_DIR] [default: .]",
+        "--index <FILE>": "The snapshot of the index [env: REQLOCK_INDEX]",
         "--env <FILE>": "The environment that a lock is for; or NAME=FILE",
         "--dry-run": "Save nothing; print what would change", "--json": "Print JSON",
-        "-v, --verbose": "Tell what changed, or what is known of a refusal",
+        "--keep-locked": "Move no locked version that is still needed, but for names to upgrade",
+        "-v, --verbose": "Tell what changed, or what is known of a refusal", "-q, --quiet": "Tell nothing beside the answer",
+        "--color <WHEN>": "Use colors: auto, always or never [default: auto]",
     }
     ALL = {"--dir", "--index", "--env"}
     NEEDED = {
         "init": ALL, "try": ALL, "why": ALL, "skipped": {"--index"},
-        **dict.fromkeys(["add", "remove", "constrain", "upgrade", "relock", "batch"], {"--dir", "--index"}),
-        **dict.fromkeys(["show", "check", "outdated"], {"--dir", "--index"}),
+        **dict.fromkeys(["add", "remove", "constrain", "upgrade", "relock", "replace", "batch"], {"--dir", "--index"}),
+        **dict.fromkeys(["show", "check", "outdated", "export"], {"--dir", "--index"}),
         **dict.fromkeys(["undo", "redo", "log", "diff"], {"--dir"}),
     }
 

@@ -5,13 +5,11 @@ changed."""
 import functools
 import subprocess
 import sys
-import tempfile
 import unittest
-from pathlib import Path
 
 from checked_files import knows
 from made.environments import LINUX, WINDOWS
-from places import IS_LONG, PROGRAM
+from places import IS_LONG, PROGRAM, new_folder
 
 import growths  # (these stand in tools/)
 from reqlock_tools.snapshot_output import compact
@@ -128,11 +126,10 @@ class Growths(unittest.TestCase):
     environments = {"": LINUX}
 
     def setUp(self):
-        folder = tempfile.TemporaryDirectory()
-        self.addCleanup(folder.cleanup)
-        self.folder = Path(folder.name) / "files"
+        outside = new_folder(self.addCleanup)
+        self.folder = outside / "files"
         self.folder.mkdir()
-        self.library = growths.compiled(folder.name)
+        self.library = growths.compiled(outside)
         (self.folder / "requirements.txt").write_bytes(REQUIREMENTS)
         self.put_index(INDEX)
         for name, environment in self.environments.items():

@@ -1,4 +1,4 @@
-"""What README.md, docs/SESSIONS.md and docs/RULES.md show being typed is typed: each indented block that has lines `$ COMMAND` is run by
+"""What README.md, docs/SESSIONS.md, docs/RULES.md and docs/FAULTS.md show being typed is typed: each indented block that has lines `$ COMMAND` is run by
 a shell in a copy of the repository's examples and tools, and what comes out is what the block shows. It needs the program, which
 ./check builds first."""
 
@@ -29,7 +29,7 @@ class Blocks(unittest.TestCase):
 @unittest.skipUnless(PROGRAM.exists(), "the program isn't built")
 class Readme(unittest.TestCase):
     def test_each_command_prints_what_is_shown(self):
-        for page in "README.md", "docs/SESSIONS.md", "docs/RULES.md":
+        for page in "README.md", "docs/SESSIONS.md", "docs/RULES.md", "docs/FAULTS.md":
             found = typed_blocks((TOP / page).read_text(encoding="utf-8"))
             self.assertTrue(found)
             for block in found:

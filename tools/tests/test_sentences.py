@@ -12,7 +12,8 @@ from places import IS_LONG
 from program import Program
 from rules.edits import KEEP
 from rules.explanations import check, lines_of, numbered
-from rules.locks import Problem, left_out, read_index
+from rules.left_out_releases import left_out
+from rules.locks import Problem, read_index
 from rules.requirements import Fault, read_line, read_version
 from rules.sentences import HELD
 
@@ -25,64 +26,145 @@ INDEX = (
 )
 TOLD = f"""\
 No choice of versions meets line 2 (a  # why) and line 3 (c).
-1. the only release of c needs b>=2, and beside a 1 to 3 (3 releases) no release of b is left: 1 doesn't match >=2; \
-2 and 3 don't match <2 of a.
-2. line 3 (c) needs c, and beside a 1 to 3 (3 releases) no release of c is left: 1 by 1.
-3. line 2 (a  # why) needs a, and no release of a is left: 1 to 3 (3 releases) by 2; 4 is yanked, and no line pins it with ==; 5a1 is a \
+1. the only release of c needs b 2 or newer, and a 1 to 3 need b<2.
+2. line 3 (c) needs c, which is ruled out by 1 beside a 1 to 3.
+3. line 2 (a  # why) needs a, and no release of a is left: 1 to 3 are ruled out by 2; 4 is yanked, and no line pins it with ==; 5a1 is a \
 pre-release, which counts where a line names one or no final release fits; 6 needs Python >=3.99, the environment has \
 {LINUX["python_full_version"]}.
 """
+# the same in other words, which tell the same
+OTHERWISE = TOLD.replace(", and a 1 to 3 need b<2", ", and beside a 1 to 3 no such release is left: 2 and 3 don't match <2 of a")
 # the same lines where the lock keeps `b` at 1, and at a version that the index hasn't
 KEPT = """\
 No choice of versions that keeps what is locked meets line 3 (c).
-1. the only release of c needs b>=2, and no release of b is left: the lock keeps 1; 1 doesn't match >=2.
-2. line 3 (c) needs c, and no release of c is left: 1 by 1.
+1. the only release of c needs b 2 or newer, and the lock keeps 1.
+2. line 3 (c) needs c, which is ruled out by 1.
 """
-GONE = KEPT.replace("1; 1 doesn't match >=2", "4, which the index doesn't have")
+GONE = KEPT.replace("keeps 1", "keeps 4, which the index doesn't have")
 PLANTED_KEPT = (
-    (" that keeps what is locked", ""),
-    ("the lock keeps 1; ", ""), ("the lock keeps 1; 1", "the lock keeps 2; 1"), ("keeps 1; 1", "keeps 1, which the index doesn't have; 1"),
-    ("; 1 doesn't match >=2", ""), ("; 1 doesn't match >=2", "; 2 doesn't match >=2"), ("; 1 doesn't", "; 1 to 3 (3 releases) don't"),
-    ("keeps 1; 1 doesn't match >=2", "keeps 1, which the index doesn't have"), ("the lock keeps 1; 1", "1; the lock keeps 1; 1"),
-    ("is left: 1 by", "is left: the lock keeps 1; 1 by"), ("no release of c is left: 1 by 1", "no release of c is left: the lock keeps 1"),
+    (" that keeps what is locked", ""), ("keeps 1", "keeps 2"), ("keeps 1", "keeps 1, which the index doesn't have"),
+    (", and the lock keeps 1", ", and the index has no such release"), (", and the lock keeps 1", ""), ("b 2 or newer", "b 1 or newer"),
+    (", and the lock keeps 1", ", and no such release is left: the lock keeps 1; 2 doesn't match >=2"),
+    (", and the lock keeps 1", ", and no such release is left: 2 doesn't match >=2"), ("by 1", "by 2"),
+    ("which is ruled out by 1", "and no release of c is left: the lock keeps 1"), ("needs b 2 or newer", "needs b"),
 )
 PLANTED_GONE = (
-    ("the lock keeps 4, which the index doesn't have", "none matches >=2"), (", which the index doesn't have", ""), ("keeps 4", "keeps 3"),
-    (", which the index doesn't have", "; 4 doesn't match >=2"), ("doesn't have.\n", "doesn't have; 1 doesn't match >=2.\n"),
-    ("needs b>=2", "needs b>=3"), ("keeps 4, which", "keeps 4 which"),
+    (", which the index doesn't have", ""), ("keeps 4", "keeps 3"), ("doesn't have.\n", "doesn't have; 1 doesn't match >=2.\n"),
+    ("b 2 or newer", "b 3"), ("keeps 4, which", "keeps 4 which"), ("the lock keeps 4, which the index doesn't have", "a 1 to 3 need b<2"),
 )
 # changes of TOLD by which something in it isn't true, or isn't told
 PLANTED = (
     # numbers of sentences
-    ("1 by 1", "1 by 2"), ("1 by 1", "1 by 0"), ("by 2;", "by 1;"), ("by 2;", "by 3;"), ("\n2. ", "\n3. "),
-    ("1 by 1", "1 doesn't match >=2"),
-    # ranges
-    ("beside a 1 to 3 (3 releases) no release of b", "beside a 1 to 4 (4 releases) no release of b"),
-    ("beside a 1 to 3 (3 releases) no release of c", "beside a 1 to 4 (4 releases) no release of c"),
-    ("beside a 1 to 3 (3 releases) no release of c", "beside a 1 and 2 no release of c"),
-    ("left: 1 to 3 (3 releases) by 2; 4 is", "left: 1 to 4 (4 releases) by 2; 4 is"), ("(3 releases) by", "(4 releases) by"),
-    ("left: 1 to 3 (3 releases) by", "left: 1 to 3 by"), ("left: 1 to 3 (3 releases) by", "left: 1 and 2 by"), ("2 and 3 don't", "2 don't"),
-    ("2 and 3 don't", "1, 2 and 3 don't"), ("2 and 3 don't", "2 and 4 don't"), ("2 and 3 don't", "3 and 2 don't"),
-    ("left: 1 to 3 (3 releases)", "left: 0 to 3 (3 releases)"), ("the only release of c", "every release of c"),
-    ("the only release of c", "c 2"), ("beside a 1 to 3 (3 releases) no release of b", "beside every release of a no release of b"),
-    # needs
+    ("ruled out by 1", "ruled out by 2"), ("ruled out by 1", "ruled out by 0"), ("out by 2;", "out by 1;"), ("out by 2;", "out by 3;"),
+    ("\n2. ", "\n3. "), ("\n2. ", "\n2 to 3. "), ("which is ruled out by 1 beside", "and beside"),
+    # ranges, also one that is told too wide, and releases
+    ("b 2 or newer", "b 1 or newer"), ("b 2 or newer", "b 3"), ("b 2 or newer", "b 2 to 3"), ("b 2 or newer", "b 2"),
+    ("b 2 or newer", "b between 2 and 3"), ("b 2 or newer", "b 2, or 3 or newer"), ("b 2 or newer", "b>2"), ("b 2 or newer", "b"),
+    ("a 1 to 3 need b<2", "a 1 to 4 need b<2"), ("a 1 to 3 need b<2", "a 1 and 2 need b<2"), ("a 1 to 3 need b<2", "a 1 to 3 need b<3"),
+    ("a 1 to 3 need b<2", "a 1 to 3 need b 1 or 2"), ("a 1 to 3 need b<2", "a 1 to 3 need 1"),
+    ("a 1 to 3 need b<2", "a 1 to 3 need c"), ("a 1 to 3 need b<2", "every release of a needs b<2"), (", and a 1 to 3 need b<2", ""),
+    ("beside a 1 to 3", "beside a 1 to 4"), ("beside a 1 to 3", "beside a 1 and 2"), (" beside a 1 to 3", ""),
+    ("left: 1 to 3 are", "left: 1 to 4 are"), ("left: 1 to 3 are", "left: 0 to 3 are"), ("left: 1 to 3 are", "left: 1 and 2 are"),
+    ("the only release of c", "every release of c"), ("the only release of c", "c 2"),
+    # who asks
     ("line 3 (c) needs c", "line 4 (b) needs c"), ("line 3 (c) needs c", "line 3 (c) needs d"), ("line 3 (c) needs", "line 3 (b) needs"),
-    ("c needs b>=2", "c needs b>=3"), ("c needs b>=2", "c needs d"), ("c needs b>=2", "c needs b in ranges of their own"),
-    ("no release of b is left: 1", "no release of d is left: 1"), ("line 2 (a  # why) needs a, and", "line 2 (a) needs a, and"),
-    # reasons, and whose they are
+    ("line 3 (c) needs c", "line 3 (c) allows c 1"), ("line 3 (c) needs c", "line 3 (c) allows no release of c"),
+    ("c needs b 2 or newer", "c needs d"), ("c needs b 2 or newer", "c needs b in versions that the index doesn't have"),
+    ("line 2 (a  # why) needs a, and", "line 2 (a) needs a, and"), ("a 1 to 3 need b<2", "line 4 allows 1"),
+    ("a 1 to 3 need b<2", "the lock keeps 1"), (", and a 1 to 3 need b<2", ", and the index has no such release"),
+    # reasons
+    ("no release of a is left", "no such release is left"), ("no release of a is left", "no release of b is left"),
     ("4 is yanked", "3 is yanked"), ("5a1 is a pre-release", "4 is a pre-release"), ("6 needs Python", "4 needs Python"),
-    (">=3.99", ">=3.98"), ("has 3", "has 4"), ("match >=2;", "match >2;"), ("match <2 of a", "match <3 of a"),
-    ("match <2 of a", "match <2"), ("of a.", "of d."),
-    ("of a.", "of line 2."), ("match <2 of a", "go with a[x]"), ("match <2 of a", "match what d needs"),
-    ("match <2 of a", "match what a needs"), ("match <2 of a", "match what a needs (b<3)"),
-    ("match <2 of a", "match what a needs (b<2 or b<3)"),
+    (">=3.99", ">=3.98"), ("has 3", "has 4"), ("is yanked, and no line pins it with ==", "isn't admitted by c"),
     ("is yanked, and no line pins it with ==", "is a yanked pre-release, and the lines don't let in both"),
     # the conclusion
     ("line 2 (a  # why) and line 3 (c).", "line 2 (a  # why)."), ("line 2 (a  # why) and line 3 (c).", "line 3 (c)."),
     ("line 2 (a  # why) and line 3 (c).", "line 2 (a  # why), line 3 (c) and line 4 (b)."), ("and line 3 (c).", "and line 3 (c>1)."),
     ("line 2 (a  # why) and line 3 (c).", "line 3 (c) and line 2 (a  # why)."), ("and line 3 (c).", "and line 3 (c) and 1 more."),
+    ("No choice of versions meets line 2 (a  # why) and line 3 (c)",
+     "line 2 (a  # why) and line 3 (c) don't go together: the only release of c needs b 2 or newer"),
     # forms
-    ("is left: 1 by", "is left 1 by"), ("No choice of", "No"), ("releases) by 2;", "releases) by 2,"), ("why) needs", "why) wants"),
+    ("is left: 1 to", "is left 1 to"), ("No choice of", "No"), ("out by 2;", "out by 2,"), ("why) needs", "why) wants"),
+)
+# changes of OTHERWISE, which tells why releases aren't left
+PLANTED_OTHERWISE = (
+    ("2 and 3 don't", "2 don't"), ("2 and 3 don't", "1, 2 and 3 don't"), ("2 and 3 don't", "2 and 4 don't"), ("2 and 3 don't", "3 and 2 don't"),
+    ("match <2 of a", "match <3 of a"), ("match <2 of a", "match <2"), ("of a.", "of d."), ("of a.", "of line 2."), ("match <2 of a", "go with a[x]"),
+    ("match <2 of a", "match what d needs"), ("match <2 of a", "match what a needs"), ("match <2 of a", "match what a needs (1 or 2)"),
+    ("beside a 1 to 3 no such", "beside a 1 to 4 no such"), ("beside a 1 to 3 no such", "beside every release of a no such"),
+    ("no such release is left", "no release of b is left"), ("no such release is left", "no release of d is left"),
+)
+# two lines and two packages: releases of `t` need a newer `n` each
+PAIR_FILE = "n<4", "t>=2", "m"
+PAIR_INDEX = (
+    *(("n", str(version), []) for version in range(1, 8)), ("t", "1", []), ("t", "2", ["n>=4,<6"]), ("t", "3", ["n>=5,<7"]), ("m", "1", []),
+)
+PAIR = """\
+line 2 (t>=2) and line 1 (n<4) don't go together: t from 2 on needs n 4 to 6.
+1. t 2 and 3 need n 4 to 6, and line 1 allows 1 to 3.
+2. line 2 (t>=2) allows t 2 or newer, which is ruled out by 1.
+"""
+PLANTED_PAIR = (
+    # a range that is told one too wide, and one too narrow
+    ("on needs n 4 to 6", "on needs n 4 or newer"), ("on needs n 4 to 6", "on needs n 3 to 6"), ("on needs n 4 to 6", "on needs n 4 or 5"),
+    ("3 need n 4 to 6", "3 need n 3 to 6"), ("3 need n 4 to 6", "3 need n 4 or newer"), ("allows 1 to 3", "allows 1 to 4"),
+    ("allows 1 to 3", "allows 1 or 2"), ("allows t 2 or newer", "allows t"), ("t from 2 on", "t from 1 on"), ("t from 2 on", "t from 3 on"),
+    ("t from 2 on needs", "every release of t needs"), ("on needs n 4 to 6", "on needs n"), ("on needs n 4 to 6", "on needs m"),
+    # a line that isn't needed
+    ("line 1 (n<4) don't", "line 3 (m) don't"), ("line 2 (t>=2) and line 1 (n<4) don't", "line 3 (m) and line 1 (n<4) don't"),
+    ("line 1 (n<4) don't", "line 2 (t>=2) don't"), ("line 2 (t>=2) and line 1 (n<4) don't", "line 1 (n<4) and line 2 (t>=2) don't"),
+    ("line 1 allows 1 to 3", "line 3 allows 1 to 3"), ("don't go together: t", "go together: t"),
+    ("on needs n 4 to 6", "on needs n 4 to 6, and line 3 allows 1"),
+)
+# two lines on one package
+BOTH_FILE = "n<4", "n>=6", "n"
+BOTH = """\
+line 1 (n<4) and line 2 (n>=6) don't go together: no release of n matches both.
+1. line 1 (n<4) allows n 1 to 3, and line 2 allows 6 or newer.
+"""
+PLANTED_BOTH = (
+    ("n 1 to 3", "n 1 to 4"), ("n 1 to 3", "n 1 or 2"), ("allows 6 or newer", "allows 5 or newer"), ("allows 6 or newer", "allows 6"),
+    ("no release of n", "no release of t"), ("line 2 (n>=6) don't", "line 1 (n<4) don't"), ("line 2 (n>=6) don't", "line 3 (n) don't"),
+    ("no release of n matches both", "every release of n needs n"), ("line 2 allows", "line 3 allows"),
+)
+# a chain: each package needs the next one, and the last one isn't there
+LINKS = 8
+CHAIN_FILE = ("k0",)
+CHAIN_INDEX = (*((f"k{place}", "1", [f"k{place + 1}"]) for place in range(LINKS - 1)), (f"k{LINKS - 1}", "1", ["none"]), ("x", "1", []))
+CHAIN = """\
+No choice of versions meets line 1 (k0).
+1. the only release of k7 needs none, and the index has no package none.
+2. the only release of k6 needs k7, which is ruled out by 1.
+3 to 7. So it goes on through 5 packages, from k5 to k1: each needs the one before it, which is ruled out by the step before.
+8. the only release of k0 needs k1, which is ruled out by 7.
+9. line 1 (k0) needs k0, which is ruled out by 8.
+"""
+PLANTED_CHAIN = (
+    # a count that is one too low, or too high
+    ("3 to 7. So it goes on through 5", "3 to 7. So it goes on through 4"), ("3 to 7. So it goes on through 5", "3 to 6. So it goes on through 4"),
+    ("3 to 7. So it goes on through 5", "3 to 8. So it goes on through 6"), ("from k5 to", "from k4 to"), ("to k1:", "to k2:"), ("to k1:", "to x:"),
+    ("from k5 to", "from x to"), ("ruled out by 7", "ruled out by 6"), ("ruled out by 7", "ruled out by 2"), ("ruled out by 7", "ruled out by 3"),
+    ("k6 needs k7, which is ruled out by 1", "k6 needs k7, which is ruled out by 2"), ("3 to 7.", "3."),
+    ("the step before.", "the step before beside the only release of x."),
+)
+# a bound that travels along such a chain
+BOUND_FILE = "k0>=2", "k8<2"
+BOUND_INDEX = tuple((f"k{place}", f"{version}", [f"k{place + 1}>={version}"] * (place < LINKS)) for place in range(LINKS + 1) for version in (1, 2, 3))
+BOUND = """\
+No choice of versions meets line 1 (k0>=2) and line 2 (k8<2).
+1. k6 2 and 3 need k7 2 or newer, which needs k8 2 or newer and not k8 1.
+2. k5 2 and 3 need k6 2 or newer, which is ruled out by 1 beside k8 1.
+3 to 6. So it goes on through 4 packages, from k4 to k1: each needs the one before it, which is ruled out by the step before beside k8 1.
+7. k0 2 and 3 need k1 2 or newer, which is ruled out by 6 beside k8 1.
+8. line 2 (k8<2) allows k8 1, which is ruled out by 7 beside k0 2 and 3.
+9. line 1 (k0>=2) allows k0 2 or newer, which is ruled out by 8.
+"""
+PLANTED_BOUND = (
+    ("3 to 6. So it goes on through 4", "3 to 5. So it goes on through 3"), ("3 to 6. So it goes on through 4", "3 to 6. So it goes on through 3"),
+    ("step before beside k8 1", "step before"), ("step before beside k8 1", "step before beside k8 2"), ("from k4 to", "from k3 to"),
+    ("to k1:", "to k2:"), ("k0 2 and 3 need k1 2 or newer", "k0 2 and 3 need k1 1 or newer"), ("k0 2 and 3 need k1", "every release of k0 needs k1"),
+    ("which needs k8 2 or newer and not k8 1", "which needs k8 1 or newer and not k8 1"), ("and not k8 1", "and not k8 2"), ("and not k8 1", "and not k0 1"),
+    ("k7 2 or newer, which needs", "k7, which needs"), ("by 7 beside k0 2 and 3", "by 7 beside k0 2"), ("by 7 beside k0 2 and 3", "by 6 beside k0 2 and 3"),
 )
 
 
@@ -106,7 +188,7 @@ class Drawn(Program):
         with self.subTest(words=words, file=self.file, index=self.index, told=told):
             problem = Problem([text for _, text in named], LINUX, read_index(self.index), kept or {}, kept is not None)
             try:
-                check(problem, lines_of(problem, named), told, left_out(self.index))
+                check(problem, lines_of(problem, named), told, left_out(self.index).items())
             except Fault as fault:
                 self.fail(f"{fault}\n{told}")
         self.kept_told |= set(re.findall(HELD, " ".join(told.split())))
@@ -168,32 +250,48 @@ class Drawn(Program):
 
 
 class Planted(unittest.TestCase):
-    """The reader over one text and changed ones."""
+    """The reader over a few texts and changed ones."""
 
-    def check(self, told, *releases, kept=None):
-        file = [f"{line}\n" for line in FILE]
-        problem = Problem(file, LINUX, index_in(*INDEX), {"b": read_version(kept)} if kept else {}, kept is not None)
-        return check(problem, lines_of(problem, numbered(file)), told, releases)
+    def check(self, told, *releases, kept=None, file=FILE, index=INDEX):
+        lines = [f"{line}\n" for line in file]
+        problem = Problem(lines, LINUX, index_in(*index), {"b": read_version(kept)} if kept else {}, kept is not None)
+        return check(problem, lines_of(problem, numbered(lines)), told, releases)
+
+    def stated(self, told, **words):
+        return [conflict and [(term.name, len(term.keys)) for term in conflict] for conflict in self.check(told, **words)]
+
+    def refuses(self, text, changes, *releases, **words):
+        for old, new in changes:
+            with self.subTest(old=old, new=new):
+                self.assertIn(old, text)
+                with self.assertRaises(Fault):
+                    self.check(text.replace(old, new, 1), *releases, **words)
 
     def test_the_text_is_accepted(self):
-        terms = [[(term.name, len(term.keys)) for term in conflict] for conflict in self.check(TOLD)]
-        self.assertEqual(terms, [[("c", 1), ("a", 3)], [("a", 3)], []])
+        self.assertEqual(self.stated(TOLD), [[("c", 1), ("a", 3)], [("a", 3)], []])
 
     def test_other_words_for_the_same_are_accepted(self):
         for old, new in (
-            ("don't match <2 of a", "don't match what a needs (b<2)"), ("don't match <2 of a", "don't go with a"),
-            ("1 doesn't match >=2;", "1 doesn't match;"), ("is left: 1 by 1", "is left: 1\n   by 1"),
+            ("2. line 3 (c) needs c, which is ruled out by 1", "2. line 3 (c) needs c, which is ruled\n   out by 1"),
+            ("which is ruled out by 1 beside a 1 to 3", "and beside a 1 to 3 no release of c is left: 1 is ruled out by 1"),
         ):
             with self.subTest(old=old, new=new):
                 self.assertEqual(TOLD.count(old), 1)
                 self.assertEqual(self.check(TOLD.replace(old, new)), self.check(TOLD))
+        for new in "don't match what a needs (1)", "don't go with a":
+            self.assertEqual(self.stated(OTHERWISE.replace("don't match <2 of a", new)), self.stated(TOLD))
+        self.assertEqual(self.stated(OTHERWISE), self.stated(TOLD))
 
     def test_releases_that_were_left_out_are_told(self):
         told = TOLD + "a: release 6: version bad-version\nc: release 1: no-file\n"
-        self.assertEqual(self.check(told, ("c", 1), ("a", 6), ("d", 1)), self.check(TOLD))
-        for releases in (), [("a", 6)], [("a", 5), ("c", 1)], [("a", 6), ("b", 3), ("c", 1)]:
-            with self.subTest(releases=releases), self.assertRaises(Fault):
-                self.check(told, *releases)
+        out = {("c", 1): "2", ("a", 6): "x", ("d", 1): "2", ("a", 7): None, ("b", 3): "0.5"}
+        self.assertEqual(self.check(told, *out.items()), self.check(TOLD))
+        for more in {("a", 5): "7"}, {("a", 7): "x"}, {("b", 3): "x"}:
+            with self.subTest(more=more), self.assertRaises(Fault):
+                self.check(told, *(out | more).items())
+        for fewer in ("c", 1), ("a", 6):
+            with self.subTest(fewer=fewer), self.assertRaises(Fault):
+                self.check(told, *(it for it in out.items() if it[0] != fewer))
 
     def test_what_the_lock_keeps_is_accepted_where_it_does(self):
         for told, kept, others in (KEPT, "1", (None, "2", "4")), (GONE, "4", (None, "1", "5")):
@@ -204,19 +302,30 @@ class Planted(unittest.TestCase):
                         self.check(told, kept=other)
 
     def test_a_changed_text_on_what_the_lock_keeps_is_refused(self):
-        for text, kept, changes in (KEPT, "1", PLANTED_KEPT), (GONE, "4", PLANTED_GONE):
-            for old, new in changes:
-                with self.subTest(old=old, new=new):
-                    self.assertIn(old, text)
-                    with self.assertRaises(Fault):
-                        self.check(text.replace(old, new, 1), kept=kept)
+        self.refuses(KEPT, PLANTED_KEPT, kept="1")
+        self.refuses(GONE, PLANTED_GONE, kept="4")
 
     def test_a_changed_text_is_refused(self):
-        for old, new in PLANTED:
-            with self.subTest(old=old, new=new):
-                self.assertIn(old, TOLD)
-                with self.assertRaises(Fault):
-                    self.check(TOLD.replace(old, new, 1))
+        self.refuses(TOLD, PLANTED)
+        self.refuses(OTHERWISE, PLANTED_OTHERWISE)
+
+    def test_a_sentence_in_front_is_true_by_itself(self):
+        words = {"file": PAIR_FILE, "index": PAIR_INDEX}
+        self.assertEqual(self.stated(PAIR, **words), [[("t", 2)], []])
+        self.refuses(PAIR, PLANTED_PAIR, **words)
+        words = {"file": BOTH_FILE, "index": PAIR_INDEX}
+        self.assertEqual(self.stated(BOTH, **words), [[]])
+        self.refuses(BOTH, PLANTED_BOTH, **words)
+
+    def test_a_chain_is_as_long_as_it_is_told(self):
+        words = {"file": CHAIN_FILE, "index": CHAIN_INDEX}
+        found = [[("k7", 1)], [("k6", 1)], *[None] * 4, [("k1", 1)], [("k0", 1)], []]
+        self.assertEqual(self.stated(CHAIN, **words), found)
+        self.refuses(CHAIN, PLANTED_CHAIN, **words)
+        words = {"file": BOUND_FILE, "index": BOUND_INDEX}
+        found = [[(f"k{place}", 2), ("k8", 1)] for place in (6, 5)] + [None] * 3 + [[(f"k{place}", 2), ("k8", 1)] for place in (1, 0)]
+        self.assertEqual(self.stated(BOUND, **words), [*found, [("k0", 2)], []])
+        self.refuses(BOUND, PLANTED_BOUND, **words)
 
 
 if __name__ == "__main__":

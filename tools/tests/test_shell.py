@@ -36,12 +36,21 @@ class Shell(Program):
 
     def test_an_option_stands_in_one_place(self):
         files = self.files()
-        for option, value in ("--dir", "<DIR>"), ("--index", "<FILE>"), ("--env", "<FILE>"):
+        for option, value in ("--dir", "<DIR>"), ("--index", "<FILE>"):
             with self.subTest(option=option):
                 status, told = self.run_bare(option, "x", "check", option, "x")
                 self.assertEqual(status, 2)
                 self.assertIn(f"error: the argument '{option} {value}' cannot be used multiple times\n", told)
         self.assertEqual(self.files(), files)
+
+    def test_environments_may_stand_in_both_places(self):
+        environment = self.outside / "environment.json"
+        words = "--index", self.index, "--dir", self.folder
+        for name, told in ("other", (0, "ok 0\n")), ("one", (2, "reqlock: --env one twice\n")):
+            given = self.run_bare("--env", f"one={environment}", "init", "--env", f"{name}={environment}", *words)
+            self.assertEqual(given, told)
+        self.assertTrue((self.folder / "pylock.one.toml").exists())
+        self.assertTrue((self.folder / "pylock.other.toml").exists())
 
     def test_variables_stand_for_options_that_the_words_lack(self):
         both = {"REQLOCK_INDEX": self.index, "REQLOCK_DIR": str(self.folder)}

@@ -10,7 +10,7 @@ import time
 import unittest
 from pathlib import Path
 
-from places import TESTS, TOOLS
+from places import TESTS, TOOLS, new_folder
 from wanted_libraries import want_libraries
 
 SCRIPT = TOOLS / "snapshot.py"
@@ -69,9 +69,7 @@ class Folder(unittest.TestCase):
     """A test with a folder of documents."""
 
     def setUp(self):
-        folder = tempfile.TemporaryDirectory()
-        self.addCleanup(folder.cleanup)
-        self.folder = Path(folder.name)
+        self.folder = new_folder(self.addCleanup)
 
     def write(self, documents):
         for name, content in documents.items():

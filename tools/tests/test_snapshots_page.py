@@ -4,12 +4,10 @@ import dataclasses
 import os
 import re
 import shutil
-import tempfile
 import unittest
-from pathlib import Path
 
 from made.served_index import MadeIndex, sdist_of, wheel_of
-from places import TOP
+from places import TOP, new_folder
 from shown import printed_by, typed_blocks
 from wanted_libraries import ASKING, want_libraries
 
@@ -41,9 +39,7 @@ def packages():
 @want_libraries(*ASKING)
 class Page(unittest.TestCase):
     def setUp(self):
-        folder = tempfile.TemporaryDirectory()
-        self.addCleanup(folder.cleanup)
-        self.folder = Path(folder.name)
+        self.folder = new_folder(self.addCleanup)
         shutil.copytree(TOP / "examples" / "web", self.folder, dirs_exist_ok=True)
         os.symlink(TOP / "tools", self.folder / "tools")
         index = MadeIndex()

@@ -154,7 +154,7 @@ class Kept(Targets):
         self.assertEqual([entry[:2] for entry in self.journal()[-1]["entries"]], [["win", "a"]])
         self.plays((["log", "--long"], 0, "\n".join([
             "  0 init", "  1 remove e", "      linux: - e 1", "      win: - e 1", '  2 add e; os_name=="posix"', "      linux: + e 1",
-            "* 3 1 entry", "      win: a 1 -> 2", "",
+            "* 3 upgrade a", "      win: a 1 -> 2", "",
         ])))
         self.plays((["undo"], 0, "ok 2\n"))
         self.versions("a 2, e 1", "a 1")

@@ -6,15 +6,13 @@ import os
 import re
 import shutil
 import subprocess
-import tempfile
 import tomllib
 import unittest
-from pathlib import Path
 
 from checked_files import knows
 from made.archives import wheel
 from made.environments import LINUX, WINDOWS
-from places import PROGRAM, TOP
+from places import PROGRAM, TOP, new_folder
 from program import FILES
 from shown import indented_blocks, typed_blocks
 
@@ -66,9 +64,7 @@ class Shell(unittest.TestCase):
             self.skipTest("the program doesn't know init")
         if subprocess.run(["python3", "-m", "pip", "--version"], capture_output=True, check=False).returncode != 0:
             self.skipTest("python3 has no pip")
-        folder = tempfile.TemporaryDirectory()
-        self.addCleanup(folder.cleanup)
-        self.folder = Path(folder.name)
+        self.folder = new_folder(self.addCleanup)
         os.symlink(TOP / "tools", self.folder / "tools")
         (self.folder / "requirements.txt").write_bytes(REQUIREMENTS)
 
@@ -192,7 +188,7 @@ class TwoPlatforms(Shell):
     def setUp(self):
         super().setUp()
         [self.typed] = typed_blocks(section("## Two platforms"))
-        _, self.install = indented_blocks(section("## Two platforms"))
+        _, self.install, self.again = indented_blocks(section("## Two platforms"))
         wheels = self.folder / "wheels"
         for platform in self.PLATFORMS.values():
             wheel(wheels, "kettle", "1.0", tag=f"py3-none-{platform}")
@@ -235,6 +231,17 @@ class TwoPlatforms(Shell):
         status, output = self.run_lines(f"{line} --only-binary :all: --platform win_amd64 --target other\n")
         self.assertNotEqual(status, 0)
         self.assertIn("DO NOT MATCH THE HASHES", output)
+
+    def test_a_new_python_keeps_what_fits(self):
+        self.type_all()
+        for version in "8.1", "8.2":
+            wheel(self.folder / "wheels", "click", version)
+        new = LINUX | {"python_version": "3.13", "python_full_version": "3.13.1"}
+        (self.folder / "new.json").write_text(json.dumps(new), encoding="utf-8")
+        self.check_runs(f"python3 tools/snapshot.py wheels --output index.json\n{self.again}", "ok 0")
+        for name, wanted in self.WANTED.items():
+            lock = (self.folder / f"pylock.{name}.toml").read_text(encoding="utf-8")
+            self.assertEqual(dict(re.findall('name = "([a-z]+)"\nversion = "(.*)"', lock)), wanted)
 
     @unittest.skipUnless(shutil.which("git"), "there is no git")
     def test_the_attributes_keep_both_locks(self):

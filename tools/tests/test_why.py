@@ -2,8 +2,9 @@
 
 import unittest
 
-from made.releases import SHARED, UNMET_EXTRA
+from made.releases import SHARED, UNMET_EXTRA, problem_in
 from program import Program
+from rules.locks import is_refutation, read_refutation
 
 # a release that is left out, since it asks for what can't be read
 LEFT_OUT = ("b", "1", ["c>1"]), ("b", "2", ["c @ https://c.example"]), ("c", "1", [])
@@ -53,7 +54,6 @@ class Why(Program):
     # An index, a requirements file, the words, and what is told.
     REFUTED = (
         ([("a", "1", [])], b"a\n", ["z"], "-\n"),
-        (SHARED, b"a==2\n", ["c"], "b==1 c==1\nb==1\na==2 b==2\na==2\na==1\n-\n"),
         (UNMET_EXTRA, b"", ["x[e]"], "x[e]==1 y==1\nx[e]==1\n-\n"),
         (CUT_AWAY, b"", ["m"], "b==1\nm==1\n-\n"),
         (
@@ -64,59 +64,70 @@ class Why(Program):
         (
             SHARED, b"a==2\n", ["--explain", "c"],
             "No choice of versions meets line 1 (a==2) and the new line (c).\n"
-            "1. a 2 needs b<2, and beside the only release of c no release of b is left: 2 doesn't match <2; 1\n"
-            "   doesn't match >=2 of c.\n"
-            "2. the new line (c) needs c, and beside a 2 no release of c is left: 1 by 1.\n"
-            "3. line 1 (a==2) needs a, and no release of a is left: 1 doesn't match ==2; 2 by 2.\n",
+            "1. a 2 needs b<2, and the only release of c needs b 2 or newer.\n"
+            "2. the new line (c) needs c, which is ruled out by 1 beside a 2.\n"
+            "3. line 1 (a==2) allows a 2, which is ruled out by 2.\n",
         ),
         (
             UNMET_EXTRA, b"", ["--explain", "x[e]"],
             "No choice of versions meets the new line (x[e]).\n"
-            "1. the only release of x[e] needs y>=2, and no release of y is left: 1 doesn't match >=2.\n"
-            "2. the new line (x[e]) needs x[e], and no release of x[e] is left: 1 by 1.\n",
+            "1. the only release of x[e] needs y>=2, and the index has no such release.\n"
+            "2. the new line (x[e]) needs x[e], which is ruled out by 1.\n",
         ),
         (
             TWO_VERSIONS, b"a\n", ["--explain", "b"],
             "No choice of versions meets the new line (b).\n"
-            "1. a[e] 2 needs y>=2, and no release of y is left: 1 doesn't match >=2.\n"
+            "1. a[e] 2 needs y>=2, and the index has no such release.\n"
             "2. a[e] 1 needs z, and the index has no package z.\n"
-            "3. the only release of b needs a[e], and no release of a[e] is left: 2 by 1; 1 by 2.\n"
-            "4. the new line (b) needs b, and no release of b is left: 1 by 3.\n",
+            "3. the only release of b needs a[e], and no release of a[e] is left: 2 is ruled out by 1; 1 is ruled\n"
+            "   out by 2.\n"
+            "4. the new line (b) needs b, which is ruled out by 3.\n",
         ),
         (
             SIGNS, b"", ["--explain", "a"],
             "No choice of versions meets the new line (a).\n"
-            f"1. the only release of a needs {SIGNS_TOLD}, and no release\n"
-            "   of b is left: 1 doesn't match ~=2.0.\n"
-            "2. the new line (a) needs a, and no release of a is left: 1 by 1.\n",
+            f"1. the only release of a needs {SIGNS_TOLD}, and the index\n"
+            "   has no such release.\n"
+            "2. the new line (a) needs a, which is ruled out by 1.\n",
         ),
         (
             LAST_FIRST, b"", ["--explain", "x"],
             "No choice of versions meets the new line (x).\n"
-            "1. x 1 to 3 (3 releases) need q, and the index has no package q.\n"
+            "1. x 1 to 3 need q, and the index has no package q.\n"
             "2. x 4 needs p, and the index has no package p.\n"
-            "3. the new line (x) needs x, and no release of x is left: 1 to 3 (3 releases) by 1; 4 by 2.\n",
+            "3. the new line (x) needs x, and no release of x is left: 1 to 3 are ruled out by 1; 4 is ruled out\n"
+            "   by 2.\n",
         ),
         (
             IDLE, b"a\n", ["--explain", "d"],
             "No choice of versions meets the new line (d).\n"
-            "1. every release of d needs c==2, and no release of c is left: none matches ==2.\n"
-            "2. the new line (d) needs d, and no release of d is left: every release by 1.\n",
+            "1. every release of d needs c==2, and the index has no such release.\n"
+            "2. the new line (d) needs d, which is ruled out by 1.\n",
         ),
         (
             OTHERS, b"a\n", ["--explain", "d"],
             "No choice of versions meets the new line (d).\n"
-            "1. every release of d needs c>3 or c>4, and no release of c is left: none matches.\n"
-            "2. the new line (d) needs d, and no release of d is left: every release by 1.\n",
+            "1. every release of d needs c>3 or c>4, and the index has no such release.\n"
+            "2. the new line (d) needs d, which is ruled out by 1.\n",
         ),
         (
             LEFT_OUT, b"", ["--explain", "b"],
             "No choice of versions meets the new line (b).\n"
-            "1. the only release of b needs c>1, and no release of c is left: 1 doesn't match >1.\n"
-            "2. the new line (b) needs b, and no release of b is left: 1 by 1.\n"
+            "1. the only release of b needs c>1, and the index has no such release.\n"
+            "2. the new line (b) needs b, which is ruled out by 1.\n"
             "b 2: release 1: requirement 0 url-requirement\n",
         ),
     )
+
+    def test_each_conflict_that_is_printed_is_needed(self):
+        """There are several lists of conflicts, and any that the rules accept will do."""
+        self.begin(b"a==2\n", *SHARED)
+        self.plays((["init"], 0, "ok 0\n"))
+        status, told = self.call("why", "c")
+        problem, conflicts = problem_in("a==2\nc", *SHARED), read_refutation(told)
+        self.assertEqual((status, is_refutation(problem, conflicts)), (3, True), told)
+        for place in range(len(conflicts)):
+            self.assertFalse(is_refutation(problem, conflicts[:place] + conflicts[place + 1 :]), (told, place))
 
     def test_conflicts_are_printed_and_told_in_sentences(self):
         for releases, file, words, told in self.REFUTED:

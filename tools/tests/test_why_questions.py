@@ -105,6 +105,26 @@ class Questions(Program):
         )
 
 
+    def test_what_stands_against_a_release_is_told(self):
+        between = ("b", "1", []), ("b", "2", ["m"]), ("c", "1", []), ("c", "2", []), ("m", "1", ["c<2"])
+        self.begin(b"a\nz\n", *HELD)
+        self.plays(
+            (["init"], 0, "ok 0\n"),
+            (["why", "--not", "z==2"], 0,
+             "With z 2 no solution keeps a at 2, which is taken first: a 2 needs z<2. The best one has a 1.\n"),
+        )
+        for file, before in (
+            (b"b\nc\n", ", which is taken first"), (b"a\nb\nc\n", " beside a 1, which is taken before it"),
+            (b"a\naa\nb\nc\n", " beside a 1 and aa 1, which are taken before it"),
+        ):
+            (self.folder / "reqlock.journal").unlink(missing_ok=True)
+            self.begin(file, ("a", "1", []), ("aa", "1", []), *between)
+            self.plays((["init"], 0, "ok 0\n"))
+            status, told = self.call("why", "--not", "c==2")
+            told = told.replace("\n", " ").rstrip()
+            self.assertEqual((status, told), (0, f"With c 2 no solution keeps b at 2{before}; the best one has b 1."))
+
+
 class Reasons(Program):
     """Why a release isn't admitted."""
 
@@ -119,7 +139,7 @@ class Reasons(Program):
         self.assertIn(" 2 needs Python >=3.99, the environment has ", self.asked("b>=2"))
         self.assertIn(" 2 is yanked, and no line pins it with ==", self.asked("c>=2"))
         self.assertIn(" 2a1 is a pre-release, which counts where a line names one", self.asked("e", b"d>=1\n"))
-        self.assertIn(" is left: none matches >=9.", self.asked("b>=9"))
+        self.assertIn("the new line (b>=9) allows no release of b.", self.asked("b>=9"))
 
     def test_names_that_are_near_are_told(self):
         self.begin(b"", ("requests", "1", []), ("request", "1", []), ("flask", "1", []))

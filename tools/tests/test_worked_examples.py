@@ -206,9 +206,9 @@ class Saved(Program):
             (["upgrade", "a"], 0, "ok 2\n"),
             (["upgrade", "a"], 0, "same\n"),
             (["upgrade", "z"], 1, "refused not-locked\n"),
-            (["log"], 0, "  0 init\n  1 constrain a\n* 2 1 entry\n"),
+            (["log"], 0, "  0 init\n  1 constrain a\n* 2 upgrade a\n"),
             (["undo"], 0, "ok 1\n"),
-            (["log"], 0, "  0 init\n* 1 constrain a\n  2 1 entry\n"),
+            (["log"], 0, "  0 init\n* 1 constrain a\n  2 upgrade a\n"),
             (["constrain", "a", "~=1.0"], 0, "ok 2\n"),
             (["redo"], 1, "refused nothing-to-redo\n"),
             (["add", "--", "-r x"], 1, "refused bad-text\n"),
@@ -255,8 +255,8 @@ class Saved(Program):
         self.begin(b"a\n", ("a", "1.0", [], {"files": [file_of("a", "1")]}))
         self.plays(
             (["relock"], 0, "ok 1\n"),
-            (["log"], 0, "  0 init\n* 1 another index, 1 entry\n"),
-            (["log", "--long"], 0, "  0 init\n* 1 another index, 1 entry\n      a 1 -> 1.0\n"),
+            (["log"], 0, "  0 init\n* 1 relock: 1 entry, another index\n"),
+            (["log", "--long"], 0, "  0 init\n* 1 relock: 1 entry, another index\n      a 1 -> 1.0\n"),
             (["show"], 0, f"{HEAD}a     1.0      1\n"),
             (["undo"], 0, "ok 0\n"),
             (["show"], 0, f"{HEAD}a     1        1\n"),

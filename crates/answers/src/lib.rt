@@ -7,5 +7,5 @@ mod shown;
 mod why;
 mod why_not;
 
-pub use crate::why::{print_why, print_why_init};
+pub use crate::why::{lines_of, print_why, print_why_init, print_why_replace, told_refutation};
 pub use crate::why_not::print_why_not;

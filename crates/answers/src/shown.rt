@@ -9,6 +9,7 @@ ghost use Rattle.problems.specs.Solutions.{HasSolution};
 ghost use Rattle.answers.specs.Answers.{IsFirstRefuted, IsSolvable, ShowsNone};
 
 use edits::{Learning, Problem, Refutation, TargetName, check};
+use expansion::refute;
 use explain::{Explanation, explained};
 use std::alloc::{AllocError, Global};
 
@@ -67,7 +68,7 @@ fn refuted(alloc: Global, problem: &Problem<'_>) -> Result<Option<Refutation>, A
         (λ found. MatchOption found (HasSolution problem.now)
         (IsRefutation (rules_of problem.now) same_version)) }
 {
-    match Learning.refute(alloc, problem)? {
+    match refute(alloc, problem)? {
         Some(refutation) => {
             if check(problem, &refutation) {
                 return Ok(Some(refutation));

@@ -1,22 +1,21 @@
 // What `why` prints: why lines have no solution over an index.
 
-ghost use Rattle.std.specs.Prelude.{IfOk};
+ghost use Rattle.std.specs.Prelude.{◌≡◌, IfOk, None};
 ghost use Rattle.std.specs.List.{All};
 ghost use Rattle.answers.specs.Answers.{IsSolvable};
 
 use crate::shown::{Shown, first_refuted};
-use calls::{Call, Stop, pool_of, print};
-use command_line::request::EditInputs;
-use edits::{Edit, FirstTargets, Problem, Refutation, TargetName, problem_after, problems_of_init};
-use explain::{ChangedLine, ChangedLines, Explanation, add_refutation};
+use calls::{Call, ReplacedHistory, Stop, pool_of, print, replaced};
+use command_line::request::{EditInputs, Replacement};
+use edits::{Edit, Line, Problem, Refutation, State, TargetName, problem_after, problems_of_init};
+use explain::{ChangedLine, ChangedLines, Explanation, Telling, add_refutation};
 use files::LockFile;
-use files::first_inputs::{FirstInputs, first_inputs};
+use files::first_inputs::{FirstInputs, FirstPaths, first_inputs};
 use files::saved_history::session_over;
-use files::target_files::TargetFile;
-use lists::{Seq, Text};
+use lists::Text;
 use phrases::add_target_line;
 use std::alloc::{AllocError, Global};
-use std::io::Write;
+use std::io::{Read, Write};
 use std::rt::Files;
 
 /// Prints why an edit of the saved state has no solution over an index: a refutation that `check`
@@ -48,28 +47,73 @@ where
     )
 }
 
+/// The same of other lines in the place of all lines. The lines that are told are the new ones.
+pub fn print_why_replace<R: Files + AllocGlobal, I: Read + Drop, O: Write>(
+    call: &mut Call<'_, R, O>,
+    replacement: &Replacement<'_>,
+    inputs: EditInputs<'_>,
+    explains: bool,
+    input: I,
+) -> Result<(), Stop>
+where
+    R::File: LockFile,
+{
+    let alloc = call.rt.alloc();
+    let ReplacedHistory { history, edit } = replaced(
+        call.rt,
+        call.dir,
+        replacement,
+        inputs,
+        input,
+    )?;
+    let pool = pool_of(&history.snapshot, inputs);
+    let problems = problem_after(alloc, history.session.state(), &edit, &pool)?;
+    let lines = ChangedLines {
+        lines: lines_of(&edit, history.session.state()),
+        changed: changed_by(&edit),
+    };
+    answer(
+        alloc,
+        lines,
+        explains,
+        problems.as_slice(),
+        &mut call.output,
+    )
+}
+
+/// The lines that an edit leaves of all lines, but for one that it changes.
+pub fn lines_of<'e>(edit: &'e Edit, state: &'e State) -> &'e [Line] {
+    match edit {
+        Edit::Replace(lines, _) => lines.lines(),
+        Edit::Add(_)
+        | Edit::Remove(_)
+        | Edit::Constrain(_, _)
+        | Edit::Upgrade(_)
+        | Edit::UpgradeAll
+        | Edit::Relock => state.lines().lines(),
+    }
+}
+
 /// The same of the lock that `init` would make of the requirements file, with this line behind the others
 /// where there is one. No history and no lock is read.
-pub fn print_why_init<R: Files + AllocGlobal, O: Write>(
+pub fn print_why_init<R: Files + AllocGlobal, I: Read + Drop, O: Write>(
     call: &mut Call<'_, R, O>,
     line: Option<&str>,
-    index: &str,
-    targets: Vec<TargetFile>,
+    paths: FirstPaths<'_>,
     explains: bool,
+    input: I,
 ) -> Result<(), Stop> {
     let alloc = call.rt.alloc();
     let FirstInputs {
         files: _,
         lines,
-        targets,
+        first,
         snapshot,
-    } = first_inputs(call.rt, call.dir, index, targets)?;
+    } = first_inputs(call.rt, call.dir, paths, input)?;
     let edit = match line {
         Some(text) => Edit::Add(Text::copy_of(alloc, text)?),
         None => Edit::Relock,
     };
-    let pins = Seq::new(alloc);
-    let first = FirstTargets { targets, pins };
     let problems = problems_of_init(alloc, &lines, &edit, first, &snapshot)?;
     let lines = ChangedLines {
         lines: lines.lines(),
@@ -122,6 +166,28 @@ fn answer<O: Write>(
     }
 }
 
+/// The sentences that tell why the first target without a solution has none after the edit of these lines; nothing where each
+/// one has a solution.
+pub fn told_refutation(
+    alloc: Global,
+    lines: &[Line],
+    edit: &Edit,
+    problems: &[(TargetName, Problem<'_>)],
+) -> Result<Option<String>, AllocError>
+    ensures { IfOk result (λ text. text ≡ None → All IsSolvable problems.now) }
+{
+    let changed = changed_by(edit);
+    match first_refuted(alloc, problems, true)? {
+        Some((place, Shown::Explained(explanation))) => {
+            let (name, problem) = &problems[place];
+            let lines = ChangedLines { lines, changed };
+            Ok(Some(explained_text(alloc, name, problem, &explanation, lines)?))
+        }
+        Some((_, Shown::Listed(_))) => Ok(Some(String::new(alloc))),
+        None => Ok(None),
+    }
+}
+
 // A refutation, below the target's name.
 fn plain_text(
     alloc: Global,
@@ -144,6 +210,6 @@ pub fn explained_text(
 ) -> Result<String, AllocError> {
     let mut text = String::new(alloc);
     add_target_line(&mut text, name.as_str())?;
-    explanation.add_sentences(alloc, &mut text, problem, lines)?;
+    explanation.add_sentences(alloc, &mut text, problem, lines, Telling::Short)?;
     Ok(text)
 }

@@ -14,7 +14,7 @@ use lists::Text;
 use pep440::Version;
 use phrases::add_target_line;
 use resolve::Answer;
-use snapshot::Snapshot;
+use snapshot::{Release, Snapshot};
 use std::alloc::{AllocError, Global};
 use std::io::Write;
 use std::rt::Files;
@@ -29,7 +29,7 @@ struct NamedRelease {
 }
 
 /// Prints why the present lock hasn't the release that the text names, as `NAME==VERSION`, or the newest
-/// one of the index, as `NAME`: of the first target whose lock has the name and not the release.
+/// final one of the index, as `NAME`: of the first target whose lock has the name and not the release.
 pub fn print_why_not<R: Files + AllocGlobal, O: Write>(
     call: &mut Call<'_, R, O>,
     text: &str,
@@ -53,7 +53,7 @@ fn release_in(alloc: Global, text: &str, snapshot: &Snapshot) -> Result<NamedRel
     };
     let version = match version {
         Some(version) => Some(version),
-        None => match snapshot.releases(&name).first() {
+        None => match newest_of(snapshot.releases(&name)) {
             Some(release) => Some(release.version().clone()?),
             None => None,
         },
@@ -68,6 +68,17 @@ fn release_in(alloc: Global, text: &str, snapshot: &Snapshot) -> Result<NamedRel
         version,
         text: Text::from_string(text),
     })
+}
+
+// The newest release that nothing has to ask for by its version: no pre-release, and not yanked. Where there is none, the
+// newest one.
+fn newest_of(releases: &[Release]) -> Option<&Release> {
+    for release in releases {
+        if !release.version().is_pre() && !release.yanked() {
+            return Some(release);
+        }
+    }
+    releases.first()
 }
 
 fn name_in(alloc: Global, text: &str) -> Result<Name, Refusal> {

@@ -14,6 +14,7 @@ abbrev pub stop_of : Fault → Stop
 stop_of (faults.Input file fault) = stops.Input file fault
 stop_of (faults.Unwritten file) = stops.Unwritten file
 stop_of (faults.Refused refusal) = stops.Refused refusal
+stop_of (faults.NoTarget name) = stops.NoTarget name
 stop_of faults.OutOfMemory = stops.Fault batches.OutOfMemory
 
 -- how a call stops at words that are no request

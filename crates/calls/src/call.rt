@@ -1,11 +1,14 @@
 // The call that a subcommand is done for, and how it prints.
 
-ghost use Rattle.std.specs.Prelude.{◌≡◌, IfErr, IfOk, OnOk, true};
+ghost use Rattle.std.specs.Prelude.{◌≡◌, IfErr, OnErr, OnOk};
 ghost use Rattle.std.specs.Io.KnownBytes.{Appends};
+ghost use Rattle.commands.specs.Runs.{IsCutOff};
 ghost use Rattle.commands.specs.declared.batch.BatchFault.TheVariants as batches;
+ghost use Rattle.calls.specs.Printed.{IsShown};
 
 use commands::batch::BatchFault;
-use std::io::{ErrorKind, Write};
+use std::io::{self, ErrorKind, Write};
+use texts::Style;
 
 /// What a subcommand is given beside its own words: the system, the folder of the files, and where its texts go.
 #[derive(Drop)]
@@ -13,14 +16,18 @@ pub struct Call<'a, R, O> {
     pub rt: &'a R,
     pub dir: &'a str,
     pub output: O,
+    /// How what is written to the output looks.
+    pub style: Style,
 }
 
-/// Writes all of a text to the output.
+/// Writes all of a text to the output. Where it fails, something of the text isn't written.
 pub fn print<O: Write>(output: &mut O, text: &[u8]) -> Result<(), BatchFault>
     ensures bytes { OnOk result (Appends (O.contents output.old) (O.contents output.new) text.now) }
+    ensures cut_off { OnErr result
+        (IsCutOff text.now (O.contents output.old) (O.contents output.new)) }
     ensures fault { IfErr result (λ fault. fault ≡ batches.Write) }
 {
-    match output.write_all(text) {
+    match written(output, text) {
         Ok(()) => Ok(()),
         Err(_) => Err(BatchFault::Write),
     }
@@ -29,15 +36,31 @@ pub fn print<O: Write>(output: &mut O, text: &[u8]) -> Result<(), BatchFault>
 /// Writes a text that people read to the output, and tells whether all of it went. Who closes the output early,
 /// as `head` does, has read what they wanted, and that is no fault.
 pub fn show<O: Write>(output: &mut O, text: &[u8]) -> Result<bool, BatchFault>
-    ensures bytes { IfOk result
-        (λ whole. whole ≡ true → Appends (O.contents output.old) (O.contents output.new) text.now) }
-    ensures fault { IfErr result (λ fault. fault ≡ batches.Write) }
+    ensures { IsShown text.now result (O.contents output.old) (O.contents output.new) }
 {
-    match output.write_all(text) {
+    match written(output, text) {
         Ok(()) => Ok(true),
         Err(error) => match error.kind() {
             ErrorKind::BrokenPipe => Ok(false),
             _ => Err(BatchFault::Write),
         },
     }
+}
+
+// Writes all of a text, in as many calls as it takes, or tells why not. `std`'s call of this name doesn't say
+// that something is missing where it fails.
+fn written<O: Write>(output: &mut O, text: &[u8]) -> io::Result<()>
+    ensures bytes { OnOk result (Appends (O.contents output.old) (O.contents output.new) text.now) }
+    ensures cut_off { OnErr result
+        (IsCutOff text.now (O.contents output.old) (O.contents output.new)) }
+{
+    let mut rest = text;
+    while !rest.is_empty() {
+        match output.write(rest) {
+            Ok(0) => return Err(io::Error::from(ErrorKind::WriteZero)),
+            Ok(count) => rest = rest.split_at(count).1,
+            Err(error) => return Err(error),
+        }
+    }
+    Ok(())
 }

@@ -7,9 +7,11 @@
 mod call;
 mod difference;
 mod pool;
+mod replacement;
 mod stop;
 
 pub use crate::call::{Call, print, show};
 pub use crate::difference::change_between;
 pub use crate::pool::pool_of;
+pub use crate::replacement::{ReplacedHistory, replaced, replaced_to_save};
 pub use crate::stop::Stop;

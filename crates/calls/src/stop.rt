@@ -10,6 +10,7 @@ use command_line::request::{NeededOption, RequestFault};
 use commands::batch::BatchFault;
 use edits::Refusal;
 use files::{Fault, InputFault, InputFile};
+use lists::Text;
 use std::alloc::{AllocError, AllocFailed};
 
 /// Why a call ends before it is done.
@@ -28,6 +29,8 @@ pub enum Stop {
     Input(InputFile, InputFault),
     /// The history hasn't this place.
     NoPlace(usize),
+    /// Pins are handed in for a target of this name, and there is none.
+    NoTarget(Text),
     /// This file can't be written.
     Unwritten(InputFile),
     Fault(BatchFault),
@@ -86,6 +89,7 @@ impl From<Fault> for Stop {
             Fault::Input(file, fault) => Stop::Input(file, fault),
             Fault::Unwritten(file) => Stop::Unwritten(file),
             Fault::Refused(refusal) => Stop::Refused(refusal),
+            Fault::NoTarget(name) => Stop::NoTarget(name),
             Fault::OutOfMemory => Stop::Fault(BatchFault::OutOfMemory),
         }
     }

@@ -1,3 +1,5 @@
-pub mod Arguments
+pub mod AddedArguments
 pub mod NoGlobals
+pub mod OneMore
+pub mod SimpleRules
 pub mod Somes

@@ -1,1 +1,2 @@
 pub mod CommandWords
+pub mod Tables

@@ -76,6 +76,15 @@ pub(crate) const RELOCK: Help<'static> = Help {
     shows_environment: false,
 };
 
+/// Of `replace`.
+pub(crate) const REPLACE: Help<'static> = Help {
+    about: "Put other lines in the place of those of the file; versions stay where they can",
+    example: "Example: reqlock replace new.txt --index index.json",
+    shows_dir: true,
+    shows_index: true,
+    shows_environment: false,
+};
+
 /// Of `undo`.
 pub(crate) const UNDO: Help<'static> = Help {
     about: "Go back to the state before the last edit",
@@ -152,6 +161,15 @@ pub(crate) const OUTDATED: Help<'static> = Help {
 pub(crate) const CHECK: Help<'static> = Help {
     about: "Tell whether the three files belong together; change nothing",
     example: "Example: reqlock check --current --index index.json",
+    shows_dir: true,
+    shows_index: true,
+    shows_environment: false,
+};
+
+/// Of `export`.
+pub(crate) const EXPORT: Help<'static> = Help {
+    about: "Print the lock in the form of another tool",
+    example: "Example: reqlock export --format dot",
     shows_dir: true,
     shows_index: true,
     shows_environment: false,

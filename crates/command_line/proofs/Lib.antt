@@ -1,3 +1,5 @@
 pub mod Lacking
+pub mod MarksInTurn
+pub mod Misused
 pub mod Requests
 pub mod SubcommandNames

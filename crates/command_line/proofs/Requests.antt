@@ -7,14 +7,17 @@ use Rattle.clap.specs.declared.parser.matches.ArgMatches.{ArgMatches}
 use Rattle.clap.specs.declared.parser.matches.ArgMatches.TheViews.{out-ArgMatches, out-SubCommand}
 use Rattle.clap.specs.declared.parser.matches.SubCommand.{SubCommand}
 use Rattle.std.specs.Box.{box_value}
+use Rattle.std.specs.Option.{option_or}
 use Rattle.command_line.specs.declared.usage.RequestFault.{RequestFault}
 use Rattle.command_line.specs.declared.usage.RequestFault.TheVariants.{Usage, Needed, OutOfMemory}
 use Rattle.clap_command.specs.CommandWords.{reqlock_app}
 use Rattle.edits.specs.declared.request.Edit.{Edit}
 use Rattle.edits.specs.declared.request.Edit.TheVariants.{Add, Constrain, Remove}
+use Rattle.command_line.specs.Options.{text_of}
 use Rattle.command_line.specs.Questions.{edit_of, upgrade_with}
-use Rattle.command_line.specs.Requests.{IsFault, IsFaultBy, IsLackingIn}
-use Rattle.command_line.specs.UsageFaults.{FaultOf}
+use Rattle.command_line.specs.declared.misuse.ReadFault.{ReadFault}
+use Rattle.command_line.specs.Requests.{IsFault, IsFaultBy, IsLackingIn, IsUnread}
+use Rattle.command_line.specs.UsageFaults.{FaultOf, IsTold}
 
 -- the command is one of which clap's contracts say all
 pub app_is_simple : is_simple reqlock_app ≡ true
@@ -58,6 +61,11 @@ pub now_or : (text : Option (Bor (List ℕ))) (other : Bor (List ℕ)) → (unwr
 now_or None other = refl
 now_or (Some text) other = refl
 
+-- the text of one that may be there, or of the other
+pub text_of_either : (one other : Option (Bor Text)) → text_of (option_or one other) ≡ option_or (text_of one) (text_of other)
+text_of_either None other = refl
+text_of_either (Some one) other = refl
+
 -- the edit of each name, by its texts
 pub add_is : (name : Text) (rows : List Row) (text : Option Text) → name ≡ codes "add" → text ≡ first_of (codes "text") rows → option_map Add text ≡ edit_of name rows
 add_is name rows text named given = rw (named, given) refl
@@ -73,10 +81,10 @@ pub upgrade_is : (name : Text) (rows : List Row) (names : Option (List Text)) (e
     → Some edit ≡ edit_of name rows
 upgrade_is name rows names edit named given is = rw (named, is, given) refl
 
--- a fault of what clap found is one of the words
-pub fault_in : (words : List Text) (before : List Row) (name : Text) (behind : List Row) (fault : RequestFault) → fault_of reqlock_app words ≡ [] → before ≡ matches_of reqlock_app words
-    → subcommand_of reqlock_app words ≡ Some (name, behind) → IsFaultBy before name behind fault → IsFault words fault
-fault_in words before name behind fault read rows pair by =
+-- a cause in what clap found, as it is told, is a fault of the words
+pub fault_in : (words : List Text) (before : List Row) (name : Text) (behind : List Row) (cause : ReadFault) (fault : RequestFault) → fault_of reqlock_app words ≡ [] → before ≡ matches_of reqlock_app words
+    → subcommand_of reqlock_app words ≡ Some (name, behind) → IsUnread before name behind cause → IsTold cause fault → IsFault words fault
+fault_in words before name behind cause fault read rows pair unread told =
     let P : List Row → Type 0 = λ b. IsFaultBy b name behind fault in
     let Q : Option (Text × List Row) → Type 0 = λ found. IsLackingIn (matches_of reqlock_app words) found fault in
-    inr (read, subst Q (sym pair) (subst P rows by))
+    inr (read, subst Q (sym pair) (subst P rows (cause, unread, told)))

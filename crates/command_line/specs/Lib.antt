@@ -1,3 +1,5 @@
+pub mod Marks
+pub mod Misuses
 pub mod Options
 pub mod Questions
 pub mod Requests

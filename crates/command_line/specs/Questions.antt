@@ -1,11 +1,9 @@
 -- The edit that the words of a command line ask for, and the one that a question of `why` is about. All of it is reqlock's own rule.
-use Rattle.std.specs.Prelude.{ℕ, Bool, false, List, [], ◌∷◌, Option, None, Some, codes, unwrap_or, option_map, if◌then◌else◌, ◌&&◌, ◌||◌, is_some, not, slice_get}
-use Rattle.std.specs.List.{list_any}
+use Rattle.std.specs.Prelude.{ℕ, List, [], ◌∷◌, Option, None, Some, codes, unwrap_or, option_map, if◌then◌else◌, slice_get}
 use Rattle.std.specs.Str.{bytes_eq}
 use Rattle.clap.specs.Words.{Row, Text, all_of, first_of}
 use Rattle.edits.specs.declared.request.Edit.{Edit as EditValue}
 use Rattle.edits.specs.declared.request.Edit.TheVariants.{Add, Constrain, Relock, Remove, Upgrade, UpgradeAll}
-use Rattle.command_line.specs.Options.{has_flag}
 
 -- the upgrade of these names, or of all where there are none
 abbrev pub upgrade_with : List Text → EditValue
@@ -44,16 +42,3 @@ edit_among None None None None = Relock
 -- the edit that a question is about, of what stands behind `why`
 abbrev pub questioned : List Row → EditValue
 questioned rows = edit_among (all_of (codes "upgrade") rows) (all_of (codes "constrain") rows) (first_of (codes "remove") rows) (first_of (codes "text") rows)
-
-abbrev pub is_given : List Row → Text → Bool
-is_given rows id = is_some (all_of id rows)
-
--- whether two of these are
-abbrev pub has_two : List Bool → Bool
-has_two [] = false
-has_two (one ∷ others) = (one && list_any (λ other. other) others) || has_two others
-
--- whether two questions stand behind `why`; a text is one, but for that of `--init`
-abbrev pub has_two_questions : List Row → Bool
-has_two_questions rows = has_two (has_flag rows (codes "init") ∷ is_given rows (codes "constrain") ∷ is_given rows (codes "upgrade") ∷ is_given rows (codes "remove")
-    ∷ is_given rows (codes "not") ∷ (not (has_flag rows (codes "init")) && is_given rows (codes "text")) ∷ [])

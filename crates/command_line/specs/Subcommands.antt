@@ -2,24 +2,39 @@
 -- rule.
 use Rattle.std.specs.Prelude.{◌≡◌, ◌≢◌, ◌<◌, ◌^◌, ℕ, true, false, List, [], Option, None, Some, codes, if◌then◌else◌, IsSomeAnd}
 use Rattle.std.specs.Borrow.{Bor}
+use Rattle.std.specs.Option.{option_map_or}
+use Rattle.std.specs.Str.{bytes_eq}
 use Rattle.std.specs.Str.Parse.{IsNumeral, digits_value, without_leading_plus}
 use Rattle.clap.specs.Words.{Row, Text, first_of}
+use Rattle.command_line.specs.declared.invocation.ColorChoice.{ColorChoice}
+use Rattle.command_line.specs.declared.invocation.ColorChoice.TheVariants.{Always, Auto, Never}
 use Rattle.command_line.specs.declared.invocation.DiffRange.{DiffRange}
 use Rattle.command_line.specs.declared.invocation.DiffRange.TheVariants.{LastStep, Since, Between}
+use Rattle.command_line.specs.declared.invocation.Export.{Export as ExportValue}
+use Rattle.command_line.specs.declared.invocation.ExportFormat.{ExportFormat}
+use Rattle.command_line.specs.declared.invocation.ExportFormat.TheVariants.{Dot, Hashes, Pylock}
 use Rattle.command_line.specs.declared.invocation.Format.{Format as FormatValue}
 use Rattle.command_line.specs.declared.invocation.Format.TheVariants.{Lines, Json}
 use Rattle.command_line.specs.declared.invocation.EditInputs.{EditInputs}
 use Rattle.command_line.specs.declared.invocation.Inputs.{Inputs}
+use Rattle.command_line.specs.declared.invocation.NewLines.{NewLines}
+use Rattle.command_line.specs.declared.invocation.NewLines.TheVariants.{File, Line, Was}
 use Rattle.command_line.specs.declared.invocation.Question.{Question}
 use Rattle.command_line.specs.declared.invocation.Question.TheVariants as questions
+use Rattle.command_line.specs.declared.invocation.Replacement.{Replacement}
 use Rattle.command_line.specs.declared.invocation.Saving.{Saving as SavingValue}
 use Rattle.command_line.specs.declared.invocation.Saving.TheVariants.{Save, DryRun}
 use Rattle.command_line.specs.declared.invocation.Shown.{Shown}
 use Rattle.command_line.specs.declared.invocation.Shown.TheVariants.{Table, Entry, Tree}
 use Rattle.command_line.specs.declared.invocation.Subcommand.{Subcommand}
-use Rattle.command_line.specs.declared.invocation.Subcommand.TheVariants.{Init, Edit, Undo, Redo, Batch, Try, Show, Log, Diff, Check, Outdated, Skipped, Why}
-use Rattle.command_line.specs.Options.{all_chosen, chosen, has_flag, is_flagged, text_of}
-use Rattle.command_line.specs.Questions.{has_two_questions, edit_of, questioned}
+use Rattle.command_line.specs.declared.invocation.Subcommand.TheVariants.{Init, Edit, Replace, Undo, Redo, Batch, Try, Show, Log, Diff, Check, Outdated, Export, Skipped, Why}
+use Rattle.command_line.specs.declared.invocation.Telling.{Telling as TellingValue}
+use Rattle.command_line.specs.declared.invocation.Telling.TheVariants.{Quiet, Usual, Verbose}
+use Rattle.command_line.specs.declared.invocation.Told.{Told as ToldValue}
+use Rattle.command_line.specs.declared.invocation.Told.TheVariants.{Conflicts, LongSentences, Sentences}
+use Rattle.command_line.specs.Misuses.{is_given}
+use Rattle.command_line.specs.Options.{all_chosen, chosen, has_flag, is_flagged, text_of, values_in}
+use Rattle.command_line.specs.Questions.{edit_of, questioned, text_at}
 
 -- the index and the environments that are given
 abbrev pub index_of : List Row → List Row → Option Text
@@ -28,13 +43,31 @@ index_of before behind = chosen before behind (codes "index")
 abbrev pub environments_of : List Row → List Row → List Text
 environments_of before behind = all_chosen before behind (codes "env")
 
--- both, each value of `--env` as it stands, and at least one
+-- the values of `--pins`, as they stand behind the subcommand
+abbrev pub pins_of : List Row → List Text
+pins_of behind = values_in behind (codes "pins")
+
+-- index, environments and pins, each value of `--env` as it stands, and at least one
 abbrev pub HasInputs : List Row → List Row → Inputs → Type 0
-HasInputs before behind inputs = (index_of before behind ≡ Some inputs.index.now) × (inputs.environments ≡ environments_of before behind) × (environments_of before behind ≢ [])
+HasInputs before behind inputs =
+    (index_of before behind ≡ Some inputs.index.now) × (inputs.environments ≡ environments_of before behind) × (environments_of before behind ≢ [])
+    × (inputs.pins ≡ pins_of behind)
 
 -- the index that an edit is made over, and whether it keeps what is locked
 abbrev pub HasEditInputs : List Row → List Row → EditInputs → Type 0
 HasEditInputs before behind inputs = (index_of before behind ≡ Some inputs.index.now) × (inputs.keeps_locked ≡ is_flagged before behind (codes "keep-locked"))
+
+-- the new lines: those of the file NEW, which the argument `new` names; else those that the file in the folder has now, with what it
+-- was; else one line
+abbrev pub HasNewLines : Text → List Row → NewLines → Type 0
+HasNewLines new behind (File file) = first_of new behind ≡ Some file.now
+HasNewLines new behind (Was old) = (first_of new behind ≡ None) × (first_of (codes "was") behind ≡ Some old.now)
+HasNewLines new behind (Line name text) =
+    (first_of new behind ≡ None) × (first_of (codes "was") behind ≡ None) × (name.now ≡ text_at (values_in behind (codes "line")) 0)
+    × (text.now ≡ text_at (values_in behind (codes "line")) 1)
+
+abbrev pub IsReplacement : Text → List Row → Replacement → Type 0
+IsReplacement new behind replacement = HasNewLines new behind replacement.lines × (replacement.pins ≡ pins_of behind)
 
 -- whether a step is saved, and how a result is printed
 abbrev pub saving_of : List Row → List Row → SavingValue
@@ -43,10 +76,10 @@ saving_of before behind = if is_flagged before behind (codes "dry-run") then Dry
 abbrev pub format_of : List Row → List Row → FormatValue
 format_of before behind = if is_flagged before behind (codes "json") then Json else Lines
 
--- what of the lock is printed
+-- what of the lock is printed; beside a name stands no `--tree` (`IsWellUsed`)
 abbrev pub IsShown : List Row → List Row → Shown → Type 0
 IsShown before behind Table = (first_of (codes "name") behind ≡ None) × (has_flag behind (codes "tree") ≡ false)
-IsShown before behind (Entry name over) = (first_of (codes "name") behind ≡ Some name.now) × (has_flag behind (codes "tree") ≡ false) × (text_of over ≡ index_of before behind)
+IsShown before behind (Entry name over) = (first_of (codes "name") behind ≡ Some name.now) × (text_of over ≡ index_of before behind)
 IsShown before behind Tree = (first_of (codes "name") behind ≡ None) × (has_flag behind (codes "tree") ≡ true)
 
 -- a text that is a number: decimal digits, with a plus in front or none, and what fits a `usize`
@@ -68,18 +101,60 @@ abbrev pub IsChecked : List Row → List Row → Option (Bor Text) → Type 0
 IsChecked before behind None = has_flag behind (codes "current") ≡ false
 IsChecked before behind (Some over) = (has_flag behind (codes "current") ≡ true) × (index_of before behind ≡ Some over.now)
 
--- the question of `why`: about `init`, about a release, or about an edit
+-- how much is told, and whether in colors
+abbrev pub telling_of : List Row → List Row → TellingValue
+telling_of before behind =
+    if is_flagged before behind (codes "quiet") then Quiet else
+    if is_flagged before behind (codes "verbose") then Verbose else
+    Usual
+
+abbrev pub color_named : Text → ColorChoice
+color_named value =
+    if bytes_eq value (codes "always") then Always else
+    if bytes_eq value (codes "never") then Never else
+    Auto
+
+abbrev pub color_of : List Row → List Row → ColorChoice
+color_of before behind = option_map_or color_named (chosen before behind (codes "color")) Auto
+
+-- how `why` tells what it knows
+abbrev pub told_of : List Row → ToldValue
+told_of behind =
+    if has_flag behind (codes "long") then LongSentences else
+    if has_flag behind (codes "explain") then Sentences else
+    Conflicts
+
+-- in which form a lock is printed, of which target and over which index
+abbrev pub format_named : Text → ExportFormat
+format_named value =
+    if bytes_eq value (codes "dot") then Dot else
+    if bytes_eq value (codes "pylock") then Pylock else
+    Hashes
+
+abbrev pub export_format_of : List Row → ExportFormat
+export_format_of behind = option_map_or format_named (first_of (codes "format") behind) Hashes
+
+abbrev pub IsExport : List Row → List Row → ExportValue → Type 0
+IsExport before behind export =
+    (export.format ≡ export_format_of behind) × (text_of export.target ≡ first_of (codes "target") behind) × (text_of export.index ≡ index_of before behind)
+
+-- the question of `why`: about `init`, about a release, about other lines, or about an edit
 abbrev pub IsQuestion : List Row → List Row → Question → Type 0
 IsQuestion before behind (questions.Init inputs line) = (has_flag behind (codes "init") ≡ true) × HasInputs before behind inputs × (text_of line ≡ first_of (codes "text") behind)
 IsQuestion before behind (questions.Release release over) =
     (has_flag behind (codes "init") ≡ false) × (first_of (codes "not") behind ≡ Some release.now) × (index_of before behind ≡ Some over.now)
+IsQuestion before behind (questions.Replace replacement inputs) =
+    (has_flag behind (codes "init") ≡ false) × (first_of (codes "not") behind ≡ None) × (is_given behind (codes "replace") ≡ true)
+    × IsReplacement (codes "replace") behind replacement × HasEditInputs before behind inputs
 IsQuestion before behind (questions.Edit edit inputs) =
-    (has_flag behind (codes "init") ≡ false) × (first_of (codes "not") behind ≡ None) × (edit ≡ questioned behind) × HasEditInputs before behind inputs
+    (has_flag behind (codes "init") ≡ false) × (first_of (codes "not") behind ≡ None) × (is_given behind (codes "replace") ≡ false) × (edit ≡ questioned behind) × HasEditInputs before behind inputs
 
 -- a subcommand of this name
 abbrev pub IsSubcommand : List Row → List Row → Text → Subcommand → Type 0
 IsSubcommand before behind name (Init inputs) = (name ≡ codes "init") × HasInputs before behind inputs
 IsSubcommand before behind name (Edit edit inputs saving) = (edit_of name behind ≡ Some edit) × HasEditInputs before behind inputs × (saving ≡ saving_of before behind)
+IsSubcommand before behind name (Replace replacement inputs saving) =
+    (name ≡ codes "replace") × IsReplacement (codes "new") behind replacement × HasEditInputs before behind inputs × (saving ≡ saving_of before behind)
 IsSubcommand before behind name (Undo saving) = (name ≡ codes "undo") × (saving ≡ saving_of before behind)
 IsSubcommand before behind name (Redo saving) = (name ≡ codes "redo") × (saving ≡ saving_of before behind)
 IsSubcommand before behind name (Batch inputs) = (name ≡ codes "batch") × HasEditInputs before behind inputs
@@ -89,6 +164,7 @@ IsSubcommand before behind name (Log long format) = (name ≡ codes "log") × (l
 IsSubcommand before behind name (Diff range format) = (name ≡ codes "diff") × IsRange behind range × (format ≡ format_of before behind)
 IsSubcommand before behind name (Check current format) = (name ≡ codes "check") × IsChecked before behind current × (format ≡ format_of before behind)
 IsSubcommand before behind name (Outdated over format) = (name ≡ codes "outdated") × (index_of before behind ≡ Some over.now) × (format ≡ format_of before behind)
+IsSubcommand before behind name (Export export) = (name ≡ codes "export") × IsExport before behind export
 IsSubcommand before behind name (Skipped over) = (name ≡ codes "skipped") × (index_of before behind ≡ Some over.now)
-IsSubcommand before behind name (Why question explains) =
-    (name ≡ codes "why") × (has_two_questions behind ≡ false) × IsQuestion before behind question × (explains ≡ has_flag behind (codes "explain"))
+IsSubcommand before behind name (Why question told) =
+    (name ≡ codes "why") × IsQuestion before behind question × (told ≡ told_of behind)

@@ -8,10 +8,28 @@ use lists::{Seq, Text};
 pub struct Invocation<'a> {
     /// The folder of the three files.
     pub dir: &'a str,
-    /// Whether what changed, or what is known of a refusal, is told too. Where `--verbose` has no
-    /// meaning it is false.
-    pub is_verbose: bool,
+    pub telling: Telling,
+    pub color: ColorChoice,
     pub subcommand: Subcommand<'a>,
+}
+
+/// How much is told beside the answer.
+#[derive(Clone, Copy, Debug, PartialEq, Eq)]
+pub enum Telling {
+    /// Nothing.
+    Quiet,
+    Usual,
+    /// Also what changed, or what is known of a refusal.
+    Verbose,
+}
+
+/// When colors are used.
+#[derive(Clone, Copy, Debug, PartialEq, Eq)]
+pub enum ColorChoice {
+    /// Where the output is a terminal that shows them.
+    Auto,
+    Always,
+    Never,
 }
 
 /// What the program is to do, with the files that it needs for it.
@@ -21,6 +39,8 @@ pub enum Subcommand<'a> {
     Init(Inputs<'a>),
     /// Makes an edit over an index.
     Edit(Edit, EditInputs<'a>, Saving),
+    /// Puts other lines in the place of those of the file, over an index.
+    Replace(Replacement<'a>, EditInputs<'a>, Saving),
     Undo(Saving),
     Redo(Saving),
     /// Does the commands of standard input over an index, and saves.
@@ -38,10 +58,12 @@ pub enum Subcommand<'a> {
     Check(Option<&'a str>, Format),
     /// Prints which locked releases have newer ones in this index.
     Outdated(&'a str, Format),
+    /// Prints the lock in the form of another tool.
+    Export(Export<'a>),
     /// Prints what was left out of this index.
     Skipped(&'a str),
-    /// Prints why there is no solution, where there is none; in sentences or not.
-    Why(Question<'a>, bool),
+    /// Prints why there is no solution, where there is none.
+    Why(Question<'a>, Told),
 }
 
 /// The files that a new history begins with, beside the requirements file.
@@ -50,6 +72,27 @@ pub struct Inputs<'a> {
     pub index: &'a str,
     /// The values of `--env` as they stand, in their order; there is at least one.
     pub environments: Seq<Text>,
+    /// The values of `--pins` as they stand, in their order: the versions to keep. `try` takes none.
+    pub pins: Seq<Text>,
+}
+
+/// The lines that take the place of those of the file, and versions that count beside the locked ones.
+#[derive(Debug, Drop)]
+pub struct Replacement<'a> {
+    pub lines: NewLines<'a>,
+    /// The values of `--pins` as they stand, in their order.
+    pub pins: Seq<Text>,
+}
+
+/// Where new lines are.
+#[derive(Clone, Copy, Debug, PartialEq, Eq)]
+pub enum NewLines<'a> {
+    /// Those of this file.
+    File(&'a str),
+    /// Those that the file in the folder has now, which was this file before.
+    Was(&'a str),
+    /// Those of the file, with this text, the second, in the place of the line of this name.
+    Line(&'a str, &'a str),
 }
 
 /// What an edit is made over.
@@ -98,11 +141,44 @@ pub enum DiffRange {
     Between(usize, usize),
 }
 
+/// How a lock is printed for another tool.
+#[derive(Clone, Copy, Debug, PartialEq, Eq)]
+pub struct Export<'a> {
+    pub format: ExportFormat,
+    /// The name of the target whose lock it is, where one is given.
+    pub target: Option<&'a str>,
+    pub index: Option<&'a str>,
+}
+
+/// The form of a lock.
+#[derive(Clone, Copy, Debug, PartialEq, Eq)]
+pub enum ExportFormat {
+    /// Lines of a requirements file with hashes.
+    Hashes,
+    /// A graph in the language of Graphviz.
+    Dot,
+    /// A lock that other tools read.
+    Pylock,
+}
+
+/// How `why` tells what it knows.
+#[derive(Clone, Copy, Debug, PartialEq, Eq)]
+pub enum Told {
+    /// As conflicts, for a checker.
+    Conflicts,
+    /// In sentences, as short as they may be.
+    Sentences,
+    /// In sentences that leave nothing out.
+    LongSentences,
+}
+
 /// The question of `why`.
 #[derive(Drop)]
 pub enum Question<'a> {
     /// Why this edit of the present state has no solution over an index.
     Edit(Edit, EditInputs<'a>),
+    /// Why these lines in the place of those of the file have none.
+    Replace(Replacement<'a>, EditInputs<'a>),
     /// Why a first lock has none, with this line behind those of the file where there is one.
     Init(Inputs<'a>, Option<&'a str>),
     /// Why the present lock hasn't the release that this text names, as `NAME==VERSION`, or the

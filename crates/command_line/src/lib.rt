@@ -10,9 +10,14 @@
 #![tactic(auto)]
 
 mod edit_words;
+mod exclusion;
 mod invocation;
+mod marks;
+mod misuse;
 mod options;
 mod question;
+mod replacement;
 pub mod request;
 mod subcommand;
+mod telling;
 mod usage;

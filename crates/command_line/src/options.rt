@@ -1,9 +1,12 @@
 // The options of the command line, which stand before the subcommand or behind it.
 
-ghost use Rattle.std.specs.Prelude.{◌≡◌, IfOk, is_some, map};
+ghost use Rattle.std.specs.Prelude.{◌≡◌, ◌++◌, is_some, IfOk, map};
 ghost use Rattle.clap.specs.Words.{all_of, first_of, found_of, rows_of};
-ghost use Rattle.command_line.specs.Options.{all_chosen, chosen, dry_run_takers, has_flag, has_flag_twice, has_stray, has_twice, is_among, is_flag_twice, is_flagged, is_twice, json_takers, keep_locked_takers, text_of, texts_of, verbose_takers};
+ghost use Rattle.command_line.specs.Marks.{first_marked};
+ghost use Rattle.command_line.specs.Misuses.{stray_marks, twice_marks};
+ghost use Rattle.command_line.specs.Options.{all_chosen, chosen, dry_run_takers, has_flag, is_among, is_flag_twice, is_flagged, is_stray, is_twice, json_takers, keep_locked_takers, text_of, texts_of, values_in};
 
+use crate::marks::first_marked;
 use clap::ArgMatches;
 use lists::{Seq, Text};
 use std::alloc::{AllocError, Global};
@@ -13,6 +16,13 @@ pub(crate) fn value<'a>(matches: &ArgMatches<'a>, id: &str) -> Option<&'a str>
     ensures { text_of result ≡ first_of id.now (rows_of (found_of matches.now)) }
 {
     matches.get_str(id)
+}
+
+/// Whether an option or a text has a value.
+pub(crate) fn has_value(matches: &ArgMatches<'_>, id: &str) -> bool
+    ensures { result ≡ is_some (first_of id.now (rows_of (found_of matches.now))) }
+{
+    value(matches, id).is_some()
 }
 
 /// The value of an option that may stand before the subcommand or behind it.
@@ -34,7 +44,23 @@ pub(crate) fn values<'m, 'a: 'm>(matches: &'m ArgMatches<'a>, id: &str) -> Optio
     matches.get_strs(id)
 }
 
-/// The values of an option that may stand before the subcommand or behind it; none where it isn't given.
+/// Copies of the values of an option, behind others; none where it isn't given.
+pub(crate) fn with_values(
+    alloc: Global,
+    front: Vec<Text>,
+    matches: &ArgMatches<'_>,
+    id: &str,
+) -> Result<Vec<Text>, AllocError>
+    ensures { IfOk result (λ copies.
+        copies.items ≡ front.items ++ values_in (rows_of (found_of matches.now)) id.now) }
+{
+    match values(matches, id) {
+        Some(texts) => with_copies(alloc, front, texts),
+        None => Ok(front),
+    }
+}
+
+/// The values of an option before the subcommand and behind it, in the order of the words.
 pub(crate) fn all_chosen(
     alloc: Global,
     before: &ArgMatches<'_>,
@@ -44,13 +70,9 @@ pub(crate) fn all_chosen(
     ensures { IfOk result (λ chosen. chosen ≡ all_chosen (rows_of (found_of before.now))
         (rows_of (found_of behind.now)) option.now) }
 {
-    if let Some(values) = values(behind, option) {
-        return copies(alloc, values);
-    }
-    match values(before, option) {
-        Some(values) => copies(alloc, values),
-        None => Ok(Seq::new(alloc)),
-    }
+    let front = with_values(alloc, Vec::new(alloc), before, option)?;
+    let chosen = with_values(alloc, front, behind, option)?;
+    Ok(Seq::from_vec(chosen))
 }
 
 /// Whether a flag is given.
@@ -73,58 +95,47 @@ pub(crate) fn is_flagged(before: &ArgMatches<'_>, behind: &ArgMatches<'_>, flag:
 
 /// The option that stands in both places, as help shows it.
 pub(crate) fn option_twice(before: &ArgMatches<'_>, behind: &ArgMatches<'_>) -> Option<&'static str>
-    ensures { is_some result ≡ has_twice (rows_of (found_of before.now))
-        (rows_of (found_of behind.now)) }
+    ensures { text_of result ≡ first_marked (twice_marks (rows_of (found_of before.now))
+        (rows_of (found_of behind.now))) }
 {
-    if is_twice(before, behind, "dir") {
-        return Some("--dir <DIR>");
-    }
-    if is_twice(before, behind, "index") {
-        return Some("--index <FILE>");
-    }
-    if is_twice(before, behind, "env") {
-        return Some("--env <FILE>");
-    }
-    flag_twice(before, behind)
-}
-
-// The flag that stands in both places.
-fn flag_twice(before: &ArgMatches<'_>, behind: &ArgMatches<'_>) -> Option<&'static str>
-    ensures { is_some result ≡ has_flag_twice (rows_of (found_of before.now))
-        (rows_of (found_of behind.now)) }
-{
-    if is_flag_twice(before, behind, "keep-locked") {
-        return Some("--keep-locked");
-    }
-    if is_flag_twice(before, behind, "dry-run") {
-        return Some("--dry-run");
-    }
-    if is_flag_twice(before, behind, "verbose") {
-        return Some("--verbose");
-    }
-    if is_flag_twice(before, behind, "json") {
-        return Some("--json");
-    }
-    None
+    first_marked(&[
+        ("--dir <DIR>", is_twice(before, behind, "dir")),
+        ("--index <FILE>", is_twice(before, behind, "index")),
+        (
+            "--keep-locked",
+            is_flag_twice(before, behind, "keep-locked"),
+        ),
+        ("--dry-run", is_flag_twice(before, behind, "dry-run")),
+        ("--json", is_flag_twice(before, behind, "json")),
+        ("--verbose", is_flag_twice(before, behind, "verbose")),
+        ("--quiet", is_flag_twice(before, behind, "quiet")),
+        ("--color <WHEN>", is_twice(before, behind, "color")),
+    ])
 }
 
 /// The flag that stands before a subcommand which doesn't take it, as help shows it.
 pub(crate) fn stray_flag(before: &ArgMatches<'_>, subcommand: &str) -> Option<&'static str>
-    ensures { is_some result ≡ has_stray (rows_of (found_of before.now)) subcommand.now }
+    ensures { text_of result ≡ first_marked
+        (stray_marks (rows_of (found_of before.now)) subcommand.now) }
 {
-    if has_flag(before, "keep-locked") && !takes_keep_locked(subcommand) {
-        return Some("--keep-locked");
-    }
-    if has_flag(before, "dry-run") && !takes_dry_run(subcommand) {
-        return Some("--dry-run");
-    }
-    if has_flag(before, "verbose") && !takes_verbose(subcommand) {
-        return Some("--verbose");
-    }
-    if has_flag(before, "json") && !takes_json(subcommand) {
-        return Some("--json");
-    }
-    None
+    first_marked(&[
+        (
+            "--keep-locked",
+            is_stray(before, "keep-locked", takes_keep_locked(subcommand)),
+        ),
+        (
+            "--dry-run",
+            is_stray(before, "dry-run", takes_dry_run(subcommand)),
+        ),
+        ("--json", is_stray(before, "json", takes_json(subcommand))),
+    ])
+}
+
+// Whether a flag stands before a subcommand, which doesn't take it.
+fn is_stray(before: &ArgMatches<'_>, flag: &str, is_taken: bool) -> bool
+    ensures { result ≡ is_stray (rows_of (found_of before.now)) flag.now is_taken }
+{
+    has_flag(before, flag) && !is_taken
 }
 
 fn takes_keep_locked(subcommand: &str) -> bool
@@ -132,7 +143,7 @@ fn takes_keep_locked(subcommand: &str) -> bool
 {
     matches!(
         subcommand,
-        "add" | "remove" | "constrain" | "upgrade" | "relock" | "batch" | "why"
+        "add" | "remove" | "constrain" | "upgrade" | "relock" | "replace" | "batch" | "why"
     )
 }
 
@@ -141,14 +152,8 @@ fn takes_dry_run(subcommand: &str) -> bool
 {
     matches!(
         subcommand,
-        "add" | "remove" | "constrain" | "upgrade" | "relock" | "undo" | "redo"
+        "add" | "remove" | "constrain" | "upgrade" | "relock" | "replace" | "undo" | "redo"
     )
-}
-
-fn takes_verbose(subcommand: &str) -> bool
-    ensures { result ≡ is_among verbose_takers subcommand.now }
-{
-    subcommand == "init" || takes_dry_run(subcommand)
 }
 
 fn takes_json(subcommand: &str) -> bool
@@ -161,7 +166,7 @@ fn takes_json(subcommand: &str) -> bool
 fn is_twice(before: &ArgMatches<'_>, behind: &ArgMatches<'_>, option: &str) -> bool
     ensures { result ≡ is_twice (rows_of (found_of before.now)) (rows_of (found_of behind.now)) option.now }
 {
-    value(before, option).is_some() && value(behind, option).is_some()
+    has_value(before, option) && has_value(behind, option)
 }
 
 // Whether a flag does.
@@ -176,9 +181,18 @@ fn is_flag_twice(before: &ArgMatches<'_>, behind: &ArgMatches<'_>, flag: &str) -
 pub(crate) fn copies(alloc: Global, texts: &[&str]) -> Result<Seq<Text>, AllocError>
     ensures { IfOk result (λ copies. copies ≡ map (λ n. n.now) texts.now) }
 {
-    let mut copies = Vec::new(alloc);
+    let copies = with_copies(alloc, Vec::new(alloc), texts)?;
+    Ok(Seq::from_vec(copies))
+}
+
+// Copies of the texts, behind others.
+fn with_copies(alloc: Global, front: Vec<Text>, texts: &[&str]) -> Result<Vec<Text>, AllocError>
+    ensures { IfOk result (λ copies.
+        copies.items ≡ front.items ++ map (λ n. n.now) texts.now) }
+{
+    let mut copies = front;
     for text in texts {
         copies.push(Text::copy_of(alloc, text)?)?;
     }
-    Ok(Seq::from_vec(copies))
+    Ok(copies)
 }

@@ -1,21 +1,23 @@
 // What the words of the command line mean.
 
-ghost use Rattle.std.specs.Prelude.{◌≡◌, [], false, map, true, IfOk, IfErr};
+ghost use Rattle.std.specs.Prelude.{◌≡◌, [], map, IfOk, IfErr, MatchOption, None};
 ghost use Rattle.clap.specs.Words.{fault_of, found_of, matches_of, rows_of, subcommand_of, subcommand_rows_of};
 ghost use Rattle.clap_command.specs.CommandWords.{reqlock_app};
-ghost use Rattle.command_line.specs.Options.{has_stray, has_twice};
-ghost use Rattle.command_line.specs.Requests.{IsFault, IsRequest};
-ghost use Rattle.command_line.specs.UsageFaults.{FaultWith};
+ghost use Rattle.command_line.specs.Misuses.{IsMisused, IsUnknownValue, IsWellUsed, unknown_color, unknown_format};
+ghost use Rattle.command_line.specs.Requests.{IsFault, IsReadAs, IsRequest, IsUnread};
 
+use crate::exclusion::{excluded, missing};
 pub use crate::invocation::{
-    DiffRange, EditInputs, Format, Inputs, Invocation, Question, Saving, Shown, Subcommand,
+    ColorChoice, DiffRange, EditInputs, Export, ExportFormat, Format, Inputs, Invocation, NewLines,
+    Question, Replacement, Saving, Shown, Subcommand, Telling, Told,
 };
-use crate::options::{chosen, is_flagged, option_twice, stray_flag};
+use crate::misuse::{Misuse, ReadFault, told};
+use crate::options::{chosen, option_twice, stray_flag};
 use crate::subcommand::read_subcommand;
-use crate::usage::{fault_of_clap, no_subcommand, stands_twice, unexpected};
+use crate::telling::{color, telling, unknown_color, unknown_format};
+use crate::usage::fault_of_clap;
 pub use crate::usage::{NeededOption, RequestFault};
 use clap::ArgMatches;
-use clap::error::ErrorKind;
 use clap_command::command;
 use std::alloc::Global;
 use std::convert::AsStr;
@@ -27,46 +29,76 @@ pub fn request<'a, S: AsStr>(alloc: Global, words: &'a [S]) -> Result<Invocation
 {
     let before = read_words(alloc, words)?;
     let Some((name, behind)) = before.subcommand() else {
-        return Err(no_subcommand(alloc));
+        let cause = ReadFault::Misused(Misuse::NoSubcommand);
+        return Err(told(alloc, &cause));
     };
-    refuse_twice(alloc, &before, behind)?;
-    refuse_stray(alloc, &before, name)?;
-    Ok(Invocation {
-        dir: chosen(&before, behind, "dir").unwrap_or("."),
-        is_verbose: is_flagged(&before, behind, "verbose"),
-        subcommand: read_subcommand(alloc, name, &before, behind)?,
-    })
-}
-
-// Refuses an option that stands in both places, as clap does one that stands twice in one place.
-fn refuse_twice(
-    alloc: Global,
-    before: &ArgMatches<'_>,
-    behind: &ArgMatches<'_>,
-) -> Result<(), RequestFault>
-    ensures once { IfOk result
-        (λ _. has_twice (rows_of (found_of before.now)) (rows_of (found_of behind.now)) ≡ false) }
-    ensures twice { IfErr result
-        (λ e. (has_twice (rows_of (found_of before.now)) (rows_of (found_of behind.now)) ≡ true)
-        × FaultWith ErrorKind.ArgumentConflict e) }
-{
-    match option_twice(before, behind) {
-        Some(shown) => Err(stands_twice(alloc, shown)),
-        None => Ok(()),
+    match read_invocation(alloc, &before, name, behind) {
+        Ok(invocation) => Ok(invocation),
+        Err(cause) => Err(told(alloc, &cause)),
     }
 }
 
-// Refuses a flag before a subcommand that doesn't take it, as clap does one behind it.
-fn refuse_stray(alloc: Global, before: &ArgMatches<'_>, name: &str) -> Result<(), RequestFault>
-    ensures taken { IfOk result
-        (λ _. has_stray (rows_of (found_of before.now)) name.now ≡ false) }
-    ensures stray { IfErr result
-        (λ e. (has_stray (rows_of (found_of before.now)) name.now ≡ true)
-        × FaultWith ErrorKind.UnknownArgument e) }
+// The request of a subcommand, with what stands before it and behind it.
+fn read_invocation<'a>(
+    alloc: Global,
+    before: &ArgMatches<'a>,
+    name: &str,
+    behind: &ArgMatches<'a>,
+) -> Result<Invocation<'a>, ReadFault<'a>>
+    ensures read { IfOk result (IsReadAs (rows_of (found_of before.now)) name.now
+        (rows_of (found_of behind.now))) }
+    ensures unread { IfErr result (IsUnread (rows_of (found_of before.now)) name.now
+        (rows_of (found_of behind.now))) }
 {
-    match stray_flag(before, name) {
-        Some(shown) => Err(unexpected(alloc, shown)),
-        None => Ok(()),
+    if let Some(misuse) = first_misuse(before, name, behind) {
+        return Err(ReadFault::Misused(misuse));
+    }
+    Ok(Invocation {
+        dir: chosen(before, behind, "dir").unwrap_or("."),
+        telling: telling(before, behind),
+        color: color(before, behind),
+        subcommand: read_subcommand(alloc, name, before, behind)?,
+    })
+}
+
+// The first misuse of an argument.
+fn first_misuse<'a>(
+    before: &ArgMatches<'a>,
+    name: &str,
+    behind: &ArgMatches<'a>,
+) -> Option<Misuse<'a>>
+    ensures misuse { MatchOption result
+        (IsWellUsed (rows_of (found_of before.now)) name.now (rows_of (found_of behind.now)))
+        (IsMisused (rows_of (found_of before.now)) name.now (rows_of (found_of behind.now))) }
+{
+    if let Some(shown) = option_twice(before, behind) {
+        return Some(Misuse::Twice(shown));
+    }
+    if let Some(shown) = stray_flag(before, name) {
+        return Some(Misuse::Stray(shown));
+    }
+    if let Some(shown) = excluded(before, behind) {
+        return Some(Misuse::Excluded(shown));
+    }
+    if let Some(shown) = missing(name, behind) {
+        return Some(Misuse::Lacks(shown));
+    }
+    unknown_value(before, behind)
+}
+
+// The first value that an option doesn't know.
+fn unknown_value<'a>(before: &ArgMatches<'a>, behind: &ArgMatches<'a>) -> Option<Misuse<'a>>
+    ensures unknown { MatchOption result
+        ((unknown_color (rows_of (found_of before.now)) (rows_of (found_of behind.now)) ≡ None)
+        × (unknown_format (rows_of (found_of behind.now)) ≡ None))
+        (IsUnknownValue (rows_of (found_of before.now)) (rows_of (found_of behind.now))) }
+{
+    if let Some(value) = unknown_color(before, behind) {
+        return Some(Misuse::NoValue(value, "--color <WHEN>", "auto, always, never"));
+    }
+    match unknown_format(behind) {
+        Some(value) => Some(Misuse::NoValue(value, "--format <FORMAT>", "hashes, dot, pylock")),
+        None => None,
     }
 }
 

@@ -4,16 +4,19 @@ ghost use Rattle.std.specs.Prelude.{◌≡◌, ◌≢◌, codes, true, IfErr, If
 ghost use Rattle.std.specs.List.{AllByRecursion};
 ghost use Rattle.clap.specs.Words.{found_of, rows_of};
 ghost use Rattle.command_line.specs.Options.{has_flag, json_takers};
-ghost use Rattle.command_line.specs.Subcommands.{HasEditInputs, HasInputs, IsSubcommand, IsChecked, IsPlace, IsPlaceText, IsRange, IsShown, format_of, index_of, saving_of};
-ghost use Rattle.command_line.specs.UsageFaults.{FaultWith, HasNoNumber, IsLacking, IsTreeOfEntry, LacksIndex, LacksInput};
+ghost use Rattle.command_line.specs.Subcommands.{HasEditInputs, HasInputs, IsSubcommand, IsChecked, IsExport, IsPlace, IsRange, IsShown, export_format_of, format_named, format_of, index_of, saving_of, told_of};
+ghost use Rattle.command_line.specs.UsageFaults.{HasNoPlace, IsLacking, IsNoNumber, LacksIndex, LacksInput};
 
 use crate::edit_words::read_edit;
-use crate::invocation::{DiffRange, EditInputs, Format, Inputs, Saving, Shown, Subcommand};
+use crate::invocation::{
+    DiffRange, EditInputs, Export, ExportFormat, Format, Inputs, Saving, Shown, Subcommand, Told,
+};
+use crate::misuse::{Misuse, ReadFault};
 use crate::options::{all_chosen, chosen, has_flag, is_flagged, value};
 use crate::question::read_question;
-use crate::usage::{NeededOption, RequestFault, excludes_another, no_number, no_subcommand};
+use crate::replacement::{read_pins, read_replacement};
+use crate::usage::NeededOption;
 use clap::ArgMatches;
-use clap::error::ErrorKind;
 use std::alloc::Global;
 
 /// The subcommand of this name, with what stands before it and behind it.
@@ -22,7 +25,7 @@ pub(crate) fn read_subcommand<'a>(
     name: &str,
     before: &ArgMatches<'a>,
     behind: &ArgMatches<'a>,
-) -> Result<Subcommand<'a>, RequestFault>
+) -> Result<Subcommand<'a>, ReadFault<'a>>
     ensures subcommand { IfOk result (IsSubcommand
         (rows_of (found_of before.now)) (rows_of (found_of behind.now)) name.now) }
     ensures fault { IfErr result (IsLacking
@@ -32,7 +35,7 @@ pub(crate) fn read_subcommand<'a>(
         let inputs = needed_edit_inputs(before, behind)?;
         return Ok(Subcommand::Edit(edit, inputs, saving(before, behind)));
     }
-    if let Some(view) = read_view(alloc, name, before, behind)? {
+    if let Some(view) = read_view(name, before, behind)? {
         return Ok(view);
     }
     match name {
@@ -42,22 +45,27 @@ pub(crate) fn read_subcommand<'a>(
         "skipped" => Ok(Subcommand::Skipped(needed_index(before, behind)?)),
         "why" => {
             let question = read_question(alloc, before, behind)?;
-            Ok(Subcommand::Why(question, has_flag(behind, "explain")))
+            Ok(Subcommand::Why(question, told(behind)))
         }
+        "replace" => {
+            let replacement = read_replacement(alloc, behind, "new")?;
+            let inputs = needed_edit_inputs(before, behind)?;
+            Ok(Subcommand::Replace(replacement, inputs, saving(before, behind)))
+        }
+        "export" => Ok(Subcommand::Export(export(before, behind))),
         "undo" => Ok(Subcommand::Undo(saving(before, behind))),
         "redo" => Ok(Subcommand::Redo(saving(before, behind))),
-        _ => Err(no_subcommand(alloc)),
+        _ => Err(ReadFault::Misused(Misuse::NoSubcommand)),
     }
 }
 
 // The subcommand of this name that prints what is there, as lines or as JSON; none where the name is of
 // another.
 fn read_view<'a>(
-    alloc: Global,
     name: &str,
     before: &ArgMatches<'a>,
     behind: &ArgMatches<'a>,
-) -> Result<Option<Subcommand<'a>>, RequestFault>
+) -> Result<Option<Subcommand<'a>>, ReadFault<'a>>
     ensures subcommand { IfOk result (λ view. MatchOption view
         (AllByRecursion (λ known. name.now ≢ known) json_takers)
         (IsSubcommand (rows_of (found_of before.now)) (rows_of (found_of behind.now)) name.now)) }
@@ -66,9 +74,9 @@ fn read_view<'a>(
 {
     let format = format(before, behind);
     match name {
-        "show" => Ok(Some(Subcommand::Show(read_shown(alloc, before, behind)?, format))),
+        "show" => Ok(Some(Subcommand::Show(read_shown(before, behind), format))),
         "log" => Ok(Some(Subcommand::Log(has_flag(behind, "long"), format))),
-        "diff" => Ok(Some(Subcommand::Diff(read_range(alloc, behind)?, format))),
+        "diff" => Ok(Some(Subcommand::Diff(read_range(behind)?, format))),
         "check" => Ok(Some(Subcommand::Check(checked_index(before, behind)?, format))),
         "outdated" => Ok(Some(Subcommand::Outdated(needed_index(before, behind)?, format))),
         _ => Ok(None),
@@ -85,6 +93,49 @@ fn saving(before: &ArgMatches<'_>, behind: &ArgMatches<'_>) -> Saving
     }
 }
 
+// In which form a lock is printed; where the value is unknown, as where none is given.
+fn export<'a>(before: &ArgMatches<'a>, behind: &ArgMatches<'a>) -> Export<'a>
+    ensures { IsExport (rows_of (found_of before.now)) (rows_of (found_of behind.now)) result }
+{
+    Export {
+        format: export_format(behind),
+        target: value(behind, "target"),
+        index: chosen(before, behind, "index"),
+    }
+}
+
+fn export_format(behind: &ArgMatches<'_>) -> ExportFormat
+    ensures { result ≡ export_format_of (rows_of (found_of behind.now)) }
+{
+    match value(behind, "format") {
+        Some(format) => format_named(format),
+        None => ExportFormat::Hashes,
+    }
+}
+
+fn format_named(format: &str) -> ExportFormat
+    ensures { result ≡ format_named format.now }
+{
+    match format {
+        "dot" => ExportFormat::Dot,
+        "pylock" => ExportFormat::Pylock,
+        _ => ExportFormat::Hashes,
+    }
+}
+
+// How `why` tells what it knows.
+fn told(behind: &ArgMatches<'_>) -> Told
+    ensures { result ≡ told_of (rows_of (found_of behind.now)) }
+{
+    if has_flag(behind, "long") {
+        Told::LongSentences
+    } else if has_flag(behind, "explain") {
+        Told::Sentences
+    } else {
+        Told::Conflicts
+    }
+}
+
 fn format(before: &ArgMatches<'_>, behind: &ArgMatches<'_>) -> Format
     ensures { result ≡ format_of (rows_of (found_of before.now)) (rows_of (found_of behind.now)) }
 {
@@ -95,49 +146,39 @@ fn format(before: &ArgMatches<'_>, behind: &ArgMatches<'_>) -> Format
     }
 }
 
-fn read_shown<'a>(
-    alloc: Global,
-    before: &ArgMatches<'a>,
-    behind: &ArgMatches<'a>,
-) -> Result<Shown<'a>, RequestFault>
-    ensures shown { IfOk result
-        (IsShown (rows_of (found_of before.now)) (rows_of (found_of behind.now))) }
-    ensures fault { IfErr result (λ e. IsTreeOfEntry (rows_of (found_of behind.now))
-        × FaultWith ErrorKind.ArgumentConflict e) }
+// What of the lock is printed; beside a name `--tree` is refused before.
+fn read_shown<'a>(before: &ArgMatches<'a>, behind: &ArgMatches<'a>) -> Shown<'a>
+    ensures shown { IsShown (rows_of (found_of before.now)) (rows_of (found_of behind.now)) result }
 {
-    let is_tree = has_flag(behind, "tree");
     match value(behind, "name") {
-        Some(_) if is_tree => Err(excludes_another(alloc, "--tree")),
-        Some(name) => Ok(Shown::Entry(name, chosen(before, behind, "index"))),
-        None if is_tree => Ok(Shown::Tree),
-        None => Ok(Shown::Table),
+        Some(name) => Shown::Entry(name, chosen(before, behind, "index")),
+        None if has_flag(behind, "tree") => Shown::Tree,
+        None => Shown::Table,
     }
 }
 
-fn read_range(alloc: Global, behind: &ArgMatches<'_>) -> Result<DiffRange, RequestFault>
+fn read_range<'a>(behind: &ArgMatches<'a>) -> Result<DiffRange, ReadFault<'a>>
     ensures range { IfOk result (IsRange (rows_of (found_of behind.now))) }
-    ensures fault { IfErr result (λ e. HasNoNumber (rows_of (found_of behind.now))
-        × FaultWith ErrorKind.ValueValidation e) }
+    ensures fault { IfErr result (HasNoPlace (rows_of (found_of behind.now))) }
 {
     let Some(from) = value(behind, "from") else {
         return Ok(DiffRange::LastStep);
     };
-    let from = read_place(alloc, from, "[FROM]")?;
+    let from = read_place(from, "[FROM]")?;
     match value(behind, "to") {
-        Some(to) => Ok(DiffRange::Between(from, read_place(alloc, to, "[TO]")?)),
+        Some(to) => Ok(DiffRange::Between(from, read_place(to, "[TO]")?)),
         None => Ok(DiffRange::Since(from)),
     }
 }
 
 // The place of the history that a text names, of an argument as help shows it.
-fn read_place(alloc: Global, text: &str, shown: &str) -> Result<usize, RequestFault>
-    ensures place { IfOk result (λ place. IsPlace place text.now) }
-    ensures fault { IfErr result (λ e. (IsPlaceText text.now → ⊥)
-        × FaultWith ErrorKind.ValueValidation e) }
+fn read_place<'a>(text: &'a str, shown: &'static str) -> Result<usize, ReadFault<'a>>
+    ensures place { IfOk result (λ place. IsPlace place text.entry.now) }
+    ensures fault { IfErr result (IsNoNumber text.entry shown.entry) }
 {
     match text.parse::<usize>() {
         Ok(place) => Ok(place),
-        Err(error) => Err(no_number(alloc, text, shown, &error)),
+        Err(error) => Err(ReadFault::Misused(Misuse::NoNumber(text, shown, error))),
     }
 }
 
@@ -145,7 +186,7 @@ fn read_place(alloc: Global, text: &str, shown: &str) -> Result<usize, RequestFa
 fn checked_index<'a>(
     before: &ArgMatches<'a>,
     behind: &ArgMatches<'a>,
-) -> Result<Option<&'a str>, RequestFault>
+) -> Result<Option<&'a str>, ReadFault<'a>>
     ensures current { IfOk result
         (IsChecked (rows_of (found_of before.now)) (rows_of (found_of behind.now))) }
     ensures missing { IfErr result (λ e.
@@ -163,7 +204,7 @@ fn checked_index<'a>(
 pub(crate) fn needed_index<'a>(
     before: &ArgMatches<'a>,
     behind: &ArgMatches<'a>,
-) -> Result<&'a str, RequestFault>
+) -> Result<&'a str, ReadFault<'a>>
     ensures index { IfOk result (λ index.
         index_of (rows_of (found_of before.now)) (rows_of (found_of behind.now))
         ≡ Some index.now) }
@@ -172,7 +213,7 @@ pub(crate) fn needed_index<'a>(
 {
     match chosen(before, behind, "index") {
         Some(index) => Ok(index),
-        None => Err(RequestFault::Needed(NeededOption::Index)),
+        None => Err(ReadFault::Needed(NeededOption::Index)),
     }
 }
 
@@ -180,7 +221,7 @@ pub(crate) fn needed_index<'a>(
 pub(crate) fn needed_edit_inputs<'a>(
     before: &ArgMatches<'a>,
     behind: &ArgMatches<'a>,
-) -> Result<EditInputs<'a>, RequestFault>
+) -> Result<EditInputs<'a>, ReadFault<'a>>
     ensures inputs { IfOk result
         (HasEditInputs (rows_of (found_of before.now)) (rows_of (found_of behind.now))) }
     ensures missing { IfErr result
@@ -194,12 +235,12 @@ pub(crate) fn needed_edit_inputs<'a>(
     })
 }
 
-/// The index and the environments that were given; the index is missed first.
+/// The index, the environments and the pins that were given; the index is missed first.
 pub(crate) fn needed_inputs<'a>(
     alloc: Global,
     before: &ArgMatches<'a>,
     behind: &ArgMatches<'a>,
-) -> Result<Inputs<'a>, RequestFault>
+) -> Result<Inputs<'a>, ReadFault<'a>>
     ensures inputs { IfOk result
         (HasInputs (rows_of (found_of before.now)) (rows_of (found_of behind.now))) }
     ensures missing { IfErr result
@@ -208,10 +249,11 @@ pub(crate) fn needed_inputs<'a>(
     let index = needed_index(before, behind)?;
     let environments = all_chosen(alloc, before, behind, "env")?;
     if environments.is_empty() {
-        return Err(RequestFault::Needed(NeededOption::Environment));
+        return Err(ReadFault::Needed(NeededOption::Environment));
     }
     Ok(Inputs {
         index,
         environments,
+        pins: read_pins(alloc, behind)?,
     })
 }

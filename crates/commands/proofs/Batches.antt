@@ -25,8 +25,8 @@ use Rattle.commands.specs.Replies.{text_of_reply, reply_text, is_accepted}
 use Rattle.commands.specs.declared.batch.BatchFault.{BatchFault}
 use Rattle.commands.specs.declared.batch.BatchFault.TheVariants.{OutOfMemory}
 use Rattle.commands.specs.Faults.{IsOfSink}
-use Rattle.commands.specs.Runs.{command_in, replies_of, Replied, Answered, AnsweredWith, IsCutOff, BreaksOff, Ends, EndsAt, EndsInReading, EndsInWriting}
-use Rattle.commands.specs.Standings.{Standing, Advances, Answers, AnswersAllBut, ReadsOf, Reads, Breaks}
+use Rattle.commands.specs.Runs.{command_in, replies_of, Replied, Answered, AnsweredWith, IsCutOff, BreaksOff, Ends, EndsAt, SomeDone, SomeDoneWith, EndsInReading, EndsInWriting}
+use Rattle.commands.specs.Standings.{Standing, Advances, Answers, AnswersAllBut, ReadsOf, Reads, Breaks, SomeAdvance}
 use Rattle.commands.proofs.Lines.{items_alike, ended_items_alike, items_kept, items_of_line, none_ended, commands_last, unbroken_append}
 
 -- ---- runs
@@ -59,7 +59,7 @@ replied_append pool xs ys rs ts old next new first second =
     )
 
 -- nothing was asked for
-replied_none : (pool : Pool) (old : HistoryParts) → Replied pool [] [] old old
+pub replied_none : (pool : Pool) (old : HistoryParts) → Replied pool [] [] old old
 replied_none pool old = ([], refl, refl)
 
 -- one item that asks for this
@@ -284,7 +284,8 @@ answers_piece pool read pending piece after old next new first second =
 -- the same where the bytes may be unknown
 pub reads_piece : (pool : Pool) (had now then : Option (List ℕ)) (pending piece after : List ℕ) (old next new : Standing)
     → Reads pool had pending now old next → Consumes now then piece → AnswersAllBut pool (pending ++ piece) after next new → IsUnbroken after → Reads pool had after then old new
-reads_piece pool None now then pending piece after old next new first taken second unbroken = tt
+reads_piece pool None now then pending piece after old next new first taken second unbroken =
+    (first.0 ++ second.done, advances_append pool first.0 second.done old next new first.1 second.advances)
 reads_piece pool (Some input) None then pending piece after old next new first taken second unbroken = absurd first
 reads_piece pool (Some input) (Some rest) None pending piece after old next new first taken second unbroken = absurd taken
 reads_piece pool (Some input) (Some rest) (Some behind) pending piece after old next new first taken second unbroken =
@@ -297,7 +298,7 @@ reads_piece pool (Some input) (Some rest) (Some behind) pending piece after old 
 
 -- before the first read
 pub reads_start : (pool : Pool) (had : Option (List ℕ)) (old : Standing) → Reads pool had [] had old old
-reads_start pool None old = tt
+reads_start pool None old = ([], advances_none pool old)
 reads_start pool (Some input) old = record {
   read = [];
   input_is = refl;
@@ -307,7 +308,7 @@ reads_start pool (Some input) old = record {
 
 -- a read that gave nothing
 pub reads_end : (pool : Pool) (had now then : Option (List ℕ)) (pending : List ℕ) (old new : Standing) → Reads pool had pending now old new → Consumes now then [] → Reads pool had pending then old new
-reads_end pool None now then pending old new first taken = tt
+reads_end pool None now then pending old new first taken = first
 reads_end pool (Some input) None then pending old new first taken = absurd first
 reads_end pool (Some input) (Some rest) None pending old new first taken = absurd taken
 reads_end pool (Some input) (Some rest) (Some behind) pending old new first taken =
@@ -317,6 +318,49 @@ reads_end pool (Some input) (Some rest) (Some behind) pending old new first take
       unbroken = first.unbroken;
       answers = first.answers;
     }
+
+-- ---- what is done, whatever the source holds
+
+reads_some : (pool : Pool) (had now : Option (List ℕ)) (pending : List ℕ) (old new : Standing) → Reads pool had pending now old new → SomeAdvance pool old new
+reads_some pool None now pending old new reads = reads
+reads_some pool (Some input) None pending old new reads = absurd reads
+reads_some pool (Some input) (Some rest) pending old new reads = (reads.answers.done, reads.answers.advances)
+
+-- the commands of the lines that were read are done
+pub reads_done : (pool : Pool) (had now : Option (List ℕ)) (pending : List ℕ) (old new : Standing) → Reads pool had pending now old new → SomeDone pool old.history new.history
+reads_done pool had now pending old new reads =
+    let some = reads_some pool had now pending old new reads in
+    (some.0, some.1.0, some.1.1)
+
+-- the same, of the parts of both standings
+pub parts_done : (pool : Pool) (had now : Option (List ℕ)) (pending : List ℕ) (old new : HistoryParts) (before after : Option (List ℕ)) (was has : Bool)
+    → Reads pool had pending now (record { history = old; written = before; has_accepted = was }) (record { history = new; written = after; has_accepted = has }) → SomeDone pool old new
+parts_done pool had now pending old new before after was has reads =
+    reads_done pool had now pending (record { history = old; written = before; has_accepted = was }) (record { history = new; written = after; has_accepted = has }) reads
+
+done_append : (pool : Pool) (old next new : HistoryParts) → SomeDone pool old next → SomeDone pool next new → SomeDone pool old new
+done_append pool old next new first second = (first.0 ++ second.0, first.1 ++ second.1, replied_append pool first.0 second.0 first.1 second.1 old next new first.2 second.2)
+
+breaks_done : (pool : Pool) (items : List Item) (old new : HistoryParts) (before after : Option (List ℕ)) → BreaksOff pool items old new before after → SomeDone pool old new
+breaks_done pool items old new before after breaks = (items, breaks.told ++ breaks.last ∷ [], breaks.replied)
+
+-- those too of a piece in which a write failed
+pub reads_done_in_writing : (pool : Pool) (had now : Option (List ℕ)) (pending bytes : List ℕ) (old next new : Standing) → Reads pool had pending now old next → Breaks pool bytes next new → SomeDone pool old.history new.history
+reads_done_in_writing pool had now pending bytes old next new reads breaks =
+    done_append pool old.history next.history new.history (reads_done pool had now pending old next reads) (breaks_done pool breaks.done next.history new.history next.written new.written breaks.breaks_off)
+
+-- those too of the last line
+pub advances_some : (pool : Pool) (had now : Option (List ℕ)) (pending : List ℕ) (items : List Item) (old next new : Standing) → Reads pool had pending now old next → Advances pool items next new → SomeAdvance pool old new
+advances_some pool had now pending items old next new reads last =
+    let some = reads_some pool had now pending old next reads in
+    (some.0 ++ items, advances_append pool some.0 items old next new some.1 last)
+
+-- from where no reply was `ok`
+pub done_with : (pool : Pool) (old new : HistoryParts) (before after : Option (List ℕ)) (was now accepted : Bool) → was ≡ false → accepted ≡ now
+    → SomeAdvance pool (record { history = old; written = before; has_accepted = was }) (record { history = new; written = after; has_accepted = now })
+    → SomeDoneWith accepted pool old new
+done_with pool old new before after was now accepted was_is is some =
+    (some.0, some.1.0, some.1.1, is ∙ some.1.3 ∙ ap (λ b. b || list_any is_accepted some.1.0) was_is)
 
 -- a read that failed
 pub ends_in_reading : (pool : Pool) (had now then : Option (List ℕ)) (pending : List ℕ) (old new : Standing) → Reads pool had pending now old new → Keeps now then
@@ -392,10 +436,17 @@ pub ends_in_last : {T : Type 0} (result : Result T BatchFault) (pool : Pool) (ha
     → Reads pool had pending now old next → IsAtEnd now → source_failed ≡ false → Answers result pool (commands_of pending) next new sink_failed
     → Ends result pool had now source_failed old.history new.history old.written new.written sink_failed
 ends_in_last (Ok value) pool had now pending old next new source_failed sink_failed reads end unfailed last =
-    record { end = end; source = unfailed; sink = last.sink.failure; left = tt }
+    let some = advances_some pool had now pending (commands_of pending) old next new reads last.advances in
+    record { done = (some.0, some.1.0, some.1.1); end = end; source = unfailed; sink = last.sink.failure; left = tt }
 ends_in_last (Err e) pool had now pending old next new source_failed sink_failed reads end unfailed last =
     rw last.sink.fault
-    (record { end = tt; source = unfailed; sink = last.sink.failure; left = last_write pool had now pending old next new.history new.written reads end last.breaks })
+    (record {
+      done = done_append pool old.history next.history new.history (reads_done pool had now pending old next reads) (breaks_done pool (commands_of pending) next.history new.history next.written new.written last.breaks);
+      end = tt;
+      source = unfailed;
+      sink = last.sink.failure;
+      left = last_write pool had now pending old next new.history new.written reads end last.breaks;
+    })
 
 -- nothing was done
 left_at_once : (pool : Pool) (had : Option (List ℕ)) (old : HistoryParts) (before : Option (List ℕ)) → IfSome had (λ input. EndsAt OutOfMemory pool input had old old before before)
@@ -404,7 +455,8 @@ left_at_once pool (Some input) old before = (refl, refl, refl)
 
 pub ends_at_once : {T : Type 0} (pool : Pool) (had : Option (List ℕ)) (old : HistoryParts) (before : Option (List ℕ)) {source_failed sink_failed : Bool} → source_failed ≡ false → sink_failed ≡ false
     → Ends {T = T} (Err OutOfMemory) pool had had source_failed old old before before sink_failed
-ends_at_once pool had old before source sink = record { end = tt; source = source; sink = sink; left = left_at_once pool had old before }
+ends_at_once pool had old before source sink =
+    record { done = ([], [], replied_none pool old); end = tt; source = source; sink = sink; left = left_at_once pool had old before }
 
 -- all that was answered, from where no reply was `ok`
 pub answered_with : (pool : Pool) (had : Option (List ℕ)) (old new : HistoryParts) (before after : Option (List ℕ)) (was now accepted : Bool) → was ≡ false → accepted ≡ now

@@ -39,6 +39,14 @@ replies_of (Redo ∷ items) (reply ∷ replies) = reply ∷ replies_of items rep
 abbrev pub Replied : Pool → List Item → List Reply → HistoryParts → HistoryParts → Type 0
 Replied pool items replies old new = (answers : List Reply) × RunWithChanges old (filter_map (command_in pool) items) answers new × (replies ≡ replies_of items answers)
 
+-- some commands were done, each with its reply
+abbrev pub SomeDone : Pool → HistoryParts → HistoryParts → Type 0
+SomeDone pool old new = (items : List Item) × (replies : List Reply) × Replied pool items replies old new
+
+-- the same, and whether one of the replies tells of an accepted command
+abbrev pub SomeDoneWith : Bool → Pool → HistoryParts → HistoryParts → Type 0
+SomeDoneWith accepted pool old new = (items : List Item) × (replies : List Reply) × Replied pool items replies old new × (accepted ≡ list_any is_accepted replies)
+
 -- a run over these items, whose replies were written where the bytes before and after are known
 abbrev pub Answered : Pool → List Item → HistoryParts → HistoryParts → Option (List ℕ) → Option (List ℕ) → Type 0
 Answered pool items old new before after = (replies : List Reply) × Replied pool items replies old new × Appends before after (reply_text replies)
@@ -85,9 +93,10 @@ EndsAt Read pool input left old new before after = EndsInReading pool input left
 EndsAt Write pool input left old new before after = EndsInWriting pool input old new before after
 EndsAt OutOfMemory pool input left old new before after = (new ≡ old) × (after ≡ before) × (left ≡ Some input)
 
--- how a batch ends that begins where no call on its streams has failed: without a fault all was read; the source has failed where
--- the fault is `Read`, the sink where it is `Write`, and else neither
+-- how a batch ends that begins where no call on its streams has failed: whatever the streams hold, some commands were done;
+-- without a fault all was read; the source has failed where the fault is `Read`, the sink where it is `Write`, and else neither
 pub record Ends {T : Type 0} (result : Result T BatchFault) (pool : Pool) (had rest : Option (List ℕ)) (source_failed : Bool) (old new : HistoryParts) (before after : Option (List ℕ)) (sink_failed : Bool) : Type 0 where
+  pub done : SomeDone pool old new
   pub end : OnOk result (IsAtEnd rest)
   pub source : source_failed ≡ is_failed_read result
   pub sink : sink_failed ≡ is_failed_write result

@@ -26,6 +26,10 @@ abbrev pub Advances : Pool → List Item → Standing → Standing → Type 0
 Advances pool items old new =
     (replies : List Reply) × Replied pool items replies old.history new.history × Appends old.written new.written (reply_text replies) × (new.has_accepted ≡ (old.has_accepted || list_any is_accepted replies))
 
+-- some items were answered
+abbrev pub SomeAdvance : Pool → Standing → Standing → Type 0
+SomeAdvance pool old new = (items : List Item) × Advances pool items old new
+
 -- the items were answered, or the sink has failed and the reply to the last of them breaks off
 pub record Answers {T : Type 0} (result : Result T BatchFault) (pool : Pool) (items : List Item) (old new : Standing) (sink_failed : Bool) : Type 0 where
   pub advances : OnOk result (Advances pool items old new)
@@ -46,9 +50,9 @@ pub record ReadsOf (pool : Pool) (input pending rest : List ℕ) (old new : Stan
   pub unbroken : IsUnbroken pending
   pub answers : AnswersAllBut pool read pending old new
 
--- the same of a source whose bytes may be unknown
+-- the same of a source whose bytes may be unknown: then some items are answered
 abbrev pub Reads : Pool → Option (List ℕ) → List ℕ → Option (List ℕ) → Standing → Standing → Type 0
-Reads pool None pending left old new = Unit {0}
+Reads pool None pending left old new = SomeAdvance pool old new
 Reads pool (Some input) pending None old new = ⊥
 Reads pool (Some input) pending (Some rest) old new = ReadsOf pool input pending rest old new
 

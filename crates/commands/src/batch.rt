@@ -6,8 +6,8 @@ ghost use Rattle.std.specs.Option.{option_to_list};
 ghost use Rattle.commands.specs.BatchLine.{commands_of, item_of, IsUnbroken};
 ghost use Rattle.commands.specs.Faults.{IsOfSink};
 ghost use Rattle.commands.specs.Replies.{is_accepted, text_of_reply};
-ghost use Rattle.commands.specs.Runs.{Answered, AnsweredWith, Ends, IsCutOff, Replied};
-ghost use Rattle.commands.specs.Standings.{Advances, Answers, AnswersAllBut, Breaks, Reads, standing};
+ghost use Rattle.commands.specs.Runs.{Answered, AnsweredWith, Ends, IsCutOff, Replied, SomeDoneWith};
+ghost use Rattle.commands.specs.Standings.{Advances, Answers, AnswersAllBut, Breaks, Reads, SomeAdvance, standing};
 ghost use Rattle.commands.specs.declared.batch.BatchFault.TheVariants.{OutOfMemory};
 
 use crate::batch_line::{Item, read_item};
@@ -98,6 +98,9 @@ pub fn accepted_in<S: Source, K: Sink>(
     ensures answered { IfOk result (λ accepted. IfSome (S.remaining source.old) (λ input.
         AnsweredWith accepted pool.now (commands_of input) session.old session.new
         (K.contents sink.old) (K.contents sink.new))) }
+    // Whatever the streams hold: something is to be saved where a reply was `ok`, and nowhere else.
+    ensures done { IfOk result
+        (λ accepted. SomeDoneWith accepted pool.now session.old session.new) }
     ensures ends { Ends result pool.now (S.remaining source.old) (S.remaining source.new)
         (S.has_failed source.new) session.old session.new
         (K.contents sink.old) (K.contents sink.new) (K.has_failed sink.new) }
@@ -141,6 +144,9 @@ fn answer_all<S: Source, K: Sink>(
         Advances pool.now (commands_of input)
         (standing session.old (K.contents sink.old) batch.old.has_accepted)
         (standing session.new (K.contents sink.new) batch.new.has_accepted))) }
+    ensures done { OnOk result (SomeAdvance pool.now
+        (standing session.old (K.contents sink.old) batch.old.has_accepted)
+        (standing session.new (K.contents sink.new) batch.new.has_accepted)) }
     ensures ends { Ends result pool.now (S.remaining source.old) (S.remaining source.new)
         (S.has_failed source.new) session.old session.new
         (K.contents sink.old) (K.contents sink.new) (K.has_failed sink.new) }

@@ -4,11 +4,13 @@ use crate::environment_rows::bytes_of;
 use crate::notation::owned;
 use crate::telling::Telling;
 use command_line::request::{
-    DiffRange, EditInputs, Format, Inputs, Invocation, NeededOption, Question, RequestFault,
-    Saving, Shown, Subcommand, request,
+    ColorChoice, DiffRange, EditInputs, Export, ExportFormat, Format, Inputs, Invocation,
+    NeededOption, NewLines, Question, Replacement, RequestFault, Saving, Shown, Subcommand,
+    Telling as Loudness, Told, request,
 };
 use commands::{Item, read_item};
 use edits::Edit;
+use lists::Text;
 use std::alloc::Global;
 
 /// Pushes an edit, as a short text.
@@ -49,6 +51,24 @@ fn push_inputs(text: &mut Telling, name: &str, inputs: &Inputs<'_>) {
     for environment in inputs.environments.as_slice() {
         write!(text, " {environment}");
     }
+    push_pins(text, inputs.pins.as_slice());
+}
+
+/// Pushes versions to keep.
+fn push_pins(text: &mut Telling, pins: &[Text]) {
+    for pin in pins {
+        write!(text, " pins {pin}");
+    }
+}
+
+/// Pushes lines that take the place of others.
+fn push_replacement(text: &mut Telling, replacement: &Replacement<'_>) {
+    match replacement.lines {
+        NewLines::File(file) => write!(text, "(replace)|{file}"),
+        NewLines::Was(old) => write!(text, "(replace) was {old}"),
+        NewLines::Line(name, line) => write!(text, "(replace) line|{name}|{line}"),
+    }
+    push_pins(text, replacement.pins.as_slice());
 }
 
 /// Pushes how a result is printed.
@@ -100,6 +120,10 @@ fn push_question(text: &mut Telling, question: &Question<'_>) {
             push_edit(text, edit);
             push_edit_inputs(text, *inputs);
         }
+        Question::Replace(replacement, inputs) => {
+            push_replacement(text, replacement);
+            push_edit_inputs(text, *inputs);
+        }
         Question::Init(inputs, line) => {
             push_inputs(text, "init", inputs);
             if let Some(line) = line {
@@ -119,6 +143,11 @@ fn push_subcommand(text: &mut Telling, subcommand: Subcommand<'_>) {
             push_edit_inputs(text, inputs);
             push_saving(text, saving);
         }
+        Subcommand::Replace(replacement, inputs, saving) => {
+            push_replacement(text, &replacement);
+            push_edit_inputs(text, inputs);
+            push_saving(text, saving);
+        }
         Subcommand::Undo(saving) => {
             text.push_str("undo");
             push_saving(text, saving);
@@ -133,12 +162,31 @@ fn push_subcommand(text: &mut Telling, subcommand: Subcommand<'_>) {
         }
         Subcommand::Try(inputs) => push_inputs(text, "try", &inputs),
         Subcommand::Skipped(index) => write!(text, "skipped {index}"),
-        Subcommand::Why(question, explains) => {
+        Subcommand::Why(question, told) => {
             text.push_str("why ");
             push_question(text, &question);
-            text.push_str(if explains { " in sentences" } else { "" });
+            text.push_str(match told {
+                Told::Conflicts => "",
+                Told::Sentences => " in sentences",
+                Told::LongSentences => " in long sentences",
+            });
         }
         view => push_view(text, view),
+    }
+}
+
+/// Pushes how a lock is printed for another tool.
+fn push_export(text: &mut Telling, export: Export<'_>) {
+    text.push_str(match export.format {
+        ExportFormat::Hashes => "export hashes",
+        ExportFormat::Dot => "export dot",
+        ExportFormat::Pylock => "export pylock",
+    });
+    if let Some(target) = export.target {
+        write!(text, " of {target}");
+    }
+    if let Some(index) = export.index {
+        write!(text, " over {index}");
     }
 }
 
@@ -166,6 +214,7 @@ fn push_view(text: &mut Telling, view: Subcommand<'_>) {
             }
             push_format(text, format);
         }
+        Subcommand::Export(export) => push_export(text, export),
         Subcommand::Outdated(index, format) => {
             write!(text, "outdated {index}");
             push_format(text, format);
@@ -174,17 +223,32 @@ fn push_view(text: &mut Telling, view: Subcommand<'_>) {
     }
 }
 
+/// Pushes how much is told, and in which colors.
+fn push_told(text: &mut Telling, loudness: Loudness, color: ColorChoice) {
+    text.push_str(match loudness {
+        Loudness::Quiet => " quiet",
+        Loudness::Usual => "",
+        Loudness::Verbose => " verbose",
+    });
+    text.push_str(match color {
+        ColorChoice::Auto => "",
+        ColorChoice::Always => " in colors",
+        ColorChoice::Never => " without colors",
+    });
+}
+
 /// What words ask for, in a folder.
 fn invocation_text(alloc: Global, invocation: Invocation<'_>) -> Option<String> {
     let Invocation {
         dir,
-        is_verbose,
+        telling,
+        color,
         subcommand,
     } = invocation;
     let mut text = Telling::new(alloc);
     write!(text, "{dir} ");
     push_subcommand(&mut text, subcommand);
-    text.push_str(if is_verbose { " verbose" } else { "" });
+    push_told(&mut text, telling, color);
     text.told()
 }
 

@@ -1,13 +1,16 @@
 // Why a lock hasn't a release.
 
+use crate::asked::asked_by_term;
+use crate::dependencies::NeededName;
 use crate::line_breaks::add_wrapped;
-use crate::placed_term::place_of;
+use crate::placed_term::{PlacedTerm, place_of};
 use crate::reasons::Unadmitted;
+use crate::release_set::add_listed;
 use lists::Bits;
 use pep440::Version;
 use pep508::{Name, Requirement};
-use problems::Problem;
 use problems::parts::admits;
+use problems::{Node, Problem};
 use std::alloc::{AllocError, Global};
 use std::collections::BTreeMap;
 
@@ -24,7 +27,12 @@ struct Difference {
     name: Name,
     locked: Option<Version>,
     best: Option<Version>,
+    /// What is taken before it, which the lock has too.
+    before: BTreeMap<Name, Version>,
 }
+
+/// How many names that are taken before one are told.
+const BEFORE: usize = 3;
 
 /// Why a lock hasn't a release with which there is a solution, given the best one: the first name on
 /// the walk, in its order, for which both have another version. The problem keeps the versions of the lock.
@@ -37,7 +45,7 @@ pub fn add_difference(
 ) -> Result<(), AllocError> {
     let mut sentence = String::new(alloc);
     match first_difference(alloc, problem, best)? {
-        Some(difference) => wanted.add_difference(&mut sentence, &difference)?,
+        Some(difference) => wanted.add_difference(alloc, &mut sentence, problem, &difference)?,
         None => add_same(&mut sentence, wanted)?,
     }
     add_wrapped(text, sentence.as_str(), "")
@@ -61,6 +69,7 @@ fn first_difference(
                 locked: copy_of(locked)?,
                 best: copy_of(chosen)?,
                 name,
+                before: taken,
             }));
         }
         let Some(version) = chosen else {
@@ -121,7 +130,13 @@ pub fn add_same(text: &mut String, wanted: WantedRelease<'_>) -> Result<(), Allo
 
 impl WantedRelease<'_> {
     // What the best solution with it has in place of what is locked.
-    fn add_difference(&self, text: &mut String, difference: &Difference) -> Result<(), AllocError> {
+    fn add_difference(
+        &self,
+        alloc: Global,
+        text: &mut String,
+        problem: &Problem<'_>,
+        difference: &Difference,
+    ) -> Result<(), AllocError> {
         let name = self.name.normal();
         let version = self.version;
         let other = difference.name.normal();
@@ -130,9 +145,17 @@ impl WantedRelease<'_> {
             (Some(locked), Some(best)) => {
                 write!(
                     text,
-                    "With {name} {version} there is no solution that keeps {other} at {locked}, and {other} is taken first: \
-                    the best one has {other} {best}."
-                )
+                    "With {name} {version} no solution keeps {other} at {locked}"
+                )?;
+                let kept = WantedRelease {
+                    name: &difference.name,
+                    version: locked,
+                };
+                if self.add_hindrance(alloc, text, problem, kept)? {
+                    return write!(text, ". The best one has {other} {best}.");
+                }
+                add_before(alloc, text, &difference.before)?;
+                write!(text, "; the best one has {other} {best}.")
             }
             (None, Some(best)) => {
                 write!(
@@ -145,6 +168,60 @@ impl WantedRelease<'_> {
                 "With {name} {version} the best solution hasn't {other}, which is locked."
             ),
         }
+    }
+
+    // Why the release doesn't go with another one that is taken before it, where one of them needs the other's name in
+    // another version. Tells whether that is so.
+    fn add_hindrance(
+        &self,
+        alloc: Global,
+        text: &mut String,
+        problem: &Problem<'_>,
+        kept: WantedRelease<'_>,
+    ) -> Result<bool, AllocError> {
+        let mut need = String::new(alloc);
+        if !kept.add_need(alloc, &mut need, problem, *self)?
+            && !self.add_need(alloc, &mut need, problem, kept)?
+        {
+            return Ok(false);
+        }
+        text.push_str(", which is taken first: ")?;
+        text.push_str(need.as_str())?;
+        Ok(true)
+    }
+
+    // What the release needs of another name, where that isn't the version that the other one has. Tells whether it is so.
+    fn add_need(
+        &self,
+        alloc: Global,
+        text: &mut String,
+        problem: &Problem<'_>,
+        other: WantedRelease<'_>,
+    ) -> Result<bool, AllocError> {
+        let (Some(own), Some(place)) = (
+            place_of(problem.releases(self.name), self.version, 0),
+            place_of(problem.releases(other.name), other.version, 0),
+        ) else {
+            return Ok(false);
+        };
+        let mut places = Bits::new(alloc);
+        places.insert(own)?;
+        let term = PlacedTerm {
+            node: Node {
+                name: self.name.clone()?,
+                extra: None,
+            },
+            places,
+        };
+        let asked = asked_by_term(alloc, problem, &term, NeededName::bare(other.name))?;
+        if asked.places.has(place) {
+            return Ok(false);
+        }
+        let name = self.name.normal();
+        let version = self.version;
+        write!(text, "{name} {version} needs ")?;
+        asked.add_needed(text, other.name.normal())?;
+        Ok(true)
     }
 
     // That the lock keeps a version for which nothing else would have to change.
@@ -160,6 +237,34 @@ impl WantedRelease<'_> {
         }
         write!(text, " A requirement {name}=={version} takes it.")
     }
+}
+
+// What is taken before a name: no solution that has it keeps the name.
+fn add_before(
+    alloc: Global,
+    text: &mut String,
+    before: &BTreeMap<Name, Version>,
+) -> Result<(), AllocError> {
+    let count = before.len();
+    if count == 0 {
+        return text.push_str(", which is taken first");
+    }
+    if count > BEFORE {
+        return write!(text, " beside the {count} names that are taken before it");
+    }
+    let mut items = Vec::new(alloc);
+    for (name, version) in before.iter() {
+        let name = name.normal();
+        items.push(format!(in alloc; "{name} {version}")?)?;
+    }
+    text.push_str(" beside ")?;
+    add_listed(text, items.as_slice(), "and")?;
+    text.push_str(if count == 1 {
+        ", which is"
+    } else {
+        ", which are"
+    })?;
+    text.push_str(" taken before it")
 }
 
 /// Why a release that the index has counts for nothing in the problem of the lines as they are, where

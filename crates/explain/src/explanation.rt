@@ -4,28 +4,29 @@ ghost use Rattle.std.specs.Prelude.{IfOk, MatchOption};
 ghost use Rattle.search.specs.SetConflicts.{IsSetRefutation};
 ghost use Rattle.problems.specs.Rules.{rules_of, same_version};
 
+use crate::account::Derived;
 use crate::changed_lines::ChangedLines;
 use crate::derivation::{Derivation, derivations};
 use crate::grounds::grounds_of;
 use crate::line_name::line_names;
 use crate::narrowed_refutation::narrowed_refutation;
 use crate::placed_term::{PlacedTerm, placed_conflicts};
-use crate::sentences::Sentences;
-use crate::sentences::steps::told_steps;
+use crate::sentences::steps::{cited_lines, told_steps};
+use crate::sentences::{Sentences, Telling};
 use problems::Problem;
 use refutations::SetRefutation;
 use std::alloc::{AllocError, Global};
 use std::marker::Model;
 
 /// The conflicts of a refutation, each with why it follows from those before it.
-struct Derived {
+struct Followed {
     conflicts: Vec<Vec<PlacedTerm>>,
     derivations: Vec<Derivation>,
 }
 
-impl Drop for Derived {
+impl Drop for Followed {
     fn drop(self) {
-        let Derived {
+        let Followed {
             conflicts: _,
             derivations: _,
         } = self;
@@ -35,14 +36,14 @@ impl Drop for Derived {
 /// A set refutation of a problem, with why each of its conflicts follows. In a clause it is the refutation.
 pub struct Explanation {
     refutation: SetRefutation,
-    derived: Derived,
+    followed: Followed,
 }
 
 impl Drop for Explanation {
     fn drop(self) {
         let Explanation {
             refutation: _,
-            derived: _,
+            followed: _,
         } = self;
     }
 }
@@ -61,7 +62,7 @@ fn conflicts_of(
     alloc: Global,
     problem: &Problem<'_>,
     refutation: &SetRefutation,
-) -> Result<Option<Derived>, AllocError>
+) -> Result<Option<Followed>, AllocError>
     ensures { IfOk result
         (λ found. MatchOption found
         (IsSetRefutation (rules_of problem.now) same_version refutation.now → ⊥)
@@ -76,7 +77,7 @@ fn conflicts_of(
                 conflicts.as_slice(),
                 grounds.as_slice(),
             )?;
-            Ok(Some(Derived {
+            Ok(Some(Followed {
                 conflicts,
                 derivations,
             }))
@@ -108,7 +109,7 @@ fn narrowed(
     alloc: Global,
     problem: &Problem<'_>,
     refutation: SetRefutation,
-    whole: Derived,
+    whole: Followed,
 ) -> Result<Explanation, AllocError>
     requires { IsSetRefutation (rules_of problem.now) same_version refutation }
     ensures { IfOk result (IsSetRefutation (rules_of problem.now) same_version) }
@@ -116,38 +117,46 @@ fn narrowed(
     let conflicts = whole.conflicts.as_slice();
     let fewer = narrowed_refutation(alloc, problem, conflicts, whole.derivations.as_slice())?;
     match conflicts_of(alloc, problem, &fewer)? {
-        Some(derived) => Ok(Explanation {
+        Some(followed) => Ok(Explanation {
             refutation: fewer,
-            derived,
+            followed,
         }),
         None => Ok(Explanation {
             refutation,
-            derived: whole,
+            followed: whole,
         }),
     }
 }
 
 impl Explanation {
     /// Puts behind the text which lines have no solution, and then a sentence for each conflict on which
-    /// that rests, with its number. A sentence cites only sentences above it. The problem is the one that
-    /// it was made for.
+    /// that rests, with its number. A sentence cites only sentences above it. A chain of them is told whole, or by its
+    /// first and its last. The problem is the one that it was made for.
     pub fn add_sentences(
         &self,
         alloc: Global,
         text: &mut String,
         problem: &Problem<'_>,
         lines: ChangedLines<'_>,
+        telling: Telling,
     ) -> Result<(), AllocError> {
         let lines = line_names(alloc, problem, lines)?;
-        let steps = told_steps(alloc, self.derived.derivations.as_slice())?;
+        let derived = Derived {
+            alloc,
+            problem,
+            conflicts: self.followed.conflicts.as_slice(),
+            derivations: self.followed.derivations.as_slice(),
+        };
+        let steps = told_steps(derived)?;
+        let cited = cited_lines(derived, steps.as_slice())?;
         let sentences = Sentences {
             alloc,
             problem,
-            conflicts: self.derived.conflicts.as_slice(),
-            derivations: self.derived.derivations.as_slice(),
+            derived,
             lines: lines.as_slice(),
             steps: steps.as_slice(),
+            cited: cited.as_slice(),
         };
-        sentences.add_all(text)
+        sentences.add_all(text, telling)
     }
 }

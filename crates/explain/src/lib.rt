@@ -2,6 +2,8 @@
 #![tactic(auto)]
 
 mod absent_release;
+mod account;
+mod asked;
 mod changed_lines;
 mod dependencies;
 mod derivation;
@@ -13,12 +15,16 @@ mod line_breaks;
 mod line_name;
 mod narrowed_refutation;
 mod placed_term;
+mod range;
 mod reasons;
 mod refutation_text;
+mod release_runs;
 mod release_set;
 mod sentences;
+mod sides;
 
 pub use crate::absent_release::{WantedRelease, add_difference, add_same, add_uncounted};
 pub use crate::changed_lines::{ChangedLine, ChangedLines};
 pub use crate::explanation::{Explanation, explained};
 pub use crate::refutation_text::add_refutation;
+pub use crate::sentences::Telling;

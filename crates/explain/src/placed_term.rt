@@ -25,6 +25,13 @@ impl PlacedTerm {
         })
     }
 
+    /// Whether the other one has the same node and the same releases.
+    pub fn is_same(&self, other: &PlacedTerm) -> bool {
+        self.is_on(&other.node)
+            && self.places.lies_within(&other.places)
+            && other.places.lies_within(&self.places)
+    }
+
     /// Whether it is on the node.
     pub fn is_on(&self, node: &Node) -> bool {
         are_one(&self.node, node)

@@ -1,5 +1,6 @@
 // Some releases of a name, as runs of versions.
 
+use crate::release_runs::{Run, runs_of, version_text};
 use lists::Bits;
 use snapshot::Release;
 use std::alloc::{AllocError, Global};
@@ -12,38 +13,6 @@ const PIECES: usize = 6;
 pub struct ReleaseSet<'a> {
     pub releases: &'a [Release],
     pub places: &'a Bits,
-}
-
-/// The releases between two places, both among them. The older one has the greater place.
-#[derive(Debug, Clone, Copy)]
-struct Run {
-    oldest: usize,
-    newest: usize,
-}
-
-// The runs of places that stand side by side, from the oldest on.
-fn runs_of(alloc: Global, places: &[usize]) -> Result<Vec<Run>, AllocError> {
-    let mut runs: Vec<Run> = Vec::new(alloc);
-    for place in places.iter().rev() {
-        match runs.last_mut() {
-            Some(run) if run.newest == place.saturating_add(1) => run.newest = *place,
-            _ => runs.push(Run {
-                oldest: *place,
-                newest: *place,
-            })?,
-        }
-    }
-    Ok(runs)
-}
-
-fn version_text(alloc: Global, releases: &[Release], place: usize) -> Result<String, AllocError> {
-    match releases.get(place) {
-        Some(release) => {
-            let version = release.version();
-            format!(in alloc; "{version}")
-        }
-        None => Ok(String::new(alloc)),
-    }
 }
 
 // The versions and runs to be told: two versions side by side are told as two.
@@ -114,8 +83,7 @@ impl ReleaseSet<'_> {
         self.add_versions(alloc, text)
     }
 
-    /// The versions as runs, and how many they are where a run has more than two. Of many runs only the
-    /// first and the last version are told.
+    /// The versions as runs. Of many runs only the first and the last version are told, and how many releases there are.
     pub fn add_versions(&self, alloc: Global, text: &mut String) -> Result<(), AllocError> {
         let places = self.places.places(alloc)?;
         let count = places.len();
@@ -124,11 +92,7 @@ impl ReleaseSet<'_> {
         if pieces.len() > PIECES {
             return self.add_ends(alloc, text, runs.as_slice(), count);
         }
-        add_listed(text, pieces.as_slice(), "and")?;
-        if count > pieces.len() {
-            write!(text, " ({count} releases)")?;
-        }
-        Ok(())
+        add_listed(text, pieces.as_slice(), "and")
     }
 
     // The first and the last version of these runs of so many releases.

@@ -1,76 +1,74 @@
 // Refutations in sentences.
 
 mod causes;
+mod chain;
 mod conclusion;
+mod front;
+mod left_out;
 mod sentence;
+mod side;
 pub mod steps;
 
-use crate::derivation::Derivation;
+use crate::account::Derived;
 use crate::line_breaks::add_wrapped;
-use crate::line_name::LineName;
-use crate::placed_term::PlacedTerm;
+use crate::line_name::{LineName, add_line, add_short};
 use crate::release_set::ReleaseSet;
+use crate::sentences::chain::{Part, parts_of};
+use crate::sentences::steps::Step;
 use lists::Bits;
-use pep508::{Name, Requirement};
-use phrases::skipped_text::add_skipped;
+use pep508::Requirement;
 use problems::{Node, Problem};
 use std::alloc::{AllocError, Global};
-use std::collections::BTreeSet;
+
+/// Whether chains of steps of one shape are told whole.
+#[derive(Clone, Copy, PartialEq, Eq)]
+pub enum Telling {
+    /// By the first step, the last one, and how many lie between.
+    Short,
+    /// Step by step.
+    Long,
+}
 
 /// What sentences are made of.
 #[derive(Clone, Copy)]
 pub struct Sentences<'a> {
     pub alloc: Global,
     pub problem: &'a Problem<'a>,
-    pub conflicts: &'a [Vec<PlacedTerm>],
-    pub derivations: &'a [Derivation],
+    pub derived: Derived<'a>,
     /// The active lines, in their order.
     pub lines: &'a [LineName<'a>],
     /// The conflicts that have a sentence, in the order of their numbers.
-    pub steps: &'a [usize],
+    pub steps: &'a [Step],
+    /// The places of the lines on which the sentences rest.
+    pub cited: &'a [usize],
 }
 
 impl Sentences<'_> {
     /// The conclusion, and the sentences with their numbers; then the releases that were left out of the index.
-    pub fn add_all(&self, text: &mut String) -> Result<(), AllocError> {
-        self.add_conclusion(text)?;
-        for (place, at) in self.steps.iter().enumerate() {
-            self.add_numbered(text, place.saturating_add(1), *at)?;
+    pub fn add_all(&self, text: &mut String, telling: Telling) -> Result<(), AllocError> {
+        if !self.add_front(text)? {
+            self.add_conclusion(text)?;
         }
-        self.add_left_out(text)
+        let parts = parts_of(self.derived, self.steps, telling)?;
+        for part in parts.as_slice() {
+            match part {
+                Part::Step(place) => self.add_numbered(text, *place)?,
+                Part::Chain(first, last) => self.add_chain(text, *first, *last)?,
+            }
+        }
+        self.add_left_out(text, parts.as_slice())
     }
 
     // A sentence with its number, in lines of a terminal's width.
-    fn add_numbered(&self, text: &mut String, number: usize, at: usize) -> Result<(), AllocError> {
+    fn add_numbered(&self, text: &mut String, place: usize) -> Result<(), AllocError> {
+        let Some(step) = self.steps.get(place) else {
+            return Ok(());
+        };
+        let number = place.saturating_add(1);
         let mut sentence = format!(in self.alloc; "{number}. ")?;
-        self.add_sentence(&mut sentence, at)?;
+        self.add_sentence(&mut sentence, step)?;
         sentence.push_str(".")?;
         add_wrapped(text, sentence.as_str(), "   ")
-    }
-
-    // The releases that were left out of the index, of the names that are told.
-    fn add_left_out(&self, text: &mut String) -> Result<(), AllocError> {
-        let mut names = BTreeSet::new(self.alloc);
-        for at in self.steps {
-            self.add_names(&mut names, *at)?;
-        }
-        let problem = self.problem;
-        for name in names.iter() {
-            add_skipped(text, problem.snapshot.skipped(), name)?;
-        }
-        Ok(())
-    }
-
-    fn add_names(&self, names: &mut BTreeSet<Name>, at: usize) -> Result<(), AllocError> {
-        if let Some(conflict) = self.conflicts.get(at) {
-            for term in conflict.as_slice() {
-                names.insert(term.node.name.clone()?)?;
-            }
-        }
-        if let Some(exhausted) = self.derivations.get(at).and_then(|own| own.exhausted()) {
-            names.insert(exhausted.node.name.clone()?)?;
-        }
-        Ok(())
     }
 
     // These releases of a node's name.
@@ -85,6 +83,19 @@ impl Sentences<'_> {
     fn line_requirement(&self, place: usize) -> Option<&Requirement> {
         let problem = self.problem;
         problem.active.as_slice().get(place)
+    }
+
+    // A line with what it requires.
+    fn add_whole_line(&self, text: &mut String, place: usize) -> Result<(), AllocError> {
+        add_line(text, self.lines.get(place), self.line_requirement(place))
+    }
+
+    // A line by its number alone, where the conclusion tells what it requires.
+    fn add_known_line(&self, text: &mut String, place: usize) -> Result<(), AllocError> {
+        if self.is_named(place) {
+            return add_short(text, self.lines.get(place));
+        }
+        self.add_whole_line(text, place)
     }
 }
 

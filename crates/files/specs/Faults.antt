@@ -18,6 +18,11 @@ fault_of (refusals.FilesDisagree (saved.Lock name)) = faults.Input (names.Lock n
 fault_of (refusals.JournalBroken line) = faults.Input names.Journal (inputs.JournalBroken line)
 fault_of refusal = faults.Refused refusal
 
+-- what was read, or its refusal as a fault
+abbrev pub refused : {T : Type 0} → Result T Refusal → Result T Fault
+refused (Ok value) = Ok value
+refused (Err refusal) = Err (fault_of refusal)
+
 -- what was read of a file, or its fault as that of the file; want of memory is no file's
 abbrev pub of_file : {T : Type 0} → InputFile → Result T InputFault → Result T Fault
 of_file file (Ok value) = Ok value

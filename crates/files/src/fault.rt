@@ -1,11 +1,14 @@
 // Why the files of a call can't be read or saved.
 
-ghost use Rattle.std.specs.Prelude.{◌≡◌, ◌⊎◌, IfErr, IfOk, None};
+ghost use Rattle.std.specs.IoError.{error_kind};
+ghost use Rattle.std.specs.Prelude.{◌≡◌};
+ghost use Rattle.files.specs.Errors.{nothing_unless_memory, unwritten_by};
 ghost use Rattle.files.specs.Faults.{fault_of, of_file};
 ghost use Rattle.files.specs.declared.fault.Fault.TheVariants.{OutOfMemory};
 
 use crate::input_files::{InputFault, InputFile};
 use edits::{Refusal, SavedFile};
+use lists::Text;
 use std::alloc::{AllocError, AllocFailed};
 use std::io::{self, ErrorKind};
 
@@ -18,6 +21,8 @@ pub enum Fault {
     Unwritten(InputFile),
     /// The history refuses a command, or a target is refused, and no file is at fault.
     Refused(Refusal),
+    /// Pins are handed in for a target of this name, and there is none.
+    NoTarget(Text),
     OutOfMemory,
 }
 
@@ -71,7 +76,7 @@ pub fn in_file<T>(file: InputFile, read: Result<T, InputFault>) -> Result<T, Fau
 
 /// Why a file can't be written.
 pub(crate) fn unwritten(file: InputFile, error: &io::Error) -> Fault
-    ensures { (result ≡ OutOfMemory) ⊎ (result ≡ Fault.Unwritten file) }
+    ensures { result ≡ unwritten_by file error.now }
 {
     match error.kind() {
         ErrorKind::OutOfMemory => Fault::OutOfMemory,
@@ -81,8 +86,7 @@ pub(crate) fn unwritten(file: InputFile, error: &io::Error) -> Fault
 
 /// Nothing, in the place of what an error kept from us. Only want of memory isn't passed over.
 pub(crate) fn passed_over<T>(error: &io::Error) -> Result<Option<T>, Fault>
-    ensures nothing { IfOk result (λ kept. kept ≡ None) }
-    ensures memory { IfErr result (λ fault. fault ≡ OutOfMemory) }
+    ensures { result ≡ nothing_unless_memory (error_kind error.now) }
 {
     match error.kind() {
         ErrorKind::OutOfMemory => Err(Fault::OutOfMemory),

@@ -1,12 +1,25 @@
 // What a history begins with.
 
 use crate::fault::{Fault, in_file};
+use crate::handed_in::HandedIn;
 use crate::input_files::{InputFile, read_bytes, read_index, read_requirements};
+use crate::pins_files::{PinsPath, PinsTarget, pins_of, read_pins};
 use crate::saved_files::SavedFiles;
 use crate::target_files::{TargetFile, read_all, targets_of};
-use edits::{ReqFile, Targets};
+use edits::{FirstTargets, ReqFile, Targets};
 use snapshot::Snapshot;
+use std::alloc::{AllocError, Global};
+use std::io::Read;
 use std::rt::Files;
+
+/// Where the files stand that a history begins with, beside the requirements file.
+#[derive(Drop)]
+pub struct FirstPaths<'a> {
+    pub index: &'a str,
+    pub targets: Vec<TargetFile>,
+    /// The pins that it keeps.
+    pub pins: Vec<PinsPath>,
+}
 
 /// What a history begins with.
 #[derive(Drop)]
@@ -14,30 +27,46 @@ pub struct FirstInputs {
     /// The files that it is saved in the place of: the requirements file alone.
     pub files: SavedFiles,
     pub lines: ReqFile,
-    pub targets: Targets,
+    pub first: FirstTargets,
     pub snapshot: Snapshot,
 }
 
-/// Reads the requirements file of a folder, an index and the environments of targets. No history and no lock is
-/// read. All files are read before a fault in one of them is told.
-pub fn first_inputs<R: Files + AllocGlobal>(
+/// Reads the requirements file of a folder, an index, the environments of targets, and files of pins, which standard
+/// input may be one of. No history and no lock is read. All files are read before a fault in one of them is told.
+pub fn first_inputs<R: Files + AllocGlobal, I: Read + Drop>(
     rt: &R,
     dir: &str,
-    index: &str,
-    targets: Vec<TargetFile>,
+    paths: FirstPaths<'_>,
+    input: I,
 ) -> Result<FirstInputs, Fault> {
     let alloc = rt.alloc();
+    let FirstPaths {
+        index,
+        targets,
+        pins,
+    } = paths;
     let files = SavedFiles::requirements_alone(rt, dir)?;
     let index = read_bytes(rt, InputFile::Index, index)?;
     let environments = read_all(rt, targets)?;
+    let pins = read_pins(&mut HandedIn::new(rt, input), pins)?;
     let lines = read_requirements(alloc, files.requirements());
     let lines = in_file(InputFile::Requirements, lines)?;
     let snapshot = in_file(InputFile::Index, read_index(alloc, index.as_slice()))?;
     let targets = targets_of(alloc, environments)?;
+    let pins = pins_of(alloc, pins, named_targets(alloc, &targets)?.as_slice())?;
     Ok(FirstInputs {
         files,
         lines,
-        targets,
+        first: FirstTargets { targets, pins },
         snapshot,
     })
+}
+
+// The targets, for which pins may be handed in.
+fn named_targets(alloc: Global, targets: &Targets) -> Result<Vec<PinsTarget<'_>>, AllocError> {
+    let mut named = Vec::new(alloc);
+    for (name, environment) in targets.as_slice() {
+        named.push(PinsTarget { name, environment })?;
+    }
+    Ok(named)
 }

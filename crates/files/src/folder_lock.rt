@@ -1,5 +1,9 @@
 // The lock on the folder of a history, by which calls wait for one another.
 
+ghost use Rattle.std.specs.IoError.{error_kind, raw_os_error};
+ghost use Rattle.std.specs.Prelude.{◌≡◌, ◌↔◌, false, pos, true, IsTrue};
+ghost use Rattle.files.specs.Errors.{tells_no_folder, tells_no_locks};
+
 use crate::fault::{Fault, passed_over, unwritten};
 use crate::input_files::InputFile;
 use std::fs::{File, OpenFile};
@@ -77,7 +81,9 @@ fn open_folder<R: Files + AllocGlobal>(rt: &R, dir: &str) -> io::Result<R::File>
 }
 
 // Whether no folder has this path. Then none of its files can be read, which is told of the first.
-fn is_without_folder(error: &io::Error) -> bool {
+fn is_without_folder(error: &io::Error) -> bool
+    ensures { result ≡ tells_no_folder (error_kind error.now) }
+{
     match error.kind() {
         ErrorKind::NotFound
         | ErrorKind::NotADirectory
@@ -88,7 +94,11 @@ fn is_without_folder(error: &io::Error) -> bool {
 }
 
 // Whether the file system knows no locks.
-fn is_without_locks(error: &io::Error) -> bool {
+fn is_without_locks(error: &io::Error) -> bool
+    ensures told { tells_no_locks (error_kind error.now) ≡ true → result ≡ true }
+    ensures number { tells_no_locks (error_kind error.now) ≡ false
+        → (IsTrue result ↔ (raw_os_error error.now ≡ Some (pos 37))) }
+{
     match error.kind() {
         ErrorKind::Unsupported | ErrorKind::InvalidInput => true,
         _ => error.raw_os_error() == Some(NO_LOCKS),

@@ -4,7 +4,8 @@ ghost use Rattle.std.specs.Fmt.{DisplaysOnOk};
 ghost use Rattle.std.specs.Prelude.{◌≡◌, ◌⊎◌, IfErr, Some};
 ghost use Rattle.lists.specs.Answers.{Answers};
 ghost use Rattle.states.specs.TargetNames.{file_name};
-ghost use Rattle.files.specs.FileNames.{environment_name, name_of};
+ghost use Rattle.files.specs.Errors.{read_as};
+ghost use Rattle.files.specs.FileNames.{name_of, named};
 ghost use Rattle.files.specs.Inputs.{environment_in, index_in, requirements_in};
 ghost use Rattle.files.specs.declared.fault.Fault.TheVariants as faults;
 ghost use Rattle.files.specs.declared.input_files.InputFault.TheVariants.{OutOfMemory};
@@ -12,6 +13,7 @@ ghost use Rattle.files.specs.declared.input_files.InputFault.TheVariants.{OutOfM
 use crate::fault::Fault;
 use edits::TargetName;
 use pep508::{Cause, Environment, Fault as LineFault, ReqFile};
+use pylock::Fault as LockFault;
 use snapshot::{Fault as IndexFault, Snapshot};
 use std::alloc::{AllocError, Global};
 use std::io::{self, ErrorKind};
@@ -31,9 +33,17 @@ pub enum InputFile {
     Index,
     /// The environment of this target.
     Environment(TargetName),
+    /// The requirements file that is put in the place of the folder's.
+    NewRequirements,
+    /// The requirements file as it was before somebody changed the folder's.
+    OldRequirements,
+    /// The pins of this target, or of every target.
+    Pins(TargetName),
 }
 
 impl Clone for InputFile {
+    ghost is_clone = { λ file copy. copy ≡ file };
+
     fn clone(&self) -> Result<InputFile, AllocError> {
         Ok(match self {
             InputFile::Requirements => InputFile::Requirements,
@@ -41,6 +51,9 @@ impl Clone for InputFile {
             InputFile::Journal => InputFile::Journal,
             InputFile::Index => InputFile::Index,
             InputFile::Environment(name) => InputFile::Environment(name.clone()?),
+            InputFile::NewRequirements => InputFile::NewRequirements,
+            InputFile::OldRequirements => InputFile::OldRequirements,
+            InputFile::Pins(name) => InputFile::Pins(name.clone()?),
         })
     }
 }
@@ -54,7 +67,10 @@ impl fmt::Display for InputFile {
             InputFile::Lock(name) => write_lock_name(f, name.as_str()),
             InputFile::Journal => write!(f, "reqlock.journal"),
             InputFile::Index => write!(f, "index"),
-            InputFile::Environment(name) => write_environment(f, name.as_str()),
+            InputFile::Environment(name) => write_named(f, "environment", name.as_str()),
+            InputFile::NewRequirements => write!(f, "new requirements"),
+            InputFile::OldRequirements => write!(f, "old requirements"),
+            InputFile::Pins(name) => write_named(f, "pins", name.as_str()),
         }
     }
 }
@@ -71,13 +87,17 @@ fn write_lock_name<W: fmt::Write>(f: &mut fmt::Formatter<W>, name: &str) -> fmt:
 }
 
 // The empty name of a target is left out with its space.
-fn write_environment<W: fmt::Write>(f: &mut fmt::Formatter<W>, name: &str) -> fmt::Result
-    ensures { DisplaysOnOk W.write_str_gives f.old result (Some (environment_name name.now)) f.new }
+fn write_named<W: fmt::Write>(
+    f: &mut fmt::Formatter<W>,
+    word: &'static str,
+    name: &str,
+) -> fmt::Result
+    ensures { DisplaysOnOk W.write_str_gives f.old result (Some (named word.now name.now)) f.new }
 {
     if name.is_empty() {
-        write!(f, "environment")
+        write!(f, "{word}")
     } else {
-        write!(f, "environment {name}")
+        write!(f, "{word} {name}")
     }
 }
 
@@ -92,6 +112,10 @@ pub enum InputFault {
     Index(IndexFault),
     /// The environment is refused.
     Environment(Cause),
+    /// The file of pins is no lock.
+    Lock(LockFault),
+    /// This line of a file of pins, from 1, is no pin.
+    NoPin(usize),
     /// The file isn't the one that was saved with the journal.
     Disagrees,
     /// The journal doesn't read at this line, from 1.
@@ -116,10 +140,20 @@ pub fn read_bytes<R: Files + AllocGlobal>(
     ensures { IfErr result (λ fault. (fault ≡ faults.OutOfMemory)
         ⊎ (fault ≡ faults.Input file InputFault.Unreadable)) }
 {
-    match read_file(rt, &file, path) {
+    let read = read_file(rt, &file, path);
+    read_as(file, read)
+}
+
+// What was read of a file, or why it can't be read.
+fn read_as<T>(file: InputFile, read: io::Result<T>) -> Result<T, Fault>
+    ensures { result ≡ read_as file read }
+{
+    match read {
         Ok(bytes) => Ok(bytes),
-        Err(error) if error.kind() == ErrorKind::OutOfMemory => Err(Fault::OutOfMemory),
-        Err(_) => Err(Fault::Input(file, InputFault::Unreadable)),
+        Err(error) => match error.kind() {
+            ErrorKind::OutOfMemory => Err(Fault::OutOfMemory),
+            _ => Err(Fault::Input(file, InputFault::Unreadable)),
+        },
     }
 }
 
@@ -139,9 +173,11 @@ pub fn read_file<R: Files + AllocGlobal>(
 // Whether a call names the file itself, in a place where the shell and the system hand over.
 fn is_handed_over(file: &InputFile, path: &str) -> bool {
     match file {
-        InputFile::Index | InputFile::Environment(_) => {
-            path.starts_with("/dev/") || path.starts_with("/proc/")
-        }
+        InputFile::Index
+        | InputFile::Environment(_)
+        | InputFile::NewRequirements
+        | InputFile::OldRequirements
+        | InputFile::Pins(_) => { path.starts_with("/dev/") || path.starts_with("/proc/") }
         InputFile::Requirements | InputFile::Lock(_) | InputFile::Journal => false,
     }
 }

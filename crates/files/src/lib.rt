@@ -10,8 +10,11 @@
 mod fault;
 pub mod first_inputs;
 mod folder_lock;
+pub mod hand_changed;
+pub mod handed_in;
 mod input_files;
 mod links_out;
+pub mod pins_files;
 mod replacement;
 mod saved_files;
 pub mod saved_history;

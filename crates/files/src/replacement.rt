@@ -4,19 +4,33 @@
 use crate::fault::{Fault, passed_over, unwritten};
 use crate::folder_lock::sync_folder;
 use crate::input_files::InputFile;
+use crate::saved_files::path_of;
 use std::fs::{File, Metadata, OpenFile, OpenOptions};
 use std::io::{ErrorKind, Write};
+use std::marker::Model;
 use std::os::unix::fs::{MetadataExt, lchown};
 use std::path::Path;
 use std::rt::Files;
 use std::{fs, io};
 
 /// A file that is to be replaced, and the bytes that are to stand in its place.
-#[derive(Drop)]
 pub struct Replacement<'a> {
     pub file: InputFile,
-    pub path: String,
     pub bytes: &'a [u8],
+}
+
+impl<'a> Drop for Replacement<'a> {
+    fn drop(self) {
+        let Replacement { file: _, bytes: _ } = self;
+    }
+}
+
+impl<'a> Model for Replacement<'a> {
+    ghost use Rattle.files.specs.Replaced.{Replaced};
+
+    ghost Value = { Replaced };
+
+    ghost view = { λ r. record { file = r.file; bytes = r.bytes.now } };
 }
 
 /// Where a file stands, and where it is written before it is renamed.
@@ -27,16 +41,17 @@ pub struct Places {
     pub beside: String,
 }
 
-/// Replaces the files in turn. Where one can't be written, none is replaced, and what was written
+/// Replaces the files of a folder in turn. Where one can't be written, none is replaced, and what was written
 /// beside is removed. Where one can't be renamed when others are, it stays beside with
 /// those behind it.
 pub fn replace_all<R: Files + AllocGlobal>(
     rt: &R,
+    dir: &str,
     replacements: &[Replacement<'_>],
 ) -> Result<(), Fault> {
     let mut staged = Vec::with_capacity(rt.alloc(), replacements.len())?;
     for replacement in replacements {
-        match stage(rt, replacement) {
+        match stage(rt, dir, replacement) {
             Ok(places) => staged.push(places)?,
             Err(error) => {
                 remove_staged(rt, staged.as_slice());
@@ -85,9 +100,14 @@ fn sync_names<R: Files + AllocGlobal>(rt: &R, place: &str) {
 }
 
 // Writes a file beside its place.
-fn stage<R: Files + AllocGlobal>(rt: &R, replacement: &Replacement<'_>) -> io::Result<Places> {
+fn stage<R: Files + AllocGlobal>(
+    rt: &R,
+    dir: &str,
+    replacement: &Replacement<'_>,
+) -> io::Result<Places> {
     let file = replacement.file.clone()?;
-    let places = places_of(rt, file, replacement.path.as_str())?;
+    let path = path_of(rt.alloc(), dir, &file)?;
+    let places = places_of(rt, file, path.as_str())?;
     let replaced = metadata_at(rt, places.place.as_str())?;
     let mut file = create_anew(rt, places.beside.as_str())?;
     if let Some(metadata) = &replaced {

@@ -1,17 +1,21 @@
 // The files of the folder: the requirements file, the lock of each target, and the journal.
 
-ghost use Rattle.std.specs.Prelude.{◌≡◌, ◌⊎◌, [], IfOk, Ok, Err, ℕ};
+ghost use Rattle.std.specs.Prelude.{◌≡◌, ◌⊎◌, ◌++◌, [], IfErr, IfOk, OnOk, Ok, Err, string_bytes, ℕ};
 ghost use Rattle.journal.specs.Opens.{NamesTargets, Opens};
 ghost use Rattle.states.specs.declared.refusal.Refusal.TheVariants.{JournalBroken};
+ghost use Rattle.files.specs.Beside.{StandFor};
 ghost use Rattle.files.specs.Faults.{TellsFault};
+ghost use Rattle.files.specs.FileNames.{path_of};
+ghost use Rattle.files.specs.Replacements.{has_lock, lock_replacements, replacements_of, replacing};
+ghost use Rattle.files.specs.declared.fault.Fault.TheVariants.{OutOfMemory};
 
 use crate::fault::Fault;
 use crate::input_files::{InputFault, InputFile, read_bytes};
 use crate::replacement::{Places, Replacement, places_at, replace_all};
 use crate::stopped_save::{Beside, end_save, remove_left_of_opened};
 use edits::{Refusal, TargetName};
-use journal::{Journal, Session};
-use lists::Seq;
+use journal::{Journal, Saved, Session};
+use lists::{Seq, Text};
 use std::alloc::{AllocError, Global};
 use std::collections::BTreeMap;
 use std::rt::Files;
@@ -91,7 +95,14 @@ impl SavedFiles {
         ensures { TellsFault (Opens self.now.requirements.items self.now.locks.entries
             self.now.journal) result }
     {
-        let requirements = self.requirements.as_slice();
+        self.open_with(alloc, self.requirements.as_slice())
+    }
+
+    /// The history that the files stand for with this text in the place of the requirements file.
+    pub fn open_with(&self, alloc: Global, requirements: &[u8]) -> Result<Session, Fault>
+        ensures { TellsFault (Opens requirements.now self.now.locks.entries self.now.journal)
+            result }
+    {
         Ok(Session::open(alloc, requirements, &self.locks, &self.journal)?)
     }
 
@@ -101,68 +112,111 @@ impl SavedFiles {
         self,
         rt: &R,
         dir: &str,
-    ) -> Result<(SavedFiles, Session), Fault> {
-        let (files, session) = match self.open(rt.alloc()) {
-            Ok(session) => (self, session),
+    ) -> Result<(SavedFiles, Session), Fault>
+        ensures { IfOk result (λ opened. StandFor opened.0 opened.1) }
+    {
+        match self.open(rt.alloc()) {
+            Ok(session) => {
+                remove_left_of_opened(rt, dir, &session)?;
+                Ok((self, session))
+            }
             Err(Fault::Input(file, fault)) => {
                 if !end_save(rt, dir)? {
                     return Err(Fault::Input(file, fault));
                 }
                 let files = SavedFiles::read(rt, dir)?;
                 let session = files.open(rt.alloc())?;
-                (files, session)
+                remove_left_of_opened(rt, dir, &session)?;
+                Ok((files, session))
             }
-            Err(fault) => return Err(fault),
-        };
-        remove_left_of_opened(rt, dir, &session)?;
-        Ok((files, session))
+            Err(fault) => Err(fault),
+        }
     }
 
-    /// Saves a history in the place of these files: the requirements file, the locks by name, and the
-    /// journal. A file that doesn't change isn't touched.
+    /// Saves a history in the place of these files. A file that doesn't change isn't touched.
     pub fn replace<R: Files + AllocGlobal>(
         &self,
         rt: &R,
         dir: &str,
         session: &Session,
     ) -> Result<(), Fault> {
-        let alloc = rt.alloc();
-        let saved = session.save(alloc)?;
-        let mut texts = Vec::new(alloc);
-        let old = Some(self.requirements.as_slice());
-        texts.push((InputFile::Requirements, old, saved.requirements.as_str()))?;
-        for (name, lock) in saved.locks.iter() {
-            let old = self.locks.get(name).map(|lock| lock.as_slice());
-            texts.push((InputFile::Lock(name.clone()?), old, lock.as_str()))?;
+        let saved = session.save(rt.alloc())?;
+        let replacements = self.replacements(rt.alloc(), &saved)?;
+        replace_all(rt, dir, replacements.as_slice())
+    }
+
+    // The files that are to hold other bytes than were read, with these: the requirements file, the locks by
+    // name, and the journal.
+    fn replacements<'a>(
+        &self,
+        alloc: Global,
+        saved: &'a Saved,
+    ) -> Result<Vec<Replacement<'a>>, AllocError>
+        ensures { IfOk result (λ files. files.items ≡ replacements_of self.now saved.now) }
+    {
+        let mut files = Vec::new(alloc);
+        let text = saved.requirements.as_str();
+        let is_same = self.requirements.as_slice() == text.as_bytes();
+        push_unless(&mut files, is_same, InputFile::Requirements, text)?;
+        self.push_locks(&mut files, &saved.locks)?;
+        let text = saved.journal.as_str();
+        let is_same = self.journal.bytes() == text.as_bytes();
+        push_unless(&mut files, is_same, InputFile::Journal, text)?;
+        Ok(files)
+    }
+
+    // Puts the locks that are to hold other bytes behind other files.
+    fn push_locks<'a>(
+        &self,
+        files: &mut Vec<Replacement<'a>>,
+        locks: &'a BTreeMap<TargetName, Text>,
+    ) -> Result<(), AllocError>
+        ensures { OnOk result (files.new.items ≡ files.old.items
+            ++ lock_replacements self.now locks.now.entries) }
+    {
+        for (name, lock) in locks {
+            let text = lock.as_str();
+            let is_same = self.has_lock(name, text.as_bytes());
+            push_unless(files, is_same, InputFile::Lock(name.clone()?), text)?;
         }
-        let old = Some(self.journal.bytes());
-        texts.push((InputFile::Journal, old, saved.journal.as_str()))?;
-        replace_all(rt, changed_files(alloc, dir, texts)?.as_slice())
+        Ok(())
+    }
+
+    // Whether the lock of the target was read, and holds these bytes.
+    fn has_lock(&self, name: &TargetName, bytes: &[u8]) -> bool
+        ensures { result ≡ has_lock self.now name.now bytes.now }
+    {
+        match self.locks.get(name) {
+            Some(lock) => lock.as_slice() == bytes,
+            None => false,
+        }
     }
 }
 
-// Of files with what they hold and the texts that they are to hold, those that don't hold them.
-fn changed_files<'a>(
-    alloc: Global,
-    dir: &str,
-    texts: Vec<(InputFile, Option<&[u8]>, &'a str)>,
-) -> Result<Vec<Replacement<'a>>, Fault> {
-    let mut changed = Vec::new(alloc);
-    for (file, old, new) in texts {
-        let bytes = new.as_bytes();
-        if old != Some(bytes) {
-            let path = path_of(alloc, dir, &file)?;
-            changed.push(Replacement { file, path, bytes })?;
-        }
+// Puts a file with the bytes that are to stand in its place behind others, unless it holds them.
+fn push_unless<'a>(
+    files: &mut Vec<Replacement<'a>>,
+    is_same: bool,
+    file: InputFile,
+    text: &'a str,
+) -> Result<(), AllocError>
+    ensures { OnOk result
+        (files.new.items ≡ files.old.items ++ replacing is_same file text.now) }
+{
+    if is_same {
+        return Ok(());
     }
-    Ok(changed)
+    let bytes = text.as_bytes();
+    files.push(Replacement { file, bytes })?;
+    Ok(())
 }
 
 /// The names of the targets that a journal has. A broken one has none: what is broken is told where it
 /// is opened.
 pub fn names_in(alloc: Global, journal: &Journal) -> Result<Seq<TargetName>, Fault>
-    ensures { IfOk result (λ names. NamesTargets journal.now (Ok names)
+    ensures names { IfOk result (λ names. NamesTargets journal.now (Ok names)
         ⊎ ((names ≡ []) × (line : ℕ) × NamesTargets journal.now (Err (JournalBroken line)))) }
+    ensures memory { IfErr result (λ fault. fault ≡ OutOfMemory) }
 {
     match journal.targets(alloc) {
         Ok(names) => Ok(names),
@@ -192,7 +246,9 @@ pub fn places_in<R: Files + AllocGlobal>(
 }
 
 /// The path of a file of the folder.
-pub fn path_of(alloc: Global, dir: &str, file: &InputFile) -> Result<String, AllocError> {
+pub fn path_of(alloc: Global, dir: &str, file: &InputFile) -> Result<String, AllocError>
+    ensures { IfOk result (λ path. string_bytes path ≡ path_of dir.now file.now) }
+{
     format!(in alloc; "{dir}/{file}")
 }
 

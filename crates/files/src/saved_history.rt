@@ -1,5 +1,8 @@
 // The history that the files of a folder stand for, with an index or without.
 
+ghost use Rattle.std.specs.Prelude.{IfOk};
+ghost use Rattle.files.specs.Beside.{SomeStandFor, StandFor};
+
 use crate::fault::{Fault, in_file};
 use crate::folder_lock::{LockFile, lock_to_read};
 use crate::input_files::{InputFile, read_bytes, read_index};
@@ -21,6 +24,7 @@ where
 pub fn saved_session<R: Files + AllocGlobal>(rt: &R, dir: &str) -> Result<Session, Fault>
 where
     R::File: LockFile,
+    ensures { IfOk result SomeStandFor }
 {
     saved_files(rt, dir)?.open(rt.alloc())
 }
@@ -33,6 +37,7 @@ pub fn session_over<R: Files + AllocGlobal>(
 ) -> Result<(Session, Snapshot), Fault>
 where
     R::File: LockFile,
+    ensures { IfOk result (λ opened. SomeStandFor opened.0) }
 {
     let files = saved_files(rt, dir)?;
     let bytes = read_bytes(rt, InputFile::Index, index)?;
@@ -55,7 +60,9 @@ pub fn history_to_save<R: Files + AllocGlobal>(
     rt: &R,
     dir: &str,
     index: &str,
-) -> Result<SavedHistory, Fault> {
+) -> Result<SavedHistory, Fault>
+    ensures { IfOk result (λ saved. StandFor saved.files saved.session) }
+{
     let alloc = rt.alloc();
     let files = SavedFiles::read_to_save(rt, dir)?;
     let index = read_bytes(rt, InputFile::Index, index)?;

@@ -1,5 +1,9 @@
 // A save that was stopped between two files, and what is left of it beside the places of the others.
 
+ghost use Rattle.std.specs.Prelude.{◌≡◌, ◌++◌, [], IfOk, IsSomeAnd, OnOk, map};
+ghost use Rattle.journal.specs.Past.{IsAtEnd, IsRedone, IsUndone, present};
+ghost use Rattle.files.specs.Beside.{completed_by, files_of, has, has_lines, has_requirements, one_where};
+
 use crate::fault::Fault;
 use crate::input_files::InputFile;
 use crate::replacement::{Places, rename_to_place};
@@ -23,12 +27,18 @@ pub struct Beside {
 
 impl Beside {
     /// No file.
-    pub fn none(alloc: Global) -> Beside {
+    pub fn none(alloc: Global) -> Beside
+        ensures { files_of result ≡ [] }
+    {
         Beside::of(alloc, false, false)
     }
 
     // No lock, and of the other two those that are told.
-    fn of(alloc: Global, requirements: bool, journal: bool) -> Beside {
+    fn of(alloc: Global, requirements: bool, journal: bool) -> Beside
+        ensures requirements { result.requirements ≡ requirements }
+        ensures locks { result.locks.keys ≡ [] }
+        ensures journal { result.journal ≡ journal }
+    {
         Beside {
             requirements,
             locks: BTreeSet::new(alloc),
@@ -37,29 +47,51 @@ impl Beside {
     }
 
     /// Whether this file is one of them.
-    pub fn has(&self, file: &InputFile) -> bool {
+    pub fn has(&self, file: &InputFile) -> bool
+        ensures { result ≡ has self.now file.now }
+    {
         match file {
             InputFile::Requirements => self.requirements,
             InputFile::Lock(name) => self.locks.contains(name),
             InputFile::Journal => self.journal,
-            InputFile::Index | InputFile::Environment(_) => false,
+            InputFile::Index
+            | InputFile::Environment(_)
+            | InputFile::NewRequirements
+            | InputFile::OldRequirements
+            | InputFile::Pins(_) => false,
         }
     }
 
     // The files, in the order in which a save renames them to their places.
-    fn files(&self, alloc: Global) -> Result<Vec<InputFile>, AllocError> {
+    fn files(&self, alloc: Global) -> Result<Vec<InputFile>, AllocError>
+        ensures { IfOk result (λ files. files.items ≡ files_of self.now) }
+    {
         let mut files = Vec::new(alloc);
-        if self.requirements {
-            files.push(InputFile::Requirements)?;
-        }
-        for name in self.locks.iter() {
-            files.push(InputFile::Lock(name.clone()?))?;
-        }
-        if self.journal {
-            files.push(InputFile::Journal)?;
-        }
+        push_where(&mut files, self.requirements, InputFile::Requirements)?;
+        push_locks(&mut files, &self.locks)?;
+        push_where(&mut files, self.journal, InputFile::Journal)?;
         Ok(files)
     }
+}
+
+fn push_where(files: &mut Vec<InputFile>, is_one: bool, file: InputFile) -> Result<(), AllocError>
+    ensures { OnOk result (files.new.items ≡ files.old.items ++ one_where is_one file) }
+{
+    if is_one {
+        files.push(file)?;
+    }
+    Ok(())
+}
+
+fn push_locks(files: &mut Vec<InputFile>, names: &BTreeSet<TargetName>) -> Result<(), AllocError>
+    ensures { OnOk result (files.new.items ≡ files.old.items
+        ++ map (λ name. InputFile.Lock name) names.now.keys) }
+{
+    for name in names.iter() {
+        let name = name.clone()?;
+        files.push(InputFile::Lock(name))?;
+    }
+    Ok(())
 }
 
 // Whether the requirements file and whether the journal is taken from beside its place, in the order in
@@ -211,24 +243,24 @@ fn left_with<R: Files + AllocGlobal>(
 }
 
 // The files with which the folder opens, and what it stands for with them. A lock that is told not to
-// fit is taken from beside, each once.
+// fit is taken from beside, each of those that the journal names once.
 fn completed<R: Files + AllocGlobal>(
     rt: &R,
     dir: &str,
     mut beside: Beside,
 ) -> Result<Option<(Beside, Session)>, Fault> {
-    for _ in 0..usize::MAX {
+    for _ in 0..count_named(rt, dir, &beside)? {
         match open_with(rt, dir, &beside) {
-            Ok(session) => return Ok(Some((beside, session))),
             Err(Fault::Input(file, _fault)) => {
                 if !add_lock(&mut beside, file)? {
                     return Ok(None);
                 }
             }
-            Err(fault) => return Err(fault),
+            opened => return completed_by(beside, opened),
         }
     }
-    Ok(None)
+    let opened = open_with(rt, dir, &beside);
+    completed_by(beside, opened)
 }
 
 // Takes the lock of a fault from beside too. It answers whether it is a lock's, and wasn't taken from there.
@@ -236,6 +268,29 @@ fn add_lock(beside: &mut Beside, file: InputFile) -> Result<bool, Fault> {
     match file {
         InputFile::Lock(name) => Ok(beside.locks.insert(name)?),
         _other => Ok(false),
+    }
+}
+
+// How many locks the journal names; none where it can't be read.
+fn count_named<R: Files + AllocGlobal>(rt: &R, dir: &str, beside: &Beside) -> Result<usize, Fault> {
+    match journal_in(rt, dir, beside) {
+        Ok(journal) => Ok(names_in(rt.alloc(), &journal)?.len()),
+        Err(Fault::Input(_file, _fault)) => Ok(0),
+        Err(fault) => Err(fault),
+    }
+}
+
+// These files, where the folder opens with them.
+fn completed_by(
+    beside: Beside,
+    opened: Result<Session, Fault>,
+) -> Result<Option<(Beside, Session)>, Fault>
+    ensures { result ≡ completed_by beside opened }
+{
+    match opened {
+        Ok(session) => Ok(Some((beside, session))),
+        Err(Fault::Input(_file, _fault)) => Ok(None),
+        Err(fault) => Err(fault),
     }
 }
 
@@ -253,36 +308,55 @@ fn open_with<R: Files + AllocGlobal>(rt: &R, dir: &str, beside: &Beside) -> Resu
 }
 
 // Whether a state of the history has this requirements file.
-fn has_requirements(
-    alloc: Global,
-    mut session: Session,
-    requirements: &[u8],
-) -> Result<bool, Fault> {
+fn has_requirements(alloc: Global, mut session: Session, requirements: &[u8]) -> Result<bool, Fault>
+    ensures { IfOk result
+        (λ has. has ≡ has_requirements session.past.states requirements.now) }
+{
     go_to_end(alloc, &mut session)?;
-    for _ in 0..session.steps() {
+    'undone: while session.cursor() > 0 {
         if is_present(alloc, &session, requirements)? {
             return Ok(true);
         }
-        go(alloc, &mut session, &Command::Undo)?;
+        undo(alloc, &mut session)?;
     }
     is_present(alloc, &session, requirements)
 }
 
-fn go_to_end(alloc: Global, session: &mut Session) -> Result<(), Fault> {
-    for _ in session.cursor()..session.steps() {
-        go(alloc, session, &Command::Redo)?;
+fn go_to_end(alloc: Global, session: &mut Session) -> Result<(), Fault>
+    ensures states { OnOk result (session.new.past.states ≡ session.old.past.states) }
+    ensures end { OnOk result (IsAtEnd session.new.past) }
+{
+    'redone: while session.cursor() < session.steps() {
+        redo(alloc, session)?;
     }
     Ok(())
 }
 
-fn go(alloc: Global, session: &mut Session, command: &Command<'_>) -> Result<(), Fault> {
-    match session.apply(alloc, command, &RESOLVER) {
+fn undo(alloc: Global, session: &mut Session) -> Result<(), Fault>
+    ensures { OnOk result (IsUndone session.old.past session.new.past) }
+{
+    match session.apply(alloc, &Command::Undo, &RESOLVER) {
         Reply::Refused(refusal) => Err(Fault::from(refusal)),
-        Reply::Done(_) | Reply::Same => Ok(()),
+        Reply::Done(_) => Ok(()),
+        Reply::Same => Ok(()),
     }
 }
 
-fn is_present(alloc: Global, session: &Session, requirements: &[u8]) -> Result<bool, Fault> {
+fn redo(alloc: Global, session: &mut Session) -> Result<(), Fault>
+    ensures { OnOk result (IsRedone session.old.past session.new.past) }
+{
+    match session.apply(alloc, &Command::Redo, &RESOLVER) {
+        Reply::Refused(refusal) => Err(Fault::from(refusal)),
+        Reply::Done(_) => Ok(()),
+        Reply::Same => Ok(()),
+    }
+}
+
+// Whether the present state has this requirements file.
+fn is_present(alloc: Global, session: &Session, requirements: &[u8]) -> Result<bool, Fault>
+    ensures { IfOk result (λ is. IsSomeAnd (present session.now.past)
+        (λ state. is ≡ has_lines requirements.now state)) }
+{
     let text = session.state().lines().bytes(alloc)?;
     Ok(text.as_str().as_bytes() == requirements)
 }

@@ -1,7 +1,12 @@
 // The words of the command line, with the options that the environment gives.
 
-use crate::report::{Status, report_fault};
+ghost use Rattle.std.specs.IoError.{error_kind};
+ghost use Rattle.std.specs.Prelude.{◌≡◌, map, string_bytes};
+ghost use Rattle.reqlock.specs.GivenWords.{gives, has_option, no_words_by, status_without};
+ghost use Rattle.reqlock.specs.declared.given_words.NoWords.TheVariants as no_words;
+
 use commands::batch::BatchFault;
+use reports::report::{Status, report_fault};
 use std::alloc::{AllocError, AllocFailed};
 use std::env::VarError;
 use std::io::{self, ErrorKind, Write};
@@ -18,18 +23,24 @@ pub enum NoWords {
 }
 
 impl From<AllocError> for NoWords {
+    ghost from_gives = { λ _ words. words ≡ no_words.OutOfMemory };
+
     fn from(_error: AllocError) -> NoWords {
         NoWords::OutOfMemory
     }
 }
 
 impl<T: Drop> From<AllocFailed<T>> for NoWords {
+    ghost from_gives = { λ _ words. words ≡ no_words.OutOfMemory };
+
     fn from(_error: AllocFailed<T>) -> NoWords {
         NoWords::OutOfMemory
     }
 }
 
 impl From<io::Error> for NoWords {
+    ghost from_gives = { λ error words. words ≡ no_words_by (error_kind error) };
+
     fn from(error: io::Error) -> NoWords {
         match error.kind() {
             ErrorKind::OutOfMemory => NoWords::OutOfMemory,
@@ -71,24 +82,35 @@ fn add_option<R: Env + AllocGlobal>(
     Ok(())
 }
 
-// Whether the words give the option, as `--index FILE` or `--index=FILE`. Behind `--` stand texts alone.
-fn has_option(words: &[String], option: &str) -> bool {
-    for word in words {
-        let word = word.as_str();
+/// Whether the words give the option, as `--index FILE` or `--index=FILE`. Behind `--` stand texts alone.
+pub fn has_option(words: &[String], option: &str) -> bool
+    ensures { result ≡ has_option option.now (map string_bytes words.now) }
+{
+    for place in 0..words.len() {
+        let word = words[place].as_str();
         if word == "--" {
             return false;
         }
-        if let Some(rest) = word.strip_prefix(option) {
-            if rest.is_empty() || rest.starts_with("=") {
-                return true;
-            }
+        if gives(word, option) {
+            return true;
         }
     }
     false
 }
 
+fn gives(word: &str, option: &str) -> bool
+    ensures { result ≡ gives option.now word.now }
+{
+    match word.split_once('=') {
+        Some((name, _value)) => name == option,
+        None => word == option,
+    }
+}
+
 /// Tells why there are no words, and gives the status of that.
-pub fn report_words<E: Write>(fault: &NoWords, errors: &mut E) -> Status {
+pub fn report_words<E: Write>(fault: &NoWords, errors: &mut E) -> Status
+    ensures { result ≡ status_without fault.now }
+{
     match fault {
         NoWords::BadWord => {
             let _ = writeln!(errors, "reqlock: a word of the command line is not UTF-8");

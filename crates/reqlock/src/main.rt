@@ -2,20 +2,35 @@
 #![tactic(auto)]
 
 mod given_words;
-mod input_fault_text;
 mod program;
-mod report;
+mod question;
+mod screen;
+mod subcommand_files;
 
 use crate::given_words::{given_words, report_words};
+use crate::program::{Given, program};
+use crate::screen::{Screen, Terminals};
+use std::io::IsTerminal;
 use std::process::ExitCode;
 
 fn main(rt: HostRuntime) -> ExitCode {
     let mut errors = rt.stderr();
+    let mut output = rt.stdout();
+    let terminals = Terminals {
+        output: output.is_terminal(),
+        errors: errors.is_terminal(),
+    };
     let status = match given_words(&rt) {
-        Ok(words) => {
-            let mut output = rt.stdout();
-            program::program(&rt, words.as_slice(), rt.stdin(), &mut output, &mut errors)
-        }
+        Ok(words) => match Screen::new(&rt, terminals) {
+            Ok(screen) => {
+                let given = Given {
+                    words: words.as_slice(),
+                    screen,
+                };
+                program(&rt, given, rt.stdin(), &mut output, &mut errors)
+            }
+            Err(fault) => report_words(&fault, &mut errors),
+        },
         Err(fault) => report_words(&fault, &mut errors),
     };
     ExitCode::from(status as u8)

@@ -1,26 +1,43 @@
 // The program: what each subcommand does.
 
-use crate::report::{Status, report};
-use answers::{print_why, print_why_init, print_why_not};
+use crate::given_words::has_option;
+use crate::question::{answer_why, first_paths};
+use crate::screen::{Screen, shown_stop};
+use crate::subcommand_files::{
+    environments_of, has_old_lines, index_of, lines_of, locked, refuse_no_folder,
+};
 use calls::{Call, Stop};
-use command_line::request::{Invocation, Question, Saving, Subcommand, request};
+use command_line::request::{
+    ColorChoice, Inputs, Invocation, RequestFault, Saving, Subcommand, Telling, request,
+};
+use commands::batch::BatchFault;
+use files::LockFile;
 use files::target_files::{TargetFile, target_files};
-use files::{InputFault, InputFile, LockFile, lock_to_save};
 use journal::Command;
-use lists::Text;
+use reports::report::{Status, report, report_fault};
 use saves::{
-    CallFiles, Details, begin_history, edit_once, rehearse_edit, rehearse_step, run_batch,
-    step_once, try_commands,
+    CallFiles, Details, begin_history, edit_once, rehearse_edit, rehearse_replace, rehearse_step,
+    replace_once, run_batch, step_once, try_commands,
 };
 use std::io::{Read, Write};
 use std::rt::Files;
-use views::{print_check, print_diff, print_history, print_outdated, print_shown, print_skipped};
+use views::{
+    print_check, print_diff, print_export, print_history, print_outdated, print_shown,
+    print_skipped,
+};
 
-/// Does what the words mean, the first of them the program's name. Commands are read from
-/// `input`, replies and help are written to `output`, and other texts to `errors`.
+/// The words of a call, the first of them the program's name, and who reads its answer.
+#[derive(Clone, Copy)]
+pub struct Given<'a> {
+    pub words: &'a [String],
+    pub screen: Screen,
+}
+
+/// Does what the words mean. Commands are read from `input`, replies and help are written to `output`, and other
+/// texts to `errors`.
 pub fn program<R: Files + AllocGlobal, I: Read + Drop, O: Write, E: Write>(
     rt: &R,
-    words: &[String],
+    given: Given<'_>,
     input: I,
     output: &mut O,
     errors: &mut E,
@@ -28,50 +45,110 @@ pub fn program<R: Files + AllocGlobal, I: Read + Drop, O: Write, E: Write>(
 where
     R::File: LockFile,
 {
-    let mut details = Details::none(rt.alloc());
-    let status = match obey(rt, words, input, output, &mut details) {
-        Ok(()) => Status::Done,
-        Err(stop) => report(&stop, output, errors),
+    let alloc = rt.alloc();
+    let invocation = match request(alloc, given.words) {
+        Ok(invocation) => invocation,
+        Err(fault) => return refuse_words(rt, given, fault, output, errors),
     };
-    details.tell(status == Status::Fault, errors);
+    let Invocation {
+        dir,
+        telling,
+        color,
+        subcommand,
+    } = invocation;
+    let style = given.screen.style(color);
+    let mut details = Details::new(alloc, given.screen.manner(telling, color));
+    let mut call = Call {
+        rt,
+        dir,
+        output: &mut *output,
+        style,
+    };
+    let names_environment = has_option(given.words, "--env");
+    let status = match obey(
+        &mut call,
+        subcommand,
+        names_environment,
+        input,
+        &mut details,
+    ) {
+        Ok(()) => Status::Done,
+        Err(stop) => match shown_stop(alloc, stop, style) {
+            Ok(stop) => report(&stop, output, errors),
+            Err(_) => report_fault(BatchFault::OutOfMemory, errors),
+        },
+    };
+    details.tell(alloc, status == Status::Fault, errors);
     status
+}
+
+// Tells why words are no request, and what to type where an option is missing.
+fn refuse_words<R: Files + AllocGlobal, O: Write, E: Write>(
+    rt: &R,
+    given: Given<'_>,
+    fault: RequestFault,
+    output: &mut O,
+    errors: &mut E,
+) -> Status {
+    let manner = given
+        .screen
+        .manner(telling_in(given.words), ColorChoice::Auto);
+    let mut details = Details::new(rt.alloc(), manner);
+    let noted = match &fault {
+        RequestFault::Needed(option) => details.add_needed(rt, *option, given.words),
+        RequestFault::Usage(_) | RequestFault::OutOfMemory => Ok(()),
+    };
+    let status = match noted {
+        Ok(()) => report(&Stop::from(fault), output, errors),
+        Err(_) => report_fault(BatchFault::OutOfMemory, errors),
+    };
+    details.tell(rt.alloc(), status == Status::Fault, errors);
+    status
+}
+
+// How much words ask for that are no request.
+fn telling_in(words: &[String]) -> Telling {
+    if has_option(words, "--quiet") || has_option(words, "-q") {
+        Telling::Quiet
+    } else if has_option(words, "--verbose") || has_option(words, "-v") {
+        Telling::Verbose
+    } else {
+        Telling::Usual
+    }
 }
 
 // What is known of a file that is refused is noted behind all else.
 fn obey<R: Files + AllocGlobal, I: Read + Drop, O: Write>(
-    rt: &R,
-    words: &[String],
+    call: &mut Call<'_, R, O>,
+    subcommand: Subcommand<'_>,
+    names_environment: bool,
     input: I,
-    output: &mut O,
     details: &mut Details,
 ) -> Result<(), Stop>
 where
     R::File: LockFile,
 {
-    let Invocation {
-        dir,
-        is_verbose,
-        subcommand,
-    } = request(rt.alloc(), words)?;
-    let index = index_of(&subcommand);
-    let targets = target_files(rt.alloc(), environments_of(&subcommand))?;
+    let rt = call.rt;
     let mut files = CallFiles {
-        dir,
-        index,
+        dir: call.dir,
+        index: index_of(&subcommand),
+        lines: lines_of(&subcommand),
+        is_old: has_old_lines(&subcommand),
         targets: Vec::new(rt.alloc()),
     };
-    if is_verbose {
-        files.targets = targets.clone()?;
-        details.tell_of(rt.alloc(), &files)?;
-    }
-    let mut call = Call { rt, dir, output };
-    match obey_in(&mut call, subcommand, targets, input, details) {
-        Ok(()) => Ok(()),
-        Err(stop) => {
-            details.add_stop(rt, &files, &stop)?;
-            Err(stop)
+    let is_environment_idle = names_environment && environments_of(&subcommand).is_empty();
+    let done = match target_files(rt.alloc(), environments_of(&subcommand)) {
+        Ok(targets) => {
+            files.targets = targets.clone()?;
+            details.tell_of(rt.alloc(), &files, is_environment_idle)?;
+            obey_in(call, subcommand, targets, input, details)
         }
+        Err(fault) => Err(Stop::from(fault)),
+    };
+    if let Err(stop) = &done {
+        details.add_stop(rt, &files, stop)?;
     }
+    done
 }
 
 fn obey_in<R: Files + AllocGlobal, I: Read + Drop, O: Write>(
@@ -87,10 +164,16 @@ where
     refuse_no_folder(call.dir, &subcommand)?;
     let _lock = locked(call.rt, call.dir, &subcommand)?;
     match subcommand {
-        Subcommand::Init(inputs) => begin_history(call, details, inputs.index, targets),
+        Subcommand::Init(inputs) => init(call, details, &inputs, targets, input),
         Subcommand::Edit(edit, inputs, Saving::Save) => edit_once(call, details, edit, inputs),
         Subcommand::Edit(edit, inputs, Saving::DryRun) => {
             rehearse_edit(call, details, edit, inputs)
+        }
+        Subcommand::Replace(replacement, inputs, Saving::Save) => {
+            replace_once(call, details, &replacement, inputs, input)
+        }
+        Subcommand::Replace(replacement, inputs, Saving::DryRun) => {
+            rehearse_replace(call, details, &replacement, inputs, input)
         }
         Subcommand::Undo(saving) => step(call, details, &Command::Undo, saving),
         Subcommand::Redo(saving) => step(call, details, &Command::Redo, saving),
@@ -101,28 +184,22 @@ where
         Subcommand::Diff(range, format) => print_diff(call, range, format),
         Subcommand::Check(index, format) => print_check(call, index, format),
         Subcommand::Outdated(index, format) => print_outdated(call, index, format),
+        Subcommand::Export(export) => print_export(call, &export),
         Subcommand::Skipped(index) => print_skipped(call, index),
-        Subcommand::Why(question, explains) => answer_why(call, question, explains, targets),
+        Subcommand::Why(question, told) => answer_why(call, question, told, targets, input),
     }
 }
 
-// What `why` answers. A question about a release is always answered in sentences.
-fn answer_why<R: Files + AllocGlobal, O: Write>(
+// A first lock, with the pins that it keeps.
+fn init<R: Files + AllocGlobal, I: Read + Drop, O: Write>(
     call: &mut Call<'_, R, O>,
-    question: Question<'_>,
-    explains: bool,
+    details: &mut Details,
+    inputs: &Inputs<'_>,
     targets: Vec<TargetFile>,
-) -> Result<(), Stop>
-where
-    R::File: LockFile,
-{
-    match question {
-        Question::Edit(edit, inputs) => print_why(call, &edit, inputs, explains),
-        Question::Init(inputs, line) => {
-            print_why_init(call, line, inputs.index, targets, explains)
-        }
-        Question::Release(text, index) => print_why_not(call, text, index),
-    }
+    input: I,
+) -> Result<(), Stop> {
+    let paths = first_paths(call.rt.alloc(), inputs, targets)?;
+    begin_history(call, details, paths, input)
 }
 
 // An undo or a redo, saved or not.
@@ -138,83 +215,5 @@ where
     match saving {
         Saving::Save => step_once(call, details, command),
         Saving::DryRun => rehearse_step(call, details, command),
-    }
-}
-
-// The index of a subcommand that can be verbose.
-fn index_of<'a>(subcommand: &Subcommand<'a>) -> Option<&'a str> {
-    match subcommand {
-        Subcommand::Init(inputs) => Some(inputs.index),
-        Subcommand::Edit(_, inputs, _) => Some(inputs.index),
-        Subcommand::Undo(_)
-        | Subcommand::Redo(_)
-        | Subcommand::Batch(_)
-        | Subcommand::Try(_)
-        | Subcommand::Show(_, _)
-        | Subcommand::Log(_, _)
-        | Subcommand::Diff(_, _)
-        | Subcommand::Check(_, _)
-        | Subcommand::Outdated(_, _)
-        | Subcommand::Skipped(_)
-        | Subcommand::Why(_, _) => None,
-    }
-}
-
-// The values of `--env` of a subcommand that locks new targets; none of any other.
-fn environments_of<'a>(subcommand: &'a Subcommand<'_>) -> &'a [Text] {
-    match subcommand {
-        Subcommand::Init(inputs)
-        | Subcommand::Try(inputs)
-        | Subcommand::Why(Question::Init(inputs, _), _) => inputs.environments.as_slice(),
-        Subcommand::Edit(_, _, _)
-        | Subcommand::Undo(_)
-        | Subcommand::Redo(_)
-        | Subcommand::Batch(_)
-        | Subcommand::Show(_, _)
-        | Subcommand::Log(_, _)
-        | Subcommand::Diff(_, _)
-        | Subcommand::Check(_, _)
-        | Subcommand::Outdated(_, _)
-        | Subcommand::Skipped(_)
-        | Subcommand::Why(Question::Edit(_, _) | Question::Release(_, _), _) => &[],
-    }
-}
-
-// No folder has the empty name, so none of its files can be read; a path made of it would lead to the
-// root folder. `skipped` reads no file of the folder.
-fn refuse_no_folder(dir: &str, subcommand: &Subcommand<'_>) -> Result<(), Stop> {
-    match subcommand {
-        Subcommand::Skipped(_) => Ok(()),
-        _ if dir.is_empty() => Err(Stop::Input(InputFile::Requirements, InputFault::Unreadable)),
-        _ => Ok(()),
-    }
-}
-
-// The lock on the folder of a subcommand that saves. One that only reads locks it as it reads.
-fn locked<R: Files + AllocGlobal>(
-    rt: &R,
-    dir: &str,
-    subcommand: &Subcommand<'_>,
-) -> Result<Option<R::File>, Stop>
-where
-    R::File: LockFile,
-{
-    match subcommand {
-        Subcommand::Init(_)
-        | Subcommand::Edit(_, _, Saving::Save)
-        | Subcommand::Undo(Saving::Save)
-        | Subcommand::Redo(Saving::Save)
-        | Subcommand::Batch(_) => Ok(lock_to_save(rt, dir)?),
-        Subcommand::Edit(_, _, Saving::DryRun)
-        | Subcommand::Undo(Saving::DryRun)
-        | Subcommand::Redo(Saving::DryRun)
-        | Subcommand::Try(_)
-        | Subcommand::Show(_, _)
-        | Subcommand::Log(_, _)
-        | Subcommand::Diff(_, _)
-        | Subcommand::Check(_, _)
-        | Subcommand::Outdated(_, _)
-        | Subcommand::Skipped(_)
-        | Subcommand::Why(_, _) => Ok(None),
     }
 }

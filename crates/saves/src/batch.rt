@@ -7,6 +7,7 @@ use command_line::request::EditInputs;
 use commands::Counted;
 use commands::batch::accepted_in;
 use edits::Pool;
+use files::first_inputs::FirstPaths;
 use files::saved_history::{SavedHistory, history_to_save};
 use files::target_files::TargetFile;
 use journal::Session;
@@ -44,11 +45,17 @@ pub fn try_commands<R: Files + AllocGlobal, I: Read + Drop, O: Write>(
 ) -> Result<(), Stop> {
     let alloc = call.rt.alloc();
     let mut none = Details::none(alloc);
+    let no_input: &[u8] = &[];
+    let paths = FirstPaths {
+        index,
+        targets,
+        pins: Vec::new(alloc),
+    };
     let SavedHistory {
         files: _,
         mut session,
         snapshot,
-    } = begin(call.rt, call.dir, &mut none, index, targets)?;
+    } = begin(call.rt, call.dir, &mut none, paths, no_input)?;
     let pool = Pool::whole(&snapshot);
     let _ = accepts_one(alloc, input, &mut call.output, &mut session, &pool)?;
     let text = session.state().lines().bytes(alloc)?;

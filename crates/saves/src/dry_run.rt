@@ -1,5 +1,6 @@
 // What `--dry-run` prints: an edit, `undo` or `redo` as it would be, of which nothing is saved.
 
+use crate::change_details::Place;
 use crate::details::Details;
 use crate::edit::applied;
 use calls::{Call, Stop, change_between, pool_of, print};
@@ -42,19 +43,19 @@ where
     rehearse(call, details, session, command)
 }
 
-fn rehearse<R: AllocGlobal, O: Write>(
+pub(crate) fn rehearse<R: AllocGlobal, O: Write>(
     call: &mut Call<'_, R, O>,
     details: &mut Details,
     mut session: Session,
     command: &Command<'_>,
 ) -> Result<(), Stop> {
     let alloc = call.rt.alloc();
-    let from = session.cursor();
+    let from = Place::of(&session);
     let mut text = ReplyText::new(alloc)?;
     text.set(&applied(alloc, details, &mut session, command)?);
-    let change = change_between(alloc, &session, from, session.cursor())?;
+    let change = change_between(alloc, &session, from.cursor, session.cursor())?;
     details.add_moved(alloc, &session, from, command, &change)?;
-    let change = diff_text(alloc, &change)?;
+    let change = call.style.change(alloc, diff_text(alloc, &change)?)?;
     print(&mut call.output, text.as_bytes())?;
     Ok(print(&mut call.output, change.as_bytes())?)
 }

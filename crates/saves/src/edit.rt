@@ -1,5 +1,6 @@
 // What an edit, `undo` and `redo` do.
 
+use crate::change_details::Place;
 use crate::details::Details;
 use calls::{Call, Stop, pool_of, print};
 use command_line::request::EditInputs;
@@ -42,7 +43,7 @@ pub fn step_once<R: Files + AllocGlobal, O: Write>(
 
 // Does one command, saves where it was accepted, and prints the reply. What changed is worked out before anything is
 // saved, since memory may be wanting for it.
-fn apply<R: Files + AllocGlobal, O: Write>(
+pub(crate) fn apply<R: Files + AllocGlobal, O: Write>(
     call: &mut Call<'_, R, O>,
     details: &mut Details,
     files: &SavedFiles,
@@ -50,7 +51,7 @@ fn apply<R: Files + AllocGlobal, O: Write>(
     command: &Command<'_>,
 ) -> Result<(), Stop> {
     let alloc = call.rt.alloc();
-    let from = session.cursor();
+    let from = Place::of(&session);
     let mut text = ReplyText::new(alloc)?;
     let reply = applied(alloc, details, &mut session, command)?;
     text.set(&reply);
@@ -72,6 +73,10 @@ pub fn applied(
         Reply::Refused(refusal) => {
             details.add_refusal(alloc, session.state(), command, &refusal)?;
             Err(Stop::from(refusal))
+        }
+        Reply::Same => {
+            details.add_same(command)?;
+            Ok(Reply::Same)
         }
         reply => Ok(reply),
     }

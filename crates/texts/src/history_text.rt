@@ -2,6 +2,7 @@
 
 use crate::diff_text::add_entry_change;
 use crate::line_edit::{Told, told_as};
+use crate::new_lock_text::add_new_lock;
 use edits::{Cause, Change, EntryChange, Line, Splice, TargetName};
 use journal::Session;
 use lists::Text;
@@ -73,21 +74,12 @@ pub(crate) fn step_text(alloc: Global, change: &Change) -> Result<String, AllocE
     Ok(text)
 }
 
-// What a step did: an edit of one line, or a new lock, of which the number of changed entries is told.
+// What a step did: an edit of one line, or a new lock.
 fn add_step(alloc: Global, text: &mut String, change: &Change) -> Result<(), AllocError> {
     match change.splices().first() {
         Some(splice) => add_edit(alloc, text, splice),
-        None => add_new_lock(text, change),
+        None => add_new_lock(alloc, text, change),
     }
-}
-
-fn add_new_lock(text: &mut String, change: &Change) -> Result<(), AllocError> {
-    if change.digests().is_some() {
-        text.push_str("another index, ")?;
-    }
-    let entries = change.entries().len();
-    let word = if entries == 1 { "entry" } else { "entries" };
-    write!(text, "{entries} {word}")
 }
 
 // The line that came behind others, the one that went, the one with other specifiers, or how many were replaced.

@@ -26,7 +26,7 @@ where
     let (from, to) = places_of(range, session.cursor());
     let change = change_between(alloc, &session, from, to)?;
     let text = match format {
-        Format::Lines => diff_text(alloc, &change)?,
+        Format::Lines => call.style.change(alloc, diff_text(alloc, &change)?)?,
         Format::Json => diff_json(alloc, &change, from, to)?,
     };
     show(&mut call.output, text.as_bytes())?;

@@ -1,9 +1,10 @@
-//! What the subcommands print that only read: a lock, a history, what changed, which releases are newer or left out, and whether
-//! the files belong together.
+//! What the subcommands print that only read: a lock, also as other tools read it, a history, what changed, which releases are
+//! newer or left out, and whether the files belong together.
 #![tactic(auto)]
 
 mod check;
 mod diff;
+pub mod export;
 mod log;
 mod outdated;
 mod show;
@@ -11,6 +12,7 @@ mod skipped;
 
 pub use crate::check::print_check;
 pub use crate::diff::print_diff;
+pub use crate::export::print_export;
 pub use crate::log::print_history;
 pub use crate::outdated::print_outdated;
 pub use crate::show::print_shown;

@@ -21,7 +21,9 @@ where
     let alloc = call.rt.alloc();
     let session = saved_session(call.rt, call.dir)?;
     let text = match format {
-        Format::Lines => history_text(alloc, &session, long)?,
+        Format::Lines => call
+            .style
+            .history(alloc, history_text(alloc, &session, long)?)?,
         Format::Json => log_json(alloc, &session)?,
     };
     show(&mut call.output, text.as_bytes())?;

@@ -20,7 +20,10 @@ where
     let alloc = call.rt.alloc();
     let (session, snapshot) = session_over(call.rt, call.dir, index)?;
     let text = match format {
-        Format::Lines => outdated_text(alloc, session.state(), &snapshot)?,
+        Format::Lines => {
+            let text = outdated_text(alloc, session.state(), &snapshot)?;
+            call.style.table(alloc, text)?
+        }
         Format::Json => outdated_json(alloc, session.state(), &snapshot)?,
     };
     show(&mut call.output, text.as_bytes())?;

@@ -12,6 +12,7 @@ use snapshot::Snapshot;
 use std::alloc::{AllocError, Global};
 use std::io::Write;
 use std::rt::Files;
+use texts::Style;
 use texts::entry_text::entry_text;
 use texts::lock_json::lock_json;
 use texts::lock_text::lock_text;
@@ -28,7 +29,7 @@ where
 {
     let (alloc, dir) = (call.rt.alloc(), call.dir);
     let text = match shown {
-        Shown::Table => table_text(alloc, &saved_session(call.rt, dir)?, format)?,
+        Shown::Table => table_text(alloc, &saved_session(call.rt, dir)?, format, call.style)?,
         Shown::Tree => told_tree(alloc, &saved_session(call.rt, dir)?, format)?,
         Shown::Entry(name, None) => {
             let session = saved_session(call.rt, dir)?;
@@ -43,9 +44,14 @@ where
     Ok(())
 }
 
-fn table_text(alloc: Global, session: &Session, format: Format) -> Result<String, AllocError> {
+fn table_text(
+    alloc: Global,
+    session: &Session,
+    format: Format,
+    style: Style,
+) -> Result<String, AllocError> {
     match format {
-        Format::Lines => lock_text(alloc, session.state()),
+        Format::Lines => style.table(alloc, lock_text(alloc, session.state())?),
         Format::Json => lock_json(alloc, session.state(), None, None),
     }
 }

@@ -1,27 +1,20 @@
 """Whether what `why --explain` tells is true: each sentence is taken at its word (sentences.py) and held against the lines, the index
 and the sentences above it. Each states a conflict of sets, which has to follow by the rules of set_refutations.py from those that the
-cited sentences state, and from those that a line or two terms give by themselves."""
+cited sentences state, and from those that a line or two terms give by themselves. The sentence in front has to be true by itself."""
 
 import re
-from functools import partial
-from typing import NamedTuple
 
 from rules import sentences
-from rules.locks import needs_of_choice
-from rules.requirements import Requirement, clause_matches, holds, is_pre, read_line, read_requirement, read_set, want
-from rules.set_refutations import Term, case_of, clash, completes
-from rules.versions import canonical, order_key, read_version
+from rules.left_out_releases import could_matter
+from rules.locks import Choice, lacks, needs_of_choice
+from rules.requirements import Fault, holds, read_line, want
+from rules.set_refutations import Term, case_of, completes
+from rules.told_causes import CauseReader
+from rules.told_releases import MOST_REQUIREMENTS, Line, keys_of, node_of, read_needed, read_requirements, text_of
+from rules.versions import canonical
 
-# how many lines of the file a conclusion names, and how many different requirements a sentence tells
-MOST_LINES, MOST_REQUIREMENTS = 6, 3
-
-
-class Line(NamedTuple):
-    """An active line as sentences name it: in short, and with what it asks for; and the requirement."""
-
-    short: str
-    text: str
-    requirement: Requirement
+# how many lines of the file a conclusion names, and of how many packages the sentence in front tells
+MOST_LINES, MOST_PACKAGES = 6, 2
 
 
 def numbered(file):
@@ -36,186 +29,36 @@ def lines_of(problem, named):
     return [Line(short, sentences.plain(f"{short} ({text})"), requirement) for short, text, requirement in active]
 
 
-def node_of(text):
-    name, extra = re.fullmatch(r"([^\[]+)(?:\[(.+)\])?", text).groups()
-    return name, extra
-
-
-def without_marker(requirement):
-    return requirement.name, tuple(sorted(set(requirement.extras))), tuple(requirement.clauses)
-
-
-def releases_told(problem, name, told):
-    """The keys of the releases that are told. Each version is one of the index, and a run has more than two releases of it."""
-    releases = problem.releases.get(name, [])
-    keys = sorted(problem.places.get(name, {}))
-    if told in ("every release", "the only release"):
-        want(len(keys) == 1 if told == "the only release" else len(keys) > 1, f"{told} of {name}")
-        return frozenset(keys)
-    places = {canonical(release.version): keys.index(order_key(release.version)) for release in releases}
-    versions, count = re.fullmatch(r"(.*?)(?: \(([0-9]+) releases\))?", told).groups()
-    want(" between " not in versions, "releases that are told one by one")
-    found = []
-    for piece in re.split(", | and ", versions):
-        first, to, last = piece.partition(" to ")
-        want(first in places and (not to or last in places), f"releases of {name}: {piece}")
-        run = keys[places[first] : places[last if to else first] + 1]
-        want(len(run) > 2 if to else len(run) == 1, f"a run of releases: {piece}")
-        found += run
-    want(found == sorted(set(found)), f"releases from the oldest on, each once: {told}")
-    want(int(count) == len(found) if count else " to " not in versions, f"the count of {told}")
-    return frozenset(found)
-
-
-class Reader:
-    """Reads sentences over a problem, whose active lines are these. It keeps the conflicts of the sentences, and on which lines they
-    rest: the lines of which one has to be named in the conclusion, and those that may be."""
+class Reader(CauseReader):
+    """Reads sentences over a problem, whose active lines are these. It keeps the names that they are about, and who asks for releases of
+    each."""
 
     def __init__(self, problem, lines):
-        self.problem, self.lines = problem, lines
-        self.conflicts, self.cited, self.names = [], set(), set()
-        self.rested, self.possible = [], set()
+        super().__init__(problem, lines)
+        self.texts, self.shorts = [line.text for line in lines], [line.short for line in lines]
+        self.names, self.asking = set(), []
 
-    def release(self, name, key):
-        return self.problem.releases[name][self.problem.places[name][key]]
-
-    def term(self, told):
-        name, extra = node_of(told.node)
-        return Term(name, extra, releases_told(self.problem, name, told.releases))
-
-    def requirements_at(self, node, key, name):
-        """The dependencies on a name that count at a node with a release."""
-        return [it for it in self.problem.counting(node, self.problem.place_of(node[0], key)) if it.name == name]
-
-    # Reasons: whether a requirement refuses a release for what is told
-
-    def is_reason(self, cause, requirement, release):
-        if cause.kind in ("none", "clause"):
-            (clause,) = read_set(cause.told["clause"])
-            return clause in requirement.clauses and not clause_matches(clause, release.version)
-        if cause.kind == "python":
-            version = canonical(read_version(self.problem.environment["python_full_version"]))
-            told = cause.told["python"], cause.told["version"]
-            return not self.problem.runs(release) and told == (sentences.plain(release.python.strip()), version)
-        if cause.kind == "yanked":
-            return release.is_yanked and not self.problem.takes_yanked(requirement)
-        if cause.kind == "pre":
-            return is_pre(release.version) and not self.problem.takes_pre(requirement)
-        refused = not self.problem.admits(requirement, release)
-        return refused and (cause.kind == "refused" or release.is_yanked and is_pre(release.version))
-
-    def refuses(self, cause, source, name, key):
-        """Whether a line, or each release of a term, refuses a release for what is told."""
-        release = self.release(name, key)
-        if isinstance(source, Line):
-            return source.requirement.name == name and self.is_reason(cause, source.requirement, release)
-        wanted = (self.requirements_at(source[:2], own, name) for own in source.keys)
-        return all(any(self.is_reason(cause, it, release) for it in each) for each in wanted)
-
-    def sources(self, cause, step, node, keys, need):
-        """Who may be meant: who is named; or else what needs the node; or, of a reason that names nobody, also another term or line.
-        Each is given with the conflicts that it makes with the releases. Behind them stand the releases themselves, where their own
-        dependencies may be meant."""
-        who = cause.told.get("who")
-        beside = [(term, [[Term(*node, keys), term]]) for term in step]
-        alone = [(line, [[Term(*node, keys)]]) for line in self.lines]
-        itself = [(Term(*node, frozenset([key])), [[Term(*node, frozenset([key]))]]) for key in keys]
-        if who is not None:
-            named = [it for it in alone if it[0].short == who] + [it for it in beside if it[0][:2] == node_of(who)]
-            return named, itself if node_of(who) == node else []
-        own = [it for it in alone + beside if it[0] is need]
-        if cause.kind in ("python", "yanked", "pre", "both"):
-            return own + [it for it in beside + alone if it[0] is not need], itself
-        return own, []
-
-    def is_wanted(self, told, source, name):
-        """Whether these are all requirements by which the releases of a term need a name; they are told where they are few."""
-        found = {without_marker(it) for key in source.keys for it in self.requirements_at(source[:2], key, name)}
-        return len(found) > MOST_REQUIREMENTS if told is None else found == set(read_requirements(told))
-
-    def refused(self, cause, step, node, keys, need):
-        """The conflicts by which releases are excluded for a reason."""
-        found, itself = self.sources(cause, step, node, keys, need)
-        if cause.kind == "refused" and cause.told["who"] is not None:
-            found = [it for it in found if self.is_wanted(cause.told["wanted"], it[0], node[0])]
-            itself = itself if self.is_wanted(cause.told["wanted"], Term(*node, keys), node[0]) else []
-        holding = [it for it in found if all(self.refuses(cause, it[0], node[0], key) for key in keys)]
-        if not holding and itself and all(self.refuses(cause, own, node[0], key) for own, _ in itself for key in own.keys):
-            return [conflict for _, conflicts in itself for conflict in conflicts]
-        want(holding, f"what refuses {cause}")
-        lines = [source.short for source, _ in holding if isinstance(source, Line)]
-        self.possible.update(lines)
-        if len(lines) == len(holding):
-            self.rested.append(set(lines))
-        return [conflict for _, conflicts in holding for conflict in conflicts]
-
-    # Other causes
-
-    def stated_by(self, cause):
-        """The conflict of a sentence above."""
-        number = int(cause.told["step"])
-        want(0 < number <= len(self.conflicts), f"a sentence above: {number}")
-        self.cited.add(number)
-        return [self.conflicts[number - 1]]
-
-    def wanting(self, cause, step, node, keys):
-        """The conflicts of releases that need what a term doesn't have. All that they need of the name is told."""
-        told = cause.told.get("requirements")
-        wanted = read_requirements(told) if told else None
-        name = wanted[0][0] if wanted else cause.told["name"]
-        found = {without_marker(it) for key in keys for it in self.requirements_at(node, key, name)}
-        want(found == set(wanted) if wanted else len(found) > MOST_REQUIREMENTS, f"what the releases need of {name}")
-        return [[Term(*node, keys), term] for term in step if term.name == name]
-
-    def apart(self, cause, step, node, keys):
-        who = node_of(cause.told["who"])
-        itself = [[Term(*node, frozenset([key]))] for key in keys] if who == node else []
-        return [[Term(*node, keys), term] for term in step if term[:2] == who] or itself
-
-    def clashing(self, conflicts):
-        """Those of some conflicts in which two terms, or one of them twice, clash. There is one."""
-        found = [it for it in conflicts if clash(self.problem, it[0], it[-1])]
-        want(found, f"terms that clash: {conflicts}")
-        return found
-
-    def excluded(self, cause, step, node, need):
-        """The releases that a cause excludes, and the conflicts by which it does."""
-        keys = releases_told(self.problem, node[0], cause.releases)
-        if cause.kind == "step":
-            return keys, self.stated_by(cause)
-        if cause.kind in ("others", "needs"):
-            return keys, self.clashing(self.wanting(cause, step, node, keys))
-        if cause.kind == "apart":
-            return keys, self.clashing(self.apart(cause, step, node, keys))
-        conflicts = self.refused(cause, step, node, keys, need)
-        want(all(case_of(self.problem, it, []) for it in conflicts), f"conflicts that follow by themselves: {conflicts}")
-        return keys, conflicts
-
-    # Sentences
-
-    def needing(self, step, terms):
-        """The line or the term that needs the node, and whether it does."""
-        node = node_of(step.node)
-        if step.need:
-            line = next(line for line in self.lines if line.text == step.need)
-            want(node in self.problem.need_of(line.requirement).nodes, f"a line that needs {step.node}")
+    def source(self, side):
+        """The line or the term that asks; a line that does is one on which the sentence rests."""
+        if isinstance(side.who, str):
+            line = self.line(side.who)
             self.rested.append({line.short})
             return line
-        needs = partial(needs_of_choice, self.problem)
-        for key in terms[0].keys:
-            want(any(node in need.nodes for need in needs(terms[0].at(key))), f"a term that needs {step.node}")
-        wanted = [it for key in terms[0].keys for it in self.requirements_at(terms[0][:2], key, node[0])]
-        found = {without_marker(it) for it in wanted if node[1] is None or node[1] in it.extras}
-        told = step.requirements
-        want(len(found) > MOST_REQUIREMENTS if told is None else found == set(map(read_needed, told)), f"what {terms[0]} needs")
-        return terms[0]
+        return self.term(side.who)
 
-    def is_missing(self, step):
+    def outside(self, source, node, found):
+        """The conflict of what asks with the releases that it doesn't ask for, where there are some."""
+        others = frozenset(keys_of(self.problem, node[0])) - found
+        beside = [] if isinstance(source, Line) else [source]
+        return [[Term(*node, others), *beside]] if others else []
+
+    def is_missing(self, told, name):
         """Whether the index has no package of the name, or nothing of it that can be used."""
-        name = node_of(step.node)[0]
-        if step.missing.startswith("the index has no release of "):
+        found = re.fullmatch(sentences.MISSING, told)
+        want(name in (found[1], found[2]), f"the name that is needed: {told}")
+        if found[2]:
             return self.problem.releases.get(name) == []
-        near = step.missing.partition("; near names: ")[2]
+        near = told.partition("; near names: ")[2]
         others = near.split(", ") if near else []
         return name not in self.problem.releases and all(other in self.problem.releases for other in others)
 
@@ -226,30 +69,179 @@ class Reader:
             return None
         return f"the lock keeps {canonical(version)}" + ("" if self.problem.candidates(name) else ", which the index doesn't have")
 
-    def step(self, text):
-        """Reads a sentence, and keeps the conflict that it states."""
-        step = sentences.read_step(text, [line.text for line in self.lines])
-        terms, node = list(map(self.term, step.terms)), node_of(step.node)
+    def state(self, terms, node, earlier):
+        """Keeps the conflict that a sentence states, which follows from earlier ones."""
         want(len({term[:2] for term in terms}) == len(terms), "one term at each node")
-        joins = step.need is None
-        need = None if joins else self.needing(step, terms)
-        want(step.missing is None or self.is_missing(step), f"what the index lacks: {step.missing}")
-        tells_of_all = not joins and step.missing is None
-        want(step.held == (self.held(node[0]) if tells_of_all else None), f"what the lock keeps: {step.held}")
-        wanted = terms[0].keys if joins else self.problem.candidate_keys(node[0])
-        told, earlier = [], []
-        for cause in step.causes:
-            keys, conflicts = self.excluded(cause, terms, node, need)
-            want(all(completes(terms, node, key, conflicts) for key in keys), f"what excludes each of the releases: {cause}")
-            told += keys
-            earlier += conflicts
-        want(sorted(told) == sorted(wanted), f"each release of {step.node} excluded once")
-        want(case_of(self.problem, terms, earlier), f"a conflict that follows: {text}")
+        want(case_of(self.problem, terms, earlier), f"a conflict that follows: {terms}")
         self.conflicts.append(terms)
         self.names |= {node[0], *(term.name for term in terms)}
 
+    def needs_missing(self, step):
+        """A node of which the index has nothing is needed."""
+        (side,) = step.sides
+        source = self.source(side)
+        terms = [] if isinstance(source, Line) else [source]
+        told = read_requirements(side.asked)
+        node = node_of(side.asked) if isinstance(source, Line) else (told[0][0], None)
+        want(self.is_missing(step.missing, node[0]), f"what the index lacks: {step.missing}")
+        if terms:
+            needed = self.wanted(source, node)[1]
+            want(needed == set(told) or len(needed) > MOST_REQUIREMENTS and told == [(node[0], (), ())], f"what {source} needs")
+        else:
+            want(node in self.problem.need_of(source.requirement).nodes, f"a line that needs {node}")
+        self.asking.append((node[0], [source]))
+        self.state(terms, node, [])
+
+    def leave_nothing(self, step):
+        """What some sides ask for leaves no release."""
+        name, terms, earlier, left, sources = None, [], [], None, []
+        for place, side in enumerate(step.sides):
+            if side.who is None:
+                want(side.asked == self.held(name), f"what the lock keeps: {side.asked}")
+                left &= self.problem.candidate_keys(name)
+                continue
+            source = self.source(side)
+            if place and not re.match(sentences.NAME, side.asked):
+                found = self.asked_range(source, (name, None), side.asked)
+            else:
+                (own, _), found = self.asked(source, side.asked)
+                want(place == 0 or own == name, f"one name: {side}")
+                name = own
+            sources.append(source)
+            left = found if left is None else left & found
+            terms += [] if isinstance(source, Line) else [source]
+            earlier += self.outside(source, (name, None), found)
+        want(not left, f"no release that is left: {left}")
+        want(not step.lacks or len(step.sides) == 1, "one side")
+        self.asking.append((name, sources))
+        self.follows_alone(earlier)
+        self.state(terms, (name, None), earlier)
+
+    def leave_none(self, step):
+        """The same of a sentence which may not say whether the node of an extra is meant."""
+        kept = self.rested, self.possible, self.asking, self.cited
+        for extra in (None, *self.extras_meant(step)):
+            self.rested, self.possible, self.asking, self.cited = (type(it)(it) for it in kept)
+            try:
+                return self.leave_none_at(step, extra)
+            except Fault as fault:
+                last = fault
+        raise last
+
+    def extras_meant(self, step):
+        """The extras that a requirement names, where it tells of a version too."""
+        if not step.sides or not re.fullmatch(sentences.REQUIREMENT, step.sides[0].asked):
+            return []
+        (_, extras, clauses) = read_needed(step.sides[0].asked)
+        return extras if clauses else []
+
+    def leave_none_at(self, step, extra):
+        """None of the releases that something needs is left beside the other terms; or none of those of a term. The node may be that of
+        an extra which the requirement names."""
+        beside = list(map(self.term, step.beside))
+        if not step.sides:
+            node, terms, need, wanted, earlier = node_of(step.node), beside, None, beside[0].keys, []
+        else:
+            need = self.source(step.sides[0])
+            node, found = self.asked(need, step.sides[0].asked)
+            node = (node[0], extra or node[1])
+            terms = beside if isinstance(need, Line) else [need, *beside]
+            all_told = found == set(keys_of(self.problem, node[0]))
+            is_short = any(cause.releases is None for cause in step.causes)
+            want(is_short or (step.node is None) == (not all_told) and step.node in (None, text_of(node)), f"which are left: {step.node}")
+            want(step.held == self.held(node[0]), f"what the lock keeps: {step.held}")
+            wanted, earlier = self.problem.candidate_keys(node[0]) & found, self.outside(need, node, found)
+            self.follows_alone(earlier)
+            self.asking.append((node[0], [need]))
+        told = []
+        for cause in step.causes:
+            keys, conflicts = self.excluded(cause, terms, node, need, frozenset(wanted))
+            want(all(completes(terms, node, key, conflicts) for key in keys), f"what excludes each of the releases: {cause}")
+            told += keys
+            earlier = earlier + conflicts
+        want(sorted(told) == sorted(wanted), f"each release of {node} excluded once")
+        self.state(terms, node, earlier)
+
+    def step(self, text):
+        """Reads a sentence, and keeps the conflict that it states."""
+        step = sentences.read_step(text, self.texts, self.shorts)
+        if step.missing is not None:
+            self.needs_missing(step)
+        elif step.lacks or len(step.sides) > 1:
+            self.leave_nothing(step)
+        else:
+            self.leave_none(step)
+
+    # Chains
+
+    def links(self, before):
+        """For each node the releases that need a node of which only the releases of a conflict are left, of several: by their nodes."""
+        found = {}
+        nodes = {(name, None) for name in self.problem.releases}
+        nodes |= {node for name in self.problem.releases for place in range(len(self.problem.releases[name]))
+                  for need in self.problem.needs_at((name, None), place) for node in need.nodes}
+        for node in nodes:
+            keys = frozenset(key for key in keys_of(self.problem, node[0]) if any(self.is_link(node, key, it) for it in before.items()))
+            if keys:
+                found[node] = keys
+        return found
+
+    def is_link(self, node, key, before):
+        """Whether a release needs another node, and each candidate of that is one of these releases or isn't admitted."""
+        other, ruled_out = before
+        needs = needs_of_choice(self.problem, Choice(*node, key))
+        if not any(other in need.nodes for need in needs):
+            return False
+        return all(
+            candidate in ruled_out or any(lacks(self.problem, need, Choice(*other, candidate)) for need in needs)
+            for candidate in self.problem.candidate_keys(other[0])
+        )
+
+    def chain(self, numbers, text):
+        """Reads which steps are left out: there are as many that lead from the step before to the last one of them."""
+        chain = sentences.read_chain(numbers, text)
+        beside, before = list(map(self.term, chain.beside)), self.conflicts[-1] or []
+        starts = [term for term in before if term not in beside]
+        want(chain.count == len(numbers) and len(starts) == 1 and len(before) == len(beside) + 1, f"a step before: {text}")
+        (start,) = starts
+        self.cited.add(len(self.conflicts))
+        found = {start[:2]: start.keys}
+        for place in range(chain.count):
+            found = self.links(found)
+            if place == 0:
+                first = node_of(chain.first)
+                found = {first: found[first]} if first in found else {}
+        last = node_of(chain.last)
+        want(last in found, f"a chain of as many packages: {text}")
+        self.conflicts += [None] * (chain.count - 1) + [[Term(*last, found[last]), *beside]]
+        self.cited |= set(numbers) - {numbers[-1]}
+        self.names |= {node_of(chain.first)[0], last[0]}
+
+    # Conclusions
+
+    def front(self, front):
+        """Whether the sentence in front is true by itself, and about the lines on which the sentences rest and no others."""
+        one, other = map(self.line, front.lines)
+        want(one is not other and not self.problem.only_kept and len(self.names) <= MOST_PACKAGES, "two lines, and a package or two")
+        self.rests_on({one.short, other.short}, 0)
+        allowed = self.matching(other.requirement)
+        if front.term is None:
+            found = self.matching(one.requirement)
+            want(front.asked == one.requirement.name == other.requirement.name and found and allowed, f"two lines on {front.asked}")
+        else:
+            term = self.term(front.term)
+            want(term.name == one.requirement.name and term.extra in (None, *one.requirement.extras), f"what {one.short} needs")
+            want(term.keys == self.matching(one.requirement), f"the releases that {one.short} allows")
+            (name, _), found = self.asked(term, front.asked)
+            want(name == other.requirement.name, f"what {other.short} is about")
+        want(not found & allowed, "what doesn't go together")
+
     def conclusion(self, text):
         """Whether the lines on which the sentences rest, and no others, are told with what they ask for."""
+        front = sentences.read_front(text, self.texts)
+        if front is not None:
+            self.front(front)
+            return list(map(self.line, front.lines))
         words = sentences.Words(text)
         words.must("No choice of versions that keeps what is locked meets " if self.problem.only_kept else "No choice of versions meets ")
         named = []
@@ -263,6 +255,7 @@ class Reader:
         told = [line for line in named if isinstance(line, Line)]
         want(told == [line for line in self.lines if line in told], "lines in their order")
         self.rests_on({line.short for line in told}, sum(it for it in named if isinstance(it, int)))
+        return told
 
     def rests_on(self, told, more):
         certain = {line for lines in self.rested for line in lines if len(lines) == 1}
@@ -270,31 +263,27 @@ class Reader:
         want(told <= certain | self.possible, "no other line")
         want(len(certain) <= len(told) + more <= len(certain | self.possible), "as many lines")
 
-    def left_out(self, lines, releases):
-        """Whether those of some releases are told that are of a name in the sentences, each once. The version behind a name isn't read."""
+    def left_out(self, lines, releases, told):
+        """Whether those of some releases are told that are of a name in the sentences and could have mattered, each once."""
         found = [re.fullmatch(r"([a-z0-9-]+)(?: .*)?: release ([0-9]+): [a-z0-9 -]+", line) for line in lines]
         want(all(found), f"releases that were left out: {lines}")
-        told = [(it[1], int(it[2])) for it in found]
-        want(told == sorted(it for it in releases if it[0] in self.names), f"the releases that were left out: {lines}")
+        named = [(it[1], int(it[2])) for it in found]
+        wanted = sorted(it for it, version in releases.items() if it[0] in self.names and could_matter(self, it[0], version, told))
+        want(named == wanted, f"the releases that were left out: {lines}, and not {wanted}")
 
 
-def read_needed(text):
-    return without_marker(read_requirement(text))
-
-
-def read_requirements(text):
-    return list(map(read_needed, re.findall(sentences.REQUIREMENT, text.replace(" or ", ", "))))
-
-
-def check(problem, lines, text, left_out=()):
+def check(problem, lines, text, releases=()):
     """Checks a printed text, and gives the conflicts that its sentences state. What isn't true is a Fault. Releases that were left out of
-    the index are given by their names and places."""
+    the index are given as `left_out` gives them."""
     told, reader = sentences.cut(text), Reader(problem, lines)
     want(told.steps, "a sentence")
-    for step in told.steps:
-        reader.step(step)
-    want(not reader.conflicts[-1], "the empty conflict in the last sentence")
-    want(reader.cited == set(range(1, len(told.steps))), "each sentence but the last cited")
-    reader.conclusion(told.conclusion)
-    reader.left_out(told.left_out, left_out)
+    for numbers, step in told.steps:
+        if len(numbers) > 1:
+            reader.chain(numbers, step)
+        else:
+            reader.step(step)
+    want(reader.conflicts[-1] == [], "the empty conflict in the last sentence")
+    want(reader.cited == set(range(1, len(reader.conflicts))), "each sentence but the last cited")
+    named = reader.conclusion(told.conclusion)
+    reader.left_out(told.left_out, dict(releases), named)
     return reader.conflicts

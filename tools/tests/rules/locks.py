@@ -98,15 +98,6 @@ def read_index(data):
     return Index(releases, hashlib.sha256(data).hexdigest())
 
 
-def left_out(data):
-    """The names and places of the releases of an index that don't count."""
-    found = set()
-    for package in json.loads(data)["packages"]:
-        places = {place for place, _ in counted(package["releases"]).values()}
-        found |= {(read_name(package["name"]), place) for place in range(len(package["releases"])) if place not in places}
-    return found
-
-
 # Which releases are admitted
 
 

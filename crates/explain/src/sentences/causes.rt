@@ -1,17 +1,15 @@
 // What excludes releases of a node.
 
-use crate::dependencies::{NeededName, does_need, refused_at};
+use crate::asked::{Words, asked_by_term, requirement_on, requirements_of};
+use crate::dependencies::NeededName;
 use crate::derivation::{Derivation, ExhaustedNode};
 use crate::exclusion::Exclusion;
-use crate::line_name::add_short;
 use crate::placed_term::PlacedTerm;
 use crate::reasons::Unadmitted;
-use crate::release_set::{ReleaseSet, add_listed};
-use crate::sentences::sentence::REQUIREMENTS;
+use crate::release_set::ReleaseSet;
 use crate::sentences::steps::number_of;
 use crate::sentences::{Sentences, add_node};
 use lists::Bits;
-use pep508::{Name, Requirement};
 use problems::Node;
 use refutations::SetNeed;
 use std::alloc::{AllocError, Global};
@@ -35,15 +33,18 @@ impl Sentences<'_> {
         exhausted: &ExhaustedNode,
         exclusion: &Exclusion,
     ) -> Result<(), AllocError> {
-        match self.derivations.get(exclusion.conflict) {
+        match self.derived.derivations.get(exclusion.conflict) {
             Some(Derivation::Line(place, _)) => {
                 self.add_line_cause(text, exhausted.need, *place, &exclusion.places)
             }
             Some(Derivation::Clash(one, other)) => {
-                match self.beside(exclusion.conflict, (*one, *other), &exhausted.node) {
+                let terms = (*one, *other);
+                match self
+                    .derived
+                    .beside(exclusion.conflict, terms, &exhausted.node)
+                {
                     Some(beside) => {
-                        let bound = conflict.iter().find(|term| term.is_on(&beside.node));
-                        let beside = bound.unwrap_or(beside);
+                        let beside = bound_term(conflict, beside);
                         let clashing = Clashing {
                             node: &exhausted.node,
                             places: &exclusion.places,
@@ -59,12 +60,42 @@ impl Sentences<'_> {
         }
     }
 
-    // The term of an earlier conflict that clashes with one on the node: of these two the other one.
-    fn beside(&self, at: usize, terms: (usize, usize), node: &Node) -> Option<&PlacedTerm> {
-        let earlier = self.conflicts.get(at)?;
-        let one = earlier.get(terms.0)?;
-        let other = earlier.get(terms.1)?;
-        Some(if one.is_on(node) { other } else { one })
+    /// What the excluded releases need, where they are excluded by their need of a term's name alone, and that they don't
+    /// need this term. Tells whether it is so.
+    pub fn add_own_need(
+        &self,
+        text: &mut String,
+        conflict: &[PlacedTerm],
+        exhausted: &ExhaustedNode,
+        exclusion: &Exclusion,
+    ) -> Result<bool, AllocError> {
+        let Some(Derivation::Clash(one, other)) = self.derived.derivations.get(exclusion.conflict)
+        else {
+            return Ok(false);
+        };
+        let terms = (*one, *other);
+        let Some(beside) = self
+            .derived
+            .beside(exclusion.conflict, terms, &exhausted.node)
+        else {
+            return Ok(false);
+        };
+        let beside = bound_term(conflict, beside);
+        let term = PlacedTerm {
+            node: exhausted.node.clone()?,
+            places: exclusion.places.clone()?,
+        };
+        if !self
+            .derived
+            .each_refuses(&term, &beside.node.name, &beside.places)?
+        {
+            return Ok(false);
+        }
+        text.push_str(", which needs ")?;
+        self.add_needs(text, &term, &beside.node)?;
+        text.push_str(" and not ")?;
+        self.add_term(text, beside, "every")?;
+        Ok(true)
     }
 
     // By a sentence above.
@@ -74,10 +105,11 @@ impl Sentences<'_> {
         node: &Node,
         exclusion: &Exclusion,
     ) -> Result<(), AllocError> {
-        self.set_of(node, &exclusion.places)
-            .add_runs(self.alloc, text)?;
+        let releases = self.set_of(node, &exclusion.places);
+        releases.add_runs(self.alloc, text)?;
+        releases.add_verb(self.alloc, text, (" is ruled out by", " are ruled out by"))?;
         if let Some(number) = number_of(self.steps, exclusion.conflict) {
-            write!(text, " by {number}")?;
+            write!(text, " {number}")?;
         }
         Ok(())
     }
@@ -100,7 +132,7 @@ impl Sentences<'_> {
         };
         let mut of = String::new(self.alloc);
         if !is_own {
-            add_short(&mut of, self.lines.get(place))?;
+            self.add_known_line(&mut of, place)?;
         }
         let unadmitted = Unadmitted {
             problem: self.problem,
@@ -119,46 +151,38 @@ impl Sentences<'_> {
             beside,
             is_needing: _,
         } = clashing;
-        if self.each_refuses((&beside.node, &beside.places), &node.name, places)? {
+        let derived = self.derived;
+        if derived.each_refuses(beside, &node.name, places)? {
             return self.add_refused(text, clashing);
         }
         let releases = self.set_of(node, places);
-        if !self.each_refuses((node, places), &beside.node.name, &beside.places)? {
+        let term = PlacedTerm {
+            node: node.clone()?,
+            places: places.clone()?,
+        };
+        if !derived.each_refuses(&term, &beside.node.name, &beside.places)? {
             let verbs = ("none goes with ", " doesn't go with ", " don't go with ");
             add_negated(self.alloc, text, releases, verbs)?;
             return add_node(text, &beside.node);
         }
         releases.add_runs(self.alloc, text)?;
         releases.add_verb(self.alloc, text, (" needs ", " need "))?;
-        let needed = NeededName::bare(&beside.node.name);
-        let wanted = self.requirements_of(node, places, needed)?;
-        if wanted.len() <= REQUIREMENTS {
-            return add_listed(text, wanted.as_slice(), "or");
-        }
-        text.push_str("other releases of ")?;
-        text.push_str(beside.node.name.normal())
+        self.add_needs(text, &term, &beside.node)
     }
 
-    // Whether each of these releases of a node needs something that refuses each of those of the name.
-    fn each_refuses(
+    // What releases need of a name, of which the ones that they need aren't there.
+    fn add_needs(
         &self,
-        term: (&Node, &Bits),
-        name: &Name,
-        places: &Bits,
-    ) -> Result<bool, AllocError> {
-        let (node, own) = term;
-        let listed = own.places(self.alloc)?;
-        for place in listed.as_slice() {
-            let refused = refused_at(self.alloc, self.problem, node, *place, name)?;
-            if !places.lies_within(&refused) {
-                return Ok(false);
-            }
-        }
-        Ok(true)
+        text: &mut String,
+        term: &PlacedTerm,
+        other: &Node,
+    ) -> Result<(), AllocError> {
+        let needed = NeededName::bare(&other.name);
+        let asked = asked_by_term(self.alloc, self.problem, term, needed)?;
+        asked.add_needed(text, other.name.normal())
     }
 
-    // By what the term needs. Where that is one requirement, the reasons are told; where it is a few, these are
-    // listed.
+    // By what the term needs. Where that is one requirement, the reasons are told.
     fn add_refused(&self, text: &mut String, clashing: Clashing<'_>) -> Result<(), AllocError> {
         let Clashing {
             node,
@@ -171,9 +195,9 @@ impl Sentences<'_> {
         if !is_needing {
             add_node(&mut of, &beside.node)?;
         }
-        let texts = self.requirements_of(&beside.node, &beside.places, needed)?;
+        let texts = requirements_of(self.alloc, self.problem, beside, needed)?;
         if texts.len() == 1 {
-            if let Some(wanted) = self.requirement_on(beside, needed) {
+            if let Some(wanted) = requirement_on(self.problem, beside, needed) {
                 let unadmitted = Unadmitted {
                     problem: self.problem,
                     requirement: wanted,
@@ -182,31 +206,45 @@ impl Sentences<'_> {
                 return unadmitted.add_reasons(self.alloc, text, of.as_str());
             }
         }
+        let releases = self.set_of(node, places);
+        let asked = asked_by_term(self.alloc, self.problem, beside, needed)?;
+        if is_needing || asked.places.meets(places) {
+            return self.add_unadmitted(text, releases, of.as_str());
+        }
         let verbs = ("none matches", " doesn't match", " don't match");
-        add_negated(self.alloc, text, self.set_of(node, places), verbs)?;
-        if is_needing {
-            return Ok(());
-        }
+        add_negated(self.alloc, text, releases, verbs)?;
         write!(text, " what {of} needs")?;
-        if texts.len() > REQUIREMENTS {
-            return Ok(());
+        match &asked.words {
+            Words::Range(range) => {
+                let range = range.as_str();
+                write!(text, " ({range})")
+            }
+            _ => Ok(()),
         }
-        text.push_str(" (")?;
-        add_listed(text, texts.as_slice(), "or")?;
-        text.push_str(")")
     }
 
-    // A requirement by which the first release of the term needs the name.
-    fn requirement_on(&self, term: &PlacedTerm, needed: NeededName<'_>) -> Option<&Requirement> {
-        let place = term.places.first_from(0)?;
-        let release = self.problem.releases(&term.node.name).get(place)?;
-        release.dependencies().iter().find(|dependency| does_need(
-            self.problem,
-            &term.node,
-            dependency,
-            needed,
-        ))
+    // Releases that the requirements of a term refuse for more than their versions.
+    fn add_unadmitted(
+        &self,
+        text: &mut String,
+        releases: ReleaseSet<'_>,
+        of: &str,
+    ) -> Result<(), AllocError> {
+        let verbs = ("none is admitted", " isn't admitted", " aren't admitted");
+        add_negated(self.alloc, text, releases, verbs)?;
+        if of.is_empty() {
+            return Ok(());
+        }
+        write!(text, " by {of}")
     }
+}
+
+// The term of a conflict on the node of an earlier one's.
+fn bound_term<'c>(conflict: &'c [PlacedTerm], earlier: &'c PlacedTerm) -> &'c PlacedTerm {
+    conflict
+        .iter()
+        .find(|term| term.is_on(&earlier.node))
+        .unwrap_or(earlier)
 }
 
 // Whether it is the term on this node that needs another one.

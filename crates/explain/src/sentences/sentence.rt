@@ -1,40 +1,49 @@
 // The sentence of a conflict.
 
-use crate::dependencies::{NeededName, does_need};
-use crate::derivation::{Derivation, ExhaustedNode};
-use crate::line_name::add_line;
+use crate::account::Account;
+use crate::asked::{Asked, REQUIREMENTS, requirements_of};
+use crate::dependencies::NeededName;
+use crate::derivation::ExhaustedNode;
+use crate::exclusion::Exclusion;
 use crate::placed_term::PlacedTerm;
 use crate::release_set::add_listed;
+use crate::sentences::steps::{Step, number_of};
 use crate::sentences::{Sentences, add_node};
-use lists::Bits;
-use phrases::{add_near_names, add_requirement, has_package};
+use crate::sides::party_of;
+use phrases::{add_near_names, has_package};
 use problems::Node;
 use refutations::SetNeed;
 use std::alloc::AllocError;
 
-/// How many different requirements for one node are told.
-pub const REQUIREMENTS: usize = 3;
-
 impl Sentences<'_> {
-    /// Why the conflict at a place follows.
-    pub fn add_sentence(&self, text: &mut String, at: usize) -> Result<(), AllocError> {
-        let Some(conflict) = self.conflicts.get(at) else {
+    /// Why the conflict of a step follows.
+    pub fn add_sentence(&self, text: &mut String, step: &Step) -> Result<(), AllocError> {
+        let Some(conflict) = self.derived.conflicts.get(step.conflict) else {
             return Ok(());
         };
         let conflict = conflict.as_slice();
-        match self.derivations.get(at) {
-            Some(Derivation::Exhausted(exhausted)) => match exhausted.need {
-                None => self.add_joined(text, conflict, exhausted),
-                Some(need) => {
-                    self.add_need(text, conflict, &exhausted.node, need)?;
-                    self.add_exhausted(text, conflict, exhausted, need)
-                }
-            },
-            Some(Derivation::Line(_, _)) | Some(Derivation::Clash(_, _)) => {
-                text.push_str("this can't stand together: ")?;
-                self.add_others(text, conflict, None, "every")
+        let Some(exhausted) = self.derived.exhausted(step.conflict) else {
+            return Ok(());
+        };
+        match (&step.account, exhausted.need) {
+            (Account::Sides(sides), _) => {
+                let bare = Node {
+                    name: exhausted.node.name.clone()?,
+                    extra: None,
+                };
+                self.add_sides(text, conflict, &bare, sides.as_slice())
             }
-            None => Ok(()),
+            (Account::Missing, Some(need)) => {
+                self.add_missing(text, conflict, &exhausted.node, need)
+            }
+            (Account::Needed(asked, exclusions), Some(need)) => {
+                self.add_asking(text, conflict, party_of(need), asked, &exhausted.node)?;
+                self.add_none_left(text, conflict, exhausted, (asked, exclusions.as_slice()))
+            }
+            (Account::Joined(exclusions), _) => {
+                self.add_joined(text, conflict, exhausted, exclusions.as_slice())
+            }
+            _ => Ok(()),
         }
     }
 
@@ -44,6 +53,7 @@ impl Sentences<'_> {
         text: &mut String,
         conflict: &[PlacedTerm],
         exhausted: &ExhaustedNode,
+        exclusions: &[Exclusion],
     ) -> Result<(), AllocError> {
         let node = &exhausted.node;
         let own = conflict.iter().position(|term| term.is_on(node));
@@ -55,7 +65,7 @@ impl Sentences<'_> {
             self.add_others(text, conflict, own, "any")?;
         }
         text.push_str(": ")?;
-        self.add_causes(text, conflict, exhausted)
+        self.add_causes(text, conflict, exhausted, exclusions)
     }
 
     // That none of a term's releases is left; or, where others follow, that none goes with them.
@@ -78,8 +88,8 @@ impl Sentences<'_> {
         self.add_subject(text, term, verbs)
     }
 
-    // A term with its verb, which is given in the singular and in the plural.
-    fn add_subject(
+    /// A term with its verb, which is given in the singular and in the plural.
+    pub fn add_subject(
         &self,
         text: &mut String,
         term: &PlacedTerm,
@@ -90,8 +100,13 @@ impl Sentences<'_> {
         releases.add_verb(self.alloc, text, verbs)
     }
 
-    // A node with these releases of its name; where they are all, and several, with a word for all of them.
-    fn add_term(&self, text: &mut String, term: &PlacedTerm, all: &str) -> Result<(), AllocError> {
+    /// A node with these releases of its name; where they are all, and several, with a word for all of them.
+    pub fn add_term(
+        &self,
+        text: &mut String,
+        term: &PlacedTerm,
+        all: &str,
+    ) -> Result<(), AllocError> {
         let set = self.set_of(&term.node, &term.places);
         if set.are_all(self.alloc)? {
             let is_only = set.releases.len() == 1;
@@ -123,140 +138,88 @@ impl Sentences<'_> {
         add_listed(text, items.as_slice(), "and")
     }
 
-    // What needs a node, and by which requirements.
-    fn add_need(
+    /// The terms that don't need the node, behind `beside` and with the texts around them.
+    pub fn add_beside(
         &self,
         text: &mut String,
         conflict: &[PlacedTerm],
-        node: &Node,
-        need: SetNeed,
+        need: Option<SetNeed>,
+        around: (&str, &str),
     ) -> Result<(), AllocError> {
-        match need {
-            SetNeed::Line(place) => {
-                add_line(text, self.lines.get(place), self.line_requirement(place))?;
-                text.push_str(" needs ")?;
-                add_node(text, node)
-            }
-            SetNeed::Term(at) => match conflict.get(at) {
-                Some(term) => self.add_needing(text, term, node),
-                None => Ok(()),
-            },
-        }
-    }
-
-    // That the releases of a term need the node.
-    fn add_needing(
-        &self,
-        text: &mut String,
-        term: &PlacedTerm,
-        node: &Node,
-    ) -> Result<(), AllocError> {
-        self.add_subject(text, term, (" needs ", " need "))?;
-        let needed = NeededName::of(node);
-        let wanted = self.requirements_of(&term.node, &term.places, needed)?;
-        if wanted.len() > REQUIREMENTS {
-            add_node(text, node)?;
-            return text.push_str(" in ranges of their own");
-        }
-        add_listed(text, wanted.as_slice(), "or")
-    }
-
-    /// The different requirements by which these releases of a node need a name, as far as they are told.
-    pub fn requirements_of(
-        &self,
-        node: &Node,
-        places: &Bits,
-        needed: NeededName<'_>,
-    ) -> Result<Vec<String>, AllocError> {
-        let mut texts: Vec<String> = Vec::new(self.alloc);
-        let listed = places.places(self.alloc)?;
-        for place in listed.as_slice().iter().rev() {
-            if texts.len() <= REQUIREMENTS {
-                self.add_requirements(&mut texts, node, *place, needed)?;
-            }
-        }
-        Ok(texts)
-    }
-
-    // Those of one release.
-    fn add_requirements(
-        &self,
-        texts: &mut Vec<String>,
-        node: &Node,
-        place: usize,
-        needed: NeededName<'_>,
-    ) -> Result<(), AllocError> {
-        let Some(release) = self.problem.releases(&node.name).get(place) else {
-            return Ok(());
+        let but = match need {
+            Some(SetNeed::Term(at)) => Some(at),
+            _ => None,
         };
-        for dependency in release.dependencies() {
-            if does_need(self.problem, node, dependency, needed) {
-                let mut text = String::new(self.alloc);
-                add_requirement(&mut text, dependency)?;
-                if !texts.iter().any(|other| other.as_str() == text.as_str()) {
-                    texts.push(text)?;
-                }
-            }
+        if other_count(conflict, need) == 0 {
+            return Ok(());
         }
-        Ok(())
+        text.push_str(around.0)?;
+        text.push_str("beside ")?;
+        self.add_others(text, conflict, but, "every")?;
+        text.push_str(around.1)
     }
 
-    // That no release of the needed node is left beside the terms that don't need it.
-    fn add_exhausted(
+    // That none of the releases of a node that are asked for is left beside the other terms, and why.
+    fn add_none_left(
         &self,
         text: &mut String,
         conflict: &[PlacedTerm],
         exhausted: &ExhaustedNode,
-        need: SetNeed,
+        told: (&Asked, &[Exclusion]),
     ) -> Result<(), AllocError> {
+        let (asked, exclusions) = told;
         let node = &exhausted.node;
-        if self.problem.releases(&node.name).is_empty() {
-            return self.add_missing(text, node);
+        let is_held = self.problem.is_held(&node.name);
+        if let [exclusion] = exclusions {
+            if let (false, Some(number)) = (is_held, number_of(self.steps, exclusion.conflict)) {
+                write!(text, ", which is ruled out by {number}")?;
+                return self.add_beside(text, conflict, exhausted.need, (" ", ""));
+            }
+            let others = other_count(conflict, exhausted.need);
+            if !is_held && others == 1 && self.add_own_need(text, conflict, exhausted, exclusion)? {
+                return Ok(());
+            }
         }
         text.push_str(", and ")?;
-        let but = match need {
-            SetNeed::Term(at) => Some(at),
-            SetNeed::Line(_) => None,
-        };
-        let others = conflict
-            .len()
-            .saturating_sub(if but.is_some() { 1 } else { 0 });
-        if others > 0 {
-            text.push_str("beside ")?;
-            self.add_others(text, conflict, but, "every")?;
-            text.push_str(" ")?;
+        self.add_beside(text, conflict, exhausted.need, ("", " "))?;
+        if asked.is_any() {
+            text.push_str("no release of ")?;
+            add_node(text, node)?;
+        } else {
+            text.push_str("no such release")?;
         }
-        text.push_str("no release of ")?;
-        add_node(text, node)?;
         text.push_str(" is left: ")?;
-        if self.add_held(text, node)? && !exhausted.exclusions.is_empty() {
-            text.push_str("; ")?;
+        if is_held {
+            self.add_held(text, node)?;
+            text.push_str(if exclusions.is_empty() { "" } else { "; " })?;
         }
-        self.add_causes(text, conflict, exhausted)
+        self.add_causes(text, conflict, exhausted, exclusions)
     }
 
     // The version that alone counts of a name, since it is locked, and that the index doesn't have it where so it is.
-    // Tells whether there is one.
-    fn add_held(&self, text: &mut String, node: &Node) -> Result<bool, AllocError> {
+    fn add_held(&self, text: &mut String, node: &Node) -> Result<(), AllocError> {
         let problem = self.problem;
-        if !problem.is_held(&node.name) {
-            return Ok(false);
+        if let Some(kept) = problem.kept.get(&node.name) {
+            write!(text, "the lock keeps {kept}")?;
         }
-        let Some(kept) = problem.kept.get(&node.name) else {
-            return Ok(false);
-        };
-        write!(text, "the lock keeps {kept}")?;
         if problem.eligible(&node.name).is_empty() {
             text.push_str(", which the index doesn't have")?;
         }
-        Ok(true)
+        Ok(())
     }
 
-    // That the index has no package of the node's name, and which ones have nearly this name; or that it has no
-    // release of it that can be used.
-    fn add_missing(&self, text: &mut String, node: &Node) -> Result<(), AllocError> {
+    // That what needs a node needs what the index lacks: it has no package of the name, and which ones have nearly this
+    // name; or it has no release of it that can be used.
+    fn add_missing(
+        &self,
+        text: &mut String,
+        conflict: &[PlacedTerm],
+        node: &Node,
+        need: SetNeed,
+    ) -> Result<(), AllocError> {
         let problem = self.problem;
         let snapshot = problem.snapshot;
+        self.add_need(text, conflict, node, need)?;
         let name = node.name.normal();
         if has_package(snapshot, &node.name) {
             return write!(
@@ -268,19 +231,56 @@ impl Sentences<'_> {
         add_near_names(self.alloc, text, snapshot, &node.name)
     }
 
+    // What needs a node, and by which requirements.
+    fn add_need(
+        &self,
+        text: &mut String,
+        conflict: &[PlacedTerm],
+        node: &Node,
+        need: SetNeed,
+    ) -> Result<(), AllocError> {
+        let at = match need {
+            SetNeed::Line(place) => {
+                self.add_whole_line(text, place)?;
+                text.push_str(" needs ")?;
+                return add_node(text, node);
+            }
+            SetNeed::Term(at) => at,
+        };
+        let Some(term) = conflict.get(at) else {
+            return Ok(());
+        };
+        self.add_subject(text, term, (" needs ", " need "))?;
+        let needed = NeededName::of(node);
+        let texts = requirements_of(self.alloc, self.problem, term, needed)?;
+        if texts.len() > REQUIREMENTS {
+            return add_node(text, node);
+        }
+        add_listed(text, texts.as_slice(), "or")
+    }
+
     // What excludes the releases of a node, with `; ` between two causes.
     fn add_causes(
         &self,
         text: &mut String,
         conflict: &[PlacedTerm],
         exhausted: &ExhaustedNode,
+        exclusions: &[Exclusion],
     ) -> Result<(), AllocError> {
-        for (place, exclusion) in exhausted.exclusions.as_slice().iter().enumerate() {
+        for (place, exclusion) in exclusions.iter().enumerate() {
             if place > 0 {
                 text.push_str("; ")?;
             }
             self.add_cause(text, conflict, exhausted, exclusion)?;
         }
         Ok(())
+    }
+}
+
+// How many terms of a conflict don't need the node.
+fn other_count(conflict: &[PlacedTerm], need: Option<SetNeed>) -> usize {
+    match need {
+        Some(SetNeed::Term(_)) => conflict.len().saturating_sub(1),
+        _ => conflict.len(),
     }
 }

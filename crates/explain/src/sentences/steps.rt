@@ -1,29 +1,39 @@
 // Which conflicts of a refutation are told, and by which numbers.
 
+use crate::account::{Account, Derived};
 use crate::derivation::Derivation;
+use crate::exclusion::Exclusion;
+use crate::sides::Party;
 use refutations::SetNeed;
 use std::alloc::{AllocError, Global};
 use std::collections::BTreeSet;
 
+/// A conflict that gets a sentence, by its place, and what is told of it.
+#[derive(Drop)]
+pub struct Step {
+    pub conflict: usize,
+    pub account: Account,
+}
+
 // A visit on the walk from the last conflict to those that it cites.
-#[derive(Clone, Copy)]
+#[derive(Drop)]
 enum Visit {
     Enter(usize),
-    Leave(usize),
+    Leave(Step),
 }
 
 /// The conflicts that get a sentence: the last one and those on which it rests, but for those whose ground
 /// is told where they are cited. Each stands behind those that its own sentence cites, in the order in which
 /// it cites them.
-pub fn told_steps(alloc: Global, derivations: &[Derivation]) -> Result<Vec<usize>, AllocError> {
-    let mut told = Vec::new(alloc);
-    let mut entered = BTreeSet::new(alloc);
-    let mut visits = Vec::new(alloc);
-    visits.push(Visit::Enter(derivations.len().saturating_sub(1)))?;
+pub fn told_steps(derived: Derived<'_>) -> Result<Vec<Step>, AllocError> {
+    let mut told = Vec::new(derived.alloc);
+    let mut entered = BTreeSet::new(derived.alloc);
+    let mut visits = Vec::new(derived.alloc);
+    visits.push(Visit::Enter(derived.derivations.len().saturating_sub(1)))?;
     for _ in 0..usize::MAX {
         match visits.pop() {
-            Some(Visit::Enter(at)) => enter(&mut visits, &mut entered, derivations, at)?,
-            Some(Visit::Leave(at)) => told.push(at)?,
+            Some(Visit::Enter(at)) => enter(&mut visits, &mut entered, derived, at)?,
+            Some(Visit::Leave(step)) => told.push(step)?,
             None => return Ok(told),
         }
     }
@@ -34,53 +44,73 @@ pub fn told_steps(alloc: Global, derivations: &[Derivation]) -> Result<Vec<usize
 fn enter(
     visits: &mut Vec<Visit>,
     entered: &mut BTreeSet<usize>,
-    derivations: &[Derivation],
+    derived: Derived<'_>,
     at: usize,
 ) -> Result<(), AllocError> {
-    let Some(derivation) = derivations.get(at) else {
-        return Ok(());
-    };
-    if derivation.is_plain() || !entered.insert(at)? {
+    if !entered.insert(at)? {
         return Ok(());
     }
-    visits.push(Visit::Leave(at))?;
-    for exclusion in derivation.exclusions().iter().rev() {
-        visits.push(Visit::Enter(exclusion.conflict))?;
+    let Some(account) = derived.account(at)? else {
+        return Ok(());
+    };
+    let cited = cited_by(derived.alloc, account.exclusions())?;
+    visits.push(Visit::Leave(Step {
+        conflict: at,
+        account,
+    }))?;
+    for earlier in cited.as_slice().iter().rev() {
+        visits.push(Visit::Enter(*earlier))?;
     }
     Ok(())
 }
 
+// The conflicts that some exclusions name.
+fn cited_by(alloc: Global, exclusions: &[Exclusion]) -> Result<Vec<usize>, AllocError> {
+    let mut cited = Vec::new(alloc);
+    for exclusion in exclusions {
+        cited.push(exclusion.conflict)?;
+    }
+    Ok(cited)
+}
+
 /// The number of a conflict's sentence, from 1.
-pub fn number_of(steps: &[usize], conflict: usize) -> Option<usize> {
-    let place = steps.iter().position(|at| *at == conflict)?;
+pub fn number_of(steps: &[Step], conflict: usize) -> Option<usize> {
+    let place = steps.iter().position(|step| step.conflict == conflict)?;
     Some(place.saturating_add(1))
 }
 
-/// The places of the active lines on which the sentences rest.
-pub fn cited_lines(
-    alloc: Global,
-    derivations: &[Derivation],
-    steps: &[usize],
-) -> Result<BTreeSet<usize>, AllocError> {
-    let mut lines = BTreeSet::new(alloc);
-    for at in steps {
-        if let Some(derivation) = derivations.get(*at) {
-            add_cited(&mut lines, derivations, derivation)?;
-        }
+/// The places of the active lines on which the sentences rest, in their order.
+pub fn cited_lines(derived: Derived<'_>, steps: &[Step]) -> Result<Vec<usize>, AllocError> {
+    let mut lines = BTreeSet::new(derived.alloc);
+    for step in steps {
+        add_lines(&mut lines, derived, step)?;
     }
-    Ok(lines)
+    let mut listed = Vec::new(derived.alloc);
+    for place in lines.iter() {
+        listed.push(*place)?;
+    }
+    Ok(listed)
 }
 
-fn add_cited(
+// Those of one sentence.
+fn add_lines(
     lines: &mut BTreeSet<usize>,
-    derivations: &[Derivation],
-    derivation: &Derivation,
+    derived: Derived<'_>,
+    step: &Step,
 ) -> Result<(), AllocError> {
-    if let Some(SetNeed::Line(place)) = derivation.exhausted().and_then(|own| own.need) {
+    if let Account::Sides(sides) = &step.account {
+        for side in sides.as_slice() {
+            if let Party::Line(place) = side.party {
+                lines.insert(place)?;
+            }
+        }
+        return Ok(());
+    }
+    if let Some(SetNeed::Line(place)) = derived.need_of(step.conflict) {
         lines.insert(place)?;
     }
-    for exclusion in derivation.exclusions() {
-        if let Some(Derivation::Line(place, _)) = derivations.get(exclusion.conflict) {
+    for exclusion in step.account.exclusions() {
+        if let Some(Derivation::Line(place, _)) = derived.derivations.get(exclusion.conflict) {
             lines.insert(*place)?;
         }
     }

@@ -6,7 +6,7 @@ use Rattle.clap.specs.Words.{found_of, rows_of}
 use Rattle.command_line.specs.Options.{json_takers}
 use Rattle.command_line.specs.Subcommands.{IsSubcommand}
 use Rattle.command_line.specs.declared.invocation.Subcommand.{Subcommand}
-use Rattle.command_line.proofs.Lacking.{index_lacks, input_lacks, nothing_lacks, no_question_lacks}
+use Rattle.command_line.proofs.Lacking.{index_lacks, input_lacks, no_question_lacks}
 use Rattle.command_line.proofs.subcommand.read_subcommand.Goals as goal
 
 pub returns-in_err-needed_inputs-in-try-clause-fault : goal.returns-in_err-needed_inputs-in-try-clause-fault
@@ -44,4 +44,4 @@ returns-in_default-name-clause-fault c =
     let P : Option Subcommand → Type 0 = λ view. MatchOption view (AllByRecursion (λ known. c.args.name.now ≢ known) json_takers) (IsSubcommand before behind c.args.name.now) in
     let views = subst P c.in_default-2.is c.in_ok-view.ensures.subcommand in
     let d = c.in_default-name in
-    nothing_lacks before behind c.args.name.now _ (sym c.in_ok-edit.ensures.edit ∙ c.in_default.is) views d.not-init d.not-try d.not-batch d.not-undo d.not-redo d.not-skipped d.not-why c.no_subcommand.ensures.fault
+    (sym c.in_ok-edit.ensures.edit ∙ c.in_default.is, (d.not-init, (d.not-replace, (d.not-undo, (d.not-redo, (d.not-batch, (d.not-try, (views.0, (views.1.0, (views.1.1.0, (views.1.1.1.0, (views.1.1.1.1.0, (d.not-export, (d.not-skipped, (d.not-why, tt)))))))))))))))

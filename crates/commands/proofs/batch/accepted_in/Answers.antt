@@ -1,10 +1,13 @@
 use Rattle.std.proofs.Common.{refl}
 use Rattle.std.proofs.lemmas.Result.{err_from_is_err_and}
-use Rattle.commands.proofs.Batches.{answered_with, ends_at_once}
+use Rattle.commands.proofs.Batches.{answered_with, done_with, ends_at_once}
 use Rattle.commands.proofs.batch.accepted_in.Goals as goal
 
 pub returns-clause-answered : goal.returns-clause-answered
 returns-clause-answered g c = answered_with _ _ _ _ _ _ _ _ _ refl refl c.in_ok-answer_all.ensures.advances
+
+pub returns-clause-done : goal.returns-clause-done
+returns-clause-done g c = done_with _ _ _ _ _ _ _ _ refl refl c.in_ok-answer_all.ensures.done
 
 pub returns-in_err-pending-clause-ends : goal.returns-in_err-pending-clause-ends
 returns-in_err-pending-clause-ends g c =

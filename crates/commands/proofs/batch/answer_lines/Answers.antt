@@ -1,5 +1,5 @@
 use Rattle.std.proofs.lemmas.Result.{err_from_is_err_and}
-use Rattle.commands.proofs.Batches.{ends_in_reading, ends_in_writing, reads_piece}
+use Rattle.commands.proofs.Batches.{ends_in_reading, ends_in_writing, reads_done, reads_done_in_writing, reads_piece}
 use Rattle.commands.proofs.batch.answer_lines.Goals as goal
 
 pub pieces-preserved : goal.pieces-preserved
@@ -13,6 +13,7 @@ pub returns-in-Err-clause-ends : goal.returns-in-Err-clause-ends
 returns-in-Err-clause-ends g c =
     rw c.in-Err.ensures.fault
     (record {
+      done = reads_done _ _ _ c.pieces.batch.pending _ _ c.pieces.invariant.2;
       end = tt;
       source = c.in-Err.ensures.failure;
       sink = c.pieces.invariant.1;
@@ -25,6 +26,7 @@ returns-in_err-answer_piece-clause-ends g c =
     let sink = c.in_err-answer_piece.ensures.sink in
     rw (p.1, p.2, sink.fault)
     (record {
+      done = reads_done_in_writing _ _ _ c.pieces.batch.pending _ _ _ _ c.pieces.invariant.2 c.in_err-answer_piece.ensures.breaks;
       end = tt;
       source = c.in-Ok.ensures.failure;
       sink = sink.failure;

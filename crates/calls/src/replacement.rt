@@ -1,0 +1,160 @@
+// What `replace` reads, and the edit that it is.
+
+use crate::stop::Stop;
+use command_line::request::{EditInputs, NewLines, Replacement};
+use edits::{Edit, ReqFile, Target, TargetPins, with_line_exchanged};
+use files::hand_changed::open_old_to_save;
+use files::handed_in::HandedIn;
+use files::pins_files::{PinsBytes, PinsTarget, pins_of, pins_paths, read_pins};
+use files::saved_history::{SavedHistory, saved_files};
+use files::{
+    Fault, InputFile, LockFile, SavedFiles, in_file, read_bytes, read_index, read_requirements,
+};
+use journal::Session;
+use lists::{Seq, Text};
+use std::alloc::Global;
+use std::io::Read;
+use std::rt::Files;
+
+/// The history that a replacement is made in, and the edit that it is.
+#[derive(Drop)]
+pub struct ReplacedHistory {
+    pub history: SavedHistory,
+    pub edit: Edit,
+}
+
+/// The lines that take the place of all lines, or what they are made of.
+#[derive(Drop)]
+enum LinesRead<'a> {
+    /// What the new file holds.
+    New(Vec<u8>),
+    /// What the file held before somebody changed it. The folder's file has the new lines.
+    Old(Vec<u8>),
+    /// A line for the one on this name.
+    Line(&'a str, &'a str),
+}
+
+/// Reads what a replacement needs, to save a history in the place of the one that it is made in. A save that was
+/// stopped is ended first. All files are read before a fault in one of them is told.
+pub fn replaced_to_save<R: Files + AllocGlobal, I: Read + Drop>(
+    rt: &R,
+    dir: &str,
+    replacement: &Replacement<'_>,
+    inputs: EditInputs<'_>,
+    input: I,
+) -> Result<ReplacedHistory, Stop> {
+    let files = SavedFiles::read_to_save(rt, dir)?;
+    let read = read_handed(rt, replacement, inputs, input)?;
+    let (files, session) = match &read.lines {
+        LinesRead::Old(old) => open_old_to_save(rt, dir, files, old.as_slice())?,
+        LinesRead::New(_) | LinesRead::Line(_, _) => files.open_to_save(rt, dir)?,
+    };
+    made_of(rt.alloc(), files, session, read)
+}
+
+/// The same, where nothing is to be saved: the files are read as they stand.
+pub fn replaced<R: Files + AllocGlobal, I: Read + Drop>(
+    rt: &R,
+    dir: &str,
+    replacement: &Replacement<'_>,
+    inputs: EditInputs<'_>,
+    input: I,
+) -> Result<ReplacedHistory, Stop>
+where
+    R::File: LockFile,
+{
+    let alloc = rt.alloc();
+    let files = saved_files(rt, dir)?;
+    let read = read_handed(rt, replacement, inputs, input)?;
+    let session = match &read.lines {
+        LinesRead::Old(old) => files.open_with(alloc, old.as_slice())?,
+        LinesRead::New(_) | LinesRead::Line(_, _) => files.open(alloc)?,
+    };
+    made_of(alloc, files, session, read)
+}
+
+// What was read beside the files of the folder.
+#[derive(Drop)]
+struct HandedRead<'a> {
+    index: Vec<u8>,
+    lines: LinesRead<'a>,
+    pins: Vec<PinsBytes>,
+}
+
+fn read_handed<'a, R: Files + AllocGlobal, I: Read + Drop>(
+    rt: &R,
+    replacement: &Replacement<'a>,
+    inputs: EditInputs<'_>,
+    input: I,
+) -> Result<HandedRead<'a>, Fault> {
+    let index = read_bytes(rt, InputFile::Index, inputs.index)?;
+    let paths = pins_paths(rt.alloc(), replacement.pins.as_slice())?;
+    let mut handed_in = HandedIn::new(rt, input);
+    let lines = match replacement.lines {
+        NewLines::File(path) => LinesRead::New(handed_in.read(InputFile::NewRequirements, path)?),
+        NewLines::Was(path) => LinesRead::Old(handed_in.read(InputFile::OldRequirements, path)?),
+        NewLines::Line(name, text) => LinesRead::Line(name, text),
+    };
+    let pins = read_pins(&mut handed_in, paths)?;
+    Ok(HandedRead { index, lines, pins })
+}
+
+// The edit over the history and the index.
+fn made_of(
+    alloc: Global,
+    files: SavedFiles,
+    session: Session,
+    read: HandedRead<'_>,
+) -> Result<ReplacedHistory, Stop> {
+    let HandedRead { index, lines, pins } = read;
+    let snapshot = in_file(InputFile::Index, read_index(alloc, index.as_slice()))?;
+    let lines = new_lines(alloc, &files, &session, &lines)?;
+    let pins = pins_for_targets(alloc, session.state().targets(), pins)?;
+    let edit = Edit::Replace(lines, pins);
+    let history = SavedHistory {
+        files,
+        session,
+        snapshot,
+    };
+    Ok(ReplacedHistory { history, edit })
+}
+
+// The new lines. Where the folder's file was changed, it has them.
+fn new_lines(
+    alloc: Global,
+    files: &SavedFiles,
+    session: &Session,
+    lines: &LinesRead<'_>,
+) -> Result<ReqFile, Stop> {
+    match lines {
+        LinesRead::New(bytes) => {
+            let read = read_requirements(alloc, bytes.as_slice());
+            Ok(in_file(InputFile::NewRequirements, read)?)
+        }
+        LinesRead::Old(_) => {
+            let read = read_requirements(alloc, files.requirements());
+            Ok(in_file(InputFile::Requirements, read)?)
+        }
+        LinesRead::Line(name, text) => {
+            let name = Text::copy_of(alloc, name)?;
+            let text = Text::copy_of(alloc, text)?;
+            Ok(with_line_exchanged(alloc, session.state().lines(), &name, &text)?)
+        }
+    }
+}
+
+// What the files pin for the targets of a history.
+fn pins_for_targets(
+    alloc: Global,
+    targets: &[Target],
+    read: Vec<PinsBytes>,
+) -> Result<Seq<TargetPins>, Fault> {
+    let mut given = Vec::with_capacity(alloc, targets.len())?;
+    for target in targets {
+        given.push(PinsTarget {
+            name: &target.name,
+            environment: &target.environment,
+        })?;
+    }
+    pins_of(alloc, read, given.as_slice())
+}

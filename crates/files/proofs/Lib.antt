@@ -1,0 +1,4 @@
+pub mod ErrorFacts
+pub mod Opened
+pub mod StateFacts
+pub mod TargetFacts

@@ -1,0 +1,57 @@
+-- Files that stand beside their places, and the history that the files of a folder stand for. All of it is reqlock's own rule.
+use Rattle.std.specs.Prelude.{ℕ, ◌++◌, Bool, true, false, List, [], ◌∷◌, map, Option, Some, None, Result, Ok, Err}
+use Rattle.std.specs.Cmp.Lexicographic.{slice_cmp}
+use Rattle.std.specs.List.{concat, list_any}
+use Rattle.std.specs.Ordering.{is_eq, nat_cmp}
+use Rattle.std.specs.Str.{bytes_eq}
+use Rattle.journal.specs.Values.{State}
+use Rattle.journal.specs.Changes.{HistoryParts}
+use Rattle.journal.specs.Opens.{Opens}
+use Rattle.files.specs.declared.fault.Fault.{Fault}
+use Rattle.files.specs.declared.fault.Fault.TheVariants.{Input}
+use Rattle.files.specs.declared.input_files.InputFile.{InputFile}
+use Rattle.files.specs.declared.input_files.InputFile.TheVariants.{Requirements, Lock, Journal, Index, Environment, NewRequirements, OldRequirements, Pins}
+use Rattle.files.specs.declared.saved_files.SavedFiles.{SavedFiles}
+use Rattle.files.specs.declared.stopped_save.Beside.{Beside}
+
+-- a file where it is one of them
+abbrev pub one_where : Bool → InputFile → List InputFile
+one_where true file = file ∷ []
+one_where false file = []
+
+-- the files that stand beside, in the order in which a save renames them
+abbrev pub files_of : Beside → List InputFile
+files_of beside = one_where beside.requirements Requirements ++ map (λ name. Lock name) beside.locks.keys ++ one_where beside.journal Journal
+
+-- whether a file is one of them
+abbrev pub has : Beside → InputFile → Bool
+has beside Requirements = beside.requirements
+has beside (Lock name) = list_any (λ other. is_eq (slice_cmp nat_cmp name other)) beside.locks.keys
+has beside Journal = beside.journal
+has beside Index = false
+has beside (Environment name) = false
+has beside NewRequirements = false
+has beside OldRequirements = false
+has beside (Pins name) = false
+
+-- these files stand for this history
+abbrev pub StandFor : SavedFiles → HistoryParts → Type 0
+StandFor files history = Opens files.requirements.items files.locks.entries files.journal (Ok history)
+
+-- some files stand for this history
+abbrev pub SomeStandFor : HistoryParts → Type 0
+SomeStandFor history = (files : SavedFiles) × StandFor files history
+
+-- whether a state has this requirements file
+abbrev pub has_lines : List ℕ → State → Bool
+has_lines requirements state = bytes_eq (concat state.lines) requirements
+
+-- whether one of these states has it
+abbrev pub has_requirements : List State → List ℕ → Bool
+has_requirements states requirements = list_any (has_lines requirements) states
+
+-- these files with the history that they opened as; none where a file is at fault
+abbrev pub completed_by : {A : Type 0} → Beside → Result A Fault → Result (Option (Beside × A)) Fault
+completed_by beside (Ok opened) = Ok (Some (beside, opened))
+completed_by beside (Err (Input file fault)) = Ok None
+completed_by beside (Err fault) = Err fault

@@ -1,0 +1,8 @@
+use Rattle.std.proofs.Common.{◌≡◌, drop, map}
+use Rattle.std.specs.Prelude.{string_bytes}
+use Rattle.reqlock.specs.GivenWords.{has_option}
+use Rattle.reqlock.proofs.given_words.has_option.Given as goal
+
+-- whether a word gives the option is left to the others
+abbrev pub invariant-loop-place : goal.invariant-loop-place
+invariant-loop-place l = has_option l.option (map string_bytes (drop l.place l.words)) ≡ has_option l.option (map string_bytes l.words)

@@ -1,0 +1,52 @@
+// What `why` answers.
+
+use answers::{print_why, print_why_init, print_why_not, print_why_replace};
+use calls::{Call, Stop};
+use command_line::request::{Inputs, Question, Told};
+use files::LockFile;
+use files::first_inputs::FirstPaths;
+use files::pins_files::pins_paths;
+use files::target_files::TargetFile;
+use std::alloc::Global;
+use std::io::{Read, Write};
+use std::rt::Files;
+
+/// Answers a question, of which these are the targets where it is about a first lock. A question about a release is
+/// always answered in sentences.
+pub fn answer_why<R: Files + AllocGlobal, I: Read + Drop, O: Write>(
+    call: &mut Call<'_, R, O>,
+    question: Question<'_>,
+    told: Told,
+    targets: Vec<TargetFile>,
+    input: I,
+) -> Result<(), Stop>
+where
+    R::File: LockFile,
+{
+    let explains = told != Told::Conflicts;
+    match question {
+        Question::Edit(edit, inputs) => print_why(call, &edit, inputs, explains),
+        Question::Replace(replacement, inputs) => {
+            print_why_replace(call, &replacement, inputs, explains, input)
+        }
+        Question::Init(inputs, line) => {
+            let paths = first_paths(call.rt.alloc(), &inputs, targets)?;
+            print_why_init(call, line, paths, explains, input)
+        }
+        Question::Release(text, index) => print_why_not(call, text, index),
+    }
+}
+
+/// Where the files stand that a first lock is made of.
+pub fn first_paths<'a>(
+    alloc: Global,
+    inputs: &Inputs<'a>,
+    targets: Vec<TargetFile>,
+) -> Result<FirstPaths<'a>, Stop> {
+    let pins = pins_paths(alloc, inputs.pins.as_slice())?;
+    Ok(FirstPaths {
+        index: inputs.index,
+        targets,
+        pins,
+    })
+}

@@ -1,0 +1,123 @@
+// Who reads what the program writes, and how it looks there.
+
+use crate::given_words::NoWords;
+use calls::Stop;
+use command_line::request::{ColorChoice, Telling};
+use saves::Manner;
+use std::alloc::{AllocError, Global};
+use std::env::VarError;
+use std::rt::Env;
+use texts::Style;
+
+/// The least width that lines are broken for.
+const LEAST_WIDTH: usize = 20;
+
+/// Which of the program's streams are terminals.
+#[derive(Clone, Copy)]
+pub struct Terminals {
+    pub output: bool,
+    pub errors: bool,
+}
+
+/// What is known of who reads what the program writes. A person reads a stream where it is a terminal, and no CI job
+/// has it.
+#[derive(Clone, Copy)]
+pub struct Screen {
+    readers: Terminals,
+    // whether a terminal shows colors
+    has_colors: bool,
+    width: Option<usize>,
+}
+
+impl Screen {
+    /// That of the terminals, by what the environment says of them.
+    pub fn new<R: Env + AllocGlobal>(rt: &R, terminals: Terminals) -> Result<Screen, NoWords> {
+        let is_ci = has_variable(rt, "CI")?;
+        Ok(Screen {
+            readers: Terminals {
+                output: terminals.output && !is_ci,
+                errors: terminals.errors && !is_ci,
+            },
+            has_colors: !has_variable(rt, "NO_COLOR")? && !is_dumb(rt)?,
+            width: width_of(rt)?,
+        })
+    }
+
+    /// How the output looks.
+    pub fn style(self, color: ColorChoice) -> Style {
+        self.style_for(self.readers.output, color)
+    }
+
+    /// What is told on standard error beside the output, and how.
+    pub fn manner(self, telling: Telling, color: ColorChoice) -> Manner {
+        let is_person = self.readers.errors && telling != Telling::Quiet;
+        Manner {
+            tells: is_person || telling == Telling::Verbose,
+            is_person,
+            style: self.style_for(self.readers.errors, color),
+        }
+    }
+
+    fn style_for(self, is_person: bool, color: ColorChoice) -> Style {
+        Style {
+            colors: match color {
+                ColorChoice::Always => true,
+                ColorChoice::Never => false,
+                ColorChoice::Auto => is_person && self.has_colors,
+            },
+            width: if is_person { self.width } else { None },
+        }
+    }
+}
+
+/// A stop whose text looks as the output does.
+pub fn shown_stop(alloc: Global, stop: Stop, style: Style) -> Result<Stop, AllocError> {
+    match stop {
+        Stop::Stale(text) => Ok(Stop::Stale(shown_change(alloc, text, style)?)),
+        Stop::Explained(text) => Ok(Stop::Explained(style.explanation(alloc, text)?)),
+        stop => Ok(stop),
+    }
+}
+
+// A difference as it looks there; JSON stays as it is.
+fn shown_change(alloc: Global, text: String, style: Style) -> Result<String, AllocError> {
+    if text.as_str().starts_with("{") {
+        return Ok(text);
+    }
+    style.change(alloc, text)
+}
+
+fn is_dumb<R: Env + AllocGlobal>(rt: &R) -> Result<bool, NoWords> {
+    match variable(rt, "TERM")? {
+        Some(value) => Ok(value.as_str() == "dumb"),
+        None => Ok(false),
+    }
+}
+
+// The width of the terminal, as the shell tells it.
+fn width_of<R: Env + AllocGlobal>(rt: &R) -> Result<Option<usize>, NoWords> {
+    let Some(value) = variable(rt, "COLUMNS")? else {
+        return Ok(None);
+    };
+    match value.as_str().parse::<usize>() {
+        Ok(width) if width >= LEAST_WIDTH => Ok(Some(width)),
+        _ => Ok(None),
+    }
+}
+
+// Whether a variable is set, and not empty.
+fn has_variable<R: Env + AllocGlobal>(rt: &R, name: &str) -> Result<bool, NoWords> {
+    match variable(rt, name)? {
+        Some(value) => Ok(!value.is_empty()),
+        None => Ok(false),
+    }
+}
+
+// The value of a variable. One that isn't UTF-8 counts as absent: it says nothing about files.
+fn variable<R: Env + AllocGlobal>(rt: &R, name: &str) -> Result<Option<String>, NoWords> {
+    match std::env::var(rt, name) {
+        Ok(value) => Ok(Some(value)),
+        Err(VarError::NotPresent | VarError::NotUnicode) => Ok(None),
+        Err(VarError::OutOfMemory) => Err(NoWords::OutOfMemory),
+    }
+}

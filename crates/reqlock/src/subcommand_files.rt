@@ -1,0 +1,124 @@
+// The files that a subcommand reads, and the lock on its folder.
+
+use calls::Stop;
+use command_line::request::{NewLines, Question, Saving, Shown, Subcommand};
+use files::{InputFault, InputFile, LockFile, lock_to_save};
+use lists::Text;
+use std::rt::Files;
+
+/// The index of a subcommand, where it is given one.
+pub fn index_of<'a>(subcommand: &Subcommand<'a>) -> Option<&'a str> {
+    match subcommand {
+        Subcommand::Init(inputs)
+        | Subcommand::Try(inputs)
+        | Subcommand::Why(Question::Init(inputs, _), _) => Some(inputs.index),
+        Subcommand::Edit(_, inputs, _)
+        | Subcommand::Replace(_, inputs, _)
+        | Subcommand::Batch(inputs)
+        | Subcommand::Why(Question::Edit(_, inputs) | Question::Replace(_, inputs), _) => {
+            Some(inputs.index)
+        }
+        Subcommand::Outdated(index, _)
+        | Subcommand::Skipped(index)
+        | Subcommand::Why(Question::Release(_, index), _) => Some(*index),
+        Subcommand::Show(Shown::Entry(_, index), _) | Subcommand::Check(index, _) => *index,
+        Subcommand::Export(export) => export.index,
+        Subcommand::Undo(_)
+        | Subcommand::Redo(_)
+        | Subcommand::Show(Shown::Table | Shown::Tree, _)
+        | Subcommand::Log(_, _)
+        | Subcommand::Diff(_, _) => None,
+    }
+}
+
+/// The requirements file that is handed to a subcommand: the new one, or the old one.
+pub fn lines_of<'a>(subcommand: &Subcommand<'a>) -> Option<&'a str> {
+    match new_lines_of(subcommand)? {
+        NewLines::File(path) | NewLines::Was(path) => Some(path),
+        NewLines::Line(_, _) => None,
+    }
+}
+
+/// Whether that is the old one.
+pub fn has_old_lines(subcommand: &Subcommand<'_>) -> bool {
+    match new_lines_of(subcommand) {
+        Some(NewLines::Was(_)) => true,
+        _ => false,
+    }
+}
+
+// Where the new lines of a replacement are.
+fn new_lines_of<'a>(subcommand: &Subcommand<'a>) -> Option<NewLines<'a>> {
+    match subcommand {
+        Subcommand::Replace(replacement, _, _)
+        | Subcommand::Why(Question::Replace(replacement, _), _) => Some(replacement.lines),
+        _ => None,
+    }
+}
+
+/// The values of `--env` of a subcommand that locks new targets; none of any other.
+pub fn environments_of<'a>(subcommand: &'a Subcommand<'_>) -> &'a [Text] {
+    match subcommand {
+        Subcommand::Init(inputs)
+        | Subcommand::Try(inputs)
+        | Subcommand::Why(Question::Init(inputs, _), _) => inputs.environments.as_slice(),
+        Subcommand::Edit(_, _, _)
+        | Subcommand::Replace(_, _, _)
+        | Subcommand::Undo(_)
+        | Subcommand::Redo(_)
+        | Subcommand::Batch(_)
+        | Subcommand::Show(_, _)
+        | Subcommand::Log(_, _)
+        | Subcommand::Diff(_, _)
+        | Subcommand::Check(_, _)
+        | Subcommand::Outdated(_, _)
+        | Subcommand::Export(_)
+        | Subcommand::Skipped(_)
+        | Subcommand::Why(
+            Question::Edit(_, _) | Question::Replace(_, _) | Question::Release(_, _),
+            _,
+        ) => &[],
+    }
+}
+
+/// Refuses the empty name of a folder: no folder has it, so none of its files can be read, and a path made of it would lead
+/// to the root folder. `skipped` reads no file of the folder.
+pub fn refuse_no_folder(dir: &str, subcommand: &Subcommand<'_>) -> Result<(), Stop> {
+    match subcommand {
+        Subcommand::Skipped(_) => Ok(()),
+        _ if dir.is_empty() => Err(Stop::Input(InputFile::Requirements, InputFault::Unreadable)),
+        _ => Ok(()),
+    }
+}
+
+/// The lock on the folder of a subcommand that saves. One that only reads locks it as it reads.
+pub fn locked<R: Files + AllocGlobal>(
+    rt: &R,
+    dir: &str,
+    subcommand: &Subcommand<'_>,
+) -> Result<Option<R::File>, Stop>
+where
+    R::File: LockFile,
+{
+    match subcommand {
+        Subcommand::Init(_)
+        | Subcommand::Edit(_, _, Saving::Save)
+        | Subcommand::Replace(_, _, Saving::Save)
+        | Subcommand::Undo(Saving::Save)
+        | Subcommand::Redo(Saving::Save)
+        | Subcommand::Batch(_) => Ok(lock_to_save(rt, dir)?),
+        Subcommand::Edit(_, _, Saving::DryRun)
+        | Subcommand::Replace(_, _, Saving::DryRun)
+        | Subcommand::Undo(Saving::DryRun)
+        | Subcommand::Redo(Saving::DryRun)
+        | Subcommand::Try(_)
+        | Subcommand::Show(_, _)
+        | Subcommand::Log(_, _)
+        | Subcommand::Diff(_, _)
+        | Subcommand::Check(_, _)
+        | Subcommand::Outdated(_, _)
+        | Subcommand::Export(_)
+        | Subcommand::Skipped(_)
+        | Subcommand::Why(_, _) => Ok(None),
+    }
+}

@@ -1,0 +1,202 @@
+// What is told of an accepted command: what it changed, which versions it moved unasked, and what pip would warn of.
+
+use crate::changed_file_details::CHECKOUT;
+use crate::details::Details;
+use calls::{Stop, change_between};
+use edits::{Change, Edit, Pool, Refusal, Snapshot, State, edit};
+use files::SavedFiles;
+use journal::{Command, Session};
+use resolve::RESOLVER;
+use std::alloc::{AllocError, Global};
+use std::rt::Files;
+use texts::diff_text::diff_text;
+use texts::{AppliedEdit, add_change_notes, add_lock_notes, add_moved, has_moved};
+
+/// Where a history stood before a command, and how many steps it had.
+#[derive(Clone, Copy)]
+pub struct Place {
+    pub cursor: usize,
+    pub steps: usize,
+}
+
+impl Place {
+    /// Where a history stands.
+    pub fn of(session: &Session) -> Place {
+        Place {
+            cursor: session.cursor(),
+            steps: session.steps(),
+        }
+    }
+}
+
+impl Details {
+    /// Notes what a command changed, before which the history stood in this place.
+    pub fn add_change(
+        &mut self,
+        alloc: Global,
+        session: &Session,
+        from: Place,
+        command: &Command<'_>,
+    ) -> Result<(), Stop> {
+        if !self.manner.tells {
+            return Ok(());
+        }
+        let change = change_between(alloc, session, from.cursor, session.cursor())?;
+        self.changes = diff_text(alloc, &change)?;
+        self.add_moved(alloc, session, from, command, &change)
+    }
+
+    /// Notes which locked versions an edit moved that it doesn't name, and whether all could have stayed. The
+    /// resolver tells that. Then what pip would warn of, and what can't be done again.
+    pub fn add_moved(
+        &mut self,
+        alloc: Global,
+        session: &Session,
+        from: Place,
+        command: &Command<'_>,
+        change: &Change,
+    ) -> Result<(), Stop> {
+        let Command::Edit(wanted, pool) = command else {
+            return Ok(());
+        };
+        if !self.manner.tells {
+            return Ok(());
+        }
+        let applied = AppliedEdit {
+            edit: wanted,
+            change,
+        };
+        if has_moved(alloc, applied)? {
+            let old = state_at(alloc, session, from.cursor)?;
+            let kept = state_that_keeps(alloc, old, wanted, pool.snapshot)?;
+            add_moved(alloc, &mut self.changes, applied, kept.as_ref())?;
+        }
+        add_change_notes(
+            alloc,
+            &mut self.known,
+            session.state(),
+            change,
+            pool.snapshot,
+        )?;
+        Ok(self.add_forgotten(from, session)?)
+    }
+
+    // How many steps an edit made an end of, that an undo had left.
+    fn add_forgotten(&mut self, from: Place, session: &Session) -> Result<(), AllocError> {
+        let forgotten = from.steps.saturating_sub(from.cursor);
+        if !self.manner.is_person || forgotten == 0 || session.cursor() == from.cursor {
+            return Ok(());
+        }
+        let words = if forgotten == 1 {
+            "step that was undone is"
+        } else {
+            "steps that were undone are"
+        };
+        write!(
+            self.known,
+            "{forgotten} {words} gone from the history: redo has nothing left to go on to.\n"
+        )
+    }
+
+    /// How many steps the history has that an `init` is about to replace; none where there is no history, or nobody is
+    /// told.
+    pub(crate) fn steps_before<R: Files + AllocGlobal>(
+        &self,
+        rt: &R,
+        dir: &str,
+    ) -> Result<usize, Stop> {
+        if !self.manner.is_person {
+            return Ok(0);
+        }
+        let Ok(files) = SavedFiles::read(rt, dir) else {
+            return Ok(0);
+        };
+        match files.open(rt.alloc()) {
+            Ok(session) => Ok(session.steps()),
+            Err(_) => Ok(0),
+        }
+    }
+
+    /// Notes what a first lock holds.
+    pub(crate) fn add_first_lock(
+        &mut self,
+        alloc: Global,
+        session: &Session,
+        snapshot: &Snapshot,
+    ) -> Result<(), AllocError> {
+        if !self.manner.tells {
+            return Ok(());
+        }
+        add_lock_notes(alloc, &mut self.known, session.state(), snapshot)?;
+        if !self.manner.is_person {
+            return Ok(());
+        }
+        for target in session.state().targets() {
+            let count = target.lock.entries().len();
+            let noun = if count == 1 { "package" } else { "packages" };
+            let file = target.name.file_name(alloc)?;
+            write!(self.known, "{count} {noun} locked in {}\n", file.as_str())?;
+        }
+        Ok(())
+    }
+
+    /// Notes what became of the history that stood in this folder before a first lock.
+    pub(crate) fn add_replaced(&mut self, dir: &str, steps: usize) -> Result<(), AllocError> {
+        if steps == 0 {
+            return Ok(());
+        }
+        let noun = if steps == 1 { "step" } else { "steps" };
+        write!(
+            self.known,
+            "The history that stood here is replaced, with its {steps} {noun}. "
+        )?;
+        self.known
+            .push_str("Where git has it, this brings it back:\n")?;
+        self.add_git(dir)?;
+        self.known.push_str(CHECKOUT)
+    }
+
+    /// Notes that an edit would change nothing.
+    pub(crate) fn add_same(&mut self, command: &Command<'_>) -> Result<(), AllocError> {
+        if !self.manner.is_person {
+            return Ok(());
+        }
+        let Command::Edit(Edit::Upgrade(_) | Edit::UpgradeAll, _) = command else {
+            return self
+                .known
+                .push_str("Nothing changes, and nothing is saved.\n");
+        };
+        let options = self.options.as_str();
+        write!(
+            self.known,
+            "Nothing newer fits. What holds newer releases back is told by:\n    reqlock{options} outdated\n"
+        )
+    }
+}
+
+// The state at a place of the history.
+fn state_at(alloc: Global, session: &Session, place: usize) -> Result<State, Stop> {
+    if place > session.steps() {
+        return Err(Stop::NoPlace(place));
+    }
+    Ok(session.state_at(alloc, place)?)
+}
+
+// The state that an edit leads to where every locked version has to stay, if there is one.
+fn state_that_keeps(
+    alloc: Global,
+    old: State,
+    wanted: &Edit,
+    snapshot: &Snapshot,
+) -> Result<Option<State>, AllocError> {
+    let pool = Pool {
+        snapshot,
+        only_kept: true,
+    };
+    match edit(alloc, &old, wanted, &pool, &RESOLVER) {
+        Ok(edited) => Ok(Some(edited.state)),
+        Err(Refusal::NothingChanges) => Ok(Some(old)),
+        Err(Refusal::OutOfMemory) => Err(AllocError),
+        Err(_) => Ok(None),
+    }
+}

@@ -1,0 +1,24 @@
+// How a call tells what is known beside its reply.
+
+use texts::Style;
+
+/// How a call tells what is known beside its reply.
+#[derive(Clone, Copy, Debug, PartialEq, Eq)]
+pub struct Manner {
+    /// Whether it tells something at all.
+    pub tells: bool,
+    /// Whether a person reads it at once, who is also told what to type next.
+    pub is_person: bool,
+    pub style: Style,
+}
+
+impl Manner {
+    /// Nothing is told.
+    pub fn silent() -> Manner {
+        Manner {
+            tells: false,
+            is_person: false,
+            style: Style::plain(),
+        }
+    }
+}

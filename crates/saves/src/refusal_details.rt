@@ -1,0 +1,234 @@
+// What is told where a command or a first lock is refused.
+
+use crate::details::Details;
+use answers::{lines_of, told_refutation};
+use edits::{
+    Edit, Environment, FirstTargets, Line, Pool, Refusal, ReqFile, Snapshot, State, Targets, edit,
+    problem_after, problems_of_init,
+};
+use journal::Command;
+use lists::Seq;
+use resolve::RESOLVER;
+use std::alloc::{AllocError, Global};
+use texts::{
+    RefusedEdit, add_index_steps, add_lacking, add_question, add_refusal_details, add_refusal_steps,
+};
+
+/// How many lines of sentences are told at once. More are left to `why`.
+const MOST_LINES: usize = 40;
+
+/// What a first lock is made of.
+#[derive(Drop)]
+pub(crate) struct FirstQuestion {
+    lines: ReqFile,
+    targets: Targets,
+}
+
+impl Details {
+    /// Notes what is known of a refused command.
+    pub fn add_refusal(
+        &mut self,
+        alloc: Global,
+        state: &State,
+        command: &Command<'_>,
+        refusal: &Refusal,
+    ) -> Result<(), AllocError> {
+        if !self.manner.tells {
+            return Ok(());
+        }
+        let Command::Edit(wanted, pool) = command else {
+            return write!(self.known, "{refusal}\n");
+        };
+        let refused = RefusedEdit {
+            state,
+            edit: wanted,
+            snapshot: pool.snapshot,
+            refusal,
+        };
+        add_refusal_details(alloc, &mut self.known, refused)?;
+        if self.manner.is_person {
+            let mut steps = String::new(alloc);
+            let options = self.options.as_str();
+            add_refusal_steps(alloc, &mut steps, options, self.plan(), refused)?;
+            self.steps = steps;
+        }
+        self.add_question(alloc, refused, pool)
+    }
+
+    // Why there is no solution, or the question that tells it.
+    fn add_question(
+        &mut self,
+        alloc: Global,
+        refused: RefusedEdit<'_>,
+        pool: &Pool<'_>,
+    ) -> Result<(), AllocError> {
+        if *refused.refusal != Refusal::NoSolution {
+            return Ok(());
+        }
+        let may_move = pool.only_kept && has_solution(alloc, refused)?;
+        if self.manner.is_person {
+            let reasons = reasons_of(alloc, refused, pool)?;
+            if is_told_at_once(reasons.as_str()) {
+                self.add_reasons(reasons);
+                return self.add_moving(may_move);
+            }
+        }
+        self.add_moving(may_move)?;
+        if may_move {
+            self.options.push_str(" --keep-locked")?;
+        }
+        add_question(&mut self.known, self.options.as_str(), refused.edit)
+    }
+
+    fn add_moving(&mut self, may_move: bool) -> Result<(), AllocError> {
+        if !may_move {
+            return Ok(());
+        }
+        self.known
+            .push_str("without --keep-locked there is a solution\n")
+    }
+
+    // They say all that was known, in the place of it.
+    fn add_reasons(&mut self, reasons: String) {
+        self.known.clear();
+        self.reasons = reasons;
+    }
+
+    /// What a first lock is made of, where something will be told of its refusal.
+    pub(crate) fn first_question(
+        &self,
+        alloc: Global,
+        lines: &ReqFile,
+        targets: &Targets,
+    ) -> Result<Option<FirstQuestion>, AllocError> {
+        if !self.manner.tells {
+            return Ok(None);
+        }
+        match copy_of(alloc, targets)? {
+            Some(targets) => Ok(Some(FirstQuestion {
+                lines: lines.clone()?,
+                targets,
+            })),
+            None => Ok(None),
+        }
+    }
+
+    /// Notes what is known where a first lock is refused.
+    pub(crate) fn add_first_refusal(
+        &mut self,
+        alloc: Global,
+        refusal: &Refusal,
+        question: Option<FirstQuestion>,
+        snapshot: &Snapshot,
+    ) -> Result<(), AllocError> {
+        let Some(FirstQuestion { lines, targets }) = question else {
+            return Ok(());
+        };
+        write!(self.known, "{refusal}\n")?;
+        if *refusal != Refusal::NoSolution {
+            return Ok(());
+        }
+        self.add_lacking(alloc, lines.lines(), &targets, snapshot)?;
+        if self.manner.is_person {
+            let reasons = first_reasons(alloc, &lines, targets, snapshot)?;
+            if is_told_at_once(reasons.as_str()) {
+                self.add_reasons(reasons);
+                return Ok(());
+            }
+        }
+        let options = self.options.as_str();
+        write!(self.known, "ask: reqlock{options} why --explain --init\n")
+    }
+
+    // The names that the index lacks of a first lock, and how it is made with them.
+    fn add_lacking(
+        &mut self,
+        alloc: Global,
+        lines: &[Line],
+        targets: &Targets,
+        snapshot: &Snapshot,
+    ) -> Result<(), AllocError> {
+        let environments = environments_of(alloc, targets)?;
+        let environments = environments.as_slice();
+        add_lacking(alloc, &mut self.known, lines, environments, snapshot)?;
+        if self.manner.is_person {
+            let mut steps = String::new(alloc);
+            add_index_steps(&mut steps, self.plan(), lines, environments, snapshot)?;
+            self.steps = steps;
+        }
+        Ok(())
+    }
+}
+
+fn copy_of(alloc: Global, targets: &Targets) -> Result<Option<Targets>, AllocError> {
+    let mut given = Vec::new(alloc);
+    for (name, environment) in targets.as_slice() {
+        given.push((name.clone()?, environment.clone()?))?;
+    }
+    match Targets::new(alloc, Seq::from_vec(given)) {
+        Ok(targets) => Ok(Some(targets)),
+        Err(Refusal::OutOfMemory) => Err(AllocError),
+        Err(_) => Ok(None),
+    }
+}
+
+fn is_told_at_once(reasons: &str) -> bool {
+    !reasons.is_empty() && reasons.lines().count() <= MOST_LINES
+}
+
+// The sentences that tell why a refused edit has no solution.
+fn reasons_of(
+    alloc: Global,
+    refused: RefusedEdit<'_>,
+    pool: &Pool<'_>,
+) -> Result<String, AllocError> {
+    let problems = match problem_after(alloc, refused.state, refused.edit, pool) {
+        Ok(problems) => problems,
+        Err(Refusal::OutOfMemory) => return Err(AllocError),
+        Err(_) => return Ok(String::new(alloc)),
+    };
+    let lines = lines_of(refused.edit, refused.state);
+    match told_refutation(alloc, lines, refused.edit, problems.as_slice())? {
+        Some(reasons) => Ok(reasons),
+        None => Ok(String::new(alloc)),
+    }
+}
+
+// The same of a first lock.
+fn first_reasons(
+    alloc: Global,
+    lines: &ReqFile,
+    targets: Targets,
+    snapshot: &Snapshot,
+) -> Result<String, AllocError> {
+    // which versions are kept says nothing about whether there is a solution
+    let pins = Seq::new(alloc);
+    let first = FirstTargets { targets, pins };
+    let problems = match problems_of_init(alloc, lines, &Edit::Relock, first, snapshot) {
+        Ok(problems) => problems,
+        Err(Refusal::OutOfMemory) => return Err(AllocError),
+        Err(_) => return Ok(String::new(alloc)),
+    };
+    match told_refutation(alloc, lines.lines(), &Edit::Relock, problems.as_slice())? {
+        Some(reasons) => Ok(reasons),
+        None => Ok(String::new(alloc)),
+    }
+}
+
+fn environments_of(alloc: Global, targets: &Targets) -> Result<Vec<&Environment>, AllocError> {
+    let mut environments = Vec::new(alloc);
+    for (_, environment) in targets.as_slice() {
+        environments.push(environment)?;
+    }
+    Ok(environments)
+}
+
+// Whether an edit that was refused has a solution where locked versions may move.
+fn has_solution(alloc: Global, refused: RefusedEdit<'_>) -> Result<bool, AllocError> {
+    let pool = Pool::whole(refused.snapshot);
+    match edit(alloc, refused.state, refused.edit, &pool, &RESOLVER) {
+        Ok(_) | Err(Refusal::NothingChanges) => Ok(true),
+        Err(Refusal::OutOfMemory) => Err(AllocError),
+        Err(_) => Ok(false),
+    }
+}

@@ -1,0 +1,204 @@
+// What to type next where a file is missing or is another one: sentences, and commands in lines that begin with spaces.
+
+use crate::file_form::FileForm;
+use crate::near_variable::mistyped_key;
+use phrases::{add_plain, add_word};
+use std::alloc::{AllocError, Global};
+
+/// The name that this repository's pages give an index.
+pub const INDEX: &str = "index.json";
+
+/// The name that they give an environment.
+pub const ENVIRONMENT: &str = "environment.json";
+
+/// The files that an index is made for, and where it is to stand.
+#[derive(Clone, Copy)]
+pub struct IndexPlan<'a> {
+    pub requirements: &'a str,
+    /// Where the environment stands, if a call names it.
+    pub environment: Option<&'a str>,
+    pub index: &'a str,
+    /// A package that nothing leads to yet.
+    pub package: Option<&'a str>,
+    /// Whether an index stands where these pages have it.
+    pub is_there: bool,
+}
+
+impl IndexPlan<'_> {
+    /// Puts the command that makes the index behind the text.
+    pub fn add_command(self, text: &mut String) -> Result<(), AllocError> {
+        text.push_str("    reqlock-snapshot simple https://index.example/simple/")?;
+        if let Some(package) = self.package {
+            add_word(text, package)?;
+        }
+        text.push_str(" --for")?;
+        add_word(text, self.requirements)?;
+        if let Some(environment) = self.environment {
+            text.push_str(" --env")?;
+            add_word(text, environment)?;
+        }
+        text.push_str(" --output")?;
+        add_word(text, output_of(self.index))?;
+        text.push_str("\n")
+    }
+
+    // Where a file was given that is no index: the one that is there, or how one is made, not in the place of that file.
+    fn add_other(self, text: &mut String) -> Result<(), AllocError> {
+        if self.is_there && self.index != INDEX {
+            return text.push_str("index.json is here: give that.\n");
+        }
+        text.push_str("This makes one:\n")?;
+        let index = INDEX;
+        IndexPlan { index, ..self }.add_command(text)
+    }
+}
+
+// Where an index is written. What the shell hands over can't be written to.
+fn output_of(index: &str) -> &str {
+    if index.is_empty() || index.starts_with("/dev/") || index.starts_with("/proc/") {
+        return INDEX;
+    }
+    index
+}
+
+/// Puts the command that makes an environment behind the text.
+pub fn add_environment_command(
+    alloc: Global,
+    text: &mut String,
+    path: &str,
+) -> Result<(), AllocError> {
+    text.push_str("    reqlock-environment >")?;
+    let mut word = String::new(alloc);
+    add_word(&mut word, path)?;
+    text.push_str(word.as_str().trim_start())?;
+    text.push_str("\n")
+}
+
+/// Puts what the file looks like behind the text that was given as an index, and what to do.
+pub fn add_index_note(
+    text: &mut String,
+    plan: IndexPlan<'_>,
+    form: FileForm,
+) -> Result<(), AllocError> {
+    add_plain(text, plan.index)?;
+    if let FileForm::Conflict(line) = form {
+        return write!(
+            text,
+            ": git left a conflict at line {line}: make the snapshot again, or take one side's\n"
+        );
+    }
+    text.push_str(index_look(form))?;
+    match form {
+        FileForm::Empty | FileForm::Marked | FileForm::Snapshot => plan.add_command(text),
+        _ => plan.add_other(text),
+    }
+}
+
+// What a file looks like that is no snapshot that reads.
+fn index_look(form: FileForm) -> &'static str {
+    match form {
+        FileForm::Environment => {
+            " looks like an environment: --env takes it, and --index a snapshot of an index. "
+        }
+        FileForm::Lock => " looks like a lock: --index takes the snapshot that it was made of. ",
+        FileForm::Page => {
+            " looks like a page of an index: reqlock-snapshot makes a snapshot of such pages. "
+        }
+        FileForm::Empty => " is empty. This makes it again:\n",
+        FileForm::Marked => {
+            " begins with a byte-order mark: save it as UTF-8 without one, or make it again:\n"
+        }
+        FileForm::Snapshot => {
+            " isn't as this reqlock reads a snapshot: the reqlock-snapshot beside it makes one:\n"
+        }
+        FileForm::Other | FileForm::Conflict(_) => " is no snapshot of an index. ",
+    }
+}
+
+/// A file that was given as an environment.
+#[derive(Clone, Copy)]
+pub struct BadEnvironment<'a> {
+    pub path: &'a str,
+    pub text: &'a str,
+    pub form: FileForm,
+    /// The variable that it lacks or has wrong, if it is an object.
+    pub variable: &'a str,
+    /// Whether an environment stands where these pages have it.
+    pub is_there: bool,
+}
+
+/// Puts what the file looks like behind the text that was given as an environment, and what to do.
+pub fn add_environment_note(
+    alloc: Global,
+    text: &mut String,
+    file: BadEnvironment<'_>,
+) -> Result<(), AllocError> {
+    add_plain(text, file.path)?;
+    match file.form {
+        FileForm::Conflict(line) => {
+            write!(
+                text,
+                ": git left a conflict at line {line}. This makes it again:\n"
+            )?;
+        }
+        FileForm::Snapshot => {
+            text.push_str(" looks like a snapshot of an index: --index takes it. ")?;
+            return add_other_environment(alloc, text, file);
+        }
+        FileForm::Lock => {
+            text.push_str(" looks like a lock. ")?;
+            return add_other_environment(alloc, text, file);
+        }
+        FileForm::Marked => text.push_str(
+            " begins with a byte-order mark: save it as UTF-8 without one, or make it again:\n",
+        )?,
+        FileForm::Empty => text.push_str(" is empty. This makes it again:\n")?,
+        FileForm::Environment if !file.variable.is_empty() => {
+            add_variable_note(alloc, text, file.text, file.variable)?;
+        }
+        _ => {
+            text.push_str(" is no environment. ")?;
+            return add_other_environment(alloc, text, file);
+        }
+    }
+    add_environment_command(alloc, text, file.path)
+}
+
+// Where a file was given that is no environment: the one that is there, or how one is made, not in the place of that file.
+fn add_other_environment(
+    alloc: Global,
+    text: &mut String,
+    file: BadEnvironment<'_>,
+) -> Result<(), AllocError> {
+    if file.is_there && file.path != ENVIRONMENT {
+        return text.push_str("environment.json is here: give that.\n");
+    }
+    text.push_str("This makes one, of the Python that runs it:\n")?;
+    add_environment_command(alloc, text, ENVIRONMENT)
+}
+
+fn add_variable_note(
+    alloc: Global,
+    text: &mut String,
+    file: &str,
+    variable: &str,
+) -> Result<(), AllocError> {
+    if let Some(key) = mistyped_key(alloc, file, variable)? {
+        text.push_str(" has ")?;
+        add_plain(text, key)?;
+        return write!(
+            text,
+            " in the place of {variable}: write that, or make it again:\n"
+        );
+    }
+    if file.contains(variable) {
+        return write!(
+            text,
+            ": the value of {variable} isn't such a text. This makes it again:\n"
+        );
+    }
+    write!(
+        text,
+        " lacks {variable}. This makes it again, with all eleven variables:\n"
+    )
+}

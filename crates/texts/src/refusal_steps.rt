@@ -1,0 +1,222 @@
+// What a person may type next where an edit is refused.
+
+use crate::line_notes::add_line_note;
+use crate::next_steps::IndexPlan;
+use crate::refusal_details::RefusedEdit;
+use edits::{Cause, Edit, Environment, Line, Name, Refusal, Requirement, Snapshot};
+use phrases::{add_specifiers, add_word, has_package};
+use std::alloc::{AllocError, Global};
+
+/// Puts what to do next behind the text. The options are those of the call, each with a space before it; the index is to be
+/// made by the plan where it lacks a package.
+pub fn add_refusal_steps(
+    alloc: Global,
+    text: &mut String,
+    options: &str,
+    plan: IndexPlan<'_>,
+    refused: RefusedEdit<'_>,
+) -> Result<(), AllocError> {
+    match (refused.refusal, refused.edit) {
+        (Refusal::BadText, Edit::Add(line)) => add_bad_line_note(alloc, text, line.as_str()),
+        (Refusal::AlreadyPresent(_), Edit::Add(line)) => {
+            add_constraint(alloc, text, options, line.as_str())
+        }
+        (Refusal::NotPresent, Edit::Remove(_) | Edit::Constrain(_, _)) => {
+            add_need(alloc, text, options, refused)
+        }
+        (Refusal::NotLocked(_), _) => {
+            text.push_str("What is locked is told by:\n    reqlock show\n")
+        }
+        (Refusal::NoSolution, _) => add_lines_steps(alloc, text, plan, refused),
+        _ => Ok(()),
+    }
+}
+
+// The same of the line that the edit would change, and of the other lines.
+fn add_lines_steps(
+    alloc: Global,
+    text: &mut String,
+    plan: IndexPlan<'_>,
+    refused: RefusedEdit<'_>,
+) -> Result<(), AllocError> {
+    let changed = changed_lines(alloc, refused)?;
+    let mut environments = Vec::new(alloc);
+    for target in refused.state.targets() {
+        environments.push(&target.environment)?;
+    }
+    let environments = environments.as_slice();
+    let (changed, lines) = (changed.as_slice(), refused.state.lines().lines());
+    add_index_steps(text, plan, changed, environments, refused.snapshot)?;
+    add_index_steps(text, plan, lines, environments, refused.snapshot)
+}
+
+/// Of each line that counts in one of the environments: the newest release, where the line admits none; and how the index is
+/// made again, where it hasn't the package.
+pub fn add_index_steps(
+    text: &mut String,
+    plan: IndexPlan<'_>,
+    lines: &[Line],
+    environments: &[&Environment],
+    snapshot: &Snapshot,
+) -> Result<(), AllocError> {
+    for line in lines {
+        if let Some(requirement) = line.requirement() {
+            if environments
+                .iter()
+                .any(|environment| requirement.is_active(environment))
+            {
+                add_index_step(text, plan, requirement, snapshot)?;
+            }
+        }
+    }
+    Ok(())
+}
+
+fn add_index_step(
+    text: &mut String,
+    plan: IndexPlan<'_>,
+    requirement: &Requirement,
+    snapshot: &Snapshot,
+) -> Result<(), AllocError> {
+    let name = requirement.name();
+    if !has_package(snapshot, name) {
+        let normal = name.normal();
+        write!(
+            text,
+            "The snapshot was made without {normal}. Where the index has it, this makes it with {normal}:\n"
+        )?;
+        let package = Some(normal);
+        return IndexPlan { package, ..plan }.add_command(text);
+    }
+    add_newest(text, requirement, snapshot)
+}
+
+// The newest release of a name, where a requirement admits none. One that isn't final counts where there is no other.
+fn add_newest(
+    text: &mut String,
+    requirement: &Requirement,
+    snapshot: &Snapshot,
+) -> Result<(), AllocError> {
+    let releases = snapshot.releases(requirement.name());
+    if releases.iter().any(|release| requirement.specifiers().matches(release.version())) {
+        return Ok(());
+    }
+    let last = releases
+        .iter()
+        .find(|release| !release.version().is_pre() && !release.yanked());
+    let Some(newest) = last.or(releases.first()) else {
+        return Ok(());
+    };
+    let (name, version) = (requirement.name().normal(), newest.version());
+    write!(text, "The newest {name} of the snapshot is {version}.\n")
+}
+
+fn add_bad_line_note(alloc: Global, text: &mut String, line: &str) -> Result<(), AllocError> {
+    match Line::read(alloc, line) {
+        Ok(_) => Ok(()),
+        Err(Cause::OutOfMemory) => Err(AllocError),
+        Err(cause) => add_line_note(alloc, text, line, cause),
+    }
+}
+
+// How the line that is there already comes to what is asked for. Extras are no part of what `constrain` changes.
+fn add_constraint(
+    alloc: Global,
+    text: &mut String,
+    options: &str,
+    line: &str,
+) -> Result<(), AllocError> {
+    let Some(wanted) = read_line(alloc, line)? else {
+        return Ok(());
+    };
+    let Some(requirement) = wanted.requirement() else {
+        return Ok(());
+    };
+    let name = requirement.name().normal();
+    if !requirement.extras().is_empty() {
+        write!(
+            text,
+            "This puts the line in the place of that one:\n    reqlock{options} remove {name}\n    reqlock{options} add"
+        )?;
+        add_word(text, line)?;
+        return text.push_str("\n");
+    }
+    if requirement.specifiers().clauses().is_empty() {
+        return write!(
+            text,
+            "This takes newer releases of it:\n    reqlock{options} upgrade {name}\n"
+        );
+    }
+    write!(
+        text,
+        "This puts these versions on that line:\n    reqlock{options} constrain {name}"
+    )?;
+    let mut specifiers = String::new(alloc);
+    add_specifiers(&mut specifiers, requirement)?;
+    add_word(text, specifiers.as_str())?;
+    text.push_str("\n")
+}
+
+fn read_line(alloc: Global, line: &str) -> Result<Option<Line>, AllocError> {
+    match Line::read(alloc, line) {
+        Ok(line) => Ok(Some(line)),
+        Err(Cause::OutOfMemory) => Err(AllocError),
+        Err(_) => Ok(None),
+    }
+}
+
+// Who needs a name that no line has, and how it gets a line.
+fn add_need(
+    alloc: Global,
+    text: &mut String,
+    options: &str,
+    refused: RefusedEdit<'_>,
+) -> Result<(), AllocError> {
+    let (Edit::Remove(name) | Edit::Constrain(name, _)) = refused.edit else {
+        return Ok(());
+    };
+    let name = match Name::read(alloc, name.as_str()) {
+        Ok(name) => name,
+        Err(Cause::OutOfMemory) => return Err(AllocError),
+        Err(_) => return Ok(()),
+    };
+    let normal = name.normal();
+    let mut targets = refused.state.targets().iter();
+    if !targets.any(|target| target.locked(&name).is_some()) {
+        return text.push_str("Which names have lines is told by:\n    reqlock show --tree\n");
+    }
+    write!(text, "{normal} is locked since other packages need it. ")?;
+    let Edit::Constrain(_, specifiers) = refused.edit else {
+        return write!(text, "Which ones is told by:\n    reqlock show {normal}\n");
+    };
+    write!(
+        text,
+        "A line of its own bounds it:\n    reqlock{options} add"
+    )?;
+    let mut line = String::from_str(alloc, normal)?;
+    line.push_str(specifiers.as_str())?;
+    add_word(text, line.as_str())?;
+    text.push_str("\n")
+}
+
+// The line that an edit adds or changes, as it would be.
+fn changed_lines(alloc: Global, refused: RefusedEdit<'_>) -> Result<Vec<Line>, AllocError> {
+    let mut lines = Vec::new(alloc);
+    let found = match refused.edit {
+        Edit::Add(line) => read_line(alloc, line.as_str())?,
+        Edit::Constrain(name, specifiers) => {
+            let (name, specifiers) = (name.as_str(), specifiers.as_str());
+            let line = format!(in alloc; "{name}{specifiers}")?;
+            read_line(alloc, line.as_str())?
+        }
+        Edit::Remove(_)
+        | Edit::Upgrade(_)
+        | Edit::UpgradeAll
+        | Edit::Relock
+        | Edit::Replace(_, _) => None,
+    };
+    if let Some(line) = found {
+        lines.push(line)?;
+    }
+    Ok(lines)
+}

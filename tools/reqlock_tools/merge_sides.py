@@ -1,0 +1,131 @@
+"""The two sides of a merge: what their journals tell, and whether they are of one history."""
+
+import hashlib
+import json
+import re
+from typing import Any, NamedTuple
+
+from reqlock_tools.merge_git import Checkout
+from reqlock_tools.refusal import Refusal
+
+REQUIREMENTS, JOURNAL = "requirements.txt", "reqlock.journal"
+TARGET = re.compile("[a-z][a-z0-9-]{0,31}|")
+
+
+def lock_name(target: str) -> str:
+    return f"pylock.{target}.toml" if target else "pylock.toml"
+
+
+def digest_of(data: bytes) -> str:
+    return hashlib.sha256(data).hexdigest()
+
+
+class Journal(NamedTuple):
+    """A journal with what its header tells: digests, the environments by the names of targets, and the present state."""
+
+    data: bytes
+    requirements: str
+    locks: dict[str, str]
+    environments: dict[str, Any]
+    cursor: int
+
+    def first_lines(self, requirements: bytes) -> list[bytes]:
+        """The lines with which the history began, given those of its present state."""
+        lines = re.findall(rb"[^\n]*\n|[^\n]+", requirements)
+        for step in reversed(self.data.split(b"\n")[1 : self.cursor + 1]):
+            lines = before(lines, json.loads(step)["lines"])
+        return lines
+
+    def first_step(self) -> bytes:
+        return self.data.split(b"\n", 2)[1]
+
+
+def before(lines: list[bytes], splices: list[Any]) -> list[bytes]:
+    """The lines before a step, given those behind it."""
+    found: list[bytes] = []
+    taken = moved = 0
+    for place, old, new in splices:
+        found += lines[taken : place + moved] + [line.encode() for line in old]
+        taken = place + moved + len(new)
+        moved += len(new) - len(old)
+    return found + lines[taken:]
+
+
+def read_journal(place: str, data: bytes) -> Journal:
+    """A journal of either version."""
+    try:
+        header = json.loads(data.partition(b"\n")[0])
+        targets = header["targets"] if header["journal"] == 2 else [header | {"name": ""}]
+        locks = {target["name"]: target["lock"] for target in targets}
+        environments = {target["name"]: target["environment"] for target in targets}
+        is_read = all(TARGET.fullmatch(name) for name in locks) and isinstance(header["cursor"], int)
+        found = Journal(data, header["requirements"], locks, environments, header["cursor"]) if is_read else None
+    except (KeyError, TypeError, ValueError, RecursionError):
+        found = None
+    if found is None:
+        raise Refusal(f"{place}: it is no journal of reqlock")
+    return found
+
+
+class Found(NamedTuple):
+    """A file that a journal is for, and git's name for it."""
+
+    data: bytes
+    source: str
+
+
+class Side(NamedTuple):
+    """The files that a side's journal is for, by its digests. None stands for one that wasn't found."""
+
+    name: str
+    journal: Journal
+    old: Found | None
+    locks: dict[str, bytes | None]
+
+    def whole(self) -> Found:
+        """The requirements file of a side whose files belong together; others are refused."""
+        if self.old is None:
+            raise Refusal(
+                f"{REQUIREMENTS}: no version of it in HEAD, in the index or in the last commits is the one that reqlock saved; where"
+                " line endings were changed, .gitattributes needs: requirements.txt -text; else begin anew: reqlock init --pins pylock.toml"
+            )
+        for target, data in self.locks.items():
+            if data is None:
+                raise Refusal(f"{lock_name(target)} of {self.name}: it isn't the one that reqlock saved with its journal")
+        return self.old
+
+
+def saved(checkout: Checkout, name: str, digest: str, places: list[str]) -> Found | None:
+    """The version of a file with a digest: it is sought in these places, in the index, and in the last commits."""
+    near = [f"{place}:./{name}" for place in [*places, ":0"]]
+    return version_with(checkout, digest, near) or version_with(checkout, digest, checkout.versions_of(name))
+
+
+def version_with(checkout: Checkout, digest: str, names: list[str]) -> Found | None:
+    """The first of these versions with a digest."""
+    found = zip(checkout.contents(names), names)
+    return next((Found(data, name) for data, name in found if data is not None and digest_of(data) == digest), None)
+
+
+def read_side(checkout: Checkout, name: str, places: list[str]) -> Side | None:
+    """A side as git has it; None where it has no journal. Of its places in git the first one counts that has a file: what git
+    couldn't merge is in the index."""
+    data = next((it for it in checkout.contents([f"{place}:./{JOURNAL}" for place in places]) if it is not None), None)
+    if data is None:
+        return None
+    journal = read_journal(f"{JOURNAL} of {name}", data)
+    locks = {target: saved(checkout, lock_name(target), digest, places) for target, digest in sorted(journal.locks.items())}
+    old = saved(checkout, REQUIREMENTS, journal.requirements, places)
+    return Side(name, journal, old, {target: found and found.data for target, found in locks.items()})
+
+
+def are_of_one_history(one: Side, other: Side) -> bool:
+    """Whether two histories began alike, as far as it can be seen."""
+    if one.journal.data.count(b"\n") > 1 and one.journal.first_step() == other.journal.first_step():
+        return True
+    if one.old is None or other.old is None:
+        return True
+    try:
+        return one.journal.first_lines(one.old.data) == other.journal.first_lines(other.old.data)
+    except (KeyError, TypeError, ValueError, AttributeError, RecursionError):
+        return False

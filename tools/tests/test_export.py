@@ -1,0 +1,195 @@
+"""What `export` prints: the requirements for pip, against the tool that prints them of the lock's file, and installed by the machine's
+own pip; the graph, as Graphviz reads it and draws it; and which targets are told. They need the program, which ./check builds first."""
+
+import re
+import shutil
+import subprocess
+import unittest
+from xml.etree import ElementTree
+
+from checked_files import knows
+from made.environments import LINUX, WINDOWS
+from places import TOOLS, TOP
+from program import Program
+from rules.journals import file_name
+from rules.lock_tables import read_lock
+from shown import indented_blocks, typed_blocks
+from test_wheels import FIRST, HEAD, Shell, make_wheels, section
+
+TWO = {"linux": LINUX, "win": WINDOWS}
+RELEASES = (
+    ("a", "1.0rc1", []),
+    ("a", "1.0", ["b-c>=1", 'w; os_name=="nt"', 'x; extra=="e"']),
+    ("b-c", "1!2.0.post1", ["d"]),
+    ("d", "0", []),
+    ("w", "1", []),
+    ("x", "1", ["b-c"]),
+)
+# what a line of the file can hold that Graphviz has a meaning for
+ODD = 'd  # "]; \\N \\" <b> &amp; {|} \t é -> "a"\n'
+LINES = f"a[e]>=1\n# only a comment\nw; os_name == 'nt'\n{ODD}"
+SVG = "{http://www.w3.org/2000/svg}"
+IS_KNOWN = knows("export")
+
+
+def hashed(path):
+    """What the tool prints of a lock's file."""
+    done = subprocess.run(["python3", "-B", TOOLS / "hashed_requirements.py", path], capture_output=True, check=False)
+    return done.returncode, done.stdout.decode(), done.stderr.decode()
+
+
+def drawn(text):
+    """The root of the picture that Graphviz draws."""
+    done = subprocess.run(["dot", "-Tsvg"], input=text.encode(), capture_output=True, check=False)
+    if done.returncode != 0 or done.stderr:
+        raise AssertionError(done.stderr.decode())
+    return ElementTree.fromstring(done.stdout)
+
+
+def texts_of(picture, kind):
+    """Each node, edge or cluster of a picture: its title, and the text that it shows."""
+    found = {}
+    for group in picture.iter(f"{SVG}g"):
+        if group.get("class") == kind:
+            shown = "".join(text.text or "" for text in group.iter(f"{SVG}text"))
+            found[group.find(f"{SVG}title").text] = shown.replace("\N{NO-BREAK SPACE}", " ")
+    return found
+
+
+def graph_of(lock, target, lines):
+    """The nodes and edges of a lock, where these lines are active: each a number, a text and a name."""
+    nodes = {f"{target}:{name}": f"{name} {entry['version']}" for name, entry in lock.items()}
+    edges = {f"{target}:{name}->{target}:{it}" for name, entry in lock.items() for it in entry["dependencies"]}
+    for number, text, name in lines:
+        nodes[f"{target}:line {number}"] = f"line {number}: {text}"
+        edges.add(f"{target}:line {number}->{target}:{name}")
+    return nodes, edges
+
+
+@unittest.skipUnless(IS_KNOWN, "the program isn't built, or doesn't know export")
+class Export(Program):
+    def lock_of(self, target):
+        return read_lock((self.folder / file_name(target)).read_bytes())[2]
+
+    def begin_odd(self):
+        self.begin(LINES.encode(), *RELEASES)
+        self.assertEqual(self.call("init"), (0, "ok 0\n"))
+
+    def check_hashes(self, *words, target=""):
+        wanted = hashed(self.folder / file_name(target))
+        self.assertEqual(wanted[::2], (0, ""))
+        self.assertEqual(self.told("export", *words), wanted)
+
+    def test_hashes_are_those_of_the_tool(self):
+        self.begin_odd()
+        self.check_hashes()
+        self.check_hashes("--format", "hashes")
+        self.begin(b"", *RELEASES)
+        self.call("init")
+        self.check_hashes()
+
+    def test_each_text_of_a_line_is_shown_as_it_stands(self):
+        self.begin_odd()
+        status, text, error = self.told("export", "--format", "dot")
+        self.assertEqual((status, error), (0, ""))
+        self.check_drawn(text, {"": [(1, "a[e]>=1", "a"), (4, ODD.strip(), "d")]})
+
+    @unittest.skipUnless(shutil.which("dot"), "there is no Graphviz: apt-get install graphviz")
+    def check_drawn(self, text, lines):
+        """The picture has these active lines of each target, and its entries."""
+        picture = drawn(text)
+        nodes, edges = {}, set()
+        for target, active in lines.items():
+            more = graph_of(self.lock_of(target), target, active)
+            nodes |= more[0]
+            edges |= more[1]
+        shown = texts_of(picture, "node")
+        self.assertEqual({name: " ".join(it.split()) for name, it in shown.items()}, {name: " ".join(it.split()) for name, it in nodes.items()})
+        self.assertEqual(set(texts_of(picture, "edge")), edges)
+        self.assertEqual(texts_of(picture, "cluster"), {f"cluster {name}": name for name in lines if name and lines[name]})
+
+    def test_a_lock_of_nothing_is_a_graph(self):
+        self.begin(b"# nothing\n", *RELEASES)
+        self.call("init")
+        self.check_drawn(self.told("export", "--format", "dot")[1], {"": []})
+
+    def test_prints_no_lock_for_other_environments(self):
+        self.begin_odd()
+        status, output, error = self.told("export", "--format", "pylock")
+        self.assertEqual((status, output), (2, ""))
+        self.assertIn("reqlock-portable-lock makes one", error)
+
+    def test_refuses_a_folder_without_a_history(self):
+        self.begin(LINES.encode(), *RELEASES)
+        self.assertEqual(self.told("export"), self.told("show"))
+
+
+@unittest.skipUnless(IS_KNOWN, "the program isn't built, or doesn't know export")
+class Targets(Export):
+    environments = TWO
+
+    def begin_odd(self):
+        super().begin_odd()
+        self.words = "--target", "linux"
+
+    def check_hashes(self, *words, target="linux"):
+        for name in TWO:
+            super().check_hashes(*words, "--target", name, target=name)
+
+    def test_each_text_of_a_line_is_shown_as_it_stands(self):
+        self.begin_odd()
+        linux = [(1, "a[e]>=1", "a"), (4, ODD.strip(), "d")]
+        win = [linux[0], (3, "w; os_name == 'nt'", "w"), linux[1]]
+        self.check_drawn(self.told("export", "--format", "dot")[1], {"linux": linux, "win": win})
+        self.check_drawn(self.told("export", "--format", "dot", "--target", "win")[1], {"win": win})
+
+    def test_a_lock_of_nothing_is_a_graph(self):
+        self.begin(b"# nothing\n", *RELEASES)
+        self.call("init")
+        self.check_drawn(self.told("export", "--format", "dot")[1], {"linux": [], "win": []})
+
+    def test_says_what_to_type(self):
+        self.begin_odd()
+        status, output, error = self.told("export")
+        self.assertEqual((status, output, error.splitlines()[0]), (2, "", "error: '--target <NAME>' is needed, as there are several: the targets are linux, win"))
+        status, output, error = self.told("export", "--format", "dot", "--target", "mac")
+        self.assertEqual((status, output, error.splitlines()[0]), (2, "", "error: no target has the name 'mac' of '--target <NAME>': the targets are linux, win"))
+
+
+@unittest.skipUnless(IS_KNOWN, "the program isn't built, or doesn't know export")
+class Installed(Shell):
+    def test_pip_installs_by_the_hashes(self):
+        make_wheels(self.folder / "wheels")
+        begin, install, *_ = indented_blocks(section(HEAD))
+        self.check_runs(begin, "ok 0", "ok 1")
+        lines = install.replace("python3 tools/hashed_requirements.py pylock.toml", "reqlock export")
+        self.assertNotEqual(lines, install)
+        self.check_runs(lines)
+        self.check_installed("pylock.toml", "site", FIRST)
+
+
+class Page(unittest.TestCase):
+    """docs/EXPORT.md and its picture."""
+
+    def setUp(self):
+        self.picture = ElementTree.fromstring((TOP / "docs" / "lock.svg").read_text(encoding="utf-8"))
+
+    @unittest.skipUnless(IS_KNOWN and shutil.which("dot"), "there is no program with export, or no Graphviz: apt-get install graphviz")
+    def test_the_picture_is_of_the_program(self):
+        done = subprocess.run(["python3", "-B", TOOLS / "lock_picture.py", "-"], capture_output=True, check=True)
+        made = ElementTree.fromstring(done.stdout)
+        for kind in "node", "edge", "cluster":
+            self.assertEqual(texts_of(self.picture, kind), texts_of(made, kind))
+
+    @unittest.skipUnless(IS_KNOWN, "the program isn't built, or doesn't know export")
+    def test_what_is_printed(self):
+        page = (TOP / "docs" / "EXPORT.md").read_text(encoding="utf-8")
+        for command, shown in [it for block in typed_blocks(page) for it in block]:
+            words = command.replace("reqlock", str(TOOLS / "lock_picture.py") + " run", 1)
+            done = subprocess.run(["bash", "-c", f"python3 -B {words}"], capture_output=True, encoding="utf-8", check=False)
+            printed = re.sub("[0-9a-f]{64}", "..", re.sub("(?<=^# for ).*", "..", done.stdout + done.stderr, flags=re.M))
+            self.assertEqual(printed.splitlines(), shown, command)
+
+
+if __name__ == "__main__":
+    unittest.main()

@@ -1,0 +1,104 @@
+"""Two clones of drawn days of edits, which git and tools/merge.py merge from both sides: they come to the same locks."""
+
+import shutil
+import subprocess
+import unittest
+
+from checkouts import NOTHING, Checkouts
+from made.environments import LINUX
+from made.sessions import Draw
+from places import IS_LONG
+from rules.locks import Problem, best_solution, is_solution, read_index
+from rules.pins import newer_of
+from rules.requirements import cut_lines, order_key, read_version
+from test_merge import LINES, RELEASES
+
+DAYS = 20 if IS_LONG else 3
+
+
+class Days(Checkouts):
+    """Two clones, each with a drawn day of edits, merged in both directions."""
+
+    def test_drawn_days(self):
+        merged = 0
+        for seed in range(DAYS):
+            with self.subTest(seed=seed):
+                merged += self.play(Draw(seed))
+        self.assertGreater(merged, 0)
+
+    def play(self, draw):
+        for name in "one", "two":
+            shutil.rmtree(self.outside / name, ignore_errors=True)
+        self.begin_clone(LINES, *RELEASES)
+        shutil.copytree(self.outside / "one", self.outside / "two")
+        ours = self.day("one", draw)
+        theirs = self.day("two", draw)
+        if not ours or not theirs:
+            return 0
+        own = {}
+        for name, other in ("one", "two"), ("two", "one"):
+            self.clone_of(name)
+            own[name] = self.files(), self.locked()
+            self.git("fetch", "--quiet", self.outside / other, "main:theirs")
+        found = [self.merge_in(name, own) for name in ("one", "two")]
+        self.assertEqual(found[0], found[1])
+        return found[0] is not None
+
+    def day(self, name, draw):
+        """A few edits that are accepted, each a commit."""
+        self.clone_of(name)
+        count = 0
+        for _ in range(3):
+            word = draw.one(("web", "base", "tool", "aid"))
+            text = draw.one(("", "<3", ">=2", "<2", "!=2"))
+            words = draw.one((["add", word + text], ["constrain", word, text], ["remove", word], ["upgrade"], ["upgrade", word]))
+            if self.call(*words)[1].startswith("ok"):
+                self.commit(" ".join(words))
+                count += 1
+        return count
+
+    def merge_in(self, name, own):
+        """The lock that a clone comes to; None where its lines have none. The lines are those of both, by the rules of `union`."""
+        self.clone_of(name)
+        done = subprocess.run(["git", "merge", "theirs"], cwd=self.folder, env=self.variables, capture_output=True, check=False)
+        if done.returncode != 0:
+            (self.folder / "requirements.txt").write_bytes(self.joined(own))
+        status, output, errors = self.merge()
+        if status == 3:
+            return None
+        self.assertEqual(status, 0, errors)
+        lock = self.locked()
+        if output != NOTHING:
+            self.check_lock(lock, name, own)
+            self.assertEqual(self.call("check")[0], 0)
+            self.assertEqual(self.call("undo")[0], 0)
+            found = self.files()
+            for file in "requirements.txt", "pylock.toml":
+                self.assertEqual(found[file], own[name][0][file])
+        return lock
+
+    @staticmethod
+    def joined(own):
+        """The lines of both clones, each name once; of two lines on a name the lesser one."""
+        lines = {line for files, _ in own.values() for line in files["requirements.txt"].splitlines(keepends=True) if line.strip()}
+        kept = {}
+        for line in sorted(lines):
+            kept.setdefault(line[:3], line)
+        return b"".join(kept.values())
+
+    def check_lock(self, lock, name, own):
+        """The lock is what the rules make of the lines and both sides' pins. No entry is newer than on both sides where the newer pin of
+        both would do."""
+        index = read_index((self.outside / "index.json").read_bytes())
+        pins = [{it: read_version(version) for it, version in side.items()} for _, side in sorted(own.values(), key=lambda it: it is not own[name])]
+        kept = newer_of(pins[0], pins[1].items())
+        problem = Problem(cut_lines((self.folder / "requirements.txt").read_text(encoding="utf-8")), LINUX, index, kept)
+        chosen = {it: problem.place_of(it, order_key(read_version(version))) for it, version in lock.items()}
+        self.assertEqual(chosen, best_solution(problem))
+        for it in chosen.keys() & kept.keys():
+            other = {**chosen, it: problem.place_of(it, order_key(kept[it]))}
+            self.assertFalse(chosen[it] < other[it] and is_solution(problem, other), it)
+
+
+if __name__ == "__main__":
+    unittest.main()

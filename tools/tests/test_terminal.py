@@ -1,0 +1,211 @@
+"""The program at a terminal: what a person is told without asking, in colours and in lines of the terminal's width; and that a pipe, a file and
+a CI job are told none of it."""
+
+import os
+import re
+import subprocess
+import unittest
+import xml.etree.ElementTree as xml
+
+from places import PROGRAM, TOP
+from program import Program
+from terminals import shown_on_terminal
+
+CODE = re.compile("\x1b\\[[0-9]*m")
+BOLD, RED, GREEN, END = "\x1b[1m", "\x1b[31m", "\x1b[32m", "\x1b[0m"
+
+
+class Terminal(Program):
+    def at_terminal(self, *words, variables=(), before=None):
+        """The status of a call whose standard error is a terminal, its standard output, and what the terminal shows."""
+        told = []
+
+        def start(terminal):
+            call = subprocess.Popen(
+                [PROGRAM, *self.needed(words), *words], stdin=subprocess.DEVNULL, stdout=subprocess.PIPE, stderr=terminal,
+                env={"PATH": os.environ["PATH"], "TERM": "xterm", **dict(variables)}, preexec_fn=before,
+            )
+            told.append(call.communicate(timeout=60)[0].decode())
+            return call
+
+        status, shown = shown_on_terminal(start)
+        return status, told[0], shown.replace("\r\n", "\n")
+
+    def needed(self, words):
+        """The options of a call; only `init` reads environments."""
+        return self.options() if "init" in words else self.options()[:4]
+
+    def plainly(self, *words, **rest):
+        """The same without colours."""
+        status, output, shown = self.at_terminal(*words, **rest)
+        return status, output, CODE.sub("", shown)
+
+    def output_at_terminal(self, *words, variables=()):
+        """What a terminal shows that is the standard output of a call."""
+        _, shown = shown_on_terminal(
+            lambda terminal: subprocess.Popen(
+                [PROGRAM, *self.options(), *words], stdin=subprocess.DEVNULL, stdout=terminal, stderr=subprocess.DEVNULL,
+                env={"PATH": os.environ["PATH"], "TERM": "xterm", **dict(variables)},
+            )
+        )
+        return shown.replace("\r\n", "\n")
+
+    def begin_plugins(self):
+        releases = ("aa", "1", ["mid"]), ("aa", "2", ["mid<2"]), ("mid", "1", []), ("mid", "2", [])
+        self.begin(b"mid\n", *releases)
+        self.assertEqual(self.call("init"), (0, "ok 0\n"))
+
+
+class Told(Terminal):
+    def test_what_an_edit_changed_without_asking(self):
+        self.begin_plugins()
+        moved = "moved: mid 2 -> 1 (--keep-locked keeps it, with aa 1)\n"
+        self.assertEqual(self.plainly("add", "aa"), (0, "ok 1\n", f"+ 2: aa\n+ aa 2\nmid 2 -> 1\n{moved}"))
+        self.assertEqual(self.plainly("undo"), (0, "ok 0\n", "- 2: aa\n- aa 2\nmid 1 -> 2\n"))
+
+    def test_in_colours(self):
+        self.begin_plugins()
+        shown = self.at_terminal("add", "aa")[2].splitlines()
+        self.assertEqual(shown[:3], [f"{GREEN}+ 2: aa{END}", f"{GREEN}+ aa 2{END}", f"{BOLD}mid{END} {RED}2{END} -> {GREEN}1{END}"])
+        self.assertTrue(shown[3].startswith(f"moved: {BOLD}mid{END} {RED}2{END} -> {GREEN}1{END} ("), shown[3])
+
+    def test_no_colours_where_none_are_wanted(self):
+        self.begin_plugins()
+        for variables in {"NO_COLOR": "1"}, {"TERM": "dumb"}:
+            with self.subTest(variables=variables):
+                shown = self.at_terminal("add", "aa", "--dry-run", variables=variables)[2]
+                self.assertEqual(shown, "moved: mid 2 -> 1 (--keep-locked keeps it, with aa 1)\n")
+        self.assertIn(BOLD, self.at_terminal("add", "aa", "--dry-run", variables={"NO_COLOR": ""})[2])
+
+    def test_nothing_in_a_job(self):
+        self.begin_plugins()
+        self.assertEqual(self.at_terminal("add", "aa", variables={"CI": "true"}), (0, "ok 1\n", ""))
+        self.assertEqual(self.output_at_terminal("diff", variables={"CI": "true"}), "+ 2: aa\n+ aa 2\nmid 2 -> 1\n")
+
+    def test_nothing_in_a_pipe(self):
+        self.begin_plugins()
+        self.assertEqual(self.told("add", "aa"), (0, "ok 1\n", ""))
+        self.assertEqual(self.told("add", "none"), (3, "refused no-solution\n", ""))
+        self.assertEqual(self.told("init")[1:], ("ok 0\n", ""))
+
+    def test_why_there_is_no_solution_at_once(self):
+        self.begin_plugins()
+        status, output, shown = self.plainly("add", "aa>2")
+        self.assertEqual((status, output), (3, "refused no-solution\n"))
+        reasons = self.told("why", "--explain", "aa>2")[1]
+        self.assertTrue(reasons.startswith("No choice of versions meets "))
+        self.assertEqual(shown, f"{reasons}The newest aa of the snapshot is 2.\n")
+
+    def test_how_an_index_is_made_again(self):
+        self.begin_plugins()
+        _, _, shown = self.plainly("add", "aaa")
+        index, file = self.outside / "index.json", self.folder / "requirements.txt"
+        command = f"    reqlock-snapshot simple https://index.example/simple/ aaa --for {file} --output {index}\n"
+        self.assertTrue(shown.endswith(f"this makes it with aaa:\n{command}"), shown)
+
+    def test_why_a_first_lock_has_no_solution(self):
+        self.begin(b"aa>2\n", ("aa", "1", []))
+        status, output, shown = self.plainly("init")
+        self.assertEqual((status, output), (3, "refused no-solution\n"))
+        self.assertIn("No choice of versions meets line 1 (aa>2).\n", shown)
+        self.assertTrue(shown.endswith("The newest aa of the snapshot is 1.\n"), shown)
+
+    def test_a_file_of_pins_that_is_not_there(self):
+        self.begin_plugins()
+        shown = self.plainly("init", "--pins", "none")[2]
+        self.assertEqual(shown, "reqlock: pins: unreadable\nA file that --pins names isn't there, or can't be read.\n")
+
+    def test_how_many_packages_are_locked(self):
+        self.begin(b"aa\n", ("aa", "1", ["mid"]), ("mid", "1", []))
+        self.assertEqual(self.plainly("init"), (0, "ok 0\n", "2 packages locked in pylock.toml\n"))
+
+    def test_what_an_init_replaces(self):
+        self.begin_plugins()
+        self.assertEqual(self.call("add", "aa"), (0, "ok 1\n"))
+        shown = self.plainly("init")[2]
+        self.assertIn("The history that stood here is replaced, with its 1 step.", shown)
+        self.assertIn(f"\n    git -C {self.folder} checkout HEAD -- requirements.txt 'pylock*.toml' reqlock.journal\n", shown)
+        self.assertNotIn("replaced", self.plainly("init")[2])
+
+    def test_what_an_edit_behind_an_undo_drops(self):
+        self.begin_plugins()
+        for words in ["add", "aa"], ["remove", "mid"], ["undo"], ["undo"]:
+            self.call(*words)
+        shown = self.plainly("add", "aa<2")[2]
+        self.assertTrue(shown.endswith("2 steps that were undone are gone from the history: redo has nothing left to go on to.\n"), shown)
+
+    def test_what_pip_would_warn_of(self):
+        self.begin(
+            b"late\n", ("late", "1rc1", []), ("aa", "1", []), ("aa", "2", [], {"yanked": True}), ("bb", "1", ["aa ; extra == 'x'"])
+        )
+        self.assertIn("late 1rc1 is a pre-release, and no line on late names one.\n", self.plainly("init")[2])
+        self.assertIn("aa 2 is yanked: ", self.plainly("add", "aa==2")[2])
+        self.assertIn("by the extra nope here; bb 1 is locked without it.\n", self.plainly("add", "bb[nope,x]")[2])
+        self.assertNotIn("the extra x", self.plainly("undo")[2])
+
+    def test_lines_of_the_width(self):
+        self.begin_plugins()
+        shown = self.plainly("add", "aa>2", variables={"COLUMNS": "40"})[2]
+        self.assertLessEqual(max(map(len, shown.splitlines())), 40)
+        whole = self.plainly("add", "aa>2")[2]
+        self.assertEqual(shown.split(), whole.split())
+        told = self.output_at_terminal("why", "--explain", "aa>2", variables={"COLUMNS": "40"})
+        self.assertLessEqual(max(map(len, told.splitlines())), 40)
+        self.assertEqual(told.split(), self.told("why", "--explain", "aa>2")[1].split())
+
+    def test_an_option_that_counts_for_nothing(self):
+        self.begin_plugins()
+        shown = self.plainly("relock", "--env", self.environment_file(""))[2]
+        self.assertEqual(
+            shown,
+            "Nothing changes, and nothing is saved.\n"
+            "--env counts for nothing here: the history has the environments of its init. Another init gives it others.\n",
+        )
+
+    def test_what_to_type_where_an_edit_is_refused(self):
+        self.begin(b"aa\nbb\n", ("aa", "1", ["mid"]), ("mid", "1", []), ("bb", "1", []))
+        self.assertEqual(self.call("init"), (0, "ok 0\n"))
+        options = f"--dir {self.folder} --index {self.outside / 'index.json'}"
+        for words, steps in (
+            (["add", "aa>1"], f"    reqlock {options} constrain aa '>1'\n"), (["add", "aa"], f"    reqlock {options} upgrade aa\n"),
+            (["add", "aa[x]"], f"    reqlock {options} remove aa\n    reqlock {options} add 'aa[x]'\n"),
+            (["remove", "mid"], "    reqlock show mid\n"), (["constrain", "mid", "<2"], f"    reqlock {options} add 'mid<2'\n"),
+            (["remove", "none"], "    reqlock show --tree\n"), (["upgrade", "none"], "    reqlock show\n"),
+            (["add", "cc=2"], "A single = compares nothing: write cc==2\n"), (["diff", "7"], "    reqlock log\n"),
+        ):
+            with self.subTest(words=words):
+                shown = self.plainly(*words)[2]
+                self.assertTrue(shown.endswith(steps), shown)
+
+
+class Output(Terminal):
+    """What a terminal shows that is standard output."""
+
+    def test_differences_and_names(self):
+        self.begin_plugins()
+        self.assertEqual(self.call("add", "aa"), (0, "ok 1\n"))
+        wanted = f"{GREEN}+ 2: aa{END}\n{GREEN}+ aa 2{END}\n{BOLD}mid{END} {RED}2{END} -> {GREEN}1{END}\n"
+        self.assertEqual(self.output_at_terminal("diff"), wanted)
+        self.assertIn(f"{BOLD}aa{END}    2", self.output_at_terminal("show"))
+        self.assertEqual(self.output_at_terminal("log"), f"  0 init\n{BOLD}* 1 add aa{END}\n")
+        self.assertNotIn("\x1b", self.output_at_terminal("diff", "--json"))
+        self.assertEqual(self.output_at_terminal("diff", variables={"NO_COLOR": "1"}), CODE.sub("", wanted))
+
+    def test_a_text_paints_nothing(self):
+        """A control character of a file stays a text, also where the program writes its own."""
+        self.begin_plugins()
+        self.call("add", "aa  # \x9b31m")
+        self.assertEqual(self.output_at_terminal("diff").splitlines()[0], f"{GREEN}+ 2: aa  # \\u{{9b}}31m{END}")
+
+
+class Picture(unittest.TestCase):
+    @unittest.skipUnless(PROGRAM.exists(), "the program isn't built")
+    def test_is_what_the_program_shows(self):
+        script = TOP / "share" / "session_picture.py"
+        made = subprocess.run([script], capture_output=True, check=True).stdout
+        xml.fromstring(made)
+        self.assertEqual(made.decode(), (TOP / "share" / "session.svg").read_text(encoding="utf-8"))
+
+
+if __name__ == "__main__":
+    unittest.main()

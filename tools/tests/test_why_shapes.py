@@ -1,0 +1,99 @@
+"""What `why` prints of shapes in which many releases exclude one another: packages that pin one another exactly, chains with an end
+that is bounded, plugins that cap their core, two clouds over one base, releases that pin their neighbours tightly, pigeonholes. Each
+list comes within SECONDS, and tools/check_refutation.py accepts it."""
+
+import subprocess
+import sys
+import unittest
+
+from places import TOOLS
+from program import Program
+
+SCRIPT = TOOLS / "check_refutation.py"
+SECONDS = 60
+
+
+def numbered(word, count):
+    return [f"{word}{number:02}" for number in range(count)]
+
+
+def packages(names, count, needs):
+    """So many releases of each, numbered from 0, which need what a function tells for a name's place and a version."""
+    return [(name, f"{version}", needs(place, version)) for place, name in enumerate(names) for version in range(count)]
+
+
+def pins():
+    """Twelve packages pin one another, and two lines split them."""
+    names = numbered("pin", 12)
+    found = packages(names, 10, lambda own, version: [f"{name}=={version}" for name in names if name != names[own]])
+    return found, [f"{names[0]}>=5", f"{names[-1]}<5"]
+
+
+def ring():
+    """Each package pins the next one's release, and the last one another of the first."""
+    names = numbered("ring", 6)
+    return packages(names, 8, lambda own, version: [f"{names[(own + 1) % 6]}=={(version + (own == 5)) % 8}"]), names[:1]
+
+
+def chain():
+    """Forty links, each of which needs at least its own version of the next, whose last one is bounded."""
+    names = numbered("link", 40)
+    found = packages(names, 10, lambda own, version: [f"{name}>={version}" for name in names[own + 1 : own + 2]])
+    return found, [f"{names[0]}>=5", f"{names[-1]}<5"]
+
+
+def plugins():
+    """Plugins go with the three releases of the core from their own on, and two of them are held apart."""
+    names = numbered("plug", 6)
+    found = packages(names, 40, lambda own, version: [f"core>={version},<{version + 3}"])
+    return found + packages(["core"], 40, lambda own, version: []), [*names, f"{names[0]}<15", f"{names[5]}>=20"]
+
+
+def clouds():
+    """Packages that pin one another stand on the older half of a base, and others on the newer."""
+    found = packages(["base"], 40, lambda own, version: [])
+    for word, least in ("old", 0), ("new", 20):
+        names = numbered(word, 4)
+
+        def needs(own, version):
+            lower = [f"{name}>={version},<{version + 2}" for name in names[own + 1 : own + 2]]
+            return lower or [f"base>={least + version // 2},<{least + version // 2 + 1}"]
+
+        found += packages(names, 40, needs)
+    return found, ["old00", "new00"]
+
+
+def neighbours():
+    """Releases over time pin those of their neighbours, of which lines leave the old ones of the one and the new ones of the other."""
+    found = packages(["client"], 60, lambda own, version: [f"core>={version},<{version + 3}"])
+    found += packages(["command"], 60, lambda own, version: [f"core=={version}"])
+    found += packages(["core"], 60, lambda own, version: [f"transport>={version},<{version + 12}"])
+    return found + packages(["transport"], 60, lambda own, version: []), ["client>=50", "command", "transport<10"]
+
+
+def pigeons():
+    """Six packages, each two of which take different ones of five places."""
+    names = numbered("pigeon", 6)
+    return packages(names, 5, lambda own, hole: [f"{name}!={hole}" for name in names[own + 1 :]]), names
+
+
+class Shapes(Program):
+    def test_shapes(self):
+        for make in pins, ring, chain, plugins, clouds, neighbours, pigeons:
+            with self.subTest(shape=make.__name__):
+                releases, lines = make()
+                self.begin("".join(f"{line}\n" for line in lines).encode(), *releases)
+                status, told = self.call("why", "--init", seconds=SECONDS)
+                self.assertEqual((status, told.splitlines()[-1]), (3, "-"))
+                self.assertEqual(self.checked(told), (0, "accepted\n", ""))
+
+    def checked(self, told):
+        """What the checker answers of a list."""
+        paths = self.outside / "index.json", self.outside / "environment.json", self.folder / "requirements.txt"
+        command = [sys.executable, "-B", SCRIPT, *paths]
+        done = subprocess.run(command, input=told, capture_output=True, encoding="utf-8", check=False)
+        return done.returncode, done.stdout, done.stderr
+
+
+if __name__ == "__main__":
+    unittest.main()
