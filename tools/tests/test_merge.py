@@ -1,6 +1,7 @@
 """Tests of tools/merge.py over the built program and the real git: merges, rebases, cherry-picks and reverts, files that were changed by hand,
 and what is refused and changes nothing."""
 
+import functools
 import os
 import shutil
 import signal
@@ -333,7 +334,8 @@ class Stops(Two):
         program.write_text(f'#!/bin/sh\necho >{self.outside / "begun"}\nexec sleep 60\n', encoding="utf-8")
         program.chmod(0o755)
         words = [*self.merge_words(), "--program", program]
-        with subprocess.Popen(words, env=self.variables, stderr=subprocess.PIPE, start_new_session=True) as process:
+        heed = functools.partial(signal.signal, signal.SIGINT, signal.SIG_DFL)  # (a job in the background ignores it)
+        with subprocess.Popen(words, env=self.variables, stderr=subprocess.PIPE, start_new_session=True, preexec_fn=heed) as process:
             while not (self.outside / "begun").exists():
                 time.sleep(0.05)
             os.killpg(process.pid, signal.SIGINT)
