@@ -19,8 +19,10 @@ use saves::{
     CallFiles, Details, begin_history, edit_once, rehearse_edit, rehearse_replace, rehearse_step,
     replace_once, run_batch, step_once, try_commands,
 };
+use std::alloc::Global;
 use std::io::{Read, Write};
 use std::rt::Files;
+use texts::Style;
 use views::{
     print_check, print_diff, print_export, print_history, print_outdated, print_shown,
     print_skipped,
@@ -65,21 +67,33 @@ where
         style,
     };
     let names_environment = has_option(given.words, "--env");
-    let status = match obey(
+    let done = obey(
         &mut call,
         subcommand,
         names_environment,
         input,
         &mut details,
-    ) {
+    );
+    let status = match done {
         Ok(()) => Status::Done,
-        Err(stop) => match shown_stop(alloc, stop, style) {
-            Ok(stop) => report(&stop, output, errors),
-            Err(_) => report_fault(BatchFault::OutOfMemory, errors),
-        },
+        Err(stop) => report_shown(alloc, stop, style, output, errors),
     };
     details.tell(alloc, status == Status::Fault, errors);
     status
+}
+
+// Tells why a call stops, in a text that looks as the output does.
+fn report_shown<O: Write, E: Write>(
+    alloc: Global,
+    stop: Stop,
+    style: Style,
+    output: &mut O,
+    errors: &mut E,
+) -> Status {
+    match shown_stop(alloc, stop, style) {
+        Ok(stop) => report(&stop, output, errors),
+        Err(_) => report_fault(BatchFault::OutOfMemory, errors),
+    }
 }
 
 // Tells why words are no request, and what to type where an option is missing.
