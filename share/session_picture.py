@@ -14,6 +14,10 @@ from html import escape
 from pathlib import Path
 
 TOP = Path(__file__).resolve().parent.parent
+sys.path.append(str(TOP / "tools" / "tests"))
+
+from terminals import read_all  # (it stands in tools/tests)
+
 PROGRAM = TOP / "crates" / "reqlock" / "out" / "reqlock"
 COLUMNS = 96
 SESSION = (
@@ -40,13 +44,7 @@ def shown_by(command, folder, program):
     ours, theirs = pty.openpty()
     call = subprocess.Popen(words, cwd=folder, stdin=subprocess.DEVNULL, stdout=theirs, stderr=theirs, env=variables)
     os.close(theirs)
-    shown = b""
-    try:
-        while piece := os.read(ours, 4096):
-            shown += piece
-    except OSError:
-        pass  # (Linux tells the end of a terminal so)
-    os.close(ours)
+    shown = read_all(ours)
     call.wait(timeout=60)
     return shown.decode().replace("\r\n", "\n")
 

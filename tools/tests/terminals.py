@@ -10,11 +10,16 @@ def shown_on_terminal(start):
     call = start(theirs)
     call.wait(timeout=60)
     os.close(theirs)
+    return call.returncode, read_all(ours).decode()
+
+
+def read_all(terminal):
+    """All that was written to a terminal, up to its end. The terminal is closed."""
     shown = b""
     try:
-        while piece := os.read(ours, 1000):
+        while piece := os.read(terminal, 4096):
             shown += piece
     except OSError:
         pass  # (Linux tells the end of a terminal so)
-    os.close(ours)
-    return call.returncode, shown.decode()
+    os.close(terminal)
+    return shown
