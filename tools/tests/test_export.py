@@ -4,6 +4,7 @@ own pip; the graph, as Graphviz reads it and draws it; and which targets are tol
 import re
 import shutil
 import subprocess
+import tomllib
 import unittest
 from xml.etree import ElementTree
 
@@ -15,6 +16,14 @@ from rules.journals import file_name
 from rules.lock_tables import read_lock
 from shown import indented_blocks, typed_blocks
 from test_wheels import FIRST, HEAD, Shell, make_wheels, section
+
+try:
+    from packaging.markers import Marker
+except ImportError:
+    try:
+        from pip._vendor.packaging.markers import Marker
+    except ImportError:
+        Marker = None
 
 TWO = {"linux": LINUX, "win": WINDOWS}
 RELEASES = (
@@ -113,12 +122,6 @@ class Export(Program):
         self.call("init")
         self.check_drawn(self.told("export", "--format", "dot")[1], {"": []})
 
-    def test_prints_no_lock_for_other_environments(self):
-        self.begin_odd()
-        status, output, error = self.told("export", "--format", "pylock")
-        self.assertEqual((status, output), (2, ""))
-        self.assertIn("reqlock-portable-lock makes one", error)
-
     def test_refuses_a_folder_without_a_history(self):
         self.begin(LINES.encode(), *RELEASES)
         self.assertEqual(self.told("export"), self.told("show"))
@@ -166,6 +169,85 @@ class Installed(Shell):
         self.assertNotEqual(lines, install)
         self.check_runs(lines)
         self.check_installed("pylock.toml", "site", FIRST)
+
+
+# what releases ask of Python and of the system, also those that no lock has
+ASKING = (
+    ("a", "1", ["b"], {"requires_python": ">=3.8, <4"}),
+    ("a", "2", [], {"requires_python": ">=3.12"}),
+    ("b", "1", ['c; python_version<"3.9"', 'c; sys_platform=="win32"', 'd; extra=="e" and platform_machine in "x86_64 amd64"'], {"requires_python": "!=3.9.1"}),
+    ("c", "1", []),
+    ("d", "1", []),
+)
+TOLD = (
+    f'platform_machine == "{LINUX["platform_machine"]}" and python_full_version >= "3.8" and python_full_version < "3.12"'
+    ' and python_full_version != "3.9.1" and python_version >= "3.9" and sys_platform == "linux"'
+)
+PYTHONS = "3.7.9", "3.8.1", "3.9.0", "3.9.1", "3.10.2", "3.11.0rc1", "3.11.8", "3.12.0a1", "3.12.0rc1", "3.12.0", "3.13.1", "4.0.1"
+# no release of `a` can be taken there
+UNLOCKED = "3.7.9", "3.9.1"
+
+
+@unittest.skipUnless(IS_KNOWN and Marker, "there is no program with export, or python3 has neither packaging nor pip")
+class Pylock(Program):
+    """The lock that travels: it is a lock of the same packages, and where its marker holds a new lock has these too."""
+
+    def begin_asking(self, python="3.11.7"):
+        self.lock_for({"": self.environment_of(python)})
+        self.begin(b"a\n", *ASKING)
+        self.assertEqual(self.call("init"), (0, "ok 0\n"))
+
+    def environment_of(self, python, **more):
+        minor = ".".join(python.split(".")[:2])
+        return LINUX | {"python_full_version": python, "implementation_version": python, "python_version": minor} | more
+
+    def exported(self):
+        """The marker of the lock that travels, all else of which is that of the lock."""
+        status, output, error = self.told("export", "--format", "pylock")
+        self.assertEqual((status, error), (0, ""))
+        before, after = tomllib.loads((self.folder / "pylock.toml").read_text()), tomllib.loads(output)
+        [marker] = after.pop("environments", [""])
+        del before["environments"]
+        self.assertEqual(after, before)
+        return marker
+
+    def test_keeps_what_is_asked(self):
+        self.begin_asking()
+        self.assertEqual(self.exported(), TOLD)
+
+    def test_a_version_before_its_release_is_kept_as_it_is(self):
+        self.begin_asking("3.12.0rc1")
+        self.assertIn('python_full_version == "3.12.0rc1"', self.exported())
+
+    def test_nothing_is_kept_where_nothing_is_asked(self):
+        self.begin(b"x\n", ("x", "1", []))
+        self.call("init")
+        self.assertEqual(self.exported(), "")
+
+    def test_a_new_lock_is_the_same_wherever_the_marker_holds(self):
+        others = [self.environment_of(python) for python in PYTHONS]
+        others += [self.environment_of("3.11.7", sys_platform="win32"), self.environment_of("3.10.4", platform_release="x", os_name="y")]
+        for python in [it for it in PYTHONS if it not in UNLOCKED]:
+            self.begin_asking(python)
+            marker, locked = Marker(self.exported()), self.locked()
+            self.assertTrue(marker.evaluate(self.environments[""]))
+            for other in others:
+                with self.subTest(python=python, other=other):
+                    if marker.evaluate(other):
+                        self.lock_for({"": other})
+                        self.begin(b"a\n", *ASKING)
+                        self.assertEqual(self.call("init"), (0, "ok 0\n"))
+                        self.assertEqual(self.locked(), locked)
+
+    def test_says_what_is_lacking(self):
+        self.begin_asking()
+        status, output, error = self.answered("--dir", self.folder, "export", "--format", "pylock")
+        self.assertEqual((status, output), (2, ""))
+        self.assertIn("without '--index <FILE>' nothing is known of what was asked", error)
+        self.begin(b"a\n", *ASKING[:2])
+        status, output, error = self.told("export", "--format", "pylock")
+        self.assertEqual((status, output), (2, ""))
+        self.assertIn("the lock was made of another index; relock over this one first", error)
 
 
 class Page(unittest.TestCase):

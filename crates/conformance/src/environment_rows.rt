@@ -6,22 +6,8 @@ use crate::notation::owned;
 use crate::targets::copies;
 use crate::telling::Telling;
 use edits::{Refusal, TargetName, Targets};
-use markers::{Environment, Fault, Variable};
+use markers::{Environment, Fault, VARIABLES};
 use std::alloc::Global;
-
-const VARIABLES: [Variable; 11] = [
-    Variable::ImplementationName,
-    Variable::ImplementationVersion,
-    Variable::OsName,
-    Variable::PlatformMachine,
-    Variable::PlatformPythonImplementation,
-    Variable::PlatformRelease,
-    Variable::PlatformSystem,
-    Variable::PlatformVersion,
-    Variable::PythonFullVersion,
-    Variable::PythonVersion,
-    Variable::SysPlatform,
-];
 
 /// The letter that stands for a byte which is no UTF-8.
 const ODD_BYTE: char = '\u{ff}';

@@ -2,6 +2,7 @@ mod DeepBeginnings
 mod EnvironmentFacts
 mod SpelledIsRead
 mod MarkerFacts
+mod RelationsDecideMarkers
 mod NormalForms
 mod EnvironmentsMeetTheirMarkers
 mod ReadFacts

@@ -6,6 +6,7 @@ pub mod MarkerAtoms
 pub mod MarkerDepth
 pub mod MarkerGrammar
 pub mod MarkerHolds
+pub mod MarkerRelations
 pub mod MarkerSpelling
 pub mod MarkerTree
 pub mod Names

@@ -15,27 +15,12 @@ ghost use Rattle.markers.specs.declared.variable.Variable.TheVariants.{PythonFul
 use crate::comparison::Comparison;
 use crate::fault::{Cause, Fault};
 use crate::value::Value;
-use crate::variable::Variable;
+use crate::variable::{VARIABLES, Variable};
 use lists::{Faithful, Seq, Text};
 use pep440::{SpecifierSet, Version};
 use serde_json::Value as Json;
 use std::alloc::{AllocError, Global};
 use std::marker::Model;
-
-/// The variables, in the byte order of their names.
-const VARIABLES: [Variable; 11] = [
-    Variable::ImplementationName,
-    Variable::ImplementationVersion,
-    Variable::OsName,
-    Variable::PlatformMachine,
-    Variable::PlatformPythonImplementation,
-    Variable::PlatformRelease,
-    Variable::PlatformSystem,
-    Variable::PlatformVersion,
-    Variable::PythonFullVersion,
-    Variable::PythonVersion,
-    Variable::SysPlatform,
-];
 
 /// The environment that a lock is made for: a text for each variable (PEP 508, "Environment
 /// Markers"). In a clause it is the list of its texts, in the order of the variables.
@@ -243,7 +228,7 @@ impl Environment {
     }
 
     /// The version that the text of a variable reads as.
-    pub(crate) fn version(&self, variable: Variable) -> Option<&Version>
+    pub fn version(&self, variable: Variable) -> Option<&Version>
         ensures { option_copied result ≡ version_read (text_of self.now variable) }
     {
         self.value_at(variable).version()

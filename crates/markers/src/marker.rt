@@ -1,11 +1,12 @@
 // Markers.
 
 ghost use Rattle.lists.specs.Answers.{Answers};
-ghost use Rattle.std.specs.Prelude.{◌≡◌, IfOk};
+ghost use Rattle.std.specs.Prelude.{◌≡◌, ◌++◌, IfOk};
 ghost use Rattle.std.specs.Option.{option_copied};
 ghost use Rattle.markers.specs.Faults.{memory_fault, one_line};
 ghost use Rattle.markers.specs.Marker.{holds, marker_of};
 ghost use Rattle.markers.specs.MarkerHolds.{all_hold, any_holds};
+ghost use Rattle.markers.specs.MarkerRelations.{relations_among, relations_in};
 ghost use Rattle.markers.specs.MarkerTree.{all_of, any_of, atom as atom_tree, trees_of};
 ghost use Rattle.markers.specs.declared.fault.Cause.TheVariants.{OutOfMemory};
 
@@ -13,6 +14,7 @@ use crate::environment::Environment;
 use crate::fault::{Cause, Fault};
 use crate::marker_atom::Atom as MarkerAtom;
 use crate::marker_reader::tree_of;
+use crate::marker_relations::Relations;
 use crate::marker_token::is_too_deep;
 use crate::name::Name;
 use lists::{Faithful, Seq};
@@ -129,6 +131,15 @@ impl Marker {
             Node::Any(members) => any_holds(members.as_slice(), environment, extra),
         }
     }
+
+    /// The relations in the marker, in their order: what it asks of an environment.
+    pub fn relations(&self, alloc: Global) -> Result<Relations<'_>, AllocError>
+        ensures { IfOk result (λ relations. relations ≡ relations_in self.now) }
+    {
+        let mut found = Relations::new(alloc);
+        gather(self, &mut found)?;
+        Ok(found)
+    }
 }
 
 #[cycle(holds)]
@@ -154,6 +165,39 @@ fn any_holds(members: &[Marker], environment: &Environment, extra: Option<&Name>
         }
     }
     false
+}
+
+/// Puts the relations of a marker behind those that were found. It goes no deeper than the parentheses nest.
+#[cycle(gather)]
+fn gather<'m>(marker: &'m Marker, found: &mut Relations<'m>) -> Result<(), AllocError>
+    ensures { IfOk result (λ _. found.new ≡ found.old ++ relations_in marker.now) }
+{
+    match &marker.node {
+        Node::Atom(MarkerAtom::Relation(relation)) => {
+            found.push(relation)?;
+            Ok(())
+        }
+        Node::Atom(MarkerAtom::Extra { .. }) => Ok(()),
+        Node::All(members) => {
+            gather_members(members.as_slice(), found)?;
+            Ok(())
+        }
+        Node::Any(members) => {
+            gather_members(members.as_slice(), found)?;
+            Ok(())
+        }
+    }
+}
+
+#[cycle(gather)]
+fn gather_members<'m>(members: &'m [Marker], found: &mut Relations<'m>) -> Result<(), AllocError>
+    ensures { IfOk result (λ _. found.new
+        ≡ found.old ++ relations_among (trees_of members.now)) }
+{
+    for member in members {
+        gather(member, found)?;
+    }
+    Ok(())
 }
 
 /// A copy of a marker. It goes no deeper than the parentheses nest.

@@ -18,7 +18,7 @@ use std::marker::Model;
 
 /// What stands on a side of an operator.
 #[derive(Drop)]
-pub(crate) enum Operand {
+pub enum Operand {
     /// A variable of the environment.
     Variable(Variable),
     /// A quoted text.
@@ -48,7 +48,7 @@ pub(crate) enum Operator {
 
 /// Two operands with an operator between them, and what the quoted ones read as. In a clause it is
 /// the operands and the operator alone.
-pub(crate) struct CachedRelation {
+pub struct CachedRelation {
     left: Operand,
     operator: Operator,
     right: Operand,
@@ -181,6 +181,28 @@ impl CachedRelation {
             version,
             clauses,
         })
+    }
+
+    /// What stands on the left.
+    pub fn left(&self) -> &Operand
+        ensures { result.now ≡ self.now.left }
+    {
+        &self.left
+    }
+
+    /// What stands on the right.
+    pub fn right(&self) -> &Operand
+        ensures { result.now ≡ self.now.right }
+    {
+        &self.right
+    }
+
+    /// The clauses that a quoted text on the right reads as behind the comparison. `None` where it reads as none, where a
+    /// variable stands there, and for `in` and `not in`.
+    pub fn quoted_clauses(&self) -> Option<&SpecifierSet>
+        ensures { option_copied result ≡ known_clauses self.now.operator self.now.right }
+    {
+        self.clauses.as_ref()
     }
 
     /// The version that the left text reads as.

@@ -20,6 +20,21 @@ pub enum Variable {
     SysPlatform,
 }
 
+/// The variables, in the byte order of their names.
+pub const VARIABLES: [Variable; 11] = [
+    Variable::ImplementationName,
+    Variable::ImplementationVersion,
+    Variable::OsName,
+    Variable::PlatformMachine,
+    Variable::PlatformPythonImplementation,
+    Variable::PlatformRelease,
+    Variable::PlatformSystem,
+    Variable::PlatformVersion,
+    Variable::PythonFullVersion,
+    Variable::PythonVersion,
+    Variable::SysPlatform,
+];
+
 impl Variable {
     /// The name of the variable.
     pub fn name(&self) -> &'static str

@@ -26,5 +26,5 @@ pub use crate::requirement::Requirement;
 pub use crate::specifier_text::SpecifierText;
 pub use markers::{
     Cause, Clause, Comparison, Environment, Fault, LocalPart, Marker, Name, Operator, Pre,
-    SpecifierSet, Variable, Version, VersionFault, is_name_byte,
+    SpecifierSet, VARIABLES, Variable, Version, VersionFault, is_name_byte,
 };

@@ -14,7 +14,7 @@ mod text_column;
 
 pub use crate::near_names::{add_near_names, has_package};
 pub use crate::plain_text::add_plain;
-pub use crate::requirement_text::{add_clause, add_requirement, add_specifiers};
+pub use crate::requirement_text::{add_clause, add_requirement, add_specifiers, signs_of};
 pub use crate::shell_word::add_word;
 pub use crate::table::add_table;
 pub use crate::target_line::add_target_line;

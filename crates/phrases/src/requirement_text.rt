@@ -36,7 +36,14 @@ fn add_extras(text: &mut String, extras: &[Name]) -> Result<(), AllocError> {
 
 /// The operator and the version of a clause, without a space.
 pub fn add_clause(text: &mut String, clause: &Clause) -> Result<(), AllocError> {
-    let (sign, end) = match clause.operator {
+    let (sign, end) = signs_of(clause.operator);
+    let version = &clause.version;
+    write!(text, "{sign}{version}{end}")
+}
+
+/// How an operator is written, and what stands behind its version.
+pub fn signs_of(operator: Operator) -> (&'static str, &'static str) {
+    match operator {
         Operator::Compatible => ("~=", ""),
         Operator::Equal => ("==", ""),
         Operator::NotEqual => ("!=", ""),
@@ -46,7 +53,5 @@ pub fn add_clause(text: &mut String, clause: &Clause) -> Result<(), AllocError> 
         Operator::AtLeast => (">=", ""),
         Operator::Below => ("<", ""),
         Operator::Above => (">", ""),
-    };
-    let version = &clause.version;
-    write!(text, "{sign}{version}{end}")
+    }
 }

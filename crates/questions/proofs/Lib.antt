@@ -1,2 +1,4 @@
 mod EachOf
 mod SameRules
+mod SaidConditions
+mod KeptConditions

@@ -1,9 +1,10 @@
 -- The rules are the same where the answers are.
-use Rattle.std.proofs.Common.{◌≡◌, ◌∙◌, ◌&&◌, ◌||◌, not, inl, inr, ℕ, Bool, true, false, List, [], ◌∷◌, ◌++◌, Option, Some, None, Result, Ok, Err, find, filter, refl, ap, subst, sym, if◌then◌else◌}
+use Rattle.std.proofs.Common.{◌≡◌, ◌∙◌, ◌&&◌, ◌||◌, ◌⊎◌, not, inl, inr, ℕ, Bool, true, false, List, [], ◌∷◌, ◌++◌, Option, Some, None, Result, Ok, Err, find, filter, refl, ap, subst, sym, if◌then◌else◌}
 use Rattle.std.specs.List.{AllByRecursion, list_any}
 use Rattle.std.specs.Option.{option_map_or}
 use Rattle.std.specs.Str.{bytes_eq}
 use Rattle.std.proofs.lemmas.Bool.{cases_Bool}
+use Rattle.std.proofs.lemmas.Slice.Eq.{bytes_eq-Decides}
 use Rattle.markers.specs.Environment.{Texts}
 use Rattle.markers.specs.Marker.{Tree}
 use Rattle.markers.specs.declared.fault.Cause.{Cause}
@@ -17,8 +18,9 @@ use Rattle.problems.specs.Rules.{candidates, counts, nodes_of, rules_of, wants, 
 use Rattle.problems.specs.declared.node.Node.{Node}
 use Rattle.search.specs.Rules.{Rules}
 use Rattle.search.specs.Solutions.{IsBest}
-use Rattle.snapshot.specs.Packages.{Index, releases_of}
+use Rattle.snapshot.specs.Packages.{Index, is_named, releases_of}
 use Rattle.snapshot.specs.Release.{Release}
+use Rattle.snapshot.specs.declared.package.Package.{Package}
 use Rattle.questions.specs.Alike.{AnswersAlike, LineAlike, MarkerAlike, ReleaseAlike, WantedAlike, marker_in}
 use Rattle.questions.specs.Laws.{Asking, HasSameBest, problem_in}
 use Rattle.questions.proofs.EachOf.{each-map}
@@ -119,3 +121,19 @@ best-same lines index environment other h kept only s =
       λ best. subst (λ (rules : Rules (List ℕ) Node VersionParts RequirementParts). IsBest rules s) same best,
       λ best. subst (λ (rules : Rules (List ℕ) Node VersionParts RequirementParts). IsBest rules s) (sym same) best,
     )
+
+-- ---- the releases of a name are those of its package
+
+named-or-none : (P : Release → Type 0) (name : List ℕ) (packages ps : List Package) → AllByRecursion (λ p. AllByRecursion P (releases_of p.name packages)) ps
+    → AllByRecursion P (releases_of name packages) ⊎ (find (is_named name) ps ≡ None)
+named-or-none P name packages [] h = inr refl
+named-or-none P name packages (p ∷ ps) h = elim (cases_Bool (is_named name p)) [
+  | inl passes ↦ inl (subst (λ (n : List ℕ). AllByRecursion P (releases_of n packages)) ((bytes_eq-Decides p.name name).0 passes) h.0)
+  | inr fails ↦ rw fails (named-or-none P name packages ps h.1)
+]
+
+pub each-named : (P : Release → Type 0) (packages : List Package) → AllByRecursion (λ p. AllByRecursion P (releases_of p.name packages)) packages → (name : List ℕ) → AllByRecursion P (releases_of name packages)
+each-named P packages h name = elim (named-or-none P name packages packages h) [
+  | inl all ↦ all
+  | inr none ↦ rw none tt
+]

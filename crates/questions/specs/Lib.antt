@@ -1,2 +1,4 @@
 pub mod Alike
+pub mod Conditions
 pub mod Laws
+pub mod Tied

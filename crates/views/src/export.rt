@@ -5,9 +5,12 @@ use clap::error::ErrorKind;
 use clap_command::command;
 use command_line::request::{Export, ExportFormat};
 use edits::{State, Target};
-use exports::{graph_text, requirements_text, target_named};
+use exports::{
+    graph_text, marker_text_of, portable_text, requirements_text, target_named, unbound_text,
+};
 use files::LockFile;
-use files::saved_history::saved_session;
+use files::saved_history::{saved_session, session_over};
+use questions::conditions_of;
 use std::alloc::{AllocError, Global};
 use std::io::Write;
 use std::rt::Files;
@@ -21,17 +24,63 @@ pub fn print_export<R: Files + AllocGlobal, O: Write>(
 where
     R::File: LockFile,
 {
-    let alloc = call.rt.alloc();
-    let session = saved_session(call.rt, call.dir)?;
-    let state = session.state();
-    let targets = wanted_targets(alloc, state, export.target)?;
     let text = match export.format {
-        ExportFormat::Hashes => requirements_text(alloc, &only_target(alloc, targets)?.lock)?,
-        ExportFormat::Dot => graph_text(alloc, state.lines().lines(), targets)?,
-        ExportFormat::Pylock => return Err(unprinted(alloc)),
+        ExportFormat::Hashes => hashes_of(call.rt, call.dir, export.target)?,
+        ExportFormat::Dot => graph_of(call.rt, call.dir, export.target)?,
+        ExportFormat::Pylock => portable_lock(call.rt, call.dir, export)?,
     };
     print(&mut call.output, text.as_bytes())?;
     Ok(())
+}
+
+// The lock of a target, for pip.
+fn hashes_of<R: Files + AllocGlobal>(rt: &R, dir: &str, name: Option<&str>) -> Result<String, Stop>
+where
+    R::File: LockFile,
+{
+    let alloc = rt.alloc();
+    let session = saved_session(rt, dir)?;
+    let targets = wanted_targets(alloc, session.state(), name)?;
+    Ok(requirements_text(alloc, &only_target(alloc, targets)?.lock)?)
+}
+
+// The graph of the locks, for Graphviz.
+fn graph_of<R: Files + AllocGlobal>(rt: &R, dir: &str, name: Option<&str>) -> Result<String, Stop>
+where
+    R::File: LockFile,
+{
+    let alloc = rt.alloc();
+    let session = saved_session(rt, dir)?;
+    let state = session.state();
+    let targets = wanted_targets(alloc, state, name)?;
+    Ok(graph_text(alloc, state.lines().lines(), targets)?)
+}
+
+// The lock of a target, with what was asked of its environment over the index that it was made of.
+fn portable_lock<R: Files + AllocGlobal>(
+    rt: &R,
+    dir: &str,
+    export: &Export<'_>,
+) -> Result<String, Stop>
+where
+    R::File: LockFile,
+{
+    let alloc = rt.alloc();
+    let Some(index) = export.index else {
+        return Err(no_index(alloc));
+    };
+    let (session, snapshot) = session_over(rt, dir, index)?;
+    let state = session.state();
+    if state.digest() != snapshot.digest() {
+        return Err(other_index(alloc));
+    }
+    let target = only_target(alloc, wanted_targets(alloc, state, export.target)?)?;
+    let conditions = conditions_of(alloc, state.lines(), &snapshot, &target.environment)?;
+    let marker = marker_text_of(alloc, conditions.as_slice(), &target.environment)?;
+    if marker.is_empty() {
+        return Ok(unbound_text(alloc, &target.lock)?);
+    }
+    Ok(portable_text(alloc, &target.lock, marker.as_str())?)
 }
 
 // The target of the name, or all where there is no name.
@@ -72,12 +121,20 @@ fn several_targets(alloc: Global, targets: &[Target]) -> Stop {
     usage(alloc, ErrorKind::MissingRequiredArgument, message)
 }
 
-fn unprinted(alloc: Global) -> Stop {
+fn no_index(alloc: Global) -> Stop {
     let message = String::from_str(
         alloc,
-        "a lock for other environments isn't printed yet; reqlock-portable-lock makes one",
+        "without '--index <FILE>' nothing is known of what was asked, so no variable can be dropped",
     );
-    usage(alloc, ErrorKind::InvalidValue, message)
+    usage(alloc, ErrorKind::MissingRequiredArgument, message)
+}
+
+fn other_index(alloc: Global) -> Stop {
+    let message = String::from_str(
+        alloc,
+        "the lock was made of another index; relock over this one first",
+    );
+    usage(alloc, ErrorKind::ValueValidation, message)
 }
 
 // The names of the targets, with commas between them.

@@ -1,0 +1,22 @@
+// What a lock may ask of an environment.
+
+use pep440::Clause;
+use pep508::Variable;
+
+/// What a lock asks of another environment than its own.
+#[derive(Drop)]
+pub enum Condition {
+    /// The variable has the same text there.
+    Same(Variable),
+    /// The text of the variable reads as a version that the clause matches.
+    Matches(Variable, Clause),
+}
+
+impl Condition {
+    /// The variable that is asked for.
+    pub fn variable(&self) -> Variable {
+        match self {
+            Condition::Same(variable) | Condition::Matches(variable, _) => *variable,
+        }
+    }
+}
