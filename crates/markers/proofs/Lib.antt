@@ -5,6 +5,7 @@ mod MarkerFacts
 mod RelationsDecideMarkers
 mod NormalForms
 mod EnvironmentsMeetTheirMarkers
+mod OtherExtras
 mod ReadFacts
 mod TextsEqualThemselves
 mod ReadIsSpelled

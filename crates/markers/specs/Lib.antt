@@ -4,6 +4,7 @@ pub mod Faults
 pub mod Marker
 pub mod MarkerAtoms
 pub mod MarkerDepth
+pub mod MarkerExtras
 pub mod MarkerGrammar
 pub mod MarkerHolds
 pub mod MarkerRelations

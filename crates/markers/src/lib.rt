@@ -15,6 +15,7 @@ mod fault;
 pub mod laws;
 mod marker;
 mod marker_atom;
+pub mod marker_extras;
 mod marker_group;
 pub mod marker_laws;
 mod marker_reader;

@@ -5,6 +5,7 @@ ghost use Rattle.std.specs.Prelude.{◌≡◌, ◌++◌, IfOk};
 ghost use Rattle.std.specs.Option.{option_copied};
 ghost use Rattle.markers.specs.Faults.{memory_fault, one_line};
 ghost use Rattle.markers.specs.Marker.{holds, marker_of};
+ghost use Rattle.markers.specs.MarkerExtras.{extras_among, extras_in};
 ghost use Rattle.markers.specs.MarkerHolds.{all_hold, any_holds};
 ghost use Rattle.markers.specs.MarkerRelations.{relations_among, relations_in};
 ghost use Rattle.markers.specs.MarkerTree.{all_of, any_of, atom as atom_tree, trees_of};
@@ -13,6 +14,7 @@ ghost use Rattle.markers.specs.declared.fault.Cause.TheVariants.{OutOfMemory};
 use crate::environment::Environment;
 use crate::fault::{Cause, Fault};
 use crate::marker_atom::Atom as MarkerAtom;
+use crate::marker_extras::NamedExtras;
 use crate::marker_reader::tree_of;
 use crate::marker_relations::Relations;
 use crate::marker_token::is_too_deep;
@@ -140,6 +142,16 @@ impl Marker {
         gather(self, &mut found)?;
         Ok(found)
     }
+
+    /// The extras that the marker names, in their order: with another extra it holds where it holds with
+    /// none.
+    pub fn extras(&self, alloc: Global) -> Result<NamedExtras<'_>, AllocError>
+        ensures { IfOk result (λ extras. extras ≡ extras_in self.now) }
+    {
+        let mut found = NamedExtras::new(alloc);
+        gather_extras(self, &mut found)?;
+        Ok(found)
+    }
 }
 
 #[cycle(holds)]
@@ -196,6 +208,43 @@ fn gather_members<'m>(members: &'m [Marker], found: &mut Relations<'m>) -> Resul
 {
     for member in members {
         gather(member, found)?;
+    }
+    Ok(())
+}
+
+/// Puts the extras that a marker names behind those that were found. It goes no deeper than the parentheses nest.
+#[cycle(gather_extras)]
+fn gather_extras<'m>(marker: &'m Marker, found: &mut NamedExtras<'m>) -> Result<(), AllocError>
+    ensures { IfOk result (λ _. found.new ≡ found.old ++ extras_in marker.now) }
+{
+    match &marker.node {
+        Node::Atom(MarkerAtom::Relation(_)) => Ok(()),
+        Node::Atom(MarkerAtom::Extra { equal: _, name }) => {
+            if let Some(name) = name {
+                found.push(name)?;
+            }
+            Ok(())
+        }
+        Node::All(members) => {
+            gather_extras_of_members(members.as_slice(), found)?;
+            Ok(())
+        }
+        Node::Any(members) => {
+            gather_extras_of_members(members.as_slice(), found)?;
+            Ok(())
+        }
+    }
+}
+
+#[cycle(gather_extras)]
+fn gather_extras_of_members<'m>(
+    members: &'m [Marker],
+    found: &mut NamedExtras<'m>,
+) -> Result<(), AllocError>
+    ensures { IfOk result (λ _. found.new ≡ found.old ++ extras_among (trees_of members.now)) }
+{
+    for member in members {
+        gather_extras(member, found)?;
     }
     Ok(())
 }
