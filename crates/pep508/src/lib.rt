@@ -8,6 +8,7 @@
 //! ```
 #![tactic(auto)]
 
+mod condition;
 mod cuts;
 mod file;
 pub mod laws;

@@ -8,6 +8,7 @@ ghost use Rattle.markers.specs.declared.fault.Cause.TheVariants.{OutOfMemory};
 ghost use Rattle.pep440.specs.Text.{pieces};
 ghost use Rattle.pep508.specs.Requirement as spec;
 
+use crate::condition::Condition;
 use crate::cuts::inside;
 use crate::parts::begins_with;
 use crate::slices::{Slices, slices_with};
@@ -23,7 +24,7 @@ struct Parts {
     name: Name,
     extras: Seq<Name>,
     specifiers: SpecifierSet,
-    marker: Option<Marker>,
+    condition: Condition,
 }
 
 impl Drop for Parts {
@@ -32,7 +33,7 @@ impl Drop for Parts {
             name: _,
             extras: _,
             specifiers: _,
-            marker: _,
+            condition: _,
         } = self;
     }
 }
@@ -63,7 +64,7 @@ impl Model for Requirement {
       name = r.shared.value.name;
       extras = r.shared.value.extras;
       clauses = r.shared.value.specifiers;
-      marker = r.shared.value.marker;
+      marker = r.shared.value.condition;
     } };
 }
 
@@ -119,14 +120,14 @@ fn clauses_of(alloc: Global, version: &str) -> Result<SpecifierSet, Cause>
 }
 
 /// The marker of its slice.
-fn condition_of(alloc: Global, marker: &str) -> Result<Option<Marker>, Cause>
+fn condition_of(alloc: Global, marker: &str) -> Result<Condition, Cause>
     ensures { Answers OutOfMemory (spec.condition_of marker.now) result }
 {
     if !begins_with(b';', marker) {
-        return Ok(None);
+        return Ok(Condition::none());
     }
     let marker = Marker::read(alloc, &marker[1..])?;
-    Ok(Some(marker))
+    Ok(Condition::of_marker(alloc, marker)?)
 }
 
 /// The requirement of its slices.
@@ -136,12 +137,12 @@ fn wanted_in(alloc: Global, slices: &Slices<'_>) -> Result<Requirement, Cause>
     let name = Name::read(alloc, slices.name)?;
     let extras = extras_of(alloc, slices.extras)?;
     let specifiers = clauses_of(alloc, slices.version)?;
-    let marker = condition_of(alloc, slices.marker)?;
+    let condition = condition_of(alloc, slices.marker)?;
     let parts = Parts {
         name,
         extras,
         specifiers,
-        marker,
+        condition,
     };
     let shared = Rc::new(alloc, parts)?;
     Ok(Requirement { shared })
@@ -199,7 +200,7 @@ impl Requirement {
     pub fn marker(&self) -> Option<&Marker>
         ensures { option_copied result ≡ self.now.marker }
     {
-        self.shared.as_ref().marker.as_ref()
+        self.shared.as_ref().condition.marker()
     }
 
     /// Whether the requirement counts in an environment: it has no marker, or its marker holds with

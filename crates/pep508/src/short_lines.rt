@@ -10,9 +10,10 @@ use markers::Cause;
 use std::alloc::Global;
 use std::collections::BTreeMap;
 
-/// The most bytes of a line that is kept once. What a line takes besides its text is then little for
-/// each byte of a file; lines of real files are longer, and are not looked up.
-const MOST_BYTES: usize = 8;
+/// The most bytes of a line that is kept once. There are few such texts, and what a line takes besides
+/// its text is then little for each byte of a file. Of longer ones there may be as many as a file has
+/// room for, each another, so that to keep them by their texts would take memory rather than save it.
+const MOST_BYTES: usize = 4;
 
 /// The short lines that were read, by their texts.
 pub(crate) struct ShortLines<'t> {
