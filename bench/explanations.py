@@ -42,7 +42,6 @@ def served(packages):
 
 
 def pip_call(folder, url):
-    (folder / "requirements.txt").touch()
     words = ["install", "--dry-run", "--ignore-installed", "--isolated", "--no-cache-dir", "--disable-pip-version-check", "--no-color"]
     return [sys.executable, "-m", "pip", *words, "--index-url", url, "--requirement", "requirements.txt"]
 
