@@ -188,6 +188,11 @@ PYTHONS = "3.7.9", "3.8.1", "3.9.0", "3.9.1", "3.10.2", "3.11.0rc1", "3.11.8", "
 UNLOCKED = "3.7.9", "3.9.1"
 
 
+def is_read(environment):
+    """Whether markers meet the Python of an environment at all: to `packaging` before 22 a pre-release is in no range."""
+    return Marker('python_full_version > "1"').evaluate(environment)
+
+
 @unittest.skipUnless(IS_KNOWN and Marker, "there is no program with export, or python3 has neither packaging nor pip")
 class Pylock(Program):
     """The lock that travels: it is a lock of the same packages, and where its marker holds a new lock has these too."""
@@ -230,7 +235,7 @@ class Pylock(Program):
         for python in [it for it in PYTHONS if it not in UNLOCKED]:
             self.begin_asking(python)
             marker, locked = Marker(self.exported()), self.locked()
-            self.assertTrue(marker.evaluate(self.environments[""]))
+            self.assertTrue(marker.evaluate(self.environments[""]) or not is_read(self.environments[""]))
             for other in others:
                 with self.subTest(python=python, other=other):
                     if marker.evaluate(other):
@@ -238,6 +243,22 @@ class Pylock(Program):
                         self.begin(b"a\n", *ASKING)
                         self.assertEqual(self.call("init"), (0, "ok 0\n"))
                         self.assertEqual(self.locked(), locked)
+
+    def test_of_several_targets_the_one_that_is_named(self):
+        self.lock_for(TWO)
+        self.begin(LINES.encode(), *RELEASES)
+        self.assertEqual(self.call("init"), (0, "ok 0\n"))
+        for name, environment in TWO.items():
+            status, output, error = self.told("export", "--format", "pylock", "--target", name)
+            self.assertEqual((status, error), (0, ""))
+            after, before = tomllib.loads(output), tomllib.loads((self.folder / file_name(name)).read_text())
+            self.assertEqual(after.pop("environments"), [f'os_name == "{environment["os_name"]}"'])
+            del before["environments"]
+            self.assertEqual(after, before)
+        for words, fault in ([], "'--target <NAME>' is needed, as there are several"), (["--target", "mac"], "no target has the name 'mac' of"):
+            status, output, error = self.told("export", "--format", "pylock", *words)
+            self.assertEqual((status, output), (2, ""))
+            self.assertTrue(error.startswith(f"error: {fault}"), error)
 
     def test_says_what_is_lacking(self):
         self.begin_asking()

@@ -121,13 +121,38 @@ class Pipes(Program):
         self.pipe_at(self.environment_file(""))
         self.assertEqual(self.call("init", seconds=SECONDS), (4, "reqlock: index: unreadable\n"))
 
+    def test_lines_and_pins_are_not_read_of_one(self):
+        pipe = self.outside / "pipe"
+        os.mkfifo(pipe)
+        for words, name in (
+            (["replace", pipe], "new requirements"), (["why", "--replace", pipe], "new requirements"), (["replace", "--was", pipe], "old requirements"),
+            (["replace", self.folder / "requirements.txt", "--pins", pipe], "pins"), (["init", "--pins", pipe], "pins"),
+        ):
+            with self.subTest(words=words):
+                self.assertEqual(self.call(*words, seconds=SECONDS), (4, f"reqlock: {name}: unreadable\n"))
+
+    def test_lines_and_pins_of_standard_input_and_of_the_shell_are(self):
+        new, pins = self.outside / "new", self.outside / "pins"
+        new.write_bytes(b"a\n# more\n")
+        pins.write_bytes(b"a==1\n")
+        for words in ("replace -", "replace /dev/stdin", f"replace <(cat '{new}')", f"replace '{new}' --pins -", f"replace '{new}' --pins <(cat '{pins}')"):
+            with self.subTest(words=words):
+                self.assertEqual(self.call("init"), (0, "ok 0\n"))
+                text = pins if words.endswith("--pins -") else new
+                script = f'"{PROGRAM}" --dir "{self.folder}" --index "{self.outside / "index.json"}" {words} <"{text}"'
+                done = subprocess.run(["bash", "-c", script], capture_output=True, check=False, timeout=SECONDS)
+                self.assertEqual((done.returncode, done.stdout, done.stderr), (0, b"ok 1\n", b""))
+                (self.folder / "requirements.txt").write_bytes(b"a\n")
+
     def test_a_pipe_that_the_shell_hands_over_is(self):
         options = ["--dir", str(self.folder), "--env", str(self.environment_file(""))]
-        script = f'"{PROGRAM}" "$@" --index <(cat "{self.outside / "index.json"}")'
-        done = subprocess.run(
-            ["bash", "-c", script, "bash", "init", *options], capture_output=True, check=False, timeout=SECONDS
-        )
-        self.assertEqual((done.returncode, done.stdout), (0, b"ok 0\n"))
+        environment = f'--env <(cat "{self.environment_file("")}")'
+        for given, more in (options, ""), (options[:2], environment):
+            script = f'"{PROGRAM}" "$@" --index <(cat "{self.outside / "index.json"}") {more}'
+            done = subprocess.run(
+                ["bash", "-c", script, "bash", "init", *given], capture_output=True, check=False, timeout=SECONDS
+            )
+            self.assertEqual((done.returncode, done.stdout), (0, b"ok 0\n"))
         with open(self.outside / "index.json", "rb") as index:
             done = subprocess.run(
                 [PROGRAM, "init", *options, "--index", "/dev/stdin"], stdin=index, capture_output=True, check=False, timeout=SECONDS

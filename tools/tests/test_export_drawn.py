@@ -1,0 +1,154 @@
+"""The lock that `export --format pylock` prints, over drawn indexes and drawn environments: wherever its marker holds, as `packaging`
+reads it, a new lock has the same packages. Of 40 indexes, or 400 with LONG_TESTS=1. They need the program, which ./check builds first."""
+
+import json
+import tomllib
+import unittest
+from collections import Counter
+
+from checked_files import knows
+from drawn_files import DrawnFiles
+from made.environments import LINUX
+from made.releases import file_of
+from made.sessions import SETS, Draw
+from places import IS_LONG
+from rules.edits import Refused, begun
+from rules.lock_tables import read_lock
+from rules.requirements import cut_lines
+from test_export import Marker, is_read
+
+# Each variable with texts that are of one kind: versions, of which no two are the same one, or texts that are none.
+PYTHONS = "3.8.10", "3.9.18", "3.10.0", "3.10.12", "3.11.0rc1", "3.11.5", "3.11.7", "3.12.0a1", "3.12.0", "3.12.1", "3.13.2", "4.0.0"
+SYSTEMS = ("linux", "posix", "Linux"), ("win32", "nt", "Windows"), ("darwin", "posix", "Darwin")
+IMPLEMENTATIONS = ("cpython", "CPython", None), ("pypy", "PyPy", "7.3.12"), ("pypy", "PyPy", "7.3.9")
+MACHINES, RELEASES, KERNELS = ("x86_64", "amd64", "arm64"), ("5.10", "6.1", "10"), ("#1 SMP", "#2 SMP")
+ASKED = (
+    "", ">=3.8", ">=3.10", ">=3.11,<4", ">=3.12", ">=3.12.1", "<3.12", "<=3.11.7", ">3.10", "!=3.11.*", "!=3.11.5", "==3.11.*", "~=3.9",
+    "<3.12.0rc1", ">=3.8,!=3.9.*,!=3.10.0",
+)
+HOLDING = (
+    'python_version < "3.12"', 'python_version>="3.10"', 'python_full_version >= "3.11.5"', "python_full_version < '3.12.0a2'",
+    '"3.10" <= python_version', "'3.11' > python_version", 'python_version ~= "3.9"', 'python_full_version == "3.11.*"',
+    'python_version in "3.10 3.11"', 'python_version not in "3.8, 3.9"', "sys_platform == 'win32'", 'sys_platform != "darwin"',
+    '"linux" in sys_platform', "os_name == 'nt' or platform_machine == 'arm64'", 'platform_machine in "x86_64 amd64"',
+    "platform_release >= '6'", "'5.9' < platform_release", "platform_version == '#1 SMP'", "implementation_name == 'cpython'",
+    "implementation_version < '7.3.10'", 'platform_python_implementation == "PyPy" and python_version < "3.10"',
+    "(platform_system == 'Darwin' or python_full_version >= '3.10.1') and os_name == 'posix'",
+)
+EXTRAS = 'extra == "e-1" and python_version < "3.10"', "extra == 'e.1'", 'extra != "f" or os_name == "nt"'
+COUNT = 400 if IS_LONG else 40
+OTHERS = 30
+# what must have come
+SEEN = "no lock", "holds elsewhere", "other locks", "no lock elsewhere", "the same where nothing is said"
+
+
+class DrawnIndex(Draw):
+    """Indexes that ask much of an environment."""
+
+    def requirement(self, markers, names=()):
+        found = self.name(names) + self.one(("", "", "", "[e-1]")) + self.one(SETS)
+        return f"{found} ; {self.one(markers)}" if self.happens(40) else found
+
+    def release(self, name, version):
+        needs = [self.requirement(HOLDING * 2 + EXTRAS) for _ in range(self.one((0, 0, 1, 1, 2)))]
+        found = {"version": version, "files": [file_of(name, version)], "requires_dist": needs}
+        if self.happens(35):
+            found["requires_python"] = self.one(ASKED)
+        return found
+
+    def requirements(self):
+        return "".join(f"{self.requirement(HOLDING, [name])}\n" for name in self.random.sample(self.names, self.one((1, 2, 2, 3))))
+
+    def environment(self):
+        return self.other_than({**LINUX, "platform_release": self.one(RELEASES), "platform_version": self.one(KERNELS)}, 4)
+
+    def other_than(self, environment, count):
+        """An environment in which so many things may be other ones."""
+        found = dict(environment)
+        for _ in range(count):
+            part = self.one(("python", "python", "system", "implementation", "platform_machine", "platform_release", "platform_version"))
+            if part == "python":
+                python = self.one(PYTHONS)
+                found |= {"python_full_version": python, "python_version": ".".join(python.split(".")[:2])}
+                if found["implementation_name"] == "cpython":
+                    found["implementation_version"] = python
+            elif part == "system":
+                found["sys_platform"], found["os_name"], found["platform_system"] = self.one(SYSTEMS)
+            elif part == "implementation":
+                name, platform, version = self.one(IMPLEMENTATIONS)
+                found |= {
+                    "implementation_name": name, "platform_python_implementation": platform,
+                    "implementation_version": version or found["python_full_version"],
+                }
+            else:
+                texts = {"platform_machine": MACHINES, "platform_release": RELEASES, "platform_version": KERNELS}
+                found[part] = self.one(texts[part])
+        return found
+
+
+@unittest.skipUnless(knows("export") and Marker, "there is no program with export, or python3 has neither packaging nor pip")
+class Drawn(DrawnFiles):
+    def test_a_new_lock_is_the_same_wherever_the_marker_holds(self):
+        self.seen = Counter()
+        for seed in range(COUNT):
+            with self.subTest(seed=seed):
+                draw = DrawnIndex(seed)
+                self.take_index(draw.index())
+                lines = draw.requirements()
+                self.play(draw, lines, draw.environment())
+        self.assertLessEqual(set(SEEN), set(+self.seen), self.seen)
+
+    def play(self, draw, lines, environment):
+        """What is exported of the lock in an environment, held against the locks in others."""
+        locked = self.lock_in(lines, environment)
+        if locked is None:
+            self.seen["no lock"] += 1
+            return
+        marker = self.exported()
+        self.assertTrue(self.holds(marker, environment) or not is_read(environment), marker)
+        for _ in range(OTHERS):
+            other = draw.other_than(environment, draw.one((1, 1, 2, 3)))
+            is_met, wanted = self.holds(marker, other), self.ruled(lines, other)
+            if is_met:
+                self.assertEqual(wanted, locked, (marker, other))
+                if draw.happens(20):
+                    self.assertEqual(self.lock_in(lines, other), locked, (marker, other))
+            self.seen["holds elsewhere"] += is_met and other != environment
+            self.seen["other locks"] += not is_met and wanted not in (None, locked)
+            self.seen["no lock elsewhere"] += not is_met and wanted is None
+            self.seen["the same where nothing is said"] += not is_met and wanted == locked
+
+    def lock_in(self, lines, environment):
+        """The digest and the packages that `init` locks in an environment, None where it is refused."""
+        self.lock_for({"": environment})
+        self.put({"requirements.txt": lines.encode()})
+        status, output, _ = self.told("init")
+        self.assertIn((status, output), [(0, "ok 0\n"), (3, "refused no-solution\n")])
+        return read_lock((self.folder / "pylock.toml").read_bytes())[1:] if status == 0 else None
+
+    def ruled(self, lines, environment):
+        """The same by the rules in Python."""
+        try:
+            state = begun(cut_lines(lines), {"": environment}, self.index)
+        except Refused:
+            return None
+        return state.digest, state.targets[""].entries
+
+    def exported(self):
+        """The marker of the lock that travels, where all else is that of the lock."""
+        status, output, error = self.told("export", "--format", "pylock")
+        self.assertEqual((status, error), (0, ""))
+        before, after = tomllib.loads((self.folder / "pylock.toml").read_text(encoding="utf-8")), tomllib.loads(output)
+        markers = after.pop("environments", [""])
+        del before["environments"]
+        self.assertEqual(json.dumps(after), json.dumps(before))
+        self.assertEqual(len(markers), 1)
+        return markers[0]
+
+    @staticmethod
+    def holds(marker, environment):
+        return not marker or Marker(marker).evaluate(environment)
+
+
+if __name__ == "__main__":
+    unittest.main()
