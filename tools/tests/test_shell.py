@@ -87,6 +87,12 @@ class Shell(Program):
         self.assertIn("\\u{9b}31m", told)
         self.assertNotIn("\x9b", told)
 
+    def test_no_letter_turns_a_line_at_a_terminal(self):
+        turning = "\u061c\u200e\u200f\u202a\u202e\u2066\u2069"
+        self.assertEqual(self.call("add", f"c  # {turning}\u00e9"), (0, "ok 1\n"))
+        shown = "".join(f"\\u{{{ord(letter):x}}}" for letter in turning)
+        self.assertEqual(self.call("log"), (0, f"  0 init\n* 1 add c  # {shown}\u00e9\n"))
+
     def test_a_long_line_of_the_history_is_cut(self):
         comment = "x" * 200
         self.assertEqual(self.call("add", f"c  # {comment}"), (0, "ok 1\n"))

@@ -2,7 +2,8 @@
 
 use std::alloc::AllocError;
 
-/// Puts a text behind another, each control character but a tab as `\u{1b}`: no file can write to somebody's terminal.
+/// Puts a text behind another, each control character but a tab as `\u{1b}`, and so what turns or ends a line: no file can
+/// write to somebody's terminal, or have it show another text than stands there.
 pub fn add_plain(text: &mut String, given: &str) -> Result<(), AllocError> {
     for letter in given.chars() {
         add_plain_letter(text, letter)?;
@@ -12,9 +13,18 @@ pub fn add_plain(text: &mut String, given: &str) -> Result<(), AllocError> {
 
 /// Puts a letter behind a text in the same way.
 pub(crate) fn add_plain_letter(text: &mut String, letter: char) -> Result<(), AllocError> {
-    if letter.is_control() && letter != '\t' {
+    if (letter.is_control() && letter != '\t') || turns_line(letter) {
         let number = letter as u32;
         return write!(text, "\\u{{{number:x}}}");
     }
     text.push(letter)
+}
+
+/// Whether a letter turns the direction of a line (Unicode, "Bidi_Control"), or ends a line or a paragraph.
+fn turns_line(letter: char) -> bool {
+    match letter {
+        '\u{61c}' | '\u{200e}' | '\u{200f}' => true,
+        '\u{2028}'..='\u{202e}' | '\u{2066}'..='\u{2069}' => true,
+        _ => false,
+    }
 }
