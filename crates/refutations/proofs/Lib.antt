@@ -1,6 +1,7 @@
 pub mod EqualChoices
 pub mod Checked
 pub mod WalkedLists
+pub mod Within
 pub mod Counting
 pub mod Grounded
 pub mod SetsCompleted

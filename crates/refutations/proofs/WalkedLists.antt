@@ -2,7 +2,7 @@
 use Rattle.std.proofs.Common.{IfSome, Option, Some, None, is_some, ◌≡◌, ◌||◌, ℕ, zero, suc, Bool, true, false, List, [], ◌∷◌, drop, refl, sym}
 use Rattle.std.specs.List.{list_any}
 
-either-more : (a b : Bool) → b ≡ true → (a || b) ≡ true
+pub either-more : (a b : Bool) → b ≡ true → (a || b) ≡ true
 either-more true b e = refl
 either-more false b e = e
 

@@ -54,9 +54,9 @@ fn each_follows(
 
 /// Where to look for the conflicts, of which the last is empty: a copy of it takes no memory, and lends
 /// the allocator. Nothing where memory is wanting.
-fn hints_of(conflicts: &[Seq<Choice>]) -> Option<Places<'_>> {
+fn hints_of<'c>(problem: &Problem<'_>, conflicts: &'c [Seq<Choice>]) -> Option<Places<'c>> {
     let last = conflicts.last()?.clone().ok()?.into_vec();
-    places_of(*last.allocator(), conflicts).ok()
+    places_of(*last.allocator(), problem, conflicts).ok()
 }
 
 /// The same, where hints tell to look first.
@@ -64,7 +64,7 @@ fn all_follow(problem: &Problem<'_>, conflicts: &[Seq<Choice>]) -> bool
     ensures { IsTrue result
         ↔ EachFollows (rules_of problem.now) same_version [] conflicts.now }
 {
-    let places = hints_of(conflicts);
+    let places = hints_of(problem, conflicts);
     each_follows(problem, conflicts, places.as_ref())
 }
 

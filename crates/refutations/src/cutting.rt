@@ -77,12 +77,12 @@ fn mark_back(
     problem: &Problem<'_>,
     conflicts: &[Seq<Choice>],
 ) -> Result<(), AllocError> {
-    let places = places_of(alloc, conflicts)?;
+    let places = places_of(alloc, problem, conflicts)?;
     for behind in 0..conflicts.len() {
         let place = conflicts.len() - 1 - behind;
         if is_marked(marks, place) {
             let (earlier, conflict) = (&conflicts[..place], conflicts[place].as_slice());
-            let hints = places.hints(earlier, conflict)?;
+            let hints = places.hints(place)?;
             let examined = Examined {
                 earlier,
                 hints: &hints,
@@ -133,6 +133,9 @@ pub fn cut(
     ensures { IfOk result (IsRefutation (rules_of problem.now) same_version) }
 {
     let shorter = needed(alloc, problem, refutation.conflicts())?;
+    if shorter.conflicts().len() == refutation.conflicts().len() {
+        return Ok(refutation);
+    }
     if check(problem, &shorter) {
         return Ok(shorter);
     }

@@ -14,6 +14,7 @@ pub(crate) mod differing;
 mod exhausting;
 pub(crate) mod hints;
 pub(crate) mod refusing;
+mod turning;
 
 use crate::choice::Choice;
 use crate::ground::Ground;
@@ -75,7 +76,7 @@ fn hinted_ground<'a>(
 ) -> Option<Ground<'a>>
     ensures { IfSome result (IsGround problem.now earlier.now conflict.now) }
 {
-    let hints = places.hints(earlier, conflict).ok()?;
+    let hints = places.hints(earlier.len()).ok()?;
     found_ground(problem, earlier, Some(&hints), conflict)
 }
 

@@ -44,8 +44,7 @@ impl Ord for Choice {
 
     fn cmp(&self, other: &Choice) -> Ordering {
         let names = self.name.cmp(&other.name);
-        let extras = self.extra.cmp(&other.extra);
-        let versions = self.version.cmp(&other.version);
-        names.then(extras).then(versions)
+        let nodes = Ordering::or_cmp(names, &self.extra, &other.extra);
+        Ordering::or_cmp(nodes, &self.version, &other.version)
     }
 }

@@ -1,13 +1,14 @@
 // The earlier conflicts that a conflict contains with one choice more.
 
-ghost use Rattle.std.specs.Prelude.{◌≡◌, ◌⊎◌, IfSome, List, MatchOption, None, Some, false, true};
+ghost use Rattle.std.specs.Prelude.{◌≡◌, IfSome, List, MatchOption, None, Some, false, true};
 ghost use Rattle.std.specs.List.{list_all, list_any, slice_get};
 ghost use Rattle.std.specs.Option.{option_copied, option_map_or};
 ghost use Rattle.refutations.specs.Tied.Checking as spec;
 ghost use Rattle.refutations.specs.Refutations.{ChoiceParts};
 
 use crate::choice::{Choice, are_one, is_at};
-use crate::grounds::hints::{Hints, Listed};
+use crate::grounds::hints::Hints;
+use crate::grounds::turning::is_within_by_turns;
 use lists::Seq;
 use pep440::Version;
 use pep508::Name;
@@ -83,67 +84,13 @@ fn is_completed(
         }))) (slice_get earlier.now place) false }
 {
     match earlier.get(place) {
-        Some(old) => is_within(old.as_slice(), conflict, name, extra, version),
+        Some(old) => is_within_by_turns(old.as_slice(), conflict, name, extra, version),
         None => false,
     }
 }
 
-/// Whether the earlier conflict at a place has the version at the node.
-fn has_at(
-    place: usize,
-    earlier: &[Seq<Choice>],
-    name: &Name,
-    extra: Option<&Name>,
-    version: &Version,
-) -> bool {
-    match earlier.get(place) {
-        Some(old) => old
-            .as_slice()
-            .iter()
-            .any(|choice| is_at(choice, name, extra, version)),
-        None => false,
-    }
-}
-
-/// The first of the listed places at which an earlier conflict stands that has the version at the node, and
-/// that the conflict contains with it.
-fn first_listed(
-    listed: &[Listed<'_>],
-    earlier: &[Seq<Choice>],
-    conflict: &[Choice],
-    name: &Name,
-    extra: Option<&Name>,
-    version: &Version,
-) -> Option<usize>
-    ensures { IfSome result
-        (λ place. (old : List ChoiceParts) × (slice_get earlier.now place ≡ Some old)
-        × (list_all (spec.is_within conflict.now (record {
-          node = record { name = name.now; extra = option_copied extra.entry };
-          version = version.now;
-        })) old ≡ true)) }
-{
-    for one in listed {
-        if has_at(one.1, earlier, name, extra, version)
-            && is_completed(one.1, earlier, conflict, name, extra, version)
-        {
-            return Some(one.1);
-        }
-    }
-    None
-}
-
-/// The lesser of two places, if there is one.
-fn lesser(one: Option<usize>, other: Option<usize>) -> Option<usize>
-    ensures { (result ≡ one) ⊎ (result ≡ other) }
-{
-    match (one, other) {
-        (Some(place), Some(another)) if another < place => other,
-        (Some(_), _) => one,
-        (None, _) => other,
-    }
-}
-
-/// The same of all places that hints give.
+/// The place that hints give, where an earlier conflict stands there that the conflict contains with the
+/// version at the node put to it.
 fn hinted(
     hints: &Hints<'_, '_>,
     earlier: &[Seq<Choice>],
@@ -159,10 +106,12 @@ fn hinted(
           version = version.now;
         })) old ≡ true)) }
 {
-    let near = first_listed(hints.near(), earlier, conflict, name, extra, version);
-    let listed = hints.under(name, extra, version);
-    let under = first_listed(listed, earlier, conflict, name, extra, version);
-    lesser(near, under)
+    if let Some(place) = hints.completed(name, extra, version) {
+        if is_completed(place, earlier, conflict, name, extra, version) {
+            return Some(place);
+        }
+    }
+    None
 }
 
 /// The place of one of the earlier conflicts that the conflict contains with the version at the node put
@@ -251,6 +200,21 @@ fn none_fits(
     true
 }
 
+/// Whether hints tell that some candidate of the name is left for a node.
+fn is_some_left(
+    problem: &Problem<'_>,
+    hints: Option<&Hints<'_, '_>>,
+    name: &Name,
+    extra: Option<&Name>,
+) -> bool
+    ensures { hints.entry ≡ None → result ≡ false }
+{
+    match hints {
+        Some(hints) => hints.is_some_left(problem.eligible(name), name, extra),
+        None => false,
+    }
+}
+
 /// Whether no candidate of the name is left for a node, as far as earlier conflicts are found.
 pub(crate) fn none_left_at(
     problem: &Problem<'_>,
@@ -271,6 +235,9 @@ pub(crate) fn none_left_at(
           extra = option_copied extra.entry;
         }) }
 {
+    if is_some_left(problem, hints, name, extra) {
+        return false;
+    }
     none_fits(
         problem.eligible(name),
         earlier,
