@@ -4,6 +4,7 @@ import os
 import subprocess
 import unittest
 
+from made.environments import LINUX
 from places import PROGRAM
 from program import FILES, Program
 
@@ -147,13 +148,16 @@ class Faults(Program):
         # no path is made of it, which would lead to files at the root
         options = self.options("")
         for words in (
-            ["init"], ["add", "c"], ["remove", "a"], ["constrain", "a"], ["upgrade"], ["relock"], ["undo"], ["redo"], ["batch"],
-            ["try"], ["show"], ["log"], ["check"], ["why"],
+            ["init"], ["add", "c"], ["remove", "a"], ["constrain", "a"], ["upgrade"], ["relock"], ["replace", "-"], ["undo"], ["redo"], ["batch"],
+            ["try"], ["show"], ["show", "a"], ["show", "--tree"], ["log"], ["diff"], ["check"], ["check", "--current"], ["outdated"], ["export"],
+            ["why"], ["why", "--init"], ["why", "--not", "a"], ["why", "--replace", "-"], ["add", "c", "--dry-run"], ["undo", "--dry-run"],
         ):
             with self.subTest(words=words):
                 done = subprocess.run([PROGRAM, *options, *words], input=b"", cwd=self.folder, capture_output=True, check=False)
                 told = b"reqlock: requirements.txt: unreadable\n"
                 self.assertEqual((done.returncode, done.stdout, done.stderr), (4, b"", told))
+                more = subprocess.run([PROGRAM, *options, *words, "-v"], input=b"", cwd=self.folder, capture_output=True, check=False).stderr
+                self.assertIn(b"--dir is empty: give the folder that has requirements.txt\n", more)
         done = subprocess.run([PROGRAM, *options, "skipped"], capture_output=True, check=False)
         self.assertEqual((done.returncode, done.stdout, done.stderr), (0, b"", b""))
 
@@ -306,6 +310,40 @@ class NextSteps(Program):
                 told = self.notes("init")
                 self.assertTrue(told.startswith(f"{path}{looks}"), told)
                 self.assertTrue(told.endswith(f"\n    reqlock-environment >{output}\n"), told)
+
+    def test_of_the_environment_of_one_of_several_targets(self):
+        self.lock_for({"one": LINUX, "two": LINUX})
+        for words in ["init"], ["try"], ["why", "--init"]:
+            for name in "two", "one":
+                with self.subTest(words=words, name=name):
+                    path = self.environment_file(name)
+                    whole = path.read_bytes()
+                    path.unlink()
+                    making = f"    reqlock-environment >{path}\n"
+                    absent = f"{path}: No such file or directory (os error 2)\nThis makes it, of the Python that runs it:\n{making}"
+                    self.assertEqual(self.notes(*words), absent)
+                    path.write_text('{"sys_platform": "linux"}', encoding="utf-8")
+                    told = f"{path} lacks implementation_name. This makes it again, with all eleven variables:\n{making}"
+                    self.assertEqual(self.notes(*words), told)
+                    path.write_bytes(whole)
+
+    def test_of_requirements_that_are_handed_in(self):
+        self.assertEqual(self.call("init"), (0, "ok 0\n"))
+        path = self.outside / "handed.txt"
+        for words in ["replace"], ["why", "--replace"]:
+            with self.subTest(words=words):
+                path.unlink(missing_ok=True)
+                for given in [path], ["--was", path]:
+                    self.assertEqual(self.notes(*words, *given), f"{path}: No such file or directory (os error 2)\n")
+                path.write_bytes(b"a\n# \xff\n")
+                self.assertEqual(self.notes(*words, path), "line 2 is no UTF-8: save the file as UTF-8\n")
+                path.write_bytes(b"a\nb=>2\n")
+                self.assertIn("line 2, column ", self.notes(*words, path))
+                path.write_bytes(b"c\n")
+                seeking = f"    reqlock-merge --dir {self.folder} --index {self.index}\n"
+                told = self.notes(*words, "--was", path)
+                self.assertTrue(told.startswith("The file of --was isn't requirements.txt as reqlock saved it."), told)
+                self.assertTrue(told.endswith(f"\n{seeking}"), told)
 
     def test_of_all_lines_that_do_not_read(self):
         told = {

@@ -1,0 +1,99 @@
+"""What `why --not` answers, over the built program: of which target and of which release it tells, and in which words. Nothing is saved."""
+
+import unittest
+
+from made.environments import LINUX, WINDOWS
+from program import Program
+
+# on Windows `e` needs an older `a`, and `a` needs an older `w`, which is locked there alone
+TWO = (
+    ("a", "1", ['w<2; os_name=="nt"']), ("a", "2", ['w<2; os_name=="nt"']), ("b", "1", []), ("e", "1", ['a<2; os_name=="nt"']),
+    ("w", "1", []), ("w", "2", []),
+)
+# `b` 3 asks for a newer Python, `c` 2 was taken back, `d` 2 and all of `q` are pre-releases
+ONE = (
+    ("b", "1", []), ("b", "2", []), ("b", "3", [], {"requires_python": ">=3.99"}), ("c", "1", []), ("c", "2", [], {"yanked": True}),
+    ("d", "1", []), ("d", "2a1", []), ("q", "1a1", []), ("q", "2a1", []), ("y", "1", []),
+)
+
+
+class Released(Program):
+    def answers(self, *texts):
+        """Each text has a status and what is told, whose lines are broken anywhere."""
+        before = self.files()
+        for text, status, told in texts:
+            with self.subTest(text=text):
+                found = self.call("why", "--not", text)
+                self.assertEqual((found[0], found[1].replace("\n   ", " ").replace(" A\nrequirement", " A requirement")), (status, told))
+        self.assertEqual(self.files(), before)
+
+
+class OfTargets(Released):
+    """The first target is told of whose lock has the name and not the release."""
+
+    environments = {"linux": LINUX, "win": WINDOWS}
+
+    def test_the_first_that_lacks_it(self):
+        self.begin(b"a\ne\n", *TWO)
+        self.plays((["init"], 0, "ok 0\n"))
+        self.assertEqual([self.locked("linux"), self.locked("win")], [{"a": "2", "e": "1"}, {"a": "1", "e": "1", "w": "1"}])
+        newer = (
+            "target win\nNo choice of versions meets line 1 (a), line 2 (e) and the version asked for (a==2).\n"
+            "1. line 2 (e) needs e, which needs a<2 and not a 2.\n"
+            "2. line 1 (a) needs a, and no release of a is left: 1 doesn't match ==2 of the version asked for; 2 is ruled out by 1.\n"
+        )
+        nowhere = "target linux\nNo choice of versions meets the version asked for ({0}).\n1. the version asked for ({0}) allows no release of a.\n"
+        self.answers(
+            ("a==2", 3, newer), ("a", 3, newer), ("a==3", 3, nowhere.format("a==3")),
+            (
+                "a==1", 0,
+                "target linux\na stays at 2, since the lock has it; with 1 no name that is taken before it would change."
+                " A requirement a==1 takes it.\n",
+            ),
+        )
+
+    def test_a_target_without_the_name_is_passed_over(self):
+        self.begin(b"a\ne\n", *TWO)
+        self.plays((["init"], 0, "ok 0\n"))
+        lacking = (
+            "target win\nline 1 (a) and the version asked for (w==2) don't go together: every release of a needs w<2.\n"
+            "1. every release of a needs w<2, and the version asked for allows 2.\n2. line 1 (a) needs a, which is ruled out by 1.\n"
+        )
+        self.answers(
+            ("w==2", 3, lacking), ("w", 3, lacking), ("w==1", 0, "w 1 is locked.\n"), ("e", 0, "e 1 is locked.\n"),
+            ("b", 1, "refused not-locked\n"), ("b==1", 1, "refused not-locked\n"),
+        )
+
+
+class OfReleases(Released):
+    def setUp(self):
+        super().setUp()
+        self.begin(b"b\nc\nd\nq>=1a1\ny\n", *ONE)
+        self.plays((["init"], 0, "ok 0\n"))
+        self.assertEqual(self.locked(), {"b": "2", "c": "1", "d": "1", "q": "2a1", "y": "1"})
+
+    def test_the_one_that_is_named(self):
+        stays = "{0} stays at {1}, since the lock has it; with {2} no name that is taken before it would change. A requirement {0}=={2} takes it.\n"
+        self.answers(
+            ("b==1", 0, stays.format("b", "2", "1")), ("q==1a1", 0, stays.format("q", "2a1", "1a1")), ("b==2", 0, "b 2 is locked.\n"),
+            ("B == 2.0", 0, "b 2.0 is locked.\n"), ("b==3", 0, "b 3 needs Python >=3.99, the environment has 3.12.3.\n"),
+            ("c==2", 0, "c 2 is yanked, and no line pins it with ==.\n"),
+            ("d==2a1", 0, "d 2a1 is a pre-release, which counts where a line names one or no final release fits.\n"),
+            ("b==4", 3, "No choice of versions meets the version asked for (b==4).\n1. the version asked for (b==4) allows no release of b.\n"),
+        )
+
+    def test_the_newest_that_counts_unasked(self):
+        """No pre-release, and not yanked; where each is one, the newest of all."""
+        self.answers(
+            ("b", 0, "b 3 needs Python >=3.99, the environment has 3.12.3.\n"), ("c", 0, "c 1 is locked.\n"), ("d", 0, "d 1 is locked.\n"),
+            ("q", 0, "q 2a1 is locked.\n"),
+        )
+
+    def test_a_name_that_the_index_lost(self):
+        self.begin(b"b\nc\nd\nq>=1a1\ny\n", *ONE[:-1])
+        gone = "No choice of versions meets line 5 (y).\n1. line 5 (y) needs y, and the index has no package y.\n"
+        self.answers(("y", 3, gone), ("y==2", 3, gone), ("y==1", 0, "y 1 is locked.\n"))
+
+
+if __name__ == "__main__":
+    unittest.main()
