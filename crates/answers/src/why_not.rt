@@ -1,5 +1,10 @@
 // What `why --not` prints: why a lock hasn't a release.
 
+ghost use Rattle.std.specs.Prelude.{◌≡◌};
+ghost use Rattle.std.specs.Option.{option_copied};
+ghost use Rattle.edits.specs.Refused.{is_locked_for};
+ghost use Rattle.answers.specs.WhyNot.{is_other, lacks};
+
 use crate::shown::refuted_by_sets;
 use crate::why::explained_text;
 use calls::{Call, Stop, show};
@@ -110,11 +115,7 @@ fn why_not(
     let present = problem_after(alloc, state, &Edit::Relock, &Pool::whole(snapshot))?;
     let problems = problems_with(alloc, state, &named.text, snapshot)?;
     let name = &named.name;
-    if !state
-        .targets()
-        .iter()
-        .any(|target| target.locked(name).is_some())
-    {
+    if !is_locked(state.targets(), name) {
         return Err(Stop::from(Refusal::NotLocked(Text::copy_of(alloc, name.normal())?)));
     }
     let lines = ChangedLines {
@@ -135,9 +136,25 @@ fn why_not(
     Ok(same_text(alloc, named)?)
 }
 
+// Whether the lock of some target has the name.
+fn is_locked(targets: &[Target], name: &Name) -> bool
+    ensures { result ≡ is_locked_for targets.now name.now }
+{
+    targets.iter().any(|target| target.locked(name).is_some())
+}
+
 // Whether the lock of a target has the name, and not the release.
-fn lacks(target: &Target, named: &NamedRelease) -> bool {
-    match (target.locked(&named.name), &named.version) {
+fn lacks(target: &Target, named: &NamedRelease) -> bool
+    ensures { result ≡ lacks named.now target.now }
+{
+    is_other(&named.version, target.locked(&named.name))
+}
+
+// Whether a version is locked that isn't the one that is asked about.
+fn is_other(asked: &Option<Version>, locked: Option<&Version>) -> bool
+    ensures { result ≡ is_other asked.now (option_copied locked) }
+{
+    match (locked, asked) {
         (Some(locked), Some(version)) => !version.cmp(locked).is_eq(),
         (Some(_), None) => true,
         (None, _) => false,

@@ -1,5 +1,8 @@
 // The files that a subcommand reads, and the lock on its folder.
 
+ghost use Rattle.std.specs.Prelude.{◌≡◌, ◌≢◌, ◌⊎◌, [], IfErr, OnOk, true};
+ghost use Rattle.reqlock.specs.SubcommandFiles.{StopsForNoFolder, environments_of, file_of, index_of, is_old, new_lines_of, reads_no_folder};
+
 use calls::Stop;
 use command_line::request::{NewLines, Question, Saving, Shown, Subcommand};
 use files::{InputFault, InputFile, LockFile, lock_to_save};
@@ -7,7 +10,9 @@ use lists::Text;
 use std::rt::Files;
 
 /// The index of a subcommand, where it is given one.
-pub fn index_of<'a>(subcommand: &Subcommand<'a>) -> Option<&'a str> {
+pub fn index_of<'a>(subcommand: &Subcommand<'a>) -> Option<&'a str>
+    ensures { result ≡ index_of subcommand.now }
+{
     match subcommand {
         Subcommand::Init(inputs)
         | Subcommand::Try(inputs)
@@ -32,7 +37,9 @@ pub fn index_of<'a>(subcommand: &Subcommand<'a>) -> Option<&'a str> {
 }
 
 /// The requirements file that is handed to a subcommand: the new one, or the old one.
-pub fn lines_of<'a>(subcommand: &Subcommand<'a>) -> Option<&'a str> {
+pub fn lines_of<'a>(subcommand: &Subcommand<'a>) -> Option<&'a str>
+    ensures { result ≡ file_of (new_lines_of subcommand.now) }
+{
     match new_lines_of(subcommand)? {
         NewLines::File(path) | NewLines::Was(path) => Some(path),
         NewLines::Line(_, _) => None,
@@ -40,7 +47,9 @@ pub fn lines_of<'a>(subcommand: &Subcommand<'a>) -> Option<&'a str> {
 }
 
 /// Whether that is the old one.
-pub fn has_old_lines(subcommand: &Subcommand<'_>) -> bool {
+pub fn has_old_lines(subcommand: &Subcommand<'_>) -> bool
+    ensures { result ≡ is_old (new_lines_of subcommand.now) }
+{
     match new_lines_of(subcommand) {
         Some(NewLines::Was(_)) => true,
         _ => false,
@@ -48,7 +57,9 @@ pub fn has_old_lines(subcommand: &Subcommand<'_>) -> bool {
 }
 
 // Where the new lines of a replacement are.
-fn new_lines_of<'a>(subcommand: &Subcommand<'a>) -> Option<NewLines<'a>> {
+fn new_lines_of<'a>(subcommand: &Subcommand<'a>) -> Option<NewLines<'a>>
+    ensures { result ≡ new_lines_of subcommand.now }
+{
     match subcommand {
         Subcommand::Replace(replacement, _, _)
         | Subcommand::Why(Question::Replace(replacement, _), _) => Some(replacement.lines),
@@ -57,7 +68,9 @@ fn new_lines_of<'a>(subcommand: &Subcommand<'a>) -> Option<NewLines<'a>> {
 }
 
 /// The values of `--env` of a subcommand that locks new targets; none of any other.
-pub fn environments_of<'a>(subcommand: &'a Subcommand<'_>) -> &'a [Text] {
+pub fn environments_of<'a>(subcommand: &'a Subcommand<'_>) -> &'a [Text]
+    ensures { result.now ≡ environments_of subcommand.now }
+{
     match subcommand {
         Subcommand::Init(inputs)
         | Subcommand::Try(inputs)
@@ -83,7 +96,10 @@ pub fn environments_of<'a>(subcommand: &'a Subcommand<'_>) -> &'a [Text] {
 
 /// Refuses the empty name of a folder: no folder has it, so none of its files can be read, and a path made of it would lead
 /// to the root folder. `skipped` reads no file of the folder.
-pub fn refuse_no_folder(dir: &str, subcommand: &Subcommand<'_>) -> Result<(), Stop> {
+pub fn refuse_no_folder(dir: &str, subcommand: &Subcommand<'_>) -> Result<(), Stop>
+    ensures folder { OnOk result ((dir.now ≢ []) ⊎ (reads_no_folder subcommand.now ≡ true)) }
+    ensures refused { IfErr result (StopsForNoFolder dir.now subcommand.now) }
+{
     match subcommand {
         Subcommand::Skipped(_) => Ok(()),
         _ if dir.is_empty() => Err(Stop::Input(InputFile::Requirements, InputFault::Unreadable)),

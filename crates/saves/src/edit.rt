@@ -1,5 +1,9 @@
 // What an edit, `undo` and `redo` do.
 
+ghost use Rattle.std.specs.Prelude.{IfErr, IfOk};
+ghost use Rattle.journal.specs.Commands.{asked_of};
+ghost use Rattle.saves.specs.Applied.{GoesOn, StopsAt};
+
 use crate::change_details::Place;
 use crate::details::Details;
 use calls::{Call, Stop, pool_of, print};
@@ -68,7 +72,11 @@ pub fn applied(
     details: &mut Details,
     session: &mut Session,
     command: &Command<'_>,
-) -> Result<Reply, Stop> {
+) -> Result<Reply, Stop>
+    ensures done { IfOk result (GoesOn session.old.past (asked_of command.now) session.new.past) }
+    ensures stopped { IfErr result
+        (StopsAt session.old.past (asked_of command.now) session.new.past) }
+{
     match session.apply(alloc, command, &RESOLVER) {
         Reply::Refused(refusal) => {
             details.add_refusal(alloc, session.state(), command, &refusal)?;

@@ -1,5 +1,9 @@
 // What is told of a file for which a call stops: why, and what to type next.
 
+ghost use Rattle.std.specs.Prelude.{◌≡◌, find};
+ghost use Rattle.std.specs.Option.{option_copied};
+ghost use Rattle.saves.specs.Environments.{has_name, path_named};
+
 use crate::details::{CallFiles, Details};
 use calls::Stop;
 use edits::{Cause, Refusal, TargetName};
@@ -267,13 +271,21 @@ impl CallFiles<'_> {
     }
 }
 
-fn environment_path<'a>(targets: &'a [TargetFile], name: &TargetName) -> &'a str {
-    for target in targets {
-        if target.name().as_str() == name.as_str() {
-            return target.path();
-        }
+// The path of the environment of a target; empty where no target has the name.
+fn environment_path<'a>(targets: &'a [TargetFile], name: &TargetName) -> &'a str
+    ensures { result.now ≡ path_named name.now targets.now }
+{
+    match target_named(targets, name.as_str()) {
+        Some(target) => target.path(),
+        None => "",
     }
-    ""
+}
+
+// The target of a name.
+fn target_named<'a>(targets: &'a [TargetFile], name: &str) -> Option<&'a TargetFile>
+    ensures { option_copied result ≡ find (has_name name.now) targets.now }
+{
+    targets.iter().find(|target| target.name().as_str() == name)
 }
 
 // The variable that an environment lacks or has wrong.

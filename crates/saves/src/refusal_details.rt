@@ -1,5 +1,7 @@
 // What is told where a command or a first lock is refused.
 
+ghost use Rattle.std.specs.Prelude.{◌≡◌, IfOk, map};
+
 use crate::details::Details;
 use answers::{lines_of, told_refutation};
 use edits::{
@@ -215,7 +217,11 @@ fn first_reasons(
     }
 }
 
-fn environments_of(alloc: Global, targets: &Targets) -> Result<Vec<&Environment>, AllocError> {
+// The environments of the targets, in their order.
+fn environments_of(alloc: Global, targets: &Targets) -> Result<Vec<&Environment>, AllocError>
+    ensures { IfOk result (λ environments. map (λ environment. environment.now) environments.items
+        ≡ map (λ target. target.1) targets.now) }
+{
     let mut environments = Vec::new(alloc);
     for (_, environment) in targets.as_slice() {
         environments.push(environment)?;
