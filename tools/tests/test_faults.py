@@ -4,7 +4,7 @@ import os
 import subprocess
 import unittest
 
-from made.environments import LINUX
+from made.environments import LINUX, WINDOWS
 from places import PROGRAM
 from program import FILES, Program
 
@@ -326,6 +326,20 @@ class NextSteps(Program):
                     told = f"{path} lacks implementation_name. This makes it again, with all eleven variables:\n{making}"
                     self.assertEqual(self.notes(*words), told)
                     path.write_bytes(whole)
+
+    def test_of_names_that_the_index_lacks(self):
+        """A line may count in the environment of one target alone."""
+        self.lock_for({"one": LINUX, "two": WINDOWS})
+        for line, name in ('y; os_name=="posix"', "y"), ('z; os_name=="nt"', "z"):
+            self.begin(f"a\n{line}\n".encode(), ("a", "1", []))
+            status, output, told = self.told("init", "-v")
+            self.assertEqual((status, output), (3, "refused no-solution\n"))
+            self.assertIn(f"\nthe index has no release of {name}\n", told)
+            targets = " ".join(f"--env {name}={self.environment_file(name)}" for name in self.environments)
+            self.assertTrue(told.endswith(f"\nask: reqlock --dir {self.folder} --index {self.index} {targets} why --explain --init\n"), told)
+        self.index.unlink()
+        making = f"{self.making} --env {self.environment_file('one')} --output {self.index}\n"
+        self.assertTrue(self.notes("init").endswith(f"\nThis makes it:\n{making}"))
 
     def test_of_requirements_that_are_handed_in(self):
         self.assertEqual(self.call("init"), (0, "ok 0\n"))

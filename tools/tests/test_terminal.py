@@ -7,6 +7,7 @@ import subprocess
 import unittest
 import xml.etree.ElementTree as xml
 
+from made.environments import LINUX, WINDOWS
 from places import PROGRAM, TOP
 from program import Program
 from terminals import shown_on_terminal
@@ -119,6 +120,33 @@ class Told(Terminal):
         self.begin(b"aa\n", ("aa", "1", ["mid"]), ("mid", "1", []))
         self.assertEqual(self.plainly("init"), (0, "ok 0\n", "2 packages locked in pylock.toml\n"))
 
+    def test_how_many_packages_are_locked_for_each_target(self):
+        self.lock_for({"one": LINUX, "two": WINDOWS})
+        self.begin(b"aa\nbb ; os_name == 'nt'\n", ("aa", "1", []), ("bb", "1", []))
+        told = "1 package locked in pylock.one.toml\n2 packages locked in pylock.two.toml\n"
+        self.assertEqual(self.plainly("init"), (0, "ok 0\n", told))
+
+    def test_that_nothing_changes(self):
+        self.begin_plugins()
+        same = "Nothing changes, and nothing is saved.\n"
+        options = f"--dir {self.folder} --index {self.outside / 'index.json'}"
+        newest = f"Nothing newer fits. What holds newer releases back is told by:\n    reqlock {options} outdated\n"
+        for words, told in (["relock"], same), (["constrain", "mid"], same), (["upgrade"], newest), (["upgrade", "mid"], newest):
+            for more in [], ["--dry-run"]:
+                with self.subTest(words=[*words, *more]):
+                    self.assertEqual(self.plainly(*words, *more), (0, "same\n", told))
+
+    def test_of_a_save_that_fails_the_fault_alone(self):
+        self.begin_plugins()
+        (self.folder / "pylock.toml.new").mkdir()
+        told = (
+            "reqlock: pylock.toml: write failed\n"
+            "Nothing was saved. Look whether you may write in the folder, and whether the disk has room.\n"
+        )
+        for words in ["add", "aa"], ["init"]:
+            with self.subTest(words=words):
+                self.assertEqual(self.plainly(*words), (5, "", told))
+
     def test_what_an_init_replaces(self):
         self.begin_plugins()
         self.assertEqual(self.call("add", "aa"), (0, "ok 1\n"))
@@ -126,6 +154,10 @@ class Told(Terminal):
         self.assertIn("The history that stood here is replaced, with its 1 step.", shown)
         self.assertIn(f"\n    git -C {self.folder} checkout HEAD -- requirements.txt 'pylock*.toml' reqlock.journal\n", shown)
         self.assertNotIn("replaced", self.plainly("init")[2])
+        # a step that was undone counts too
+        for words in ["remove", "aa"], ["undo"]:
+            self.call(*words)
+        self.assertIn("is replaced, with its 1 step.", self.plainly("init")[2])
 
     def test_what_an_edit_behind_an_undo_drops(self):
         self.begin_plugins()

@@ -8,7 +8,7 @@ from program import Program
 # on Windows `e` needs an older `a`, and `a` needs an older `w`, which is locked there alone
 TWO = (
     ("a", "1", ['w<2; os_name=="nt"']), ("a", "2", ['w<2; os_name=="nt"']), ("b", "1", []), ("e", "1", ['a<2; os_name=="nt"']),
-    ("w", "1", []), ("w", "2", []),
+    ("v", "1", []), ("v", "2", []), ("w", "1", []), ("w", "2", []),
 )
 # `b` 3 asks for a newer Python, `c` 2 was taken back, `d` 2 and all of `q` are pre-releases
 ONE = (
@@ -53,7 +53,7 @@ class OfTargets(Released):
         )
 
     def test_a_target_without_the_name_is_passed_over(self):
-        self.begin(b"a\ne\n", *TWO)
+        self.begin(b'a\ne\nv; os_name=="nt"\n', *TWO)
         self.plays((["init"], 0, "ok 0\n"))
         lacking = (
             "target win\nline 1 (a) and the version asked for (w==2) don't go together: every release of a needs w<2.\n"
@@ -61,7 +61,12 @@ class OfTargets(Released):
         )
         self.answers(
             ("w==2", 3, lacking), ("w", 3, lacking), ("w==1", 0, "w 1 is locked.\n"), ("e", 0, "e 1 is locked.\n"),
-            ("b", 1, "refused not-locked\n"), ("b==1", 1, "refused not-locked\n"),
+            ("b", 1, "refused not-locked\n"), ("b==1", 1, "refused not-locked\n"), ("v", 0, "v 2 is locked.\n"),
+            (
+                "v==1", 0,
+                "target win\nv stays at 2, since the lock has it; with 1 no name that is taken before it would change."
+                " A requirement v==1 takes it.\n",
+            ),
         )
 
 

@@ -89,6 +89,18 @@ class Questions(Program):
             (["why", "--remove", "b"], 1, "refused not-present\n"),
         )
 
+    def test_the_line_that_is_asked_about_is_told(self):
+        self.begin(b"c\na\n", *SHARED)
+        self.plays((["init"], 0, "ok 0\n"))
+        told = self.call("why", "--explain", "--constrain", "a", "==2")[1]
+        self.assertEqual(told.split("\n")[0], "No choice of versions meets line 1 (c) and line 2 as constrained (a==2).")
+        self.begin(b"c\na\n", ("a", "1", ["b"]), ("c", "1", []))
+        new = self.outside / "new.txt"
+        new.write_bytes(b"# new\nc\na\n")
+        for words, line in (["--remove", "c"], 2), (["--upgrade"], 2), (["--replace", new], 3):
+            told = self.call("why", "--explain", *words)[1]
+            self.assertEqual(told.split("\n")[0], f"No choice of versions meets line {line} (a).")
+
     def test_questions_exclude_one_another(self):
         self.begin(b"a\n", *SHARED)
         for words in (["--init", "--not", "a"], ["--remove", "a", "--upgrade"], ["--constrain", "a", "--not", "b"]):
