@@ -3,6 +3,7 @@
 //! What is made is trusted for nothing: `check` of `refutations` accepts it, or a search by single versions answers.
 #![tactic(auto)]
 
+mod containable;
 mod descent;
 mod frame;
 mod placed_choice;

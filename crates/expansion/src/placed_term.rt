@@ -22,6 +22,16 @@ impl PlacedTerm {
         self.node == choice.node && self.places.has(choice.place)
     }
 
+    /// Whether both are at one node.
+    pub(crate) fn is_beside(&self, other: &PlacedTerm) -> bool {
+        self.node == other.node
+    }
+
+    /// Whether it is at the other's node, and each of its releases is one of the other's.
+    pub(crate) fn lies_within(&self, other: &PlacedTerm) -> bool {
+        self.is_beside(other) && self.places.lies_within(&other.places)
+    }
+
     /// The first of the choices that it has.
     pub(crate) fn choice_among(&self, choices: &[PlacedChoice]) -> Option<PlacedChoice> {
         choices.iter().find(|choice| self.has(**choice)).copied()

@@ -1,5 +1,6 @@
 // The conflicts of a refutation by sets, and what each of them rests on.
 
+use crate::containable::{Containable, containable_before};
 use crate::placed_choice::PlacedChoice;
 use crate::placed_term::{PlacedTerm, place_of, placed_conflicts};
 use lists::Seq;
@@ -31,6 +32,8 @@ pub(crate) struct SetConflicts<'a> {
     nodes: Nodes,
     terms: Vec<Vec<PlacedTerm>>,
     ways: BTreeMap<usize, Way>,
+    /// By a conflict, the earlier ones that it may contain with one release more.
+    containable: BTreeMap<usize, Containable>,
     /// By a conflict and a place: the earlier conflict that it contains with this release at its node.
     completed: BTreeMap<(usize, usize), usize>,
 }
@@ -51,6 +54,7 @@ impl<'a> SetConflicts<'a> {
             nodes,
             terms,
             ways: BTreeMap::new(alloc),
+            containable: BTreeMap::new(alloc),
             completed: BTreeMap::new(alloc),
         })
     }
@@ -85,18 +89,33 @@ impl<'a> SetConflicts<'a> {
         if let Some(way) = self.ways.get(&conflict) {
             return Ok(Some(*way));
         }
+        self.look(conflict)?;
         let (Some(earlier), Some(own)) = (
-            self.conflicts.get(..conflict),
+            self.containable.get(&conflict),
             self.conflicts.get(conflict),
         ) else {
             return Ok(None);
         };
-        let Some(ground) = set_ground_of(self.problem, earlier, own.as_slice()) else {
+        let Some(ground) = set_ground_of(self.problem, earlier.conflicts(), own.as_slice()) else {
             return Ok(None);
         };
         let way = self.way_by(ground)?;
         self.ways.insert(conflict, way)?;
         Ok(Some(way))
+    }
+
+    // Finds the earlier conflicts that one may contain with a release more. All others are of no use to it.
+    fn look(&mut self, conflict: usize) -> Result<(), AllocError> {
+        if self.containable.get(&conflict).is_none() {
+            let found = containable_before(
+                self.alloc,
+                self.conflicts,
+                self.terms.as_slice(),
+                conflict,
+            )?;
+            self.containable.insert(conflict, found)?;
+        }
+        Ok(())
     }
 
     fn way_by(&mut self, ground: SetGround<'_>) -> Result<Way, AllocError> {
@@ -127,6 +146,7 @@ impl<'a> SetConflicts<'a> {
         if let Some(place) = self.completed.get(&key) {
             return Ok(Some(*place));
         }
+        self.look(conflict)?;
         let Some(place) = self.completed_by(conflict, choice) else {
             return Ok(None);
         };
@@ -137,12 +157,14 @@ impl<'a> SetConflicts<'a> {
     fn completed_by(&self, conflict: usize, choice: PlacedChoice) -> Option<usize> {
         let node = self.node(choice.node)?;
         let release = self.problem.releases(&node.name).get(choice.place)?;
-        set_completed(
-            self.conflicts.get(..conflict)?,
+        let earlier = self.containable.get(&conflict)?;
+        let place = set_completed(
+            earlier.conflicts(),
             self.conflicts.get(conflict)?.as_slice(),
             &node.name,
             node.extra.as_ref(),
             release.version(),
-        )
+        )?;
+        earlier.place(place)
     }
 }
