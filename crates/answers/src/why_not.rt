@@ -1,6 +1,7 @@
 // What `why --not` prints: why a lock hasn't a release.
 
-ghost use Rattle.std.specs.Prelude.{◌≡◌};
+ghost use Rattle.std.specs.Prelude.{◌≡◌, ◌<◌, IfSome, length};
+ghost use Rattle.std.specs.List.{position};
 ghost use Rattle.std.specs.Option.{option_copied};
 ghost use Rattle.edits.specs.Refused.{is_locked_for};
 ghost use Rattle.answers.specs.WhyNot.{is_other, lacks};
@@ -122,18 +123,18 @@ fn why_not(
         lines: state.lines().lines(),
         changed: ChangedLine::Wanted(&named.text),
     };
-    let both = present.as_slice().iter().zip(problems.as_slice());
-    for (target, ((_, before), (_, problem))) in state.targets().iter().zip(both) {
-        if lacks(target, named) {
-            let mut text = String::new(alloc);
-            add_target_line(&mut text, target.name.as_str())?;
-            if is_told(alloc, &mut text, named, before, problem)? {
-                return Ok(text);
-            }
-            return refuted_text(alloc, text, target, problem, lines);
-        }
+    let Some(place) = first_lacking(state.targets(), named) else {
+        return Ok(same_text(alloc, named)?);
+    };
+    let target = &state.targets()[place];
+    let (_, before) = &present.as_slice()[place];
+    let (_, problem) = &problems.as_slice()[place];
+    let mut text = String::new(alloc);
+    add_target_line(&mut text, target.name.as_str())?;
+    if is_told(alloc, &mut text, named, before, problem)? {
+        return Ok(text);
     }
-    Ok(same_text(alloc, named)?)
+    refuted_text(alloc, text, target, problem, lines)
 }
 
 // Whether the lock of some target has the name.
@@ -141,6 +142,14 @@ fn is_locked(targets: &[Target], name: &Name) -> bool
     ensures { result ≡ is_locked_for targets.now name.now }
 {
     targets.iter().any(|target| target.locked(name).is_some())
+}
+
+// The place of the first target whose lock has the name and not the release.
+fn first_lacking(targets: &[Target], named: &NamedRelease) -> Option<usize>
+    ensures first { result ≡ position (lacks named.now) targets.now }
+    ensures within { IfSome result (λ place. place < length targets.now) }
+{
+    targets.iter().position(|target| lacks(target, named))
 }
 
 // Whether the lock of a target has the name, and not the release.
@@ -152,7 +161,7 @@ fn lacks(target: &Target, named: &NamedRelease) -> bool
 
 // Whether a version is locked that isn't the one that is asked about.
 fn is_other(asked: &Option<Version>, locked: Option<&Version>) -> bool
-    ensures { result ≡ is_other asked.now (option_copied locked) }
+    ensures { result ≡ is_other asked.now (option_copied locked.entry) }
 {
     match (locked, asked) {
         (Some(locked), Some(version)) => !version.cmp(locked).is_eq(),
