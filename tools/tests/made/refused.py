@@ -7,7 +7,7 @@ import sys
 from made.releases import index_of
 from places import TOP
 
-sys.path.insert(0, str(TOP / "bench"))
+sys.path.append(str(TOP / "bench"))
 from shapes import boto, planted  # noqa: E402
 
 
