@@ -276,6 +276,17 @@ class NextSteps(Program):
         (self.folder / "requirements.in").write_bytes(b"a\n")
         self.assertIn("reqlock-adopt takes it over", self.notes("init"))
 
+    def test_of_what_is_no_regular_file(self):
+        self.assertEqual(self.call("init"), (0, "ok 0\n"))
+        for path, words in (self.folder / "pylock.toml", ["show"]), (self.index, ["relock"]), (self.environment_file(""), ["init"]):
+            with self.subTest(path=path):
+                content = path.read_bytes()
+                path.unlink()
+                os.mkfifo(path)
+                self.assertEqual(self.notes(*words), f"{path}: this is no regular file\n")
+                path.unlink()
+                path.write_bytes(content)
+
     def test_of_what_an_index_looks_like(self):
         """Another file is never proposed to be written over."""
         environment = self.environment_file("").read_text(encoding="utf-8")
