@@ -276,6 +276,44 @@ class NextSteps(Program):
         (self.folder / "requirements.in").write_bytes(b"a\n")
         self.assertIn("reqlock-adopt takes it over", self.notes("init"))
 
+    def test_of_what_is_refused_before_it_is_an_edit(self):
+        self.assertEqual(self.call("init"), (0, "ok 0\n"))
+        for words, refusal, told in (
+            (["replace", "--line", "a", "a b"], "bad-text", "the text does not read\n"),
+            (["replace", "--line", "c", "c"], "not-present", "no line has this name\n"),
+            (["why", "a b"], "bad-text", "the text does not read\n"), (["why", "--remove", "c"], "not-present", "no line has this name\n"),
+            (["why", "--not", "c"], "not-locked", "c is not locked\n"), (["why", "--init", "a"], "already-present", "line 1 has this name\n"),
+        ):
+            with self.subTest(words=words):
+                self.assertEqual(self.told(*words), (1, f"refused {refusal}\n", ""))
+                self.assertEqual(self.told(*words, "-v"), (1, f"refused {refusal}\n", told))
+
+    def test_of_the_index_that_each_subcommand_is_given(self):
+        self.assertEqual(self.call("init"), (0, "ok 0\n"))
+        new = self.outside / "new.txt"
+        new.write_bytes(b"c\n")
+        self.index.unlink()
+        for words in (
+            ["init"], ["try"], ["why", "--init"], ["add", "c"], ["relock", "--dry-run"], ["replace", new], ["batch"], ["why"],
+            ["why", "--replace", new], ["why", "--not", "a"], ["outdated"], ["skipped"], ["check", "--current"], ["show", "a"],
+            ["export", "--format", "pylock"],
+        ):
+            with self.subTest(words=words):
+                told = self.notes(*words)
+                self.assertTrue(told.startswith(f"{self.index}: No such file or directory (os error 2)\nThis makes it:\n{self.making} "), told)
+                self.assertTrue(told.endswith(f" --output {self.index}\n"), told)
+
+    def test_of_what_is_no_regular_file(self):
+        self.assertEqual(self.call("init"), (0, "ok 0\n"))
+        for path, words in (self.folder / "pylock.toml", ["show"]), (self.index, ["relock"]), (self.environment_file(""), ["init"]):
+            with self.subTest(path=path):
+                content = path.read_bytes()
+                path.unlink()
+                os.mkfifo(path)
+                self.assertEqual(self.notes(*words), f"{path}: this is no regular file\n")
+                path.unlink()
+                path.write_bytes(content)
+
     def test_of_what_an_index_looks_like(self):
         """Another file is never proposed to be written over."""
         environment = self.environment_file("").read_text(encoding="utf-8")

@@ -97,6 +97,26 @@ class Told(Terminal):
         self.assertTrue(reasons.startswith("No choice of versions meets "))
         self.assertEqual(shown, f"{reasons}The newest aa of the snapshot is 2.\n")
 
+    def test_more_than_forty_lines_are_left_to_why(self):
+        for count, is_told in (40, True), (60, False):
+            with self.subTest(count=count):
+                self.begin(b"", *(("aa", str(version), [f"z{version}"]) for version in range(1, count // 2 + 10)))
+                self.assertEqual(self.call("init"), (0, "ok 0\n"))
+                reasons = self.told("why", "--explain", "aa")[1]
+                self.assertEqual(len(reasons.splitlines()) <= 40, is_told)
+                options = f"--dir {self.folder} --index {self.outside / 'index.json'}"
+                question = f"no versions meet all requirements\nask: reqlock {options} why --explain aa\n"
+                self.assertEqual(self.plainly("add", "aa"), (3, "refused no-solution\n", reasons if is_told else question))
+
+    def test_how_a_history_is_begun(self):
+        self.begin(b"aa\n", ("aa", "1", []))
+        folder, index = f"--dir {self.folder}", self.outside / "index.json"
+        for words, given in (["show"], "index.json"), (["relock"], index), (["check", "--current"], index):
+            with self.subTest(words=words):
+                shown = self.plainly(*words)[2]
+                begun = f"\n`reqlock init` begins a history here\n    reqlock {folder} --index {given} --env environment.json init\n"
+                self.assertTrue(shown.endswith(begun), shown)
+
     def test_how_an_index_is_made_again(self):
         self.begin_plugins()
         _, _, shown = self.plainly("add", "aaa")
