@@ -3,7 +3,6 @@
 ghost use Rattle.std.specs.Fmt.{DisplaysOnOk};
 ghost use Rattle.std.specs.Prelude.{◌≡◌, ◌⊎◌, IfErr, Some};
 ghost use Rattle.lists.specs.Answers.{Answers};
-ghost use Rattle.states.specs.TargetNames.{file_name};
 ghost use Rattle.files.specs.Errors.{read_as};
 ghost use Rattle.files.specs.FileNames.{name_of, named};
 ghost use Rattle.files.specs.Inputs.{environment_in, index_in, requirements_in};
@@ -64,7 +63,10 @@ impl fmt::Display for InputFile {
     fn fmt<W: fmt::Write>(&self, f: &mut fmt::Formatter<W>) -> fmt::Result {
         match self {
             InputFile::Requirements => write!(f, "requirements.txt"),
-            InputFile::Lock(name) => write_lock_name(f, name.as_str()),
+            InputFile::Lock(name) => {
+                let file = name.lock_file();
+                write!(f, "{file}")
+            }
             InputFile::Journal => write!(f, "reqlock.journal"),
             InputFile::Index => write!(f, "index"),
             InputFile::Environment(name) => write_named(f, "environment", name.as_str()),
@@ -72,17 +74,6 @@ impl fmt::Display for InputFile {
             InputFile::OldRequirements => write!(f, "old requirements"),
             InputFile::Pins(name) => write_named(f, "pins", name.as_str()),
         }
-    }
-}
-
-// The name of a target's lock file.
-fn write_lock_name<W: fmt::Write>(f: &mut fmt::Formatter<W>, name: &str) -> fmt::Result
-    ensures { DisplaysOnOk W.write_str_gives f.old result (Some (file_name name.now)) f.new }
-{
-    if name.is_empty() {
-        write!(f, "pylock.toml")
-    } else {
-        write!(f, "pylock.{name}.toml")
     }
 }
 

@@ -213,8 +213,7 @@ fn resolve(
         return Ok(made);
     }
     let cut = derivation.term.copied()?;
-    let made = without_exclusion(instance, state, resolvent, cut, cause)?;
-    Ok(made)
+    without_exclusion(instance, state, resolvent, cut, cause)
 }
 
 /// From where on the trail the terms of an incompatibility are satisfied: all of them, and all but

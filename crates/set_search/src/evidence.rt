@@ -111,10 +111,7 @@ fn take_round(instance: &Instance<'_>, state: &mut SearchState) -> Result<Round,
             propagate(instance, state, node)?;
             Ok(Round::Onward)
         }
-        None => {
-            let round = walk(instance, state)?;
-            Ok(round)
-        }
+        None => walk(instance, state),
     }
 }
 

@@ -98,8 +98,7 @@ fn record_clash(
     let mut conflict: Vec<TableTerm> = Vec::new(instance.alloc);
     conflict.push(one)?;
     conflict.push(other)?;
-    let at = state.record(conflict, Reason::Clash { one: 0, other: 1 })?;
-    Ok(at)
+    state.record(conflict, Reason::Clash { one: 0, other: 1 })
 }
 
 /// Records that the candidates of a node that don't admit themselves are excluded.
@@ -109,8 +108,7 @@ fn record_own_clash(
     node: usize,
 ) -> Result<usize, AllocError> {
     let conflict = single(instance.alloc, node, instance.own_clashes(node)?)?;
-    let at = state.record(conflict, Reason::Clash { one: 0, other: 0 })?;
-    Ok(at)
+    state.record(conflict, Reason::Clash { one: 0, other: 0 })
 }
 
 /// Records that a line excludes what it doesn't admit of a node.
@@ -148,9 +146,6 @@ pub fn explain(
             let at = record_own_clash(instance, state, term.node())?;
             Ok(Some(at))
         }
-        DerivationCause::Line(line) => {
-            let at = record_line(instance, state, term.node(), line)?;
-            Ok(at)
-        }
+        DerivationCause::Line(line) => record_line(instance, state, term.node(), line),
     }
 }

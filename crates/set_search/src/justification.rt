@@ -179,10 +179,7 @@ pub fn is_needed_for(
 {
     match cause {
         DerivationCause::Line(_) => Ok(do_lines_need(table, node)),
-        DerivationCause::Node(by) => {
-            let wanted = does_want(alloc, table, domains, by, node)?;
-            Ok(wanted)
-        }
+        DerivationCause::Node(by) => does_want(alloc, table, domains, by, node),
         _ => Ok(false),
     }
 }

@@ -72,10 +72,7 @@ impl PartialAssignment {
     /// A copy of what is left of a node.
     pub fn left_of(&self, alloc: Global, node: usize) -> Result<Bits, AllocError> {
         match self.domains.left(node) {
-            Some(left) => {
-                let copy = left.clone()?;
-                Ok(copy)
-            }
+            Some(left) => left.clone(),
             None => Ok(Bits::new(alloc)),
         }
     }

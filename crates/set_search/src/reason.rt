@@ -40,27 +40,11 @@ pub fn follows(
         → SetFollows (rules_of table.now) places_eq earlier.now conflict.now) }
 {
     match reason {
-        Reason::Line { line, term } => {
-            let refuses = line_refuses(alloc, table, conflict, *line, *term)?;
-            Ok(refuses)
-        }
-        Reason::Clash { one, other } => {
-            let clash = do_clash(alloc, table, conflict, *one, *other)?;
-            Ok(clash)
-        }
+        Reason::Line { line, term } => line_refuses(alloc, table, conflict, *line, *term),
+        Reason::Clash { one, other } => do_clash(alloc, table, conflict, *one, *other),
         Reason::EachVersion { term, olds } => {
-            let completes = completes_each_version(
-                alloc,
-                earlier,
-                conflict,
-                *term,
-                olds.as_slice(),
-            )?;
-            Ok(completes)
+            completes_each_version(alloc, earlier, conflict, *term, olds.as_slice())
         }
-        Reason::NoneLeft(none_left) => {
-            let none = is_none_left(alloc, table, earlier, conflict, none_left)?;
-            Ok(none)
-        }
+        Reason::NoneLeft(none_left) => is_none_left(alloc, table, earlier, conflict, none_left),
     }
 }

@@ -62,6 +62,5 @@ pub fn line_refuses(
         return Ok(false);
     }
     let requirement = lines[line];
-    let refuses = line_refuses_term(alloc, table, requirement, &conflict[at])?;
-    Ok(refuses)
+    line_refuses_term(alloc, table, requirement, &conflict[at])
 }

@@ -168,10 +168,7 @@ impl Replay {
             DerivationCause::Incompatibility(at) => {
                 Ok(is_cut_by(table, recorded, domains, at, cut))
             }
-            _ => {
-                let is_derived = is_derived(alloc, table, recorded, domains, derivation)?;
-                Ok(is_derived)
-            }
+            _ => is_derived(alloc, table, recorded, domains, derivation),
         }
     }
 
@@ -210,18 +207,14 @@ impl Replay {
         ensures { IfOk result (λ made. IsTrue made → IsReplay table.now self.new) }
     {
         match step {
-            Move::Walked(node) => {
-                let walked = self.walk(table, *node)?;
-                Ok(walked)
-            }
+            Move::Walked(node) => self.walk(table, *node),
             Move::Derived(derivation) => {
                 if derivation.is_need {
                     let node = derivation.term.node();
                     let marked = self.mark(alloc, table, node, derivation.cause)?;
                     return Ok(marked);
                 }
-                let cut = self.cut(alloc, table, recorded, derivation)?;
-                Ok(cut)
+                self.cut(alloc, table, recorded, derivation)
             }
         }
     }
@@ -267,6 +260,5 @@ pub fn replayed(
             return Ok(None);
         }
     }
-    let choices = replay.choices(alloc, table)?;
-    Ok(choices)
+    replay.choices(alloc, table)
 }

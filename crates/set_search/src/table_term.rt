@@ -42,8 +42,7 @@ impl TableTerm {
     pub fn listed(&self, alloc: Global) -> Result<Seq<usize>, AllocError>
         ensures { IfOk result (λ places. places ≡ self.now.versions) }
     {
-        let places = self.set().places(alloc)?;
-        Ok(places)
+        self.set().places(alloc)
     }
 
     /// A copy of the term.

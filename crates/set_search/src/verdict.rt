@@ -41,8 +41,7 @@ fn best_of(
     let Some(conflicts) = list_of(alloc, table, recorded)? else {
         return Ok(None);
     };
-    let choices = replayed(alloc, table, conflicts.as_slice(), moves)?;
-    Ok(choices)
+    replayed(alloc, table, conflicts.as_slice(), moves)
 }
 
 /// These conflicts, if they are a refutation over what the table knows.

@@ -100,19 +100,20 @@ impl TargetName {
         self.as_str().is_empty()
     }
 
-    /// The name of the file that the lock of the target is written to: `pylock.toml` of the empty name,
-    /// else `pylock.NAME.toml` (PEP 751, "File Name").
+    /// The name of the file that the lock of the target is written to.
+    pub fn lock_file(&self) -> LockFile<'_>
+        ensures { result.name.now ≡ self.now }
+    {
+        LockFile { name: self }
+    }
+
+    /// The text of that name.
     pub fn file_name(&self, alloc: Global) -> Result<Text, AllocError>
         ensures { IfOk result (λ name. name ≡ file_name self.now) }
     {
-        let name = self.as_str();
-        if name.is_empty() {
-            return Text::copy_of(alloc, "pylock.toml");
-        }
-        let mut file = Text::copy_of(alloc, "pylock.")?;
-        file.push_str(name)?;
-        file.push_str(".toml")?;
-        Ok(file)
+        let file = self.lock_file();
+        let name = format!(in alloc; "{file}")?;
+        Ok(Text::from_string(name))
     }
 
     /// What holds of every name.
@@ -150,5 +151,25 @@ impl fmt::Display for TargetName {
     fn fmt<W: fmt::Write>(&self, f: &mut fmt::Formatter<W>) -> fmt::Result {
         let text = self.as_str();
         write!(f, "{text}")
+    }
+}
+
+/// The name of the file that the lock of a target is written to: `pylock.toml` of the empty name, else
+/// `pylock.NAME.toml` (PEP 751, "File Name").
+#[derive(Clone, Copy)]
+pub struct LockFile<'n> {
+    name: &'n TargetName,
+}
+
+impl fmt::Display for LockFile<'_> {
+    ghost output = { λ file. Some (file_name file.name.now) };
+
+    fn fmt<W: fmt::Write>(&self, f: &mut fmt::Formatter<W>) -> fmt::Result {
+        let LockFile { name } = self;
+        if name.is_empty() {
+            write!(f, "pylock.toml")
+        } else {
+            write!(f, "pylock.{name}.toml")
+        }
     }
 }
