@@ -85,13 +85,16 @@ def compare_locks(what, place):
 
 
 index = f"{folder}/index.json"
-whole = f"{folder}/whole.json"
+whole, alike = f"{folder}/whole.json", f"{folder}/alike.json"
 long = f"{folder}/long"
 making, apart, value = ([index_program, word, whole] for word in ("index", "apart", "value"))
 what = "index of 100,000 whole releases (50 MB)"
 compare(f"{what}, made of its bytes", making, value, same=False, unit=1000, other="serde_json")
 compare("its JSON value, taken apart, and the digest", apart, value, same=False, unit=1000, other="serde_json")
 compare(f"{what}, read, made and dropped", making, value, same=False, other="serde_json")
+making, value = ([index_program, word, alike] for word in ("index", "value"))
+what = "index of 100,000 releases, most of which ask for what the one before does"
+compare(f"{what}, made of its bytes", making, value, same=False, unit=1000, other="serde_json")
 compare(
     "index of 51,250 releases, read",
     [program, "--dir", empty, "--index", index, "--env", environment, "try"],

@@ -5,7 +5,8 @@ The index has 2,000 packages of 25 releases each, the file a line for each packa
 an addition and an undo. `edits.txt` has 1,000 edits, 200 of each kind. There are 1,000 versions and 1,000 sets. The folder `long` has a requirements file of a million
 lines, none of which asks for anything: comments, blank lines and requirements whose marker doesn't hold. So its index
 has no packages, and reading is nearly all there is to do. `whole.json` is an index of 50 MB, whose 100,000 releases
-have all that a release may have. `lock-N.toml` is a lock of N packages. The folders `strayN` and `newestN` have a problem
+have all that a release may have, and hardly two of which ask for the same; in `alike.json` nine of ten ask for what the
+one before does, which is nearer to real indexes. `lock-N.toml` is a lock of N packages. The folders `strayN` and `newestN` have a problem
 of N packages each for a resolver. The same seed gives the same bytes.
 """
 import json
@@ -65,6 +66,14 @@ def whole_release(rng, name, version):
         "yanked": rng.randrange(50) == 0,
         "files": [file(name, n, rng.randrange(1, 10**7), f"{rng.getrandbits(256):064x}") for n in names],
     }
+
+
+def make_alike(rng, releases):
+    """Has nine of ten releases ask for what the one before them does."""
+    for before, found in zip(releases, releases[1:]):
+        if rng.randrange(10):
+            found["requires_python"] = before["requires_python"]
+            found["requires_dist"] = before["requires_dist"]
 
 
 def versions(rng):
@@ -253,6 +262,11 @@ def main():
     names = [f"package-{n:05}" for n in range(WHOLE_PACKAGES)]
     packages = [{"name": n, "releases": [whole_release(rng, n, v) for v in versions(rng)]} for n in names]
     with open(f"{folder}/whole.json", "w") as out:
+        json.dump({"snapshot": 1, "packages": packages}, out)
+    alike = random.Random(int(sys.argv[1]))
+    for package in packages:
+        make_alike(alike, package["releases"])
+    with open(f"{folder}/alike.json", "w") as out:
         json.dump({"snapshot": 1, "packages": packages}, out)
     os.makedirs(f"{folder}/long", exist_ok=True)
     with open(f"{folder}/long/index.json", "w") as out:

@@ -6,6 +6,7 @@ pub mod KeyFacts
 pub mod ValueFacts
 pub mod FileFacts
 pub mod UsableFacts
+pub mod KnownFacts
 pub mod FirstOfEqualsStays
 pub mod PackageFacts
 pub mod NameFacts

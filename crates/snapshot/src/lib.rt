@@ -16,6 +16,7 @@ mod chosen;
 mod fault;
 mod file;
 mod form;
+mod known;
 pub mod laws;
 mod listed;
 mod members;

@@ -12,6 +12,7 @@ ghost use Rattle.snapshot.specs.Shape.{Gives};
 
 use crate::chosen::{Chosen, choose};
 use crate::fault::Fault;
+use crate::known::Known;
 use crate::listed::Listed;
 use crate::python::RequiresPython;
 use crate::release::Release;
@@ -68,11 +69,15 @@ fn python_of(alloc: Global, text: Text) -> Result<Result<Option<RequiresPython>,
 /// The requirement that the text at `place` is.
 fn requirement_at(
     alloc: Global,
+    known: &Known,
     place: usize,
     text: &str,
 ) -> Result<Result<Requirement, SkipCause>, Fault>
     ensures { Gives (λ r. r) (Ok (required_at place (requirement_text text.now))) result }
 {
+    if let Some(requirement) = known.near(place, text) {
+        return Ok(Ok(requirement.clone()?));
+    }
     match Requirement::read(alloc, text) {
         Ok(requirement) => Ok(Ok(requirement)),
         Err(Cause::OutOfMemory) => Err(Fault::OutOfMemory),
@@ -83,13 +88,14 @@ fn requirement_at(
 /// The requirements that the texts are.
 fn requirements_of(
     alloc: Global,
+    known: &Known,
     texts: &[Text],
 ) -> Result<Result<Seq<Requirement>, SkipCause>, Fault>
     ensures { Gives (λ d. d) (Ok (requirements_from 0 texts.now)) result }
 {
     let mut requirements = Vec::with_capacity(alloc, texts.len())?;
     for place in 0..texts.len() {
-        match requirement_at(alloc, place, texts[place].as_str())? {
+        match requirement_at(alloc, known, place, texts[place].as_str())? {
             Ok(requirement) => requirements.push(requirement)?,
             Err(cause) => return Ok(Err(cause)),
         }
@@ -104,9 +110,10 @@ fn has_file(files: &Chosen) -> bool
     files.sdist.is_some() || !files.wheels.is_empty()
 }
 
-/// What comes of a listed release. The text of its version goes along, and is never copied.
+/// What comes of a listed release. The text of its version goes along, and is never copied. What it depends on is
+/// known from then on.
 #[tactic(auto, unfolding(crate::specs::Releases::usable))]
-pub(crate) fn outcome_of(alloc: Global, listed: Listed) -> Result<Outcome, Fault>
+pub(crate) fn outcome_of(alloc: Global, known: &mut Known, listed: Listed) -> Result<Outcome, Fault>
     requires { AllByRecursion IsFile listed.files }
     ensures { Gives (λ o. o) (Ok (outcome_of listed)) result }
 {
@@ -125,10 +132,11 @@ pub(crate) fn outcome_of(alloc: Global, listed: Listed) -> Result<Outcome, Fault
         Ok(python) => python,
         Err(cause) => return Ok(Outcome::refused(version, cause)),
     };
-    let dependencies = match requirements_of(alloc, requires_dist.as_slice())? {
+    let dependencies = match requirements_of(alloc, known, requires_dist.as_slice())? {
         Ok(dependencies) => dependencies,
         Err(cause) => return Ok(Outcome::refused(version, cause)),
     };
+    known.keep(requires_dist, &dependencies)?;
     let files = choose(alloc, files)?;
     if !has_file(&files) {
         return Ok(Outcome::refused(version, SkipCause::NoFile));

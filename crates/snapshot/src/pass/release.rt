@@ -11,6 +11,7 @@ ghost use Rattle.snapshot.specs.Shape.{text_of};
 ghost use Rattle.snapshot.specs.Tied.Gathering.{kept_view};
 ghost use Rattle.snapshot.specs.Tied.Meaning.{EachMeans, Means, dependencies_of};
 
+use crate::known::Known;
 use crate::listed::Listed;
 use crate::pass::file::files_of;
 use crate::pass::members::{copy_at, flag_at, items_at, optional_copy_at};
@@ -68,11 +69,11 @@ fn listed_of(alloc: Global, value: &Value<'_>) -> Option<Listed>
 }
 
 /// What comes of the release that a value lists.
-fn release_of(alloc: Global, value: &Value<'_>) -> Option<Outcome>
+fn release_of(alloc: Global, known: &mut Known, value: &Value<'_>) -> Option<Outcome>
     ensures { IfSome result (λ outcome. Means release_of (value_view value.now) outcome) }
 {
     let listed = listed_of(alloc, value)?;
-    match outcome_of(alloc, listed) {
+    match outcome_of(alloc, known, listed) {
         Ok(outcome) => Some(outcome),
         Err(_) => None,
     }
@@ -84,8 +85,9 @@ pub(crate) fn gathered(alloc: Global, name: &Name, values: &[Value<'_>]) -> Opti
         → releases_in name.now ds ≡ Ok (kept_view gathering)) }
 {
     let mut gathering = Gathering::new(alloc);
+    let mut known = Known::none(alloc);
     for place in 0..values.len() {
-        let outcome = release_of(alloc, &values[place])?;
+        let outcome = release_of(alloc, &mut known, &values[place])?;
         let Ok(()) = add(&mut gathering, name, place, outcome) else {
             return None;
         };

@@ -10,6 +10,7 @@ ghost use Rattle.snapshot.specs.Shape.{Gives, below, place_path};
 ghost use Rattle.snapshot.specs.declared.fault.Fault.TheVariants.{OutOfMemory};
 
 use crate::fault::Fault;
+use crate::known::Known;
 use crate::listed::listed_of;
 use crate::release::{Newest, Release};
 use crate::shape::below_place;
@@ -49,18 +50,23 @@ impl Gathering {
 
 /// What comes of the release that a value lists.
 #[tactic(auto, unfolding(crate::specs::Releases::release_of))]
-fn release_of(alloc: Global, value: Value) -> Result<Outcome, Fault>
+fn release_of(alloc: Global, known: &mut Known, value: Value) -> Result<Outcome, Fault>
     ensures { Gives (λ o. o) (release_of (view value)) result }
 {
     let listed = listed_of(alloc, value)?;
-    outcome_of(alloc, listed)
+    outcome_of(alloc, known, listed)
 }
 
 /// What comes of the release that the value at `place` lists.
-fn release_at_place(alloc: Global, place: usize, value: Value) -> Result<Outcome, Fault>
+fn release_at_place(
+    alloc: Global,
+    known: &mut Known,
+    place: usize,
+    value: Value,
+) -> Result<Outcome, Fault>
     ensures { Gives (λ o. o) (below (place_path place) (release_of (view value))) result }
 {
-    below_place(alloc, place, release_of(alloc, value))
+    below_place(alloc, place, release_of(alloc, known, value))
 }
 
 /// Puts the release into its place, unless one of an equal version is there, and says whether it did.
@@ -126,8 +132,9 @@ fn gathered(alloc: Global, name: &Name, values: Vec<Value>) -> Result<Gathering,
     ensures { Gives kept_view (releases_in name.now (items_view values.items)) result }
 {
     let mut gathering = Gathering::new(alloc);
+    let mut known = Known::none(alloc);
     for (place, value) in values.into_iter().enumerate() {
-        let outcome = release_at_place(alloc, place, value)?;
+        let outcome = release_at_place(alloc, &mut known, place, value)?;
         add(&mut gathering, name, place, outcome)?;
     }
     Ok(gathering)
