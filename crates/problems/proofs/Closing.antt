@@ -1,5 +1,5 @@
 -- The walk through needed nodes.
-use Rattle.std.proofs.Common.{◌≡◌, ℕ, ◌+◌, ◌<◌, ◌≤◌, inl, inr, Bool, List, [], ◌∷◌, ◌++◌, Option, Some, None, Contains, filter, length, get_or, take, arith, refl, ap, subst, sym, ◌∙◌}
+use Rattle.std.proofs.Common.{◌≡◌, ℕ, ◌+◌, ◌<◌, ◌≤◌, inl, inr, Bool, List, [], ◌∷◌, ◌++◌, Option, Some, None, Contains, length, get_or, take, arith, refl, ap, subst, sym, ◌∙◌}
 use Rattle.std.specs.BTreeMap.{is_at}
 use Rattle.std.specs.Cmp.Lexicographic.{slice_cmp}
 use Rattle.std.specs.Map.{lookup}
@@ -11,12 +11,10 @@ use Rattle.std.proofs.lemmas.Map.Text.{is_eq-slice_cmp}
 use Rattle.pep440.specs.Version.{VersionParts}
 use Rattle.pep508.specs.Requirement.{RequirementParts}
 use Rattle.search.specs.Solutions.{Needed, by_dependency, by_line}
-use Rattle.snapshot.specs.Release.{Release}
-use Rattle.problems.specs.Admission.{release_at}
 use Rattle.problems.specs.Problem.{ProblemParts}
 use Rattle.problems.specs.Tied.Growing.{Grows, nodes_asked, nodes_linked}
 use Rattle.problems.specs.Solutions.{AreNeeded, version_for}
-use Rattle.problems.specs.Rules.{counts, nodes_of, rules_of, wants}
+use Rattle.problems.specs.Rules.{nodes_of, rules_of, wants}
 use Rattle.problems.specs.declared.node.Node.{Node}
 use Rattle.lists.proofs.Members.{Contains-cons_cases, Contains-here, Contains-nil, Contains-there}
 
@@ -34,15 +32,10 @@ lookup-get name entries = ap (λ (t : List ℕ → Bool). lookup t entries) (λ 
 pub linked-unchosen : (given : ProblemParts) (node : Node) (versions : List (List ℕ × VersionParts)) → lookup (is_at (slice_cmp nat_cmp node.name)) versions ≡ None → [] ≡ nodes_linked given node (version_for versions node.name)
 linked-unchosen given node versions none = rw (lookup-get node.name versions, none) refl
 
--- nor where the index has no release with it
-pub linked-unreleased : (given : ProblemParts) (node : Node) (versions : List (List ℕ × VersionParts)) (version : VersionParts) → lookup (is_at (slice_cmp nat_cmp node.name)) versions ≡ Some version
-    → release_at given node.name version ≡ None → [] ≡ nodes_linked given node (version_for versions node.name)
-linked-unreleased given node versions version some none = rw (lookup-get node.name versions, some, none) refl
-
--- else to what the dependencies of the release need that count at the node
-pub linked-released : (given : ProblemParts) (node : Node) (versions : List (List ℕ × VersionParts)) (version : VersionParts) (release : Release) → lookup (is_at (slice_cmp nat_cmp node.name)) versions ≡ Some version
-    → release_at given node.name version ≡ Some release → nodes_asked (filter (counts given.environment node.extra) release.dependencies) ≡ nodes_linked given node (version_for versions node.name)
-linked-released given node versions version release some there = rw (lookup-get node.name versions, some, there) refl
+-- else to what is needed by what is wanted there
+pub linked-chosen : (given : ProblemParts) (node : Node) (versions : List (List ℕ × VersionParts)) (version : VersionParts) → lookup (is_at (slice_cmp nat_cmp node.name)) versions ≡ Some version
+    → nodes_asked (wants given node version) ≡ nodes_linked given node (version_for versions node.name)
+linked-chosen given node versions version some = rw (lookup-get node.name versions, some) refl
 
 pub asked-from : (requirements : List RequirementParts) (wanted : RequirementParts) (node : Node) → Contains requirements wanted → Contains (nodes_of wanted) node → Contains (nodes_asked requirements) node
 asked-from [] wanted node h i = absurd (Contains-nil wanted h)

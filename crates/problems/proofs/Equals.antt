@@ -30,7 +30,7 @@ pub same-onward : (u v w : VersionParts) → same_version u v ≡ true → same_
 same-onward u v w h k = versions-alike.congr u v w h ∙ k
 
 -- the index has the same release with both
-release-alike : (given : ProblemParts) (name : List ℕ) (v w : VersionParts) → same_version v w ≡ true → release_at given name v ≡ release_at given name w
+pub release-alike : (given : ProblemParts) (name : List ℕ) (v w : VersionParts) → same_version v w ≡ true → release_at given name v ≡ release_at given name w
 release-alike given name v w h = ap (λ test. find test (releases_on given name)) (λ i (release : Release). versions-alike.congr v w release.version h i)
 
 pub equal-versions : (given : ProblemParts) → IsVersionEquality (rules_of given) same_version

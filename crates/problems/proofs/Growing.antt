@@ -1,11 +1,13 @@
 -- Lists of nodes that grow.
-use Rattle.std.proofs.Common.{◌≡◌, ℕ, zero, suc, ◌+◌, ◌<◌, ◌⊎◌, inl, inr, Bool, true, false, List, [], ◌∷◌, ◌++◌, Contains, filter, length, get_or, map, take, refl, ap, subst, sym, ◌∙◌, append_assoc, append-nil}
+use Rattle.std.proofs.Common.{◌≡◌, ℕ, zero, suc, ◌+◌, ◌<◌, ◌⊎◌, inl, inr, Bool, List, [], ◌∷◌, ◌++◌, Contains, filter, length, get_or, map, take, ap, subst, sym, ◌∙◌, append_assoc, append-nil}
 use Rattle.std.specs.List.{flat_map}
 use Rattle.std.proofs.lemmas.List.{take_more}
 use Rattle.std.proofs.lemmas.List.Concat.{flat_map-append}
 use Rattle.std.proofs.lemmas.List.Elements.{Contains-append_left, Contains-append_right, Contains-append_cases, filter-append}
 use Rattle.std.proofs.lemmas.List.{map-append}
-use Rattle.problems.specs.Tied.Growing.{Grows}
+use Rattle.pep508.specs.Requirement.{RequirementParts}
+use Rattle.problems.specs.Rules.{nodes_of}
+use Rattle.problems.specs.Tied.Growing.{Grows, nodes_asked}
 use Rattle.problems.specs.Tied.Standing.{IsWith, Stands}
 use Rattle.problems.specs.declared.node.Node.{Node}
 use Rattle.lists.proofs.Members.{Contains-cons_cases, Contains-here, Contains-nil, Contains-there}
@@ -67,22 +69,18 @@ Grows-more_map f old mid new xs place x within is g h =
     ap (map f) (take_more xs place x within) ∙ map-append f (take place xs) (get_or xs place x ∷ []) ∙ ap (λ y. map f (take place xs) ++ f y ∷ []) (sym is) in
     subst (Grows old new) (sym next) (Grows-then old mid new (map f (take place xs)) (f x ∷ []) g h)
 
-pub filter-next : {A : Type 0} (test : A → Bool) (xs : List A) (place : ℕ) (x : A) → place < length xs → x ≡ get_or xs place x → filter test (take (place + 1) xs) ≡ filter test (take place xs) ++ filter test (x ∷ [])
-filter-next test xs place x within is = ap (filter test) (take_more xs place x within) ∙ filter-append test (take place xs) (get_or xs place x ∷ []) ∙ ap (λ y. filter test (take place xs) ++ filter test (y ∷ [])) (sym is)
+-- one more of what is lent, whose nodes are wanted
+pub Grows-lent : {A : Type 0} (now : A → RequirementParts) (old mid new : List Node) (xs : List A) (place : ℕ) (x : A) → place < length xs → x ≡ get_or xs place x
+    → Grows old mid (nodes_asked (map now (take place xs))) → Grows mid new (nodes_of (now x)) → Grows old new (nodes_asked (map now (take (place + 1) xs)))
+Grows-lent now old mid new xs place x within is g h =
+    let lent : map now (take (place + 1) xs) ≡ map now (take place xs) ++ now x ∷ [] =
+    ap (map now) (take_more xs place x within) ∙ map-append now (take place xs) (get_or xs place x ∷ []) ∙ ap (λ y. map now (take place xs) ++ now y ∷ []) (sym is) in
+    let next : nodes_asked (map now (take (place + 1) xs)) ≡ nodes_asked (map now (take place xs)) ++ nodes_of (now x) =
+    ap nodes_asked lent ∙ flat_map-append nodes_of (map now (take place xs)) (now x ∷ []) ∙ ap (λ nodes. nodes_asked (map now (take place xs)) ++ nodes) (append-nil (nodes_of (now x))) in
+    subst (Grows old new) (sym next) (Grows-then old mid new (nodes_asked (map now (take place xs))) (nodes_of (now x)) g h)
 
--- one more element, which passes a test
-pub Grows-more_kept : {A : Type 0} (f : A → List Node) (test : A → Bool) (old mid new : List Node) (xs : List A) (place : ℕ) (x : A) → place < length xs → x ≡ get_or xs place x → test x ≡ true
-    → Grows old mid (flat_map f (filter test (take place xs))) → Grows mid new (f x) → Grows old new (flat_map f (filter test (take (place + 1) xs)))
-Grows-more_kept f test old mid new xs place x within is passes g h =
-    let kept : filter test (x ∷ []) ≡ x ∷ [] = rw passes refl in
-    let next : flat_map f (filter test (take (place + 1) xs)) ≡ flat_map f (filter test (take place xs)) ++ f x =
-    ap (flat_map f) (filter-next test xs place x within is ∙ ap (λ ys. filter test (take place xs) ++ ys) kept) ∙ flat_map-append f (filter test (take place xs)) (x ∷ []) ∙ ap (λ nodes. flat_map f (filter test (take place xs)) ++ nodes) (append-nil (f x)) in
-    subst (Grows old new) (sym next) (Grows-then old mid new (flat_map f (filter test (take place xs))) (f x) g h)
-
--- one more that doesn't
-pub Grows-more_skipped : {A : Type 0} (f : A → List Node) (test : A → Bool) (old new : List Node) (xs : List A) (place : ℕ) (x : A) → place < length xs → x ≡ get_or xs place x → test x ≡ false
-    → Grows old new (flat_map f (filter test (take place xs))) → Grows old new (flat_map f (filter test (take (place + 1) xs)))
-Grows-more_skipped f test old new xs place x within is fails g =
-    let none : filter test (x ∷ []) ≡ [] = rw fails refl in
-    let same : filter test (take (place + 1) xs) ≡ filter test (take place xs) = filter-next test xs place x within is ∙ ap (λ ys. filter test (take place xs) ++ ys) none ∙ append-nil (filter test (take place xs)) in
-    subst (λ ys. Grows old new (flat_map f ys)) (sym same) g
+-- one more element that may pass a test
+pub filter-next : {A : Type 0} (test : A → Bool) (mid new xs : List A) (place : ℕ) (x : A) → place < length xs → x ≡ get_or xs place x → mid ≡ filter test (take place xs) → new ≡ mid ++ filter test (x ∷ []) → new ≡ filter test (take (place + 1) xs)
+filter-next test mid new xs place x within is before put =
+    put ∙ ap (λ ys. ys ++ filter test (x ∷ [])) before ∙ ap (λ y. filter test (take place xs) ++ filter test (y ∷ [])) is
+    ∙ sym (ap (filter test) (take_more xs place x within) ∙ filter-append test (take place xs) (get_or xs place x ∷ []))

@@ -8,3 +8,7 @@ pub mod Equals
 pub mod KeepingAll
 pub mod NumbersFound
 pub mod NodesMet
+mod Places
+mod Merging
+mod ListedPlaces
+mod Grouping

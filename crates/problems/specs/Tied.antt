@@ -1,5 +1,7 @@
 -- What serves proofs alone.
+pub mod ByExtra
 pub mod Eligible
+pub mod GroupedReleases
 pub mod Growing
 pub mod NodeEquality
 pub mod NodeLaws

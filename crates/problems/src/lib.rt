@@ -11,15 +11,19 @@
 #![tactic(auto)]
 
 mod admission;
+mod by_extra;
 mod inadmissible;
 pub mod laws;
 mod needed;
 mod node;
+mod node_wants;
 mod nodes;
 pub mod parts;
 mod problem;
 mod reasons;
+mod release_wants;
 mod releases;
+mod wanted;
 
 pub use crate::node::Node;
 pub use crate::problem::Problem;

@@ -1,19 +1,17 @@
 // The nodes that are needed under what is chosen.
 
-ghost use Rattle.std.specs.Prelude.{IfOk, map};
-ghost use Rattle.std.specs.List.{filter};
-ghost use Rattle.std.specs.Option.{option_copied};
+ghost use Rattle.std.specs.Prelude.{◌≡◌, IfOk, map};
 ghost use Rattle.problems.specs.Tied.Growing.{Grows, nodes_asked, nodes_linked};
-ghost use Rattle.problems.specs.Rules.{counts, nodes_of, with_extra};
+ghost use Rattle.problems.specs.Rules.{nodes_of, with_extra};
 ghost use Rattle.problems.specs.Solutions.{AreNeeded, version_for};
 
 use crate::node::Node;
+use crate::node_wants::NodeWants;
 use crate::nodes::Nodes;
 use crate::problem::Problem;
-use crate::releases::counts;
 use lists::Seq;
 use pep440::Version;
-use pep508::{Environment, Name, Requirement};
+use pep508::{Name, Requirement};
 use std::alloc::{AllocError, Global};
 use std::collections::BTreeMap;
 
@@ -51,22 +49,13 @@ fn add_lines(alloc: Global, nodes: &mut Nodes, lines: &[Requirement]) -> Result<
     Ok(())
 }
 
-/// Adds the nodes that the dependencies need which count with an extra or none.
-fn add_dependencies(
-    alloc: Global,
-    nodes: &mut Nodes,
-    environment: &Environment,
-    extra: Option<&Name>,
-    dependencies: &[Requirement],
-) -> Result<(), AllocError>
+/// Adds the nodes that requirements need which are lent.
+fn add_wanted(alloc: Global, nodes: &mut Nodes, wanted: &[&Requirement]) -> Result<(), AllocError>
     ensures { IfOk result
-        (λ _. Grows nodes.old nodes.new (nodes_asked (filter (counts environment.now (option_copied
-        extra.entry)) dependencies.now))) }
+        (λ _. Grows nodes.old nodes.new (nodes_asked (map (λ w. w.now) wanted.now))) }
 {
-    for wanted in dependencies {
-        if counts(environment, extra, wanted) {
-            add_nodes(alloc, nodes, wanted)?;
-        }
+    for requirement in wanted {
+        add_nodes(alloc, nodes, requirement)?;
     }
     Ok(())
 }
@@ -74,29 +63,21 @@ fn add_dependencies(
 /// Adds the nodes that a node leads to.
 fn follow(
     alloc: Global,
-    problem: &Problem<'_>,
     versions: &BTreeMap<Name, Version>,
+    wants: &mut NodeWants<'_>,
     nodes: &mut Nodes,
     node: &Node,
 ) -> Result<(), AllocError>
-    ensures { IfOk result
-        (λ _. Grows nodes.old nodes.new (nodes_linked problem.now node.now (version_for
+    ensures same { wants.new ≡ wants.old }
+    ensures grown { IfOk result
+        (λ _. Grows nodes.old nodes.new (nodes_linked wants.old node.now (version_for
         versions.now.entries node.now.name))) }
 {
     let Some(version) = versions.get(&node.name) else {
         return Ok(());
     };
-    let Some(release) = problem.release(&node.name, version) else {
-        return Ok(());
-    };
-    let extra = node.extra.as_ref();
-    add_dependencies(
-        alloc,
-        nodes,
-        &problem.environment,
-        extra,
-        release.dependencies(),
-    )?;
+    let wanted = wants.at(alloc, &node.name, node.extra.as_ref(), version)?;
+    add_wanted(alloc, nodes, wanted.as_slice())?;
     Ok(())
 }
 
@@ -110,10 +91,11 @@ pub(crate) fn needed(
 {
     let mut nodes = Nodes::new(alloc);
     add_lines(alloc, &mut nodes, problem.active.as_slice())?;
+    let mut wants = NodeWants::new(alloc, problem);
     let mut at = 0;
     while at < nodes.len() {
         let node = nodes.as_slice()[at].clone()?;
-        follow(alloc, problem, versions, &mut nodes, &node)?;
+        follow(alloc, versions, &mut wants, &mut nodes, &node)?;
         at += 1;
     }
     Ok(nodes.into_seq())

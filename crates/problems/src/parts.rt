@@ -3,6 +3,9 @@
 
 pub use crate::admission::{admissions, admits};
 pub use crate::inadmissible::Inadmissible;
+pub use crate::node_wants::NodeWants;
 pub use crate::nodes::{Nodes, copy_of, is_asked};
 pub use crate::reasons::inadmissible;
+pub use crate::release_wants::ReleaseWants;
 pub use crate::releases::{counts, has_version};
+pub use crate::wanted::Wanted;

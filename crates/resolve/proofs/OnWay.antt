@@ -1,9 +1,8 @@
 -- The first walk of a problem, over the entries of maps.
-use Rattle.std.proofs.Common.{◌≡◌, ◌≢◌, ◌⊎◌, inl, inr, ◌∙◌, ℕ, zero, suc, ◌+◌, ◌-◌, ◌*◌, ◌<◌, ◌≤◌, Bool, true, false, cond, List, [], ◌∷◌, ◌++◌, Option, Some, None, Result, Ok, Err, IfOk, is_some, Contains, Ordering, drop, filter, get_or, length, length-append, map, mul-le-mul_right, take, arith, refl, sym, ap, subst, append_assoc, append-nil}
+use Rattle.std.proofs.Common.{◌≡◌, ◌≢◌, ◌⊎◌, inl, inr, ◌∙◌, ℕ, suc, ◌+◌, ◌-◌, ◌*◌, ◌<◌, ◌≤◌, Bool, true, false, cond, List, [], ◌∷◌, ◌++◌, Option, Some, None, Result, Ok, Err, IfOk, is_some, Contains, Ordering, drop, get_or, length, length-append, map, mul-le-mul_right, take, arith, refl, sym, ap, subst, append_assoc, append-nil}
 use Rattle.std.specs.BTreeMap.{BTreeMap, IsLowerBound, IsOrdered, Updates, is_at, keys}
 use Rattle.std.specs.Cmp.{IsEquivalence, eq_by_cmp_equiv}
 use Rattle.std.specs.Cmp.Lexicographic.{nat_list_cmp_total, slice_cmp}
-use Rattle.std.specs.Option.{option_map_or}
 use Rattle.std.specs.Ordering.{eq_by_cmp, is_gt, nat_cmp}
 use Rattle.std.specs.declared.cmp.Ordering.TheVariants.{Greater}
 use Rattle.std.proofs.lemmas.Bool.{cases_Bool}
@@ -18,12 +17,11 @@ use Rattle.pep508.specs.Requirement.{RequirementParts}
 use Rattle.search.specs.FirstWalk.{IsFirst, IsFirstWalk, IsComplete}
 use Rattle.search.specs.Rules.{IsLawful}
 use Rattle.search.specs.Solutions.{IsBest, Needed, Pin, version_pinned}
-use Rattle.snapshot.specs.Release.{Release}
 use Rattle.lists.proofs.Members.{Contains-map_of}
-use Rattle.problems.specs.Admission.{admits, dependencies_at, release_at}
+use Rattle.problems.specs.Admission.{admits}
 use Rattle.problems.specs.Tied.Growing.{nodes_met, requirements_met}
 use Rattle.problems.specs.Problem.{ProblemParts}
-use Rattle.problems.specs.Rules.{counts, nodes_of, rules_of, wants, wants_of}
+use Rattle.problems.specs.Rules.{nodes_of, rules_of, wants}
 use Rattle.problems.specs.Solutions.{version_for}
 use Rattle.problems.specs.Tied.Standing.{IsOnce, IsWith}
 use Rattle.problems.specs.declared.node.Node.{Node}
@@ -35,14 +33,6 @@ use Rattle.resolve.proofs.Solving.{drop-at}
 use Rattle.resolve.proofs.Walked.{followed-few, followed-none, followed-then, followed-known, followed-new, walked-complete, walked-meet, walked-start, walked-take, walked-wait}
 
 -- ---- nodes that are followed
-
--- the dependencies that count at a node are what is wanted there
-pub wants-counted : (given : ProblemParts) (node : Node) (version : VersionParts) → filter (counts given.environment node.extra) (dependencies_at given node.name version) ≡ wants given node version
-wants-counted given node version = counted (release_at given node.name version)
-  where
-    counted : (o : Option Release) → filter (counts given.environment node.extra) (option_map_or (λ release. release.dependencies) o []) ≡ option_map_or (wants_of given.environment node.extra) o []
-    counted None = refl
-    counted (Some release) = refl
 
 pub follow-none : (given : ProblemParts) (version : VersionParts) (followed : List Node) (asks : List RequirementParts) → Follow given version [] followed followed asks asks
 follow-none given version followed asks = ([], sym (append-nil asks), followed-none (λ node. wants given node version) followed)
@@ -58,13 +48,13 @@ follow-then given version first second old mid new asks asks_mid asks_new f g = 
 pub follow-known : (given : ProblemParts) (version : VersionParts) (node : Node) (followed : List Node) (asks : List RequirementParts) → Contains followed node → Follow given version (node ∷ []) followed followed asks asks
 follow-known given version node followed asks known = ([], sym (append-nil asks), followed-known (λ n. wants given n version) node followed known)
 
-pub follow-new : (given : ProblemParts) (version : VersionParts) (node : Node) (followed : List Node) (asks asks_new : List RequirementParts) → (Contains followed node → ⊥) → asks_new ≡ asks ++ filter (counts given.environment node.extra) (dependencies_at given node.name version)
+pub follow-new : (given : ProblemParts) (version : VersionParts) (node : Node) (followed : List Node) (asks asks_new : List RequirementParts) → (Contains followed node → ⊥) → asks_new ≡ asks ++ wants given node version
     → Follow given version (node ∷ []) followed (followed ++ node ∷ []) asks asks_new
-follow-new given version node followed asks asks_new apart e = (wants given node version, e ∙ ap (λ xs. asks ++ xs) (wants-counted given node version), followed-new (λ n. wants given n version) node followed apart)
+follow-new given version node followed asks asks_new apart e = (wants given node version, e, followed-new (λ n. wants given n version) node followed apart)
 
 -- the node was put behind the others
 pub follow-grown : (given : ProblemParts) (version : VersionParts) (node : Node) (old new : List Node) (asks asks_new : List RequirementParts) → IsWith node old new → length old < length new
-    → asks_new ≡ asks ++ filter (counts given.environment node.extra) (dependencies_at given node.name version) → Follow given version (node ∷ []) old new asks asks_new
+    → asks_new ≡ asks ++ wants given node version → Follow given version (node ∷ []) old new asks asks_new
 follow-grown given version node old new asks asks_new (inl there) longer e = absurd (let k : length new ≡ length old = ap length there.1 in omega arith)
 follow-grown given version node old new asks asks_new (inr apart) longer e = subst (λ nodes. Follow given version (node ∷ []) old nodes asks asks_new) (sym apart.1) (follow-new given version node old asks asks_new apart.0 e)
 

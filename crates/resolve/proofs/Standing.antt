@@ -1,13 +1,9 @@
 -- Numbers that stand for what a list has at their places.
-use Rattle.std.proofs.Common.{Contains, ◌≡◌, ◌<◌, ◌≤◌, ◌⊎◌, inl, inr, ℕ, zero, suc, List, [], ◌∷◌, ◌++◌, ◌+◌, ◌∙◌, None, Some, Bool, true, false, filter, length, get_or, take, map, refl, sym, ap, subst, arith}
+use Rattle.std.proofs.Common.{Contains, ◌≡◌, ◌<◌, ◌≤◌, ℕ, zero, suc, List, [], ◌∷◌, ◌++◌, ◌+◌, ◌∙◌, None, Some, length, get_or, take, map, refl, sym, ap, subst, arith}
 use Rattle.std.specs.List.{AllZip, slice_get}
 use Rattle.std.proofs.lemmas.List.{take_more}
 use Rattle.std.proofs.lemmas.Slice.Zip.{all_zipped_more}
 use Rattle.problems.specs.Tied.Standing.{AllStand, IsLonger, Stands}
-
-bool_cases : (b : Bool) → (b ≡ true) ⊎ (b ≡ false)
-bool_cases true = inl refl
-bool_cases false = inr refl
 
 append-none : {A : Type 0} (xs : List A) → xs ++ [] ≡ xs
 append-none [] = refl
@@ -76,31 +72,8 @@ length-map f (x ∷ xs) = ap suc (length-map f xs)
 pub Stands-last_map : {A B : Type 0} (f : A → B) (old new : List A) (x : A) → new ≡ old ++ x ∷ [] → Stands (map f new) (length old) (f x)
 Stands-last_map f old new x e = subst (λ n. Stands (map f new) n (f x)) (length-map f old) (Stands-last (map f old) (map f new) (f x) (map-pushed f old new x e))
 
-filter-push : {A : Type 0} (p : A → Bool) (xs : List A) (x : A) → p x ≡ true → filter p (xs ++ x ∷ []) ≡ filter p xs ++ x ∷ []
-filter-push p [] x holds = rw holds refl
-filter-push p (y ∷ ys) x holds = elim (bool_cases (p y)) [
-  | inl e ↦ rw e (ap (λ zs. y ∷ zs) (filter-push p ys x holds))
-  | inr e ↦ rw e (filter-push p ys x holds)
-]
-
-filter-skip : {A : Type 0} (p : A → Bool) (xs : List A) (x : A) → p x ≡ false → filter p (xs ++ x ∷ []) ≡ filter p xs
-filter-skip p [] x fails = rw fails refl
-filter-skip p (y ∷ ys) x fails = elim (bool_cases (p y)) [
-  | inl e ↦ rw e (ap (λ zs. y ∷ zs) (filter-skip p ys x fails))
-  | inr e ↦ rw e (filter-skip p ys x fails)
-]
-
 take-more_as : {A : Type 0} (xs : List A) (i : ℕ) (x : A) → i < length xs → x ≡ get_or xs i x → take (i + 1) xs ≡ take i xs ++ x ∷ []
 take-more_as xs i x within is = take_more xs i x within ∙ ap (λ y. take i xs ++ y ∷ []) (sym is)
-
--- one more that passes a test
-pub AllZip-more_kept : {A B : Type 0} (R : A → B → Type 0) (p : B → Bool) (xs zs : List A) (ys : List B) (i : ℕ) (x : A) (y : B) → i < length ys → y ≡ get_or ys i y → p y ≡ true → zs ≡ xs ++ x ∷ [] → AllZip R xs (filter p (take i ys)) → R x y → AllZip R zs (filter p (take (i + 1) ys))
-AllZip-more_kept R p xs zs ys i x y within is holds pushed all one = subst (λ ws. AllZip R ws (filter p (take (i + 1) ys))) (sym pushed)
-    (subst (λ ws. AllZip R (xs ++ x ∷ []) ws) (sym (ap (filter p) (take-more_as ys i y within is) ∙ filter-push p (take i ys) y holds)) (all_zipped_more R xs (filter p (take i ys)) x y all one))
-
--- one more that doesn't
-pub AllZip-more_skipped : {A B : Type 0} (R : A → B → Type 0) (p : B → Bool) (xs : List A) (ys : List B) (i : ℕ) (y : B) → i < length ys → y ≡ get_or ys i y → p y ≡ false → AllZip R xs (filter p (take i ys)) → AllZip R xs (filter p (take (i + 1) ys))
-AllZip-more_skipped R p xs ys i y within is fails all = subst (λ ws. AllZip R xs ws) (sym (ap (filter p) (take-more_as ys i y within is) ∙ filter-skip p (take i ys) y fails)) all
 
 pub AllZip-more_same : {A B : Type 0} (R : A → B → Type 0) (xs zs : List A) (ys : List B) (i : ℕ) (x : A) (y : B) → i < length ys → y ≡ get_or ys i y → zs ≡ xs ++ x ∷ [] → AllZip R xs (take i ys) → R x y → AllZip R zs (take (i + 1) ys)
 AllZip-more_same R xs zs ys i x y within is pushed all one = subst (λ ws. AllZip R ws (take (i + 1) ys)) (sym pushed)

@@ -1,15 +1,13 @@
 // Requirements that are asked for.
 
 ghost use Rattle.std.specs.Prelude.{◌≡◌, ◌<◌, ◌++◌, ◌∷◌, [], IfOk, OnOk, get_or, length};
-ghost use Rattle.std.specs.List.{filter, list_all};
-ghost use Rattle.std.specs.Option.{option_copied};
+ghost use Rattle.std.specs.List.{list_all};
 ghost use Rattle.problems.specs.Admission.{admits};
-ghost use Rattle.problems.specs.Rules.{counts};
 
 use pep440::Version;
-use pep508::{Environment, Name, Requirement};
+use pep508::Requirement;
 use problems::Problem;
-use problems::parts::{admits, counts};
+use problems::parts::{Wanted, admits};
 use std::alloc::{AllocError, Global};
 use std::marker::Model;
 
@@ -64,23 +62,12 @@ impl<'q> Asks<'q> {
         Ok(asks)
     }
 
-    /// Appends the dependencies that count with an extra or none.
-    pub(crate) fn push_counted(
-        &mut self,
-        environment: &Environment,
-        extra: Option<&Name>,
-        dependencies: &'q [Requirement],
-    ) -> Result<(), AllocError>
-        ensures { OnOk result
-            (self.new
-            ≡ self.old ++ filter (counts environment.now (option_copied extra.entry))
-            dependencies.now) }
+    /// Puts what is wanted behind the others.
+    pub(crate) fn append(&mut self, more: Wanted<'q>) -> Result<(), AllocError>
+        ensures { OnOk result (self.new ≡ self.old ++ more.entry) }
     {
-        for wanted in dependencies {
-            if counts(environment, extra, wanted) {
-                self.push(wanted)?;
-            }
-        }
+        let mut items = more.into_vec();
+        self.wanted.append(&mut items)?;
         Ok(())
     }
 

@@ -9,9 +9,9 @@ ghost use Rattle.resolve.specs.Resolves.{Resolves};
 
 use crate::answer::Answer;
 use crate::method::Method;
-use crate::searching::{best, refuted};
-use crate::set_searching::refuted_by_sets;
-use crate::walking::first_walk;
+use crate::search_answer::{best, refuted};
+use crate::set_search_answer::refuted_by_sets;
+use crate::walk::first_walk;
 use problems::Problem;
 use refutations::{Refutation, SetRefutation, cut};
 use std::alloc::{AllocError, Global};

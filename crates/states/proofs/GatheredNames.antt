@@ -1,5 +1,5 @@
 -- The names that packages need, node by node and package by package.
-use Rattle.std.proofs.Common.{◌≡◌, ◌++◌, ℕ, Bool, true, false, List, [], ◌∷◌, Some, None, Option, Less, map, append_assoc, cond, refl, sym, ap, subst, ◌∙◌, inl, inr}
+use Rattle.std.proofs.Common.{◌≡◌, ◌++◌, ℕ, Bool, true, false, List, [], ◌∷◌, Some, None, Option, Less, filter, map, append_assoc, cond, refl, sym, ap, subst, ◌∙◌, inl, inr}
 use Rattle.std.proofs.lemmas.Bool.{cases_Bool}
 use Rattle.std.proofs.lemmas.Map.Text.{is_eq-slice_cmp}
 use Rattle.std.proofs.lemmas.Slice.Eq.{bytes_eq-Decides}
@@ -11,14 +11,19 @@ use Rattle.std.specs.Cmp.Lexicographic.{nat_list_eq_equiv, slice_cmp}
 use Rattle.std.specs.List.{AllByRecursion, Contains, IsDistinct}
 use Rattle.std.specs.List.Sorted.{IsStrictlySortedBy}
 use Rattle.std.specs.Map.{keys_of, lookup}
+use Rattle.std.specs.Option.{option_map_or}
 use Rattle.std.specs.Ordering.{is_eq, nat_cmp}
 use Rattle.std.specs.Str.{bytes_eq}
 use Rattle.pep440.specs.Version.{VersionParts}
 use Rattle.pylock.specs.Packages.{EntryParts}
+use Rattle.pep508.specs.Requirement.{RequirementParts}
+use Rattle.markers.specs.Environment.{Texts}
 use Rattle.snapshot.specs.Release.{Release}
+use Rattle.problems.specs.Admission.{release_at}
 use Rattle.problems.specs.Problem.{ProblemParts}
+use Rattle.problems.specs.Rules.{counts, wants, wants_of}
 use Rattle.problems.specs.declared.node.Node.{Node}
-use Rattle.states.specs.Dependencies.{names_at, names_in, names_of, names_wanted, release_chosen, with_names}
+use Rattle.states.specs.Dependencies.{names_at, names_in, names_needed, names_of, names_wanted, release_chosen, with_names}
 use Rattle.states.specs.Entries.{AreNeeds, entry_for}
 use Rattle.lists.proofs.Members.{Contains-nil}
 
@@ -34,20 +39,44 @@ lookup-there {X} name value entries rising there =
     lookup-from_Contains nat_list_eq_equiv name value entries
     (subst (λ (e : List ℕ → List ℕ → Bool). IsDistinct e (keys_of entries)) (λ i x y. is_eq-slice_cmp x y i) distinct) there
 
+-- those that are wanted at a node all count there
+wanted-counted : (environment : Texts) (node : Node) (dependencies : List RequirementParts) → names_wanted environment node (filter (counts environment node.extra) dependencies) ≡ names_wanted environment node dependencies
+wanted-counted environment node [] = refl
+wanted-counted environment node (wanted ∷ rest) = elim (cases_Bool (counts environment node.extra wanted)) [
+  | inl does ↦ elim (cases_Bool (bytes_eq node.name wanted.name)) [
+    | inl own ↦ rw (does, does, own) (wanted-counted environment node rest)
+    | inr other ↦ rw (does, does, other) (ap (λ names. wanted.name ∷ names) (wanted-counted environment node rest))
+  ]
+  | inr not ↦ rw not (wanted-counted environment node rest)
+]
+
+-- what a release needs at a node are the names that lead away of what is wanted there
+pub needed-wanted : (given : ProblemParts) (chosen : List ℕ → Option VersionParts) (node : Node) (version : VersionParts) → chosen node.name ≡ Some version → names_wanted given.environment node (wants given node version) ≡ names_needed given.environment node (release_chosen given chosen node.name)
+needed-wanted given chosen node version picked = rw picked (needed (release_at given node.name version))
+  where
+    needed : (o : Option Release) → names_wanted given.environment node (option_map_or (wants_of given.environment node.extra) o []) ≡ names_needed given.environment node o
+    needed None = refl
+    needed (Some release) = wanted-counted given.environment node release.dependencies
+
+-- where no version is chosen, there are none
+pub none-needed : (given : ProblemParts) (chosen : List ℕ → Option VersionParts) (node : Node) (names : List (List ℕ)) → chosen node.name ≡ None → (own : List ℕ) → names ≡ with_names names (names_at given chosen own node)
+none-needed given chosen node names none own = elim (cases_Bool (bytes_eq own node.name)) [
+  | inl same ↦ rw (same, none) refl
+  | inr other ↦ rw other refl
+]
+
 -- the names of a node's package are taken out, and put back with those that its release needs there
-pub gathered-more : (given : ProblemParts) (chosen : List ℕ → Option VersionParts) (node : Node) (release : Release) (old rest new : BTreeMap (List ℕ) (BTreeSet (List ℕ))) (names more : BTreeSet (List ℕ))
-    → Some release ≡ release_chosen given chosen node.name → names_in old node.name ≡ names.keys
-    → UpdatesBy (slice_cmp nat_cmp) (slice_cmp nat_cmp node.name) old rest None
-    → more.keys ≡ with_names names.keys (names_wanted given.environment node release.dependencies)
-    → Updates (slice_cmp nat_cmp) rest new node.name (Some more)
+pub gathered-more : (given : ProblemParts) (chosen : List ℕ → Option VersionParts) (node : Node) (old rest new : BTreeMap (List ℕ) (BTreeSet (List ℕ))) (names more : BTreeSet (List ℕ))
+    → names_in old node.name ≡ names.keys → UpdatesBy (slice_cmp nat_cmp) (slice_cmp nat_cmp node.name) old rest None
+    → more.keys ≡ with_names names.keys (names_needed given.environment node (release_chosen given chosen node.name)) → Updates (slice_cmp nat_cmp) rest new node.name (Some more)
     → (own : List ℕ) → names_in new own ≡ with_names (names_in old own) (names_at given chosen own node)
-gathered-more given chosen node release old rest new names more picked taken out added put own =
+gathered-more given chosen node old rest new names more taken out added put own =
     let at : is_at (slice_cmp nat_cmp node.name) own ≡ bytes_eq own node.name = is_eq-slice_cmp node.name own ∙ nat_list_eq_equiv.symm node.name own in
     elim (cases_Bool (bytes_eq own node.name)) [
       | inl same ↦
           let found : get (slice_cmp nat_cmp) new own ≡ Some more = put.0 own ∙ rw (at, same) refl in
           let mine : names_in old own ≡ names.keys = ap (names_in old) ((bytes_eq-Decides own node.name).0 same) ∙ taken in
-          rw (found, mine, same, ← picked) added
+          rw (found, mine, same) added
       | inr other ↦
           let found : get (slice_cmp nat_cmp) new own ≡ get (slice_cmp nat_cmp) old own =
           put.2 own (at ∙ other) ∙ out.2 own (at ∙ other) in

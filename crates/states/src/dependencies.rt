@@ -1,15 +1,14 @@
 // The names of other packages that packages need.
 
-ghost use Rattle.std.specs.Prelude.{◌≡◌, ℕ, List, [], ◌∷◌, IfOk, OnOk};
-ghost use Rattle.std.specs.Option.{option_copied};
+ghost use Rattle.std.specs.Prelude.{◌≡◌, ℕ, List, [], ◌∷◌, IfOk, OnOk, map};
 ghost use Rattle.pep508.specs.Requirement.{RequirementParts};
 ghost use Rattle.problems.specs.Solutions.{version_for};
-ghost use Rattle.states.specs.Dependencies.{leads_away, names_at, names_in, names_over, names_wanted, release_chosen, with_names};
+ghost use Rattle.states.specs.Dependencies.{leads_away, names_at, names_in, names_over, names_wanted, with_names};
 
 use pep440::Version;
 use pep508::{Name, Requirement};
+use problems::parts::NodeWants;
 use resolve::{Node, Problem};
-use snapshot::Release;
 use std::alloc::{AllocError, Global};
 use std::collections::{BTreeMap, BTreeSet};
 
@@ -43,12 +42,12 @@ fn add_name(
 fn add_names(
     problem: &Problem<'_>,
     node: &Node,
-    dependencies: &[Requirement],
+    dependencies: &[&Requirement],
     names: &mut BTreeSet<Name>,
 ) -> Result<(), AllocError>
     ensures { OnOk result (names.new.keys
         ≡ with_names names.old.keys
-        (names_wanted problem.now.environment node.now dependencies.now)) }
+        (names_wanted problem.now.environment node.now (map (λ w. w.now) dependencies.now))) }
 {
     for dependency in dependencies {
         add_name(problem, node, dependency, names)?;
@@ -56,39 +55,28 @@ fn add_names(
     Ok(())
 }
 
-/// The release of the version that is chosen for the name.
-fn release_chosen<'a>(
-    problem: &'a Problem<'_>,
-    versions: &BTreeMap<Name, Version>,
-    name: &Name,
-) -> Option<&'a Release>
-    ensures { option_copied result
-        ≡ release_chosen problem.now (version_for versions.now.entries) name.now }
-{
-    let version = versions.get(name)?;
-    problem.release(name, version)
-}
-
 /// Puts what the package of the node needs there to what is gathered for it.
 fn add_node(
     alloc: Global,
-    problem: &Problem<'_>,
+    wants: &mut NodeWants<'_>,
     versions: &BTreeMap<Name, Version>,
     node: &Node,
     gathered: &mut BTreeMap<Name, BTreeSet<Name>>,
 ) -> Result<(), AllocError>
-    ensures { OnOk result ((own : List ℕ) → names_in gathered.new own
+    ensures same { wants.new ≡ wants.old }
+    ensures names { OnOk result ((own : List ℕ) → names_in gathered.new own
         ≡ with_names (names_in gathered.old own)
-        (names_at problem.now (version_for versions.now.entries) own node.now)) }
+        (names_at wants.old (version_for versions.now.entries) own node.now)) }
 {
-    let Some(release) = release_chosen(problem, versions, &node.name) else {
+    let Some(version) = versions.get(&node.name) else {
         return Ok(());
     };
+    let wanted = wants.at(alloc, &node.name, node.extra.as_ref(), version)?;
     let mut names = match gathered.remove(&node.name) {
         Some(names) => names,
         None => BTreeSet::new(alloc),
     };
-    add_names(problem, node, release.dependencies(), &mut names)?;
+    add_names(wants.problem(), node, wanted.as_slice(), &mut names)?;
     let name = node.name.clone()?;
     gathered.insert(name, names)?;
     Ok(())
@@ -104,9 +92,10 @@ pub(crate) fn gather(
     ensures { IfOk result (λ gathered. (own : List ℕ) → names_in gathered own
         ≡ with_names [] (names_over problem.now (version_for versions.now.entries) own nodes.now)) }
 {
+    let mut wants = NodeWants::new(alloc, problem);
     let mut gathered = BTreeMap::new(alloc);
     for node in nodes {
-        add_node(alloc, problem, versions, node, &mut gathered)?;
+        add_node(alloc, &mut wants, versions, node, &mut gathered)?;
     }
     Ok(gathered)
 }

@@ -73,6 +73,13 @@ def extras(count):
     return requirements("a[" + ",".join(f"e{number}" for number in range(count)) + "]", ONE)
 
 
+def extras_of_dependencies(count):
+    """Each dependency counts with an extra of its own, and the line asks for all of them."""
+    extras = [f"e{number}" for number in range(count)]
+    needs = [f"b ; extra == '{extra}'" for extra in extras]
+    return requirements("a[" + ",".join(extras) + "]", ("a", [release("a", "1", *needs)]), ("b", [release("b", "1")]))
+
+
 def packages(count):
     names = [f"p{number}" for number in range(count)]
     return requirements(names[-1], *((name, [release(name, "1")]) for name in names))
@@ -192,11 +199,12 @@ def keys_of_a_lock(count):
 # Each input with its largest count.
 SIZES = {
     lines: 1_000_000, blank_lines: 10_000_000, short_comments: 5_000_000, long_line: 10_000_000, atoms: 1_000_000,
-    clauses: 1_000_000, extras: 200_000, packages: 100_000, releases: 100_000, lines_that_count: 100_000, chain: 100_000,
-    chain_back: 100_000, steps_opened: 100_000, steps_undone: 100_000, steps_shown: 100_000, commands: 1_000_000,
-    commands_refused: 1_000_000, commands_that_edit: 100_000, long_command: 10_000_000, parentheses: 1_000_000,
-    arrays_of_an_index: 1_000_000, arrays_of_an_environment: 1_000_000, arrays_of_a_journal: 1_000_000,
-    arrays_of_a_lock: 1_000_000, tables_of_a_lock: 1_000_000, keys_of_a_lock: 1_000_000,
+    clauses: 1_000_000, extras: 200_000, extras_of_dependencies: 100_000, packages: 100_000, releases: 100_000,
+    lines_that_count: 100_000, chain: 100_000, chain_back: 100_000, steps_opened: 100_000, steps_undone: 100_000,
+    steps_shown: 100_000, commands: 1_000_000, commands_refused: 1_000_000, commands_that_edit: 100_000,
+    long_command: 10_000_000, parentheses: 1_000_000, arrays_of_an_index: 1_000_000,
+    arrays_of_an_environment: 1_000_000, arrays_of_a_journal: 1_000_000, arrays_of_a_lock: 1_000_000,
+    tables_of_a_lock: 1_000_000, keys_of_a_lock: 1_000_000,
 }
 
-SMALL = {steps_opened: 10_000}
+SMALL = {steps_opened: 10_000, extras_of_dependencies: 2_000}

@@ -1,29 +1,23 @@
-use Rattle.std.proofs.Common.{List, ap, sym, subst}
-use Rattle.problems.specs.Problem.{ProblemParts}
-use Rattle.problems.specs.Tied.Growing.{Grows}
+use Rattle.std.proofs.Common.{◌∙◌, ℕ, List, Option, ap, sym, subst}
+use Rattle.problems.specs.Rules.{wants}
+use Rattle.problems.specs.Tied.Growing.{Grows, nodes_asked}
 use Rattle.problems.specs.declared.node.Node.{Node}
-use Rattle.problems.proofs.Closing.{linked-released, linked-unchosen, linked-unreleased}
+use Rattle.problems.proofs.Closing.{linked-chosen, linked-unchosen}
 use Rattle.problems.proofs.Growing.{Grows-none}
 use Rattle.problems.proofs.needed.follow.Goals as goal
 
-pub returns-in_default : goal.returns-in_default
-returns-in_default c =
+pub returns-in_default-clause-grown : goal.returns-in_default-clause-grown
+returns-in_default-clause-grown c =
     let value = rw c.in_default.is at c.get.ensures.value in
-    let nowhere = linked-unchosen c.args.problem.now c.args.node.now c.args.versions.now.entries (sym value) in
+    let nowhere = linked-unchosen c.args.wants.now c.args.node.now c.args.versions.now.entries (sym value) in
     subst (λ (linked : List Node). Grows c.args.nodes.now c.args.nodes.now linked) nowhere (Grows-none c.args.nodes.now)
 
-pub returns-in_default-release : goal.returns-in_default-release
-returns-in_default-release c =
+pub returns-clause-grown : goal.returns-clause-grown
+returns-clause-grown c =
+    let given = c.args.wants.now in
+    let node = c.args.node.now in
+    let version = c.in-Some.version.now in
     let value = rw c.in-Some.is at c.get.ensures.value in
-    let none = rw c.in_default-release.is at c.release.ensures in
-    let nowhere = linked-unreleased c.args.problem.now c.args.node.now c.args.versions.now.entries c.in-Some.version.now (sym value) (sym none) in
-    subst (λ (linked : List Node). Grows c.args.nodes.now c.args.nodes.now linked) nowhere (Grows-none c.args.nodes.now)
-
-pub returns : goal.returns
-returns c =
-    let value = rw c.in-Some.is at c.get.ensures.value in
-    let there = rw c.in-Some-release.is at c.release.ensures in
-    let environment = ap (λ (given : ProblemParts). given.environment) c.problem.view_is in
-    let grown = rw (environment, c.dependencies.ensures, c.as_ref-extra.ensures.value) at c.in_ok-add_dependencies.ensures in
-    let linked = linked-released c.args.problem.now c.args.node.now c.args.versions.now.entries c.in-Some.version.now c.in-Some-release.release.now (sym value) (sym there) in
-    subst (λ (linked : List Node). Grows c.args.nodes.now c.add_dependencies.new.nodes linked) linked grown
+    let at = ap (λ (extra : Option (List ℕ)). wants given (record { name = node.name; extra = extra }) version) c.as_ref.ensures.value in
+    let linked = ap nodes_asked (c.as_slice.ensures ∙ c.in_ok-wanted.ensures.wanted ∙ at) ∙ linked-chosen given node c.args.versions.now.entries version (sym value) in
+    subst (λ (nodes : List Node). Grows c.args.nodes.now c.add_wanted.new.nodes nodes) linked c.in_ok-add_wanted.ensures

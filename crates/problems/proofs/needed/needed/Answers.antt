@@ -11,6 +11,7 @@ loop-at-init c =
     let active = c.as_slice.ensures ∙ ap (λ (given : ProblemParts). given.active) c.problem.view_is in
     let grown = rw (c.new-nodes.ensures, active) at c.in_ok-add_lines.ensures in
     record {
+      same = c.new-wants.ensures;
       closing = closing-start c.args.problem.now (version_for c.args.versions.now.entries) c.add_lines.new.nodes grown;
       within = omega arith;
     }
@@ -20,9 +21,10 @@ loop-at-preserved c =
     let node = c.index-as_slice-at.result in
     let within : c.loop-at.at < length c.loop-at.nodes = rw c.len.ensures.count at c.loop-at-test.true in
     let is = rw c.as_slice-in-loop-at.ensures at c.index-as_slice-at.is in
-    let grown : Grows c.loop-at.nodes c.follow.new.nodes (nodes_linked c.args.problem.now node (version_for c.args.versions.now.entries node.name)) = rw c.in_ok-node.ensures.cases at c.in_ok-follow.ensures in
+    let grown : Grows c.loop-at.nodes c.follow.new.nodes (nodes_linked c.args.problem.now node (version_for c.args.versions.now.entries node.name)) = rw (c.in_ok-node.ensures.cases, c.loop-at.invariant.same) at c.in_ok-follow.ensures.grown in
     let longer = ap length grown.extended in
     record {
+      same = c.follow.ensures.same ∙ c.loop-at.invariant.same;
       closing = closing-step c.args.problem.now (version_for c.args.versions.now.entries) c.loop-at.nodes c.follow.new.nodes c.loop-at.at node c.loop-at.invariant.closing within is grown;
       within = omega (arith, longer, length-append c.loop-at.nodes grown.more);
     }

@@ -1,0 +1,74 @@
+"""What is locked of releases with many dependencies whose markers name extras: the program against rules/locks.py."""
+
+import unittest
+
+from made.chance import Chance
+from made.releases import problem_in
+from places import IS_LONG
+from program import Program
+from rules.lock_tables import read_lock
+from rules.locks import best_solution, entries_of
+
+SEEDS = 1000 if IS_LONG else 40
+EXTRAS = "e", "F_1", "g", "f.1", "h"
+NAMES = [f"n{number}" for number in range(8)]
+
+
+class Drawn(Chance):
+    """A release of `a` with dependencies of its own, and lines that ask for some of its extras."""
+
+    def atom(self):
+        extra = f"'{self.one((*EXTRAS, 'no name'))}'"
+        return self.one((
+            f"extra == {extra}", f"{extra} == extra", f"extra != {extra}", "os_name == 'posix'", "os_name == 'nt'",
+        ))
+
+    def marker(self, depth=0):
+        if depth < 2 and self.happens(45):
+            members = [self.marker(depth + 1) for _ in range(self.one((2, 2, 3)))]
+            return "(" + self.one((" and ", " or ")).join(members) + ")"
+        return self.atom()
+
+    def need(self):
+        asked = f"[{self.one(EXTRAS)}]" if self.happens(20) else ""
+        wanted = self.one(("", "", ">=2", "<2", "==1", "!=2"))
+        return self.one(NAMES) + asked + wanted + (f" ; {self.marker()}" if self.happens(85) else "")
+
+    def needs(self, most):
+        return [self.need() for _ in range(self.random.randrange(most))]
+
+    def releases(self):
+        yield "a", "1", self.needs(14)
+        for name in NAMES:
+            for version in ("1", "2")[: self.one((1, 2, 2))]:
+                yield name, version, self.needs(3)
+
+    def lines(self):
+        asked = self.random.sample(EXTRAS, self.random.randrange(1, 5))
+        cut = self.random.randrange(len(asked) + 1)
+        return f"a[{','.join(asked[:cut])}]\na[{','.join(asked[cut:])}]\n"
+
+
+class ManyExtras(Program):
+    def test_locks_are_those_of_the_rules(self):
+        solved = 0
+        for seed in range(SEEDS):
+            drawn = Drawn(seed)
+            lines, releases = drawn.lines(), list(drawn.releases())
+            problem = problem_in(lines, *releases)
+            best = best_solution(problem)
+            with self.subTest(seed):
+                self.begin(lines.encode(), *releases)
+                if best is None:
+                    self.assertNotEqual(self.call("init")[0], 0)
+                else:
+                    self.assertEqual(self.call("init"), (0, "ok 0\n"))
+                    entries = read_lock((self.folder / "pylock.toml").read_bytes())[2]
+                    self.assertEqual(entries, entries_of(problem, best))
+                    solved += 1
+            self.setUp()
+        self.assertGreater(solved, SEEDS // 3)
+
+
+if __name__ == "__main__":
+    unittest.main()
