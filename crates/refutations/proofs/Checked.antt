@@ -14,7 +14,7 @@ use Rattle.pep508.specs.Requirement.{RequirementParts}
 use Rattle.search.specs.Conflicts.{ChoicesClash, Completes, EachFollows, Follows, IsSameChoice, LineRefuses, NoneLeft, VersionsDiffer}
 use Rattle.snapshot.specs.Release.{Release}
 use Rattle.problems.specs.Admission.{admits, has_version}
-use Rattle.refutations.specs.Tied.Checking.{completes, differ, is_same, is_within, none_left, refuses}
+use Rattle.refutations.specs.Tied.Cases.{completes, differ, is_same, is_within, none_left, refuses}
 use Rattle.problems.specs.Tied.Eligible.{eligible}
 use Rattle.problems.specs.Tied.NodeEquality.{is_node}
 use Rattle.problems.specs.Problem.{ProblemParts, releases_on}

@@ -3,7 +3,7 @@ use Rattle.std.proofs.Common.{◌≡◌, ◌∙◌, ◌&&◌, ap}
 use Rattle.std.specs.Cmp.{tied_then}
 use Rattle.std.specs.Ordering.{eq_by_cmp}
 use Rattle.pep440.specs.Order.{version_cmp}
-use Rattle.refutations.specs.Tied.Checking.{is_same}
+use Rattle.refutations.specs.Tied.Cases.{is_same}
 use Rattle.refutations.specs.Choices.{choice_cmp}
 use Rattle.problems.specs.Nodes.{node_cmp}
 use Rattle.refutations.specs.Refutations.{ChoiceParts}

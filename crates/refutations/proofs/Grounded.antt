@@ -10,7 +10,7 @@ use Rattle.pep440.specs.Version.{VersionParts}
 use Rattle.pep508.specs.Requirement.{RequirementParts}
 use Rattle.problems.specs.Admission.{dependencies_at, release_at}
 use Rattle.search.specs.Conflicts.{ChoicesClash, Completes, Follows, LineRefuses, NoneLeft, VersionsDiffer}
-use Rattle.refutations.specs.Tied.Checking.{IsLeftOut, completes, differ, is_within, none_left, refuses}
+use Rattle.refutations.specs.Tied.Cases.{IsLeftOut, completes, differ, is_within, none_left, refuses}
 use Rattle.refutations.specs.Grounds.{IsGround}
 use Rattle.problems.specs.Problem.{ProblemParts}
 use Rattle.refutations.specs.Refutations.{ChoiceParts}
@@ -19,7 +19,7 @@ use Rattle.refutations.specs.declared.ground.Ground.{Ground}
 use Rattle.refutations.specs.declared.ground.Ground.TheVariants.{ChoicesClash as Clash, LineRefuses as Refused, NoneLeft as Exhausted, VersionsDiffer as Differ}
 use Rattle.problems.specs.declared.node.Node.{Node}
 use Rattle.refutations.proofs.Checked.{by_choice-decides, by_line-decides, clash-decides, completes-decides, differ-decides, exhausted-decides, line-decides, none-cases, refuses-decides, versions-decide}
-use Rattle.refutations.proofs.Counting.{counted}
+use Rattle.refutations.proofs.Wants.{counted}
 use Rattle.problems.proofs.Deciding.{any-mapped, found-is}
 use Rattle.lists.proofs.Members.{Contains-filter_of, Contains-here, Contains-map_of, Contains-there}
 

@@ -2,7 +2,7 @@ pub mod EqualChoices
 pub mod Checked
 pub mod WalkedLists
 pub mod Within
-pub mod Counting
+pub mod Wants
 pub mod Grounded
 pub mod SetsCompleted
 pub mod SetsChecked

@@ -1,5 +1,5 @@
 -- The tests of the checker decide the four cases by which a conflict of sets follows.
-use Rattle.std.proofs.Common.{◌≡◌, ◌∙◌, ◌⊎◌, inl, inr, ◌<◌, ◌+◌, ◌&&◌, ◌||◌, not, ℕ, zero, suc, Bool, true, false, List, [], ◌∷◌, ◌++◌, Option, Some, None, Contains, drop, get_or, length, take, ap, arith, refl, sym, subst, append_assoc, append-nil}
+use Rattle.std.proofs.Common.{◌≡◌, ◌∙◌, ◌⊎◌, inl, inr, ◌<◌, ◌+◌, ◌||◌, not, ℕ, zero, suc, Bool, true, false, List, [], ◌∷◌, ◌++◌, Some, None, Contains, drop, get_or, length, take, ap, arith, refl, sym, subst, append_assoc, append-nil}
 use Rattle.std.specs.Bool.{Decides}
 use Rattle.std.specs.List.{list_all, list_any}
 use Rattle.std.specs.Str.{bytes_eq}
@@ -10,13 +10,13 @@ use Rattle.pep508.specs.Requirement.{RequirementParts}
 use Rattle.search.specs.SetConflicts.{CompletesSet, EachSetFollows, LineRefusesSet, NoCandidateLeft, PairClashes, Refuses, SetFollows, SetsClash}
 use Rattle.snapshot.specs.Release.{Release}
 use Rattle.problems.specs.Admission.{admits}
-use Rattle.refutations.specs.Tied.Checking.{differ, refuses}
+use Rattle.refutations.specs.Tied.Cases.{differ, refuses}
 use Rattle.problems.specs.Tied.Eligible.{eligible}
 use Rattle.problems.specs.Tied.NodeEquality.{is_node}
 use Rattle.problems.specs.Problem.{ProblemParts}
 use Rattle.problems.specs.Rules.{candidates, nodes_of, rules_of, same_version, wants}
 use Rattle.refutations.specs.SetRefutations.{TermParts}
-use Rattle.refutations.specs.Tied.SetChecking.{clash_onward, completes, each_needs, each_refuses_all, is_left_out, needs, none_left, none_left_behind, pair_clashes, refuses_all, refuses_at, terms_clash}
+use Rattle.refutations.specs.Tied.SetCases.{clash_onward, completes, each_needs, each_refuses_all, is_left_out, needs, none_left, none_left_behind, pair_clashes, refuses_all, refuses_at, terms_clash}
 use Rattle.problems.specs.declared.node.Node.{Node}
 use Rattle.refutations.proofs.Checked.{IsReleased, candidate-eligible, differ-decides, eligible-all, refuses-decides}
 use Rattle.problems.proofs.EqualNodes.{node-decides}

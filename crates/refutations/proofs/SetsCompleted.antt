@@ -7,7 +7,7 @@ use Rattle.search.specs.SetConflicts.{BindsWithin, CompletesSet, EachVersion, Ha
 use Rattle.problems.specs.Tied.NodeEquality.{is_node}
 use Rattle.problems.specs.Rules.{same_version}
 use Rattle.refutations.specs.SetRefutations.{TermParts}
-use Rattle.refutations.specs.Tied.SetChecking.{completes, each_completes, fits_at, is_at, is_bound, is_bound_beside, is_listed, is_within}
+use Rattle.refutations.specs.Tied.SetCases.{completes, each_completes, fits_at, is_at, is_bound, is_bound_beside, is_listed, is_within}
 use Rattle.problems.specs.declared.node.Node.{Node}
 use Rattle.problems.proofs.EqualNodes.{node-decides}
 use Rattle.problems.proofs.Deciding.{decides-all, decides-any, decides-both, decides-either, decides-itself, decides-onto}

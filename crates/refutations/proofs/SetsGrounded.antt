@@ -8,7 +8,7 @@ use Rattle.refutations.specs.Grounds.{IsSetGround}
 use Rattle.problems.specs.Problem.{ProblemParts}
 use Rattle.problems.specs.Rules.{nodes_of, rules_of, same_version, wants}
 use Rattle.refutations.specs.SetRefutations.{TermParts}
-use Rattle.refutations.specs.Tied.SetChecking.{completes, each_completes, is_left_out, is_within, none_left_behind, refuses_all, terms_clash}
+use Rattle.refutations.specs.Tied.SetCases.{completes, each_completes, is_left_out, is_within, none_left_behind, refuses_all, terms_clash}
 use Rattle.problems.specs.declared.node.Node.{Node}
 use Rattle.refutations.specs.declared.set_ground.SetGround.{SetGround}
 use Rattle.refutations.specs.declared.set_ground.SetGround.TheVariants.{EachVersion as Each, LineRefuses as Refused, NoneLeft as Exhausted, TermsClash}

@@ -2,7 +2,7 @@
 use Rattle.std.proofs.Common.{◌≡◌, ◌||◌, ℕ, Bool, true, false, IfSome, List, Option, Some, None, refl}
 use Rattle.std.specs.List.{list_any}
 use Rattle.refutations.specs.Refutations.{ChoiceParts}
-use Rattle.refutations.specs.Tied.Checking.{is_same, is_within}
+use Rattle.refutations.specs.Tied.Cases.{is_same, is_within}
 use Rattle.refutations.proofs.WalkedLists.{either-more}
 
 either-first : (a b : Bool) → a ≡ true → (a || b) ≡ true

@@ -1,4 +1,4 @@
 -- What serves proofs alone.
-pub mod Checking
+pub mod Cases
 pub mod ChoiceLaws
-pub mod SetChecking
+pub mod SetCases

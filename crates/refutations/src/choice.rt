@@ -1,20 +1,20 @@
 // Choices.
 
 ghost use Rattle.std.specs.Prelude.{◌≡◌, ◌↔◌, IsTrue};
-ghost use Rattle.std.specs.Option.{option_copied};
 ghost use Rattle.std.specs.Ordering.{eq_by_cmp};
 ghost use Rattle.search.specs.Conflicts.{IsSameChoice};
-ghost use Rattle.refutations.specs.Tied.Checking.{is_same};
+ghost use Rattle.refutations.specs.Tied.Cases.{is_same};
 ghost use Rattle.refutations.specs.Choices.{choice_cmp};
 ghost use Rattle.problems.specs.Rules.{same_version};
 
 mod order;
 mod text;
 
+use crate::lent_choice::{LentChoice, LentNode};
 use lists::Faithful;
 use pep440::Version;
 use pep508::Name;
-use problems::parts::{copy_of, is_asked};
+use problems::parts::copy_of;
 use std::alloc::AllocError;
 use std::marker::Model;
 
@@ -66,26 +66,35 @@ impl Faithful for Choice {
     ghost clone_is_source = { λ x y h. h };
 }
 
-/// Whether a choice is at this node, with a version that equals this one.
-pub(crate) fn is_at(choice: &Choice, name: &Name, extra: Option<&Name>, version: &Version) -> bool
-    ensures { result ≡ is_same choice.now (record {
-      node = record { name = name.now; extra = option_copied extra.entry };
-      version = version.now;
-    }) }
+/// Whether a choice is at the node of another, with a version that equals the other's.
+pub(crate) fn is_at(choice: &Choice, other: &LentChoice<'_, '_>) -> bool
+    ensures { result ≡ is_same choice.now other.now }
 {
-    choice.name.normal() == name.normal()
-        && is_asked(choice.extra.as_ref(), extra)
-        && choice.version.cmp(version).is_eq()
+    other.node.is_of(&choice.name, choice.extra.as_ref())
+        && choice.version.cmp(other.version).is_eq()
 }
 
 /// Whether two choices are one.
 pub(crate) fn are_one(choice: &Choice, other: &Choice) -> bool
     ensures { result ≡ is_same choice.now other.now }
 {
-    is_at(choice, &other.name, other.extra.as_ref(), &other.version)
+    let node = &other.node();
+    let version = &other.version;
+    is_at(choice, &LentChoice { node, version })
 }
 
 impl Choice {
+    /// Its node, lent.
+    pub(crate) fn node(&self) -> LentNode<'_>
+        ensures { result ≡ self.now.node }
+    {
+        let extra = self.extra.as_ref();
+        LentNode {
+            name: &self.name,
+            extra,
+        }
+    }
+
     /// Whether the other choice is at the same node, with a version that equals this one's. It is
     /// what `==` answers.
     pub fn is_same(&self, other: &Choice) -> bool

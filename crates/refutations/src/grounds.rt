@@ -8,22 +8,25 @@ ghost use Rattle.refutations.specs.Grounds.{IsGround};
 ghost use Rattle.refutations.specs.Refutations.{ChoiceParts};
 ghost use Rattle.problems.specs.Rules.{rules_of, same_version};
 
-pub(crate) mod clashing;
-pub(crate) mod completing;
-pub(crate) mod differing;
-mod exhausting;
+pub(crate) mod clash;
+pub(crate) mod completion;
+pub(crate) mod difference;
+pub(crate) mod earlier;
+mod exhaustion;
 pub(crate) mod hints;
-pub(crate) mod refusing;
-mod turning;
+pub(crate) mod refusal;
+mod turns;
 
 use crate::choice::Choice;
 use crate::ground::Ground;
-use crate::grounds::clashing::clashing;
-use crate::grounds::completing::first_completed;
-use crate::grounds::differing::differing;
-use crate::grounds::exhausting::exhausted;
-use crate::grounds::hints::{Hints, Places};
-use crate::grounds::refusing::refused;
+use crate::grounds::clash::clashing;
+use crate::grounds::completion::first_completed;
+use crate::grounds::difference::differing;
+use crate::grounds::earlier::Earlier;
+use crate::grounds::exhaustion::exhausted;
+use crate::grounds::hints::Places;
+use crate::grounds::refusal::refused;
+use crate::lent_choice::{LentChoice, LentNode};
 use lists::Seq;
 use pep440::Version;
 use pep508::Name;
@@ -32,14 +35,13 @@ use problems::Problem;
 /// A ground by which a conflict follows from earlier ones that are found.
 pub(crate) fn found_ground<'a>(
     problem: &'a Problem<'_>,
-    earlier: &[Seq<Choice>],
-    hints: Option<&Hints<'_, '_>>,
+    earlier: Earlier<'_, '_, '_, '_>,
     conflict: &'a [Choice],
 ) -> Option<Ground<'a>>
     ensures { MatchOption result
-        (hints.entry ≡ None
-        → Follows (rules_of problem.now) same_version earlier.now conflict.now → ⊥)
-        (IsGround problem.now earlier.now conflict.now) }
+        (earlier.entry.hints ≡ None → Follows (rules_of problem.now) same_version
+        earlier.entry.conflicts.now conflict.now → ⊥)
+        (IsGround problem.now earlier.entry.conflicts.now conflict.now) }
 {
     if let Some(ground) = refused(problem, conflict) {
         return Some(ground);
@@ -50,7 +52,7 @@ pub(crate) fn found_ground<'a>(
     if let Some(ground) = differing(conflict) {
         return Some(ground);
     }
-    exhausted(problem, earlier, hints, conflict)
+    exhausted(problem, earlier, conflict)
 }
 
 /// A ground by which a conflict follows from earlier ones, or nothing where it doesn't follow.
@@ -63,7 +65,11 @@ pub fn ground_of<'a>(
         (Follows (rules_of problem.now) same_version earlier.now conflict.now → ⊥)
         (IsGround problem.now earlier.now conflict.now) }
 {
-    found_ground(problem, earlier, None, conflict)
+    let all = Earlier {
+        conflicts: earlier,
+        hints: None,
+    };
+    found_ground(problem, all, conflict)
 }
 
 /// A ground by which a conflict follows from earlier ones that are found where hints tell to look; none
@@ -76,8 +82,13 @@ fn hinted_ground<'a>(
 ) -> Option<Ground<'a>>
     ensures { IfSome result (IsGround problem.now earlier.now conflict.now) }
 {
-    let hints = places.hints(earlier.len()).ok()?;
-    found_ground(problem, earlier, Some(&hints), conflict)
+    let found = places.hints(earlier.len()).ok()?;
+    let hints = Some(&found);
+    let hinted = Earlier {
+        conflicts: earlier,
+        hints,
+    };
+    found_ground(problem, hinted, conflict)
 }
 
 /// What `ground_of` gives, which is looked for where hints tell before it is looked for everywhere.
@@ -122,5 +133,6 @@ pub fn completed(
           version = version.now;
         })) }
 {
-    first_completed(earlier, conflict, name, extra, version)
+    let node = &LentNode { name, extra };
+    first_completed(earlier, conflict, &LentChoice { node, version })
 }

@@ -10,22 +10,23 @@
 //! ```
 #![tactic(auto)]
 
-mod checking;
+mod checker;
 mod choice;
-mod cutting;
 mod ground;
 mod grounds;
 pub mod laws;
+mod lent_choice;
+mod needed_conflicts;
 mod refutation;
 mod set_ground;
 mod set_grounds;
 mod set_refutation;
 
-pub use crate::checking::{check, check_sets};
+pub use crate::checker::{check, check_sets};
 pub use crate::choice::Choice;
-pub use crate::cutting::cut;
 pub use crate::ground::{Ground, Need};
 pub use crate::grounds::{completed, ground_of};
+pub use crate::needed_conflicts::cut;
 pub use crate::refutation::Refutation;
 pub use crate::set_ground::{SetGround, SetNeed};
 pub use crate::set_grounds::{set_completed, set_ground_of};

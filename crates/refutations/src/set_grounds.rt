@@ -8,17 +8,18 @@ ghost use Rattle.refutations.specs.Grounds.{IsSetGround};
 ghost use Rattle.problems.specs.Rules.{rules_of, same_version};
 ghost use Rattle.refutations.specs.SetRefutations.{TermParts};
 
-mod clashing;
-mod completing;
-mod exhausting;
-mod listing;
-mod refusing;
+mod clash;
+mod completion;
+mod exhaustion;
+mod refusal;
+mod version_list;
 
+use crate::lent_choice::LentNode;
 use crate::set_ground::SetGround;
-use crate::set_grounds::clashing::clashing;
-use crate::set_grounds::completing::{each_version_completes, first_completed};
-use crate::set_grounds::exhausting::exhausted;
-use crate::set_grounds::refusing::refused;
+use crate::set_grounds::clash::clashing;
+use crate::set_grounds::completion::{each_version_completes, first_completed};
+use crate::set_grounds::exhaustion::exhausted;
+use crate::set_grounds::refusal::refused;
 use crate::set_refutation::SetTerm;
 use lists::Seq;
 use pep440::Version;
@@ -63,5 +64,5 @@ pub fn set_completed(
         × CompletesSet same_version (old ∷ []) conflict.now
         (record { name = name.now; extra = option_copied extra.entry }) version.now) }
 {
-    first_completed(earlier, conflict, name, extra, version)
+    first_completed(earlier, conflict, &LentNode { name, extra }, version)
 }

@@ -2,6 +2,7 @@
 
 ghost use Rattle.std.specs.Prelude.{◌≡◌};
 
+use crate::lent_choice::LentNode;
 use lists::Seq;
 use pep440::Version;
 use pep508::Name;
@@ -34,6 +35,19 @@ impl Model for SetTerm {
       node = record { name = t.name; extra = t.extra };
       versions = t.versions;
     } };
+}
+
+impl SetTerm {
+    /// Its node, lent.
+    pub(crate) fn node(&self) -> LentNode<'_>
+        ensures { result ≡ self.now.node }
+    {
+        let extra = self.extra.as_ref();
+        LentNode {
+            name: &self.name,
+            extra,
+        }
+    }
 }
 
 /// A list of conflicts, each a list of terms that no solution has together: no solution needs all of

@@ -7,9 +7,8 @@ mod rows;
 use crate::choice::{Choice, is_at};
 use crate::grounds::hints::numbers::{Numbers, numbered};
 use crate::grounds::hints::rows::{Row, row_at, rows_of};
+use crate::lent_choice::{LentChoice, LentNode};
 use lists::Seq;
-use pep440::Version;
-use pep508::Name;
 use problems::Problem;
 use snapshot::Release;
 use std::alloc::{AllocError, Global};
@@ -33,17 +32,18 @@ impl<'c> Drop for Places<'c> {
     }
 }
 
-/// Whether a choice is below the one of the node and the version.
-fn is_below(choice: &Choice, name: &Name, extra: Option<&Name>, version: &Version) -> bool {
-    let names = choice.name.cmp(name);
+/// Whether a choice is below another one.
+fn is_below(choice: &Choice, other: &LentChoice<'_, '_>) -> bool {
+    let node = other.node;
+    let names = choice.name.cmp(node.name);
     if names.is_ne() {
         return names.is_lt();
     }
-    let extras = choice.extra.as_ref().cmp(&extra);
+    let extras = choice.extra.as_ref().cmp(&node.extra);
     if extras.is_ne() {
         return extras.is_lt();
     }
-    choice.version.cmp(version).is_lt()
+    choice.version.cmp(other.version).is_lt()
 }
 
 /// Where to look for these conflicts.
@@ -63,12 +63,11 @@ pub(crate) fn places_of<'c>(
 }
 
 impl<'c> Places<'c> {
-    /// The number of the choice of the node and the version; nothing where no conflict has it.
-    fn number_of(&self, name: &Name, extra: Option<&Name>, version: &Version) -> Option<usize> {
+    /// The number of a choice; nothing where no conflict has it.
+    fn number_of(&self, choice: &LentChoice<'_, '_>) -> Option<usize> {
         let choices = self.choices.as_slice();
-        let number = choices.partition_point(|choice| is_below(choice, name, extra, version));
-        let choice = choices.get(number)?;
-        if is_at(choice, name, extra, version) {
+        let number = choices.partition_point(|other| is_below(other, choice));
+        if is_at(choices.get(number)?, choice) {
             return Some(number);
         }
         None
@@ -125,13 +124,8 @@ impl<'h, 'c> Hints<'h, 'c> {
     }
 
     /// Whether with some of these releases at the node no place is told.
-    pub(crate) fn is_some_left(
-        &self,
-        releases: &[Release],
-        name: &Name,
-        extra: Option<&Name>,
-    ) -> bool {
-        let numbers = row_at(self.places.rows.as_slice(), name, extra);
+    pub(crate) fn is_some_left(&self, releases: &[Release], node: &LentNode<'_>) -> bool {
+        let numbers = row_at(self.places.rows.as_slice(), node);
         if numbers.len() < releases.len() {
             return true;
         }
@@ -143,15 +137,9 @@ impl<'h, 'c> Hints<'h, 'c> {
         false
     }
 
-    /// The place of the first earlier conflict that has the choice of the node and the version, and all whose other
-    /// choices the conflict has.
-    pub(crate) fn completed(
-        &self,
-        name: &Name,
-        extra: Option<&Name>,
-        version: &Version,
-    ) -> Option<usize> {
-        self.of_number(self.places.number_of(name, extra, version)?)
+    /// The place of the first earlier conflict that has the choice, and all whose other choices the conflict has.
+    pub(crate) fn completed(&self, choice: &LentChoice<'_, '_>) -> Option<usize> {
+        self.of_number(self.places.number_of(choice)?)
     }
 }
 

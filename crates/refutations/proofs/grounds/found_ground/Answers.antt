@@ -5,4 +5,4 @@ use Rattle.refutations.proofs.grounds.found_ground.Goals as goal
 pub returns : goal.returns
 returns c =
     let given = c.args.problem.now in
-    ground-last (c.args.hints ≡ None) given c.args.earlier.now c.args.conflict.now c.exhausted.result c.in_default.ensures c.in_default-clashing.ensures (c.in_default-differing.ensures given) c.exhausted.ensures
+    ground-last (c.args.earlier.hints ≡ None) given c.args.earlier.conflicts.now c.args.conflict.now c.exhausted.result c.in_default.ensures c.in_default-clashing.ensures (c.in_default-differing.ensures given) c.exhausted.ensures

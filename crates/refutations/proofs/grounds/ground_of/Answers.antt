@@ -1,4 +1,4 @@
-use Rattle.std.proofs.Common.{◌≡◌, None, refl}
+use Rattle.std.proofs.Common.{refl}
 use Rattle.refutations.proofs.Grounded.{ground-whole}
 use Rattle.refutations.proofs.grounds.ground_of.Goals as goal
 

@@ -1,49 +1,44 @@
 // The numbers of the candidates of nodes.
 
 use crate::choice::Choice;
+use crate::lent_choice::LentNode;
 use pep440::Version;
-use pep508::Name;
 use problems::Problem;
-use problems::parts::is_asked;
 use std::alloc::{AllocError, Global};
 use std::cmp::Ordering;
 
 /// A node, and the numbers of its candidates that are a choice of some conflict, in the order of the candidates.
 pub(crate) struct Row<'c> {
-    name: &'c Name,
-    extra: Option<&'c Name>,
+    node: LentNode<'c>,
     numbers: Vec<usize>,
 }
 
 impl<'c> Drop for Row<'c> {
     fn drop(self) {
         let Row {
-            name: _,
-            extra: _,
+            node: _,
             numbers: _,
         } = self;
     }
 }
 
 /// Whether a row is of a node below this one.
-fn is_below(row: &Row<'_>, name: &Name, extra: Option<&Name>) -> bool {
-    let names = row.name.cmp(name);
-    Ordering::or_cmp(names, &row.extra, &extra).is_lt()
+fn is_below(row: &Row<'_>, node: &LentNode<'_>) -> bool {
+    let names = row.node.name.cmp(node.name);
+    Ordering::or_cmp(names, &row.node.extra, &node.extra).is_lt()
 }
 
 /// The numbers of the row of a node; none where it has none.
-pub(crate) fn row_at<'r>(rows: &'r [Row<'_>], name: &Name, extra: Option<&Name>) -> &'r [usize] {
-    match rows.get(rows.partition_point(|row| is_below(row, name, extra))) {
-        Some(row) if row.name.normal() == name.normal() && is_asked(row.extra, extra) => {
-            row.numbers.as_slice()
-        }
+pub(crate) fn row_at<'r>(rows: &'r [Row<'_>], node: &LentNode<'_>) -> &'r [usize] {
+    match rows.get(rows.partition_point(|row| is_below(row, node))) {
+        Some(row) if node.is_of(row.node.name, row.node.extra) => row.numbers.as_slice(),
         _ => &[],
     }
 }
 
 /// Whether two choices are at one node.
 fn are_beside(one: &Choice, other: &Choice) -> bool {
-    one.name.normal() == other.name.normal() && is_asked(one.extra.as_ref(), other.extra.as_ref())
+    other.node().is_of(&one.name, one.extra.as_ref())
 }
 
 /// The place of the version among choices of one node, which rise.
@@ -71,11 +66,8 @@ fn row_of<'c>(
             numbers.push(start.saturating_add(place))?;
         }
     }
-    Ok(Row {
-        name: &first.name,
-        extra: first.extra.as_ref(),
-        numbers,
-    })
+    let node = first.node();
+    Ok(Row { node, numbers })
 }
 
 /// Whether the choice before a place is at another node than the one there.

@@ -1,8 +1,0 @@
-use Rattle.std.proofs.Common.{◌≡◌, drop}
-use Rattle.std.specs.Option.{option_copied}
-use Rattle.refutations.specs.Tied.Checking.{completes}
-use Rattle.refutations.proofs.grounds.completing.first_completed.Given as goal
-
-abbrev pub invariant-loop-place : goal.invariant-loop-place
-invariant-loop-place l = completes l.earlier l.conflict (record { node = record { name = l.name; extra = option_copied l.extra }; version = l.version })
-    ≡ completes (drop l.place l.earlier) l.conflict (record { node = record { name = l.name; extra = option_copied l.extra }; version = l.version })
