@@ -65,19 +65,23 @@ class Printed(Program):
     def test_a_refutation_in_sentences(self):
         self.begin_refuted()
         first, by = NAMES[0], "needs {}, which is ruled out by {}"
+        front = f"No choice of versions meets the new line ({first})."
+        begins = f"1. the only release of {NAMES[-1]} needs z>=2, and the index has no such release."
+        ends = f"{COUNT + 1}. the new line ({first}) {by.format(first, COUNT)}."
         sentences = [
-            f"No choice of versions meets the new line ({first}).",
-            f"1. the only release of {NAMES[-1]} needs z>=2, and the index has no such release.",
+            front, begins,
             f"2. the only release of {NAMES[-2]} {by.format(NAMES[-1], 1)}.",
             f"3 to {COUNT - 1}. So it goes on through {COUNT - 3} packages, from {NAMES[-3]} to {NAMES[1]}: each needs the one"
             " before it, which",
             "   is ruled out by the step before.",
             f"{COUNT}. the only release of {first} {by.format(NAMES[1], COUNT - 1)}.",
-            f"{COUNT + 1}. the new line ({first}) {by.format(first, COUNT)}.",
+            ends,
         ]
         told = *NAMES[:2], *NAMES[-3:], "z"
-        left_out = [f"{name} x: release 1: version bad-version" for name in told]
-        self.plays((["why", "--explain", first], 3, "".join(f"{line}\n" for line in sentences + left_out)))
+        links = [f"{at}. the only release of {NAMES[-at]} {by.format(NAMES[1 - at], at - 1)}." for at in range(2, COUNT + 1)]
+        for words, lines, names in ([], sentences, told), (["--long"], [front, begins, *links, ends], (*NAMES, "z")):
+            left_out = [f"{name} x: release 1: version bad-version" for name in names]
+            self.plays((["why", "--explain", *words, first], 3, "".join(f"{line}\n" for line in [*lines, *left_out])))
 
 
 class Ranges(Program):
@@ -102,7 +106,8 @@ class Ranges(Program):
         self.begin_ranges(0)
         self.plays((["init"], 3, "refused no-solution\n"))
         status, told = self.call("why", "--init", "--explain")
-        self.assertEqual((status, told.splitlines()[0]), (3, "No choice of versions meets line 1 (a) and line 2 (c<=10)."))
+        front = "line 1 (a) and line 2 (c<=10) don't go together: every release of a needs b, which needs c>10."
+        self.assertEqual((status, told.splitlines()[0]), (3, front))
         self.assertLess(len(told.splitlines()), 12)
 
 

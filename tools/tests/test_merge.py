@@ -78,7 +78,7 @@ class Merges(Two):
         variables = {**self.variables, "PATH": f"{PROGRAM.parent}:{self.variables['PATH']}"}
         done = subprocess.run(["bash", "-c", asked], env=variables, capture_output=True, encoding="utf-8", check=False)
         self.assertEqual((done.returncode, done.stderr), (3, ""))
-        self.assertIn("No choice of versions", done.stdout)
+        self.assertIn("don't go together", done.stdout)
 
     def test_nothing_fits_and_the_lock_has_markers(self):
         self.attributes = b""

@@ -27,13 +27,13 @@ INDEX = (
 TOLD = f"""\
 No choice of versions meets line 2 (a  # why) and line 3 (c).
 1. the only release of c needs b 2 or newer, and a 1 to 3 need b<2.
-2. line 3 (c) needs c, which is ruled out by 1 beside a 1 to 3.
+2. line 3 (c) needs c, which is ruled out by 1 with a 1 to 3.
 3. line 2 (a  # why) needs a, and no release of a is left: 1 to 3 are ruled out by 2; 4 is yanked, and no line pins it with ==; 5a1 is a \
 pre-release, which counts where a line names one or no final release fits; 6 needs Python >=3.99, the environment has \
 {LINUX["python_full_version"]}.
 """
 # the same in other words, which tell the same
-OTHERWISE = TOLD.replace(", and a 1 to 3 need b<2", ", and beside a 1 to 3 no such release is left: 2 and 3 don't match <2 of a")
+OTHERWISE = TOLD.replace(", and a 1 to 3 need b<2", ", and with a 1 to 3 no such release is left: 2 and 3 don't match <2 of a")
 # the same lines where the lock keeps `b` at 1, and at a version that the index hasn't
 KEPT = """\
 No choice of versions that keeps what is locked meets line 3 (c).
@@ -56,14 +56,15 @@ PLANTED_GONE = (
 PLANTED = (
     # numbers of sentences
     ("ruled out by 1", "ruled out by 2"), ("ruled out by 1", "ruled out by 0"), ("out by 2;", "out by 1;"), ("out by 2;", "out by 3;"),
-    ("\n2. ", "\n3. "), ("\n2. ", "\n2 to 3. "), ("which is ruled out by 1 beside", "and beside"),
+    ("\n2. ", "\n3. "), ("\n2. ", "\n2 to 3. "), ("which is ruled out by 1 with", "and with"),
     # ranges, also one that is told too wide, and releases
     ("b 2 or newer", "b 1 or newer"), ("b 2 or newer", "b 3"), ("b 2 or newer", "b 2 to 3"), ("b 2 or newer", "b 2"),
     ("b 2 or newer", "b between 2 and 3"), ("b 2 or newer", "b 2, or 3 or newer"), ("b 2 or newer", "b>2"), ("b 2 or newer", "b"),
     ("a 1 to 3 need b<2", "a 1 to 4 need b<2"), ("a 1 to 3 need b<2", "a 1 and 2 need b<2"), ("a 1 to 3 need b<2", "a 1 to 3 need b<3"),
     ("a 1 to 3 need b<2", "a 1 to 3 need b 1 or 2"), ("a 1 to 3 need b<2", "a 1 to 3 need 1"),
     ("a 1 to 3 need b<2", "a 1 to 3 need c"), ("a 1 to 3 need b<2", "every release of a needs b<2"), (", and a 1 to 3 need b<2", ""),
-    ("beside a 1 to 3", "beside a 1 to 4"), ("beside a 1 to 3", "beside a 1 and 2"), (" beside a 1 to 3", ""),
+    ("with a 1 to 3", "with a 1 to 4"), ("with a 1 to 3", "with a 1 and 2"), (" with a 1 to 3", ""), ("with a 1 to 3", "beside a 1 to 3"),
+    ("with a 1 to 3", "with any release of a"),
     ("left: 1 to 3 are", "left: 1 to 4 are"), ("left: 1 to 3 are", "left: 0 to 3 are"), ("left: 1 to 3 are", "left: 1 and 2 are"),
     ("the only release of c", "every release of c"), ("the only release of c", "c 2"),
     # who asks
@@ -83,6 +84,10 @@ PLANTED = (
     ("line 2 (a  # why) and line 3 (c).", "line 3 (c) and line 2 (a  # why)."), ("and line 3 (c).", "and line 3 (c) and 1 more."),
     ("No choice of versions meets line 2 (a  # why) and line 3 (c)",
      "line 2 (a  # why) and line 3 (c) don't go together: the only release of c needs b 2 or newer"),
+    ("No choice of versions meets line 2 (a  # why) and line 3 (c)",
+     "line 3 (c) and line 2 (a  # why) don't go together: the only release of c needs b 2 or newer, and a 1 to 3 need b<2"),
+    ("No choice of versions meets line 2 (a  # why) and line 3 (c)",
+     "line 3 (c) and line 2 (a  # why) don't go together: the only release of c needs b 2 or newer, and every release of a needs b<2"),
     # forms
     ("is left: 1 to", "is left 1 to"), ("No choice of", "No"), ("out by 2;", "out by 2,"), ("why) needs", "why) wants"),
 )
@@ -91,7 +96,7 @@ PLANTED_OTHERWISE = (
     ("2 and 3 don't", "2 don't"), ("2 and 3 don't", "1, 2 and 3 don't"), ("2 and 3 don't", "2 and 4 don't"), ("2 and 3 don't", "3 and 2 don't"),
     ("match <2 of a", "match <3 of a"), ("match <2 of a", "match <2"), ("of a.", "of d."), ("of a.", "of line 2."), ("match <2 of a", "go with a[x]"),
     ("match <2 of a", "match what d needs"), ("match <2 of a", "match what a needs"), ("match <2 of a", "match what a needs (1 or 2)"),
-    ("beside a 1 to 3 no such", "beside a 1 to 4 no such"), ("beside a 1 to 3 no such", "beside every release of a no such"),
+    ("with a 1 to 3 no such", "with a 1 to 4 no such"), ("with a 1 to 3 no such", "with any release of a no such"),
     ("no such release is left", "no release of b is left"), ("no such release is left", "no release of d is left"),
 )
 # two lines and two packages: releases of `t` need a newer `n` each
@@ -127,6 +132,70 @@ PLANTED_BOTH = (
     ("no release of n", "no release of t"), ("line 2 (n>=6) don't", "line 1 (n<4) don't"), ("line 2 (n>=6) don't", "line 3 (n) don't"),
     ("no release of n matches both", "every release of n needs n"), ("line 2 allows", "line 3 allows"),
 )
+# two lines whose packages need a third one
+SHARED_FILE = "p>=1", "w>=1", "s"
+SHARED_INDEX = (
+    *(("s", str(version), []) for version in range(1, 6)), ("p", "1", ["s>=2,<4"]), ("p", "2", ["s>=3,<4"]), ("w", "1", ["s<2"]),
+    ("w", "2", ["s>=4"]),
+)
+SHARED = """\
+line 1 (p>=1) and line 2 (w>=1) don't go together: every release of p needs s 2 or 3, and every release of w needs s 1, or 4 or newer.
+1. every release of p needs s 2 or 3, and every release of w needs s 1, or 4 or newer.
+2. line 2 (w>=1) needs w, which is ruled out by 1 with any release of p.
+3. line 1 (p>=1) needs p, which is ruled out by 2.
+"""
+PLANTED_SHARED = (
+    # a number that is one too new, or too old
+    ("p needs s 2 or 3, and", "p needs s 2 to 4, and"), ("p needs s 2 or 3, and", "p needs s 3, and"), ("s 1, or 4 or newer.", "s 1, or 5 or newer."),
+    ("s 1, or 4 or newer.", "s 1, or 3 or newer."), ("s 1, or 4 or newer.", "s 4 or newer."), ("s 1, or 4 or newer.", "s 1."),
+    ("s 1, or 4 or newer.", "s."), ("p needs s 2 or 3, and", "p needs s, and"), ("s 1, or 4 or newer.\n1.", "p 1.\n1."),
+    # who needs it
+    ("together: every release of p needs", "together: p 1 needs"), ("and every release of w needs", "and w 2 needs"),
+    ("and every release of w needs", "and w from 2 on needs"), (", and every release of w needs s 1, or 4 or newer.", "."),
+    (", and every release of w needs s", ", which needs s"), ("line 2 (w>=1) don't", "line 3 (s) don't"),
+    ("line 1 (p>=1) and line 2 (w>=1)", "line 2 (w>=1) and line 1 (p>=1)"), ("and every release of w", "and every release of p"),
+    ("with any release of p", "with every release of p"), ("with any release of p", "with p 1"), (" with any release of p", ""),
+    ("with any release of p", "with any release of w"),
+)
+# two lines with a package between them
+LINKED_FILE = "p>=2", "s<3", "w"
+LINKED_INDEX = (
+    *(("s", str(version), []) for version in range(1, 6)), ("p", "1", []), ("p", "2", ["w>=2"]), ("p", "3", ["w>=3"]), ("w", "1", ["s"]),
+    ("w", "2", ["s>=3"]), ("w", "3", ["s>=4"]), ("w", "4", ["s>=4"]),
+)
+LINKED = """\
+line 1 (p>=2) and line 2 (s<3) don't go together: p from 2 on needs w 2 or newer, which needs s 3 or newer.
+1. p 2 and 3 need w 2 or newer, which needs s 3 or newer.
+2. line 2 (s<3) allows s 1 or 2, which is ruled out by 1 with p 2 and 3.
+3. line 1 (p>=2) allows p 2 or newer, which is ruled out by 2.
+"""
+PLANTED_LINKED = (
+    # a number that is one too new, or too old
+    ("p from 2 on", "p from 3 on"), ("p from 2 on", "p from 1 on"), ("on needs w 2 or newer", "on needs w 3 or newer"),
+    ("on needs w 2 or newer", "on needs w"), ("which needs s 3 or newer.\n1", "which needs s 4 or newer.\n1"),
+    ("which needs s 3 or newer.\n1", "which needs s 2 or newer.\n1"), ("which needs s 3 or newer.\n1", "which needs s.\n1"),
+    ("need w 2 or newer, which needs s 3", "need w 2 or newer, which needs s 4"), ("3 need w 2 or newer", "3 need w 3 or newer"),
+    ("need w 2 or newer, which needs s 3", "need w 2 or newer, which needs s 2"),
+    ("need w 2 or newer, which needs s 3 or newer", "need w 2 or newer, which needs s"),
+    ("need w 2 or newer, which needs s 3 or newer", "need w 2 or newer, which needs s 3 or newer and not s 2 and 3"),
+    ("need w 2 or newer, which needs s 3 or newer", "need w 2 or newer, which needs s 3 or newer and not s 1"),
+    ("need w 2 or newer, which needs s 3 or newer", "need w 2 or newer"), ("with p 2 and 3", "with p 3"),
+    # who needs it
+    (", which needs s 3 or newer.\n1", ".\n1"), (", which needs s 3 or newer.\n1", ", and w from 2 on needs s 3 or newer.\n1"),
+    ("line 2 (s<3) don't", "line 3 (w) don't"), ("line 1 (p>=2) and line 2 (s<3)", "line 2 (s<3) and line 1 (p>=2)"),
+    ("which needs s 3 or newer.\n1", "which needs p 3.\n1"),
+)
+# a line that no release matches
+NEWEST_FILE = "n>=9", "m"
+NEWEST = """\
+No choice of versions meets line 1 (n>=9).
+1. line 1 (n>=9) allows no release of n; the newest in the index is 7.
+"""
+PLANTED_NEWEST = (
+    ("index is 7", "index is 8"), ("index is 7", "index is 6"), ("index is 7", "index is 1"), ("; the newest in the index is 7", ""),
+    ("release of n;", "release of m;"), ("; the newest in the index is 7", ", and the index has no such release"), ("n; the", "n, the"),
+    ("allows no release of n; the newest in the index is 7", "allows n 7"), ("line 1 (n>=9) allows", "line 2 (m) allows"),
+)
 # a chain: each package needs the next one, and the last one isn't there
 LINKS = 8
 CHAIN_FILE = ("k0",)
@@ -145,26 +214,33 @@ PLANTED_CHAIN = (
     ("3 to 7. So it goes on through 5", "3 to 8. So it goes on through 6"), ("from k5 to", "from k4 to"), ("to k1:", "to k2:"), ("to k1:", "to x:"),
     ("from k5 to", "from x to"), ("ruled out by 7", "ruled out by 6"), ("ruled out by 7", "ruled out by 2"), ("ruled out by 7", "ruled out by 3"),
     ("k6 needs k7, which is ruled out by 1", "k6 needs k7, which is ruled out by 2"), ("3 to 7.", "3."),
-    ("the step before.", "the step before beside the only release of x."),
+    ("the step before.", "the step before with the only release of x."),
 )
 # a bound that travels along such a chain
 BOUND_FILE = "k0>=2", "k8<2"
 BOUND_INDEX = tuple((f"k{place}", f"{version}", [f"k{place + 1}>={version}"] * (place < LINKS)) for place in range(LINKS + 1) for version in (1, 2, 3))
 BOUND = """\
 No choice of versions meets line 1 (k0>=2) and line 2 (k8<2).
-1. k6 2 and 3 need k7 2 or newer, which needs k8 2 or newer and not k8 1.
-2. k5 2 and 3 need k6 2 or newer, which is ruled out by 1 beside k8 1.
-3 to 6. So it goes on through 4 packages, from k4 to k1: each needs the one before it, which is ruled out by the step before beside k8 1.
-7. k0 2 and 3 need k1 2 or newer, which is ruled out by 6 beside k8 1.
-8. line 2 (k8<2) allows k8 1, which is ruled out by 7 beside k0 2 and 3.
+1. k6 2 and 3 need k7 2 or newer, which needs k8 2 or newer.
+2. k5 2 and 3 need k6 2 or newer, which is ruled out by 1 with k8 1.
+3 to 6. So it goes on through 4 packages, from k4 to k1: each needs the one before it, which is ruled out by the step before with k8 1.
+7. k0 2 and 3 need k1 2 or newer, which is ruled out by 6 with k8 1.
+8. line 2 (k8<2) allows k8 1, which is ruled out by 7 with k0 2 and 3.
 9. line 1 (k0>=2) allows k0 2 or newer, which is ruled out by 8.
 """
 PLANTED_BOUND = (
     ("3 to 6. So it goes on through 4", "3 to 5. So it goes on through 3"), ("3 to 6. So it goes on through 4", "3 to 6. So it goes on through 3"),
-    ("step before beside k8 1", "step before"), ("step before beside k8 1", "step before beside k8 2"), ("from k4 to", "from k3 to"),
+    ("step before with k8 1", "step before"), ("step before with k8 1", "step before with k8 2"), ("from k4 to", "from k3 to"),
     ("to k1:", "to k2:"), ("k0 2 and 3 need k1 2 or newer", "k0 2 and 3 need k1 1 or newer"), ("k0 2 and 3 need k1", "every release of k0 needs k1"),
+    ("which needs k8 2 or newer", "which needs k8 1 or newer"), ("which needs k8 2 or newer", "which needs k8 3"),
+    ("which needs k8 2 or newer", "which needs k8"),
+    ("k7 2 or newer, which needs", "k7, which needs"), ("by 7 with k0 2 and 3", "by 7 with k0 2"), ("by 7 with k0 2 and 3", "by 6 with k0 2 and 3"),
+)
+# the same where it is told what isn't needed
+NOT_NEEDED = BOUND.replace("which needs k8 2 or newer", "which needs k8 2 or newer and not k8 1")
+PLANTED_NOT_NEEDED = (
     ("which needs k8 2 or newer and not k8 1", "which needs k8 1 or newer and not k8 1"), ("and not k8 1", "and not k8 2"), ("and not k8 1", "and not k0 1"),
-    ("k7 2 or newer, which needs", "k7, which needs"), ("by 7 beside k0 2 and 3", "by 7 beside k0 2"), ("by 7 beside k0 2 and 3", "by 6 beside k0 2 and 3"),
+    ("and not k8 1", "and not k8 1 and 2"), ("and not k8 1", "and not"),
 )
 
 
@@ -181,16 +257,20 @@ class Drawn(Program):
         self.put({"requirements.txt": "".join(f"{line}\n" for line in self.file).encode()})
 
     def asked(self, named, *words, kept=None):
-        """Whether a question about these lines is told in sentences, which are true then. It may be one where these versions are kept."""
+        """Whether a question about these lines is told in sentences, which are true then, the long ones too. It may be one where these
+        versions are kept."""
         status, told = self.call("why", *words)
         if status != 3:
             return False
-        with self.subTest(words=words, file=self.file, index=self.index, told=told):
-            problem = Problem([text for _, text in named], LINUX, read_index(self.index), kept or {}, kept is not None)
-            try:
-                check(problem, lines_of(problem, named), told, left_out(self.index).items())
-            except Fault as fault:
-                self.fail(f"{fault}\n{told}")
+        problem = Problem([text for _, text in named], LINUX, read_index(self.index), kept or {}, kept is not None)
+        long = self.call("why", "--explain", "--long", *(word for word in words if word != "--explain"))
+        for (status, text), is_long in ((status, told), False), (long, True):
+            with self.subTest(words=words, file=self.file, index=self.index, is_long=is_long, told=text):
+                self.assertEqual(status, 3)
+                try:
+                    check(problem, lines_of(problem, named), text, left_out(self.index).items(), is_long)
+                except Fault as fault:
+                    self.fail(f"{fault}\n{text}")
         self.kept_told |= set(re.findall(HELD, " ".join(told.split())))
         return True
 
@@ -273,7 +353,7 @@ class Planted(unittest.TestCase):
     def test_other_words_for_the_same_are_accepted(self):
         for old, new in (
             ("2. line 3 (c) needs c, which is ruled out by 1", "2. line 3 (c) needs c, which is ruled\n   out by 1"),
-            ("which is ruled out by 1 beside a 1 to 3", "and beside a 1 to 3 no release of c is left: 1 is ruled out by 1"),
+            ("which is ruled out by 1 with a 1 to 3", "and with a 1 to 3 no release of c is left: 1 is ruled out by 1"),
         ):
             with self.subTest(old=old, new=new):
                 self.assertEqual(TOLD.count(old), 1)
@@ -316,6 +396,17 @@ class Planted(unittest.TestCase):
         words = {"file": BOTH_FILE, "index": PAIR_INDEX}
         self.assertEqual(self.stated(BOTH, **words), [[]])
         self.refuses(BOTH, PLANTED_BOTH, **words)
+        words = {"file": SHARED_FILE, "index": SHARED_INDEX}
+        self.assertEqual(self.stated(SHARED, **words), [[("p", 2), ("w", 2)], [("p", 2)], []])
+        self.refuses(SHARED, PLANTED_SHARED, **words)
+        words = {"file": LINKED_FILE, "index": LINKED_INDEX}
+        self.assertEqual(self.stated(LINKED, **words), [[("p", 2), ("s", 2)], [("p", 2)], []])
+        self.refuses(LINKED, PLANTED_LINKED, **words)
+
+    def test_the_newest_release_is_told_where_a_line_allows_none(self):
+        words = {"file": NEWEST_FILE, "index": PAIR_INDEX}
+        self.assertEqual(self.stated(NEWEST, **words), [[]])
+        self.refuses(NEWEST, PLANTED_NEWEST, **words)
 
     def test_a_chain_is_as_long_as_it_is_told(self):
         words = {"file": CHAIN_FILE, "index": CHAIN_INDEX}
@@ -326,6 +417,8 @@ class Planted(unittest.TestCase):
         found = [[(f"k{place}", 2), ("k8", 1)] for place in (6, 5)] + [None] * 3 + [[(f"k{place}", 2), ("k8", 1)] for place in (1, 0)]
         self.assertEqual(self.stated(BOUND, **words), [*found, [("k0", 2)], []])
         self.refuses(BOUND, PLANTED_BOUND, **words)
+        self.assertEqual(self.stated(NOT_NEEDED, **words), self.stated(BOUND, **words))
+        self.refuses(NOT_NEEDED, PLANTED_NOT_NEEDED, **words)
 
 
 if __name__ == "__main__":

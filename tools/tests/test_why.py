@@ -28,6 +28,9 @@ IDLE = ("a", "1", ["c!=1"]), ("a", "2", ["c!=1"]), ("c", "1", []), ("c", "3", []
 # each release of `d` needs another `c`, and none is there
 OTHERS = ("a", "1", ["c<2"]), ("c", "1", []), ("c", "2", []), ("d", "1", ["c>3"]), ("d", "2", ["c>4"])
 
+# each release of `a` needs a `b` of its own number or a newer one
+BOUNDED = *(("a", version, [f"b>={version}"]) for version in "123"), *(("b", version, []) for version in "123")
+
 
 class Why(Program):
     """What `why` prints of problems with a solution and without one. It saves nothing."""
@@ -63,9 +66,10 @@ class Why(Program):
         ),
         (
             SHARED, b"a==2\n", ["--explain", "c"],
-            "No choice of versions meets line 1 (a==2) and the new line (c).\n"
+            "line 1 (a==2) and the new line (c) don't go together: a 2 needs b<2, and the only release of c needs\n"
+            "b 2 or newer.\n"
             "1. a 2 needs b<2, and the only release of c needs b 2 or newer.\n"
-            "2. the new line (c) needs c, which is ruled out by 1 beside a 2.\n"
+            "2. the new line (c) needs c, which is ruled out by 1 with a 2.\n"
             "3. line 1 (a==2) allows a 2, which is ruled out by 2.\n",
         ),
         (
@@ -111,6 +115,13 @@ class Why(Program):
             "2. the new line (d) needs d, which is ruled out by 1.\n",
         ),
         (
+            # of two lines on one name the one that bounds it is told
+            BOUNDED, b"a\na>=2\n", ["--explain", "b<2"],
+            "line 2 (a>=2) and the new line (b<2) don't go together: a from 2 on needs b 2 or newer.\n"
+            "1. a 2 and 3 need b 2 or newer, and the new line allows 1.\n"
+            "2. line 2 (a>=2) allows a 2 or newer, which is ruled out by 1.\n",
+        ),
+        (
             LEFT_OUT, b"", ["--explain", "b"],
             "No choice of versions meets the new line (b).\n"
             "1. the only release of b needs c>1, and the index has no such release.\n"
@@ -128,6 +139,18 @@ class Why(Program):
         self.assertEqual((status, is_refutation(problem, conflicts)), (3, True), told)
         for place in range(len(conflicts)):
             self.assertFalse(is_refutation(problem, conflicts[:place] + conflicts[place + 1 :]), (told, place))
+
+    def test_nothing_stands_in_front_where_a_release_has_a_version_for_both_lines(self):
+        """It was yanked, which the sentence in front wouldn't tell."""
+        yanked = ("s", "1", []), ("s", "2", [], {"yanked": True}), ("s", "3", [])
+        for releases, other in (
+            ([("p", "1", ["s<3"])], "s>=2"), ([("p", "1", ["m"]), ("m", "1", ["s<3"])], "s>=2"),
+            ([("p", "1", ["s<3"]), ("w", "1", ["s>=2"])], "w"),
+        ):
+            with self.subTest(releases=releases):
+                self.begin(f"p\n{other}\n".encode(), *releases, *yanked)
+                status, told = self.call("why", "--init", "--explain")
+                self.assertEqual((status, told.partition("\n")[0]), (3, f"No choice of versions meets line 1 (p) and line 2 ({other})."))
 
     def test_conflicts_are_printed_and_told_in_sentences(self):
         for releases, file, words, told in self.REFUTED:

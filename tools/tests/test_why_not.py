@@ -38,11 +38,13 @@ class OfTargets(Released):
         self.plays((["init"], 0, "ok 0\n"))
         self.assertEqual([self.locked("linux"), self.locked("win")], [{"a": "2", "e": "1"}, {"a": "1", "e": "1", "w": "1"}])
         newer = (
-            "target win\nNo choice of versions meets line 1 (a), line 2 (e) and the version asked for (a==2).\n"
-            "1. line 2 (e) needs e, which needs a<2 and not a 2.\n"
-            "2. line 1 (a) needs a, and no release of a is left: 1 doesn't match ==2 of the version asked for; 2 is ruled out by 1.\n"
+            "target win\nline 2 (e) and the version asked for (a==2) don't go together: the only release of e needs a<2.\n"
+            "1. line 2 (e) needs e, which needs a<2.\n2. the version asked for (a==2) allows a 2, which is ruled out by 1.\n"
         )
-        nowhere = "target linux\nNo choice of versions meets the version asked for ({0}).\n1. the version asked for ({0}) allows no release of a.\n"
+        nowhere = (
+            "target linux\nNo choice of versions meets the version asked for ({0}).\n"
+            "1. the version asked for ({0}) allows no release of a; the newest in the index is 2.\n"
+        )
         self.answers(
             ("a==2", 3, newer), ("a", 3, newer), ("a==3", 3, nowhere.format("a==3")),
             (
@@ -84,7 +86,11 @@ class OfReleases(Released):
             ("B == 2.0", 0, "b 2.0 is locked.\n"), ("b==3", 0, "b 3 needs Python >=3.99, the environment has 3.12.3.\n"),
             ("c==2", 0, "c 2 is yanked, and no line pins it with ==.\n"),
             ("d==2a1", 0, "d 2a1 is a pre-release, which counts where a line names one or no final release fits.\n"),
-            ("b==4", 3, "No choice of versions meets the version asked for (b==4).\n1. the version asked for (b==4) allows no release of b.\n"),
+            (
+                "b==4", 3,
+                "No choice of versions meets the version asked for (b==4).\n"
+                "1. the version asked for (b==4) allows no release of b; the newest in the index is 3.\n",
+            ),
         )
 
     def test_the_newest_that_counts_unasked(self):

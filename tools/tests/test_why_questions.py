@@ -93,7 +93,10 @@ class Questions(Program):
         self.begin(b"c\na\n", *SHARED)
         self.plays((["init"], 0, "ok 0\n"))
         told = self.call("why", "--explain", "--constrain", "a", "==2")[1]
-        self.assertEqual(told.split("\n")[0], "No choice of versions meets line 1 (c) and line 2 as constrained (a==2).")
+        self.assertEqual(
+            told.partition("\n1. ")[0],
+            "line 1 (c) and line 2 as constrained (a==2) don't go together: the only release of c needs b 2 or\nnewer, and a 2 needs b<2.",
+        )
         self.begin(b"c\na\n", ("a", "1", ["b"]), ("c", "1", []))
         new = self.outside / "new.txt"
         new.write_bytes(b"# new\nc\na\n")
@@ -151,7 +154,7 @@ class Reasons(Program):
         self.assertIn(" 2 needs Python >=3.99, the environment has ", self.asked("b>=2"))
         self.assertIn(" 2 is yanked, and no line pins it with ==", self.asked("c>=2"))
         self.assertIn(" 2a1 is a pre-release, which counts where a line names one", self.asked("e", b"d>=1\n"))
-        self.assertIn("the new line (b>=9) allows no release of b.", self.asked("b>=9"))
+        self.assertIn("the new line (b>=9) allows no release of b; the newest in the index is 2.", self.asked("b>=9"))
 
     def test_names_that_are_near_are_told(self):
         self.begin(b"", ("requests", "1", []), ("request", "1", []), ("flask", "1", []))

@@ -6,7 +6,7 @@ ghost use Rattle.answers.specs.Answers.{IsSolvable};
 
 use crate::shown::{Shown, first_refuted};
 use calls::{Call, ReplacedHistory, Stop, pool_of, print, replaced};
-use command_line::request::{EditInputs, Replacement};
+use command_line::request::{EditInputs, Replacement, Told};
 use edits::{Edit, Line, Problem, Refutation, State, TargetName, problem_after, problems_of_init};
 use explain::{ChangedLine, ChangedLines, Explanation, Telling, add_refutation};
 use files::LockFile;
@@ -18,14 +18,21 @@ use std::alloc::{AllocError, Global};
 use std::io::{Read, Write};
 use std::rt::Files;
 
+/// Changed lines, and how it is told why they have no solution.
+#[derive(Clone, Copy)]
+pub struct ToldLines<'a> {
+    pub changed: ChangedLines<'a>,
+    pub told: Told,
+}
+
 /// Prints why an edit of the saved state has no solution over an index: a refutation that `check`
 /// accepts, of the first target that has none. Where each one has a solution, that is printed.
-/// It is told in sentences where that is asked for. All files are read before a fault in one is told.
+/// It is told in sentences where that is asked for, long ones too. All files are read before a fault in one is told.
 pub fn print_why<R: Files + AllocGlobal, O: Write>(
     call: &mut Call<'_, R, O>,
     edit: &Edit,
     inputs: EditInputs<'_>,
-    explains: bool,
+    told: Told,
 ) -> Result<(), Stop>
 where
     R::File: LockFile,
@@ -34,14 +41,13 @@ where
     let (session, snapshot) = session_over(call.rt, call.dir, inputs.index)?;
     let pool = pool_of(&snapshot, inputs);
     let problems = problem_after(alloc, session.state(), edit, &pool)?;
-    let lines = ChangedLines {
+    let changed = ChangedLines {
         lines: session.state().lines().lines(),
         changed: changed_by(edit),
     };
     answer(
         alloc,
-        lines,
-        explains,
+        ToldLines { changed, told },
         problems.as_slice(),
         &mut call.output,
     )
@@ -52,7 +58,7 @@ pub fn print_why_replace<R: Files + AllocGlobal, I: Read + Drop, O: Write>(
     call: &mut Call<'_, R, O>,
     replacement: &Replacement<'_>,
     inputs: EditInputs<'_>,
-    explains: bool,
+    told: Told,
     input: I,
 ) -> Result<(), Stop>
 where
@@ -68,14 +74,13 @@ where
     )?;
     let pool = pool_of(&history.snapshot, inputs);
     let problems = problem_after(alloc, history.session.state(), &edit, &pool)?;
-    let lines = ChangedLines {
+    let changed = ChangedLines {
         lines: lines_of(&edit, history.session.state()),
         changed: changed_by(&edit),
     };
     answer(
         alloc,
-        lines,
-        explains,
+        ToldLines { changed, told },
         problems.as_slice(),
         &mut call.output,
     )
@@ -100,7 +105,7 @@ pub fn print_why_init<R: Files + AllocGlobal, I: Read + Drop, O: Write>(
     call: &mut Call<'_, R, O>,
     line: Option<&str>,
     paths: FirstPaths<'_>,
-    explains: bool,
+    told: Told,
     input: I,
 ) -> Result<(), Stop> {
     let alloc = call.rt.alloc();
@@ -115,14 +120,13 @@ pub fn print_why_init<R: Files + AllocGlobal, I: Read + Drop, O: Write>(
         None => Edit::Relock,
     };
     let problems = problems_of_init(alloc, &lines, &edit, first, &snapshot)?;
-    let lines = ChangedLines {
+    let changed = ChangedLines {
         lines: lines.lines(),
         changed: changed_by(&edit),
     };
     answer(
         alloc,
-        lines,
-        explains,
+        ToldLines { changed, told },
         problems.as_slice(),
         &mut call.output,
     )
@@ -143,13 +147,13 @@ fn changed_by(edit: &Edit) -> ChangedLine<'_> {
 // Tells of the first target without a solution why it has none, or that each has one.
 fn answer<O: Write>(
     alloc: Global,
-    lines: ChangedLines<'_>,
-    explains: bool,
+    lines: ToldLines<'_>,
     problems: &[(TargetName, Problem<'_>)],
     output: &mut O,
 ) -> Result<(), Stop>
     ensures { IfOk result (λ _. All IsSolvable problems.now) }
 {
+    let explains = lines.told != Told::Conflicts;
     match first_refuted(alloc, problems, explains)? {
         Some((place, shown)) => {
             let (name, problem) = &problems[place];
@@ -180,7 +184,10 @@ pub fn told_refutation(
     match first_refuted(alloc, problems, true)? {
         Some((place, Shown::Explained(explanation))) => {
             let (name, problem) = &problems[place];
-            let lines = ChangedLines { lines, changed };
+            let lines = ToldLines {
+                changed: ChangedLines { lines, changed },
+                told: Told::Sentences,
+            };
             Ok(Some(explained_text(alloc, name, problem, &explanation, lines)?))
         }
         Some((_, Shown::Listed(_))) => Ok(Some(String::new(alloc))),
@@ -206,10 +213,14 @@ pub fn explained_text(
     name: &TargetName,
     problem: &Problem<'_>,
     explanation: &Explanation,
-    lines: ChangedLines<'_>,
+    lines: ToldLines<'_>,
 ) -> Result<String, AllocError> {
+    let telling = match lines.told {
+        Told::LongSentences => Telling::Long,
+        Told::Sentences | Told::Conflicts => Telling::Short,
+    };
     let mut text = String::new(alloc);
     add_target_line(&mut text, name.as_str())?;
-    explanation.add_sentences(alloc, &mut text, problem, lines, Telling::Short)?;
+    explanation.add_sentences(alloc, &mut text, problem, lines.changed, telling)?;
     Ok(text)
 }

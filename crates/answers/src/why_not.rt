@@ -7,8 +7,9 @@ ghost use Rattle.edits.specs.Refused.{is_locked_for};
 ghost use Rattle.answers.specs.WhyNot.{is_other, lacks};
 
 use crate::shown::refuted_by_sets;
-use crate::why::explained_text;
+use crate::why::{ToldLines, explained_text};
 use calls::{Call, Stop, show};
+use command_line::request::Told;
 use edits::{
     Cause, Edit, Learning, Line, Name, Pool, Problem, Refusal, Resolver, State, Target,
     problem_after, problems_with,
@@ -35,11 +36,13 @@ struct NamedRelease {
 }
 
 /// Prints why the present lock hasn't the release that the text names, as `NAME==VERSION`, or the newest
-/// final one of the index, as `NAME`: of the first target whose lock has the name and not the release.
+/// final one of the index, as `NAME`: of the first target whose lock has the name and not the release. It is always told in
+/// sentences, in long ones where these are asked for.
 pub fn print_why_not<R: Files + AllocGlobal, O: Write>(
     call: &mut Call<'_, R, O>,
     text: &str,
     index: &str,
+    told: Told,
 ) -> Result<(), Stop>
 where
     R::File: LockFile,
@@ -47,7 +50,7 @@ where
     let alloc = call.rt.alloc();
     let (session, snapshot) = session_over(call.rt, call.dir, index)?;
     let named = release_in(alloc, text, &snapshot)?;
-    let answer = why_not(alloc, session.state(), &named, &snapshot)?;
+    let answer = why_not(alloc, session.state(), &named, &snapshot, told)?;
     show(&mut call.output, answer.as_str().as_bytes())?;
     Ok(())
 }
@@ -112,6 +115,7 @@ fn why_not(
     state: &State,
     named: &NamedRelease,
     snapshot: &Snapshot,
+    told: Told,
 ) -> Result<String, Stop> {
     let present = problem_after(alloc, state, &Edit::Relock, &Pool::whole(snapshot))?;
     let problems = problems_with(alloc, state, &named.text, snapshot)?;
@@ -119,7 +123,7 @@ fn why_not(
     if !is_locked(state.targets(), name) {
         return Err(Stop::from(Refusal::NotLocked(Text::copy_of(alloc, name.normal())?)));
     }
-    let lines = ChangedLines {
+    let changed = ChangedLines {
         lines: state.lines().lines(),
         changed: ChangedLine::Wanted(&named.text),
     };
@@ -134,7 +138,7 @@ fn why_not(
     if is_told(alloc, &mut text, named, before, problem)? {
         return Ok(text);
     }
-    refuted_text(alloc, text, target, problem, lines)
+    refuted_text(alloc, text, target, problem, ToldLines { changed, told })
 }
 
 // Whether the lock of some target has the name.
@@ -219,7 +223,7 @@ fn refuted_text(
     text: String,
     target: &Target,
     problem: &Problem<'_>,
-    lines: ChangedLines<'_>,
+    lines: ToldLines<'_>,
 ) -> Result<String, Stop> {
     match refuted_by_sets(alloc, problem)? {
         Some(explanation) => {

@@ -6,6 +6,7 @@ use crate::line_breaks::add_wrapped;
 use crate::placed_term::{PlacedTerm, place_of};
 use crate::reasons::Unadmitted;
 use crate::release_set::add_listed;
+use crate::telling::Telling;
 use lists::Bits;
 use pep440::Version;
 use pep508::{Name, Requirement};
@@ -213,7 +214,8 @@ impl WantedRelease<'_> {
             },
             places,
         };
-        let asked = asked_by_term(alloc, problem, &term, NeededName::bare(other.name))?;
+        let needed = NeededName::bare(other.name);
+        let asked = asked_by_term(alloc, problem, &term, needed, Telling::Short)?;
         if asked.places.has(place) {
             return Ok(false);
         }
@@ -288,6 +290,7 @@ pub fn add_uncounted(
         problem,
         requirement,
         places: &places,
+        telling: Telling::Short,
     };
     let mut sentence = String::from_str(alloc, wanted.name.normal())?;
     sentence.push_str(" ")?;

@@ -6,16 +6,18 @@ use crate::derivation::{Derivation, ExhaustedNode};
 use crate::exclusion::Exclusion;
 use crate::placed_term::PlacedTerm;
 use crate::sides::{Side, party_of};
+use crate::telling::Telling;
 use lists::Bits;
 use problems::Problem;
 use refutations::SetNeed;
 use std::alloc::{AllocError, Global};
 
-/// The conflicts of a refutation of a problem, each with why it follows.
+/// The conflicts of a refutation of a problem, each with why it follows; and how much of them is told.
 #[derive(Clone, Copy)]
 pub struct Derived<'a> {
     pub alloc: Global,
     pub problem: &'a Problem<'a>,
+    pub telling: Telling,
     pub conflicts: &'a [Vec<PlacedTerm>],
     pub derivations: &'a [Derivation],
 }

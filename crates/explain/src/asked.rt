@@ -4,13 +4,15 @@ use crate::dependencies::{NeededName, does_need};
 use crate::placed_term::PlacedTerm;
 use crate::range::{Range, range_of};
 use crate::release_set::add_listed;
+use crate::telling::Telling;
 use lists::Bits;
 use pep508::{Name, Operator, Requirement};
 use phrases::add_requirement;
 use problems::{Node, Problem};
+use snapshot::Release;
 use std::alloc::{AllocError, Global};
 
-/// How many different requirements for one name are told.
+/// How many different requirements for one name are told, in short.
 pub const REQUIREMENTS: usize = 3;
 
 /// What is asked of a name: how it is told, and the places of the releases that match what is told. Whether one is yanked, a
@@ -30,7 +32,7 @@ pub enum Words {
     Range(String),
     /// A requirement with its name.
     Requirement(String),
-    /// No release does: the different requirements, one more than are told at most.
+    /// No release does: the different requirements; or none of them where they are more than are told.
     Nothing(Vec<String>),
 }
 
@@ -60,10 +62,10 @@ impl Asked {
                 write!(text, "{name} {range}")
             }
             Words::Requirement(requirement) => text.push_str(requirement.as_str()),
-            Words::Nothing(texts) if texts.len() <= REQUIREMENTS => {
-                add_listed(text, texts.as_slice(), "or")
+            Words::Nothing(texts) if texts.is_empty() => {
+                write!(text, "{name} in versions that the index doesn't have")
             }
-            Words::Nothing(_) => { write!(text, "{name} in versions that the index doesn't have") }
+            Words::Nothing(texts) => add_listed(text, texts.as_slice(), "or"),
         }
     }
 
@@ -113,9 +115,11 @@ pub fn asked_by_line(
     alloc: Global,
     problem: &Problem<'_>,
     requirement: &Requirement,
+    telling: Telling,
 ) -> Result<Asked, AllocError> {
+    let releases = problem.releases(requirement.name());
     let places = matching(alloc, problem, requirement)?;
-    asked_of(alloc, problem, requirement.name(), places, Vec::new(alloc))
+    asked_of(alloc, releases, places, Vec::new(alloc), telling)
 }
 
 /// What the releases of a term ask of a name: what any of them takes. A requirement that is all of them is told by itself.
@@ -124,11 +128,13 @@ pub fn asked_by_term(
     problem: &Problem<'_>,
     term: &PlacedTerm,
     needed: NeededName<'_>,
+    telling: Telling,
 ) -> Result<Asked, AllocError> {
-    let texts = requirements_of(alloc, problem, term, needed)?;
+    let texts = requirements_of(alloc, problem, term, needed, telling)?;
     let is_one = texts.len() == 1;
+    let releases = problem.releases(needed.name);
     let places = taken_by(alloc, problem, term, needed)?;
-    let asked = asked_of(alloc, problem, needed.name, places, texts)?;
+    let asked = asked_of(alloc, releases, places, texts, telling)?;
     if is_one && asked.is_range() {
         if let Some(requirement) = requirement_on(problem, term, needed) {
             return Ok(Asked {
@@ -140,16 +146,17 @@ pub fn asked_by_term(
     Ok(asked)
 }
 
-// What is asked where these releases match, by these requirements.
+// What is asked where of the releases of a name these match, by these requirements.
 fn asked_of(
     alloc: Global,
-    problem: &Problem<'_>,
-    name: &Name,
+    releases: &[Release],
     places: Bits,
     texts: Vec<String>,
+    telling: Telling,
 ) -> Result<Asked, AllocError> {
-    let releases = problem.releases(name);
     if places.is_empty() {
+        let is_told = texts.len() <= telling.most(REQUIREMENTS);
+        let texts = if is_told { texts } else { Vec::new(alloc) };
         return Ok(Asked {
             words: Words::Nothing(texts),
             places,
@@ -161,7 +168,7 @@ fn asked_of(
             places,
         });
     }
-    let Range { text, places } = range_of(alloc, releases, &places)?;
+    let Range { text, places } = range_of(alloc, releases, &places, telling)?;
     Ok(Asked {
         words: Words::Range(text),
         places,
@@ -222,11 +229,13 @@ pub fn requirements_of(
     problem: &Problem<'_>,
     term: &PlacedTerm,
     needed: NeededName<'_>,
+    telling: Telling,
 ) -> Result<Vec<String>, AllocError> {
+    let most = telling.most(REQUIREMENTS);
     let mut texts: Vec<String> = Vec::new(alloc);
     let listed = term.places.places(alloc)?;
     for place in listed.as_slice().iter().rev() {
-        if texts.len() <= REQUIREMENTS {
+        if texts.len() <= most {
             add_requirements(alloc, &mut texts, problem, (&term.node, *place), needed)?;
         }
     }

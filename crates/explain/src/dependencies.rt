@@ -27,8 +27,8 @@ impl<'a> NeededName<'a> {
         }
     }
 
-    // Whether a requirement needs it.
-    fn is_in(&self, requirement: &Requirement) -> bool {
+    /// Whether a requirement needs it.
+    pub fn is_in(&self, requirement: &Requirement) -> bool {
         if requirement.name().normal() != self.name.normal() {
             return false;
         }

@@ -1,8 +1,8 @@
 // Why the conflicts of a set refutation follow.
 
+use crate::dependencies::NeededName;
 use crate::exclusion::{Earlier, Exclusion};
 use crate::placed_term::{PlacedTerm, are_one, candidate_places};
-use lists::Bits;
 use problems::parts::copy_of;
 use problems::{Node, Problem};
 use refutations::{SetGround, SetNeed};
@@ -105,7 +105,12 @@ fn derivation_by(
                 return Ok(Derivation::Clash(place, place));
             };
             let node = term.node.clone()?;
-            exhausted(alloc, earlier, conflict, (node, None), &term.places)
+            let exclusions = earlier.exclusions(alloc, conflict, &node, &term.places)?;
+            Ok(Derivation::Exhausted(ExhaustedNode {
+                node,
+                need: None,
+                exclusions,
+            }))
         }
         SetGround::NoneLeft(need, name, extra) => {
             let left = candidate_places(alloc, problem, name)?;
@@ -113,24 +118,46 @@ fn derivation_by(
                 name: name.clone()?,
                 extra: copy_of(extra)?,
             };
-            exhausted(alloc, earlier, conflict, (node, Some(need)), &left)
+            let exclusions = earlier.exclusions(alloc, conflict, &node, &left)?;
+            let need = told_need(problem, earlier, need, &node, exclusions.as_slice());
+            Ok(Derivation::Exhausted(ExhaustedNode {
+                node,
+                need: Some(need),
+                exclusions,
+            }))
         }
     }
 }
 
-// A node with what needs it, of which these releases are excluded beside the conflict.
-fn exhausted(
-    alloc: Global,
+// What is told to need a node: in the place of a line that excludes none of its releases another line that needs it and does.
+fn told_need(
+    problem: &Problem<'_>,
     earlier: Earlier<'_>,
-    conflict: &[PlacedTerm],
-    needed: (Node, Option<SetNeed>),
-    wanted: &Bits,
-) -> Result<Derivation, AllocError> {
-    let (node, need) = needed;
-    let exclusions = earlier.exclusions(alloc, conflict, &node, wanted)?;
-    Ok(Derivation::Exhausted(ExhaustedNode {
-        node,
-        need,
-        exclusions,
-    }))
+    need: SetNeed,
+    node: &Node,
+    exclusions: &[Exclusion],
+) -> SetNeed {
+    let SetNeed::Line(own) = need else {
+        return need;
+    };
+    let mut told: Option<SetNeed> = None;
+    for exclusion in exclusions {
+        if let Some(Derivation::Line(place, _)) = earlier.derivations.get(exclusion.conflict) {
+            if *place == own {
+                return need;
+            }
+            if told.is_none() && does_line_need(problem, *place, node) {
+                told = Some(SetNeed::Line(*place));
+            }
+        }
+    }
+    told.unwrap_or(need)
+}
+
+// Whether the active line at a place needs a node.
+fn does_line_need(problem: &Problem<'_>, place: usize, node: &Node) -> bool {
+    match problem.active.as_slice().get(place) {
+        Some(line) => NeededName::of(node).is_in(line),
+        None => false,
+    }
 }

@@ -11,8 +11,9 @@ use crate::grounds::grounds_of;
 use crate::line_name::line_names;
 use crate::narrowed_refutation::narrowed_refutation;
 use crate::placed_term::{PlacedTerm, placed_conflicts};
+use crate::sentences::Sentences;
 use crate::sentences::steps::{cited_lines, told_steps};
-use crate::sentences::{Sentences, Telling};
+use crate::telling::Telling;
 use problems::Problem;
 use refutations::SetRefutation;
 use std::alloc::{AllocError, Global};
@@ -130,8 +131,7 @@ fn narrowed(
 
 impl Explanation {
     /// Puts behind the text which lines have no solution, and then a sentence for each conflict on which
-    /// that rests, with its number. A sentence cites only sentences above it. A chain of them is told whole, or by its
-    /// first and its last. The problem is the one that it was made for.
+    /// that rests, with its number. A sentence cites only sentences above it. The problem is the one that it was made for.
     pub fn add_sentences(
         &self,
         alloc: Global,
@@ -144,6 +144,7 @@ impl Explanation {
         let derived = Derived {
             alloc,
             problem,
+            telling,
             conflicts: self.followed.conflicts.as_slice(),
             derivations: self.followed.derivations.as_slice(),
         };
@@ -157,6 +158,6 @@ impl Explanation {
             steps: steps.as_slice(),
             cited: cited.as_slice(),
         };
-        sentences.add_all(text, telling)
+        sentences.add_all(text)
     }
 }

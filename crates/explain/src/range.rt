@@ -1,11 +1,12 @@
 // Releases of a name that somebody asks for, as a few runs of versions.
 
 use crate::release_runs::{Run, runs_of, version_text};
+use crate::telling::Telling;
 use lists::Bits;
 use snapshot::Release;
 use std::alloc::{AllocError, Global};
 
-/// How many runs are told.
+/// How many runs are told, in short.
 const RUNS: usize = 3;
 
 /// Releases as they are told, and the places of all that are told so.
@@ -15,12 +16,17 @@ pub struct Range {
     pub places: Bits,
 }
 
-/// Tells releases, which are listed newest first, as runs: `1 to 3, 5, or 7 or newer`. Of many runs the least and the
-/// greatest version are told.
-pub fn range_of(alloc: Global, releases: &[Release], places: &Bits) -> Result<Range, AllocError> {
+/// Tells releases, which are listed newest first, as runs: `1 to 3, 5, or 7 or newer`. Of many runs, in short, the
+/// least and the greatest version are told.
+pub fn range_of(
+    alloc: Global,
+    releases: &[Release],
+    places: &Bits,
+    telling: Telling,
+) -> Result<Range, AllocError> {
     let listed = places.places(alloc)?;
     let runs = runs_of(alloc, listed.as_slice())?;
-    if runs.len() > RUNS {
+    if runs.len() > telling.most(RUNS) {
         return range_between(alloc, releases, runs.as_slice());
     }
     let mut pieces = Vec::new(alloc);

@@ -1,6 +1,7 @@
 // Why a requirement doesn't admit releases of its name.
 
 use crate::release_set::ReleaseSet;
+use crate::telling::Telling;
 use lists::Bits;
 use pep508::Requirement;
 use phrases::{add_clause, add_plain};
@@ -15,6 +16,7 @@ pub struct Unadmitted<'a> {
     pub problem: &'a Problem<'a>,
     pub requirement: &'a Requirement,
     pub places: &'a Bits,
+    pub telling: Telling,
 }
 
 /// Releases that aren't admitted for one reason. What is needed of Python is a reason of its own.
@@ -125,6 +127,7 @@ impl Unadmitted<'_> {
         let releases = ReleaseSet {
             releases: self.releases(),
             places: &group.places,
+            telling: self.telling,
         };
         if let Inadmissible::Clause(place) = group.reason {
             if releases.are_every(alloc)? {

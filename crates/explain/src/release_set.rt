@@ -1,11 +1,12 @@
 // Some releases of a name, as runs of versions.
 
 use crate::release_runs::{Run, runs_of, version_text};
+use crate::telling::Telling;
 use lists::Bits;
 use snapshot::Release;
 use std::alloc::{AllocError, Global};
 
-/// How many versions and runs are told of a set.
+/// How many versions and runs are told of a set, in short.
 const PIECES: usize = 6;
 
 /// Some of the releases of a name, by their places. The releases are listed newest first.
@@ -13,6 +14,7 @@ const PIECES: usize = 6;
 pub struct ReleaseSet<'a> {
     pub releases: &'a [Release],
     pub places: &'a Bits,
+    pub telling: Telling,
 }
 
 // The versions and runs to be told: two versions side by side are told as two.
@@ -83,13 +85,13 @@ impl ReleaseSet<'_> {
         self.add_versions(alloc, text)
     }
 
-    /// The versions as runs. Of many runs only the first and the last version are told, and how many releases there are.
+    /// The versions as runs. Of many runs, in short, only the first and the last version are told, and how many releases there are.
     pub fn add_versions(&self, alloc: Global, text: &mut String) -> Result<(), AllocError> {
         let places = self.places.places(alloc)?;
         let count = places.len();
         let runs = runs_of(alloc, places.as_slice())?;
         let pieces = pieces_of(alloc, self.releases, runs.as_slice())?;
-        if pieces.len() > PIECES {
+        if pieces.len() > self.telling.most(PIECES) {
             return self.add_ends(alloc, text, runs.as_slice(), count);
         }
         add_listed(text, pieces.as_slice(), "and")

@@ -10,24 +10,18 @@ mod side;
 pub mod steps;
 
 use crate::account::Derived;
+use crate::asked::{Asked, asked_by_term};
+use crate::dependencies::NeededName;
 use crate::line_breaks::add_wrapped;
 use crate::line_name::{LineName, add_line, add_short};
+use crate::placed_term::PlacedTerm;
 use crate::release_set::ReleaseSet;
 use crate::sentences::chain::{Part, parts_of};
 use crate::sentences::steps::Step;
 use lists::Bits;
-use pep508::Requirement;
+use pep508::{Name, Requirement};
 use problems::{Node, Problem};
 use std::alloc::{AllocError, Global};
-
-/// Whether chains of steps of one shape are told whole.
-#[derive(Clone, Copy, PartialEq, Eq)]
-pub enum Telling {
-    /// By the first step, the last one, and how many lie between.
-    Short,
-    /// Step by step.
-    Long,
-}
 
 /// What sentences are made of.
 #[derive(Clone, Copy)]
@@ -45,11 +39,11 @@ pub struct Sentences<'a> {
 
 impl Sentences<'_> {
     /// The conclusion, and the sentences with their numbers; then the releases that were left out of the index.
-    pub fn add_all(&self, text: &mut String, telling: Telling) -> Result<(), AllocError> {
+    pub fn add_all(&self, text: &mut String) -> Result<(), AllocError> {
         if !self.add_front(text)? {
             self.add_conclusion(text)?;
         }
-        let parts = parts_of(self.derived, self.steps, telling)?;
+        let parts = parts_of(self.derived, self.steps)?;
         for part in parts.as_slice() {
             match part {
                 Part::Step(place) => self.add_numbered(text, *place)?,
@@ -76,7 +70,15 @@ impl Sentences<'_> {
         ReleaseSet {
             releases: self.problem.releases(&node.name),
             places,
+            telling: self.derived.telling,
         }
+    }
+
+    // What the releases of a term ask of a name.
+    fn asked_of(&self, term: &PlacedTerm, name: &Name) -> Result<Asked, AllocError> {
+        let telling = self.derived.telling;
+        let needed = NeededName::bare(name);
+        asked_by_term(self.alloc, self.problem, term, needed, telling)
     }
 
     // The requirement of the active line at a place.

@@ -23,17 +23,16 @@ pub fn answer_why<R: Files + AllocGlobal, I: Read + Drop, O: Write>(
 where
     R::File: LockFile,
 {
-    let explains = told != Told::Conflicts;
     match question {
-        Question::Edit(edit, inputs) => print_why(call, &edit, inputs, explains),
+        Question::Edit(edit, inputs) => print_why(call, &edit, inputs, told),
         Question::Replace(replacement, inputs) => {
-            print_why_replace(call, &replacement, inputs, explains, input)
+            print_why_replace(call, &replacement, inputs, told, input)
         }
         Question::Init(inputs, line) => {
             let paths = first_paths(call.rt.alloc(), &inputs, targets)?;
-            print_why_init(call, line, paths, explains, input)
+            print_why_init(call, line, paths, told, input)
         }
-        Question::Release(text, index) => print_why_not(call, text, index),
+        Question::Release(text, index) => print_why_not(call, text, index, told),
     }
 }
 

@@ -10,11 +10,11 @@ from rules.locks import Choice, lacks, needs_of_choice
 from rules.requirements import Fault, holds, read_line, want
 from rules.set_refutations import Term, case_of, completes
 from rules.told_causes import CauseReader
-from rules.told_releases import MOST_REQUIREMENTS, Line, keys_of, node_of, read_needed, read_requirements, text_of
+from rules.told_releases import LONG, SHORT, Line, keys_of, node_of, read_needed, read_requirements, text_of
 from rules.versions import canonical
 
-# how many lines of the file a conclusion names, and of how many packages the sentence in front tells
-MOST_LINES, MOST_PACKAGES = 6, 2
+# of how many packages the sentence in front tells
+MOST_PACKAGES = 3
 
 
 def numbered(file):
@@ -33,8 +33,8 @@ class Reader(CauseReader):
     """Reads sentences over a problem, whose active lines are these. It keeps the names that they are about, and who asks for releases of
     each."""
 
-    def __init__(self, problem, lines):
-        super().__init__(problem, lines)
+    def __init__(self, problem, lines, limits):
+        super().__init__(problem, lines, limits)
         self.texts, self.shorts = [line.text for line in lines], [line.short for line in lines]
         self.names, self.asking = set(), []
 
@@ -86,7 +86,8 @@ class Reader(CauseReader):
         want(self.is_missing(step.missing, node[0]), f"what the index lacks: {step.missing}")
         if terms:
             needed = self.wanted(source, node)[1]
-            want(needed == set(told) or len(needed) > MOST_REQUIREMENTS and told == [(node[0], (), ())], f"what {source} needs")
+            is_short = len(needed) > self.limits.requirements and told == [(node[0], (), ())]
+            want(needed == set(told) or is_short, f"what {source} needs")
         else:
             want(node in self.problem.need_of(source.requirement).nodes, f"a line that needs {node}")
         self.asking.append((node[0], [source]))
@@ -101,7 +102,7 @@ class Reader(CauseReader):
                 left &= self.problem.candidate_keys(name)
                 continue
             source = self.source(side)
-            if place and not re.match(sentences.NAME, side.asked):
+            if place and re.fullmatch(sentences.RANGE, side.asked):
                 found = self.asked_range(source, (name, None), side.asked)
             else:
                 (own, _), found = self.asked(source, side.asked)
@@ -113,9 +114,15 @@ class Reader(CauseReader):
             earlier += self.outside(source, (name, None), found)
         want(not left, f"no release that is left: {left}")
         want(not step.lacks or len(step.sides) == 1, "one side")
+        newest = step.sides[0].newest
+        want(newest in (None, self.newest(name)), f"the newest release of {name}: {newest}")
         self.asking.append((name, sources))
         self.follows_alone(earlier)
         self.state(terms, (name, None), earlier)
+
+    def newest(self, name):
+        """The version of the newest release of a name."""
+        return canonical(self.release(name, keys_of(self.problem, name)[-1]).version)
 
     def leave_none(self, step):
         """The same of a sentence which may not say whether the node of an extra is meant."""
@@ -151,6 +158,7 @@ class Reader(CauseReader):
             want(is_short or (step.node is None) == (not all_told) and step.node in (None, text_of(node)), f"which are left: {step.node}")
             want(step.held == self.held(node[0]), f"what the lock keeps: {step.held}")
             wanted, earlier = self.problem.candidate_keys(node[0]) & found, self.outside(need, node, found)
+            terms += self.others_than_needed(step, Term(*node, frozenset(wanted)))
             self.follows_alone(earlier)
             self.asking.append((node[0], [need]))
         told = []
@@ -161,6 +169,14 @@ class Reader(CauseReader):
             earlier = earlier + conflicts
         want(sorted(told) == sorted(wanted), f"each release of {node} excluded once")
         self.state(terms, node, earlier)
+
+    def others_than_needed(self, step, term):
+        """Where it is told what the releases of a term need, and no term that they don't need: all others of the name."""
+        needed = [cause.told["asked"] for cause in step.causes if cause.kind == "needs" and cause.releases is None and not step.beside]
+        asked = [self.asked(term, it) for it in needed]
+        others = [Term(name, None, frozenset(keys_of(self.problem, name)) - found) for (name, _), found in asked]
+        want(all(other.keys for other in others), f"others than what is needed: {needed}")
+        return others
 
     def step(self, text):
         """Reads a sentence, and keeps the conflict that it states."""
@@ -222,19 +238,28 @@ class Reader(CauseReader):
     def front(self, front):
         """Whether the sentence in front is true by itself, and about the lines on which the sentences rest and no others."""
         one, other = map(self.line, front.lines)
-        want(one is not other and not self.problem.only_kept and len(self.names) <= MOST_PACKAGES, "two lines, and a package or two")
+        want(one is not other and not self.problem.only_kept and len(self.names) <= MOST_PACKAGES, "two lines, and a few packages")
         self.rests_on({one.short, other.short}, 0)
         allowed = self.matching(other.requirement)
         if front.term is None:
             found = self.matching(one.requirement)
             want(front.asked == one.requirement.name == other.requirement.name and found and allowed, f"two lines on {front.asked}")
         else:
-            term = self.term(front.term)
-            want(term.name == one.requirement.name and term.extra in (None, *one.requirement.extras), f"what {one.short} needs")
-            want(term.keys == self.matching(one.requirement), f"the releases that {one.short} allows")
-            (name, _), found = self.asked(term, front.asked)
-            want(name == other.requirement.name, f"what {other.short} is about")
+            (name, found), last = self.needed_by(one, front.term, front.asked), other.requirement.name
+            if front.beyond is not None:
+                (name, _), found = self.asked(Term(name, None, found), front.beyond)
+            elif front.second is not None:
+                last, allowed = self.needed_by(other, *front.second)
+            want(name == last, f"what {other.short} is about")
         want(not found & allowed, "what doesn't go together")
+
+    def needed_by(self, line, told, asked):
+        """Of which name the releases that a line allows need which releases."""
+        term = self.term(told)
+        want(term.name == line.requirement.name and term.extra in (None, *line.requirement.extras), f"what {line.short} needs")
+        want(term.keys == self.matching(line.requirement), f"the releases that {line.short} allows")
+        (name, _), found = self.asked(term, asked)
+        return name, found
 
     def conclusion(self, text):
         """Whether the lines on which the sentences rest, and no others, are told with what they ask for."""
@@ -248,7 +273,7 @@ class Reader(CauseReader):
         while words.rest:
             line = next((line for line in self.lines if words.rest.startswith(line.text)), None)
             more = words.take(r"[0-9]+ more\Z")
-            want(line or more and len(named) == MOST_LINES, f"a line: {words.rest}")
+            want(line or more and len(named) == self.limits.lines, f"a line: {words.rest}")
             named.append(line or int(more.split()[0]))
             words.rest = words.rest[len(line.text) :] if line else ""
             want(not words.rest or words.take(", | and "), f"a next line: {words.rest}")
@@ -272,13 +297,14 @@ class Reader(CauseReader):
         want(named == wanted, f"the releases that were left out: {lines}, and not {wanted}")
 
 
-def check(problem, lines, text, releases=()):
-    """Checks a printed text, and gives the conflicts that its sentences state. What isn't true is a Fault. Releases that were left out of
-    the index are given as `left_out` gives them."""
-    told, reader = sentences.cut(text), Reader(problem, lines)
+def check(problem, lines, text, releases=(), is_long=False):
+    """Checks a printed text, and gives the conflicts that its sentences state. What isn't true is a Fault, and where it is a long one,
+    what is left out. Releases that were left out of the index are given as `left_out` gives them."""
+    told, reader = sentences.cut(text), Reader(problem, lines, LONG if is_long else SHORT)
     want(told.steps, "a sentence")
     for numbers, step in told.steps:
         if len(numbers) > 1:
+            want(not is_long, f"each step: {step}")
             reader.chain(numbers, step)
         else:
             reader.step(step)

@@ -24,6 +24,8 @@ def listed(item, word):
 VERSIONS = rf"(?:[0-9]+ releases between {VERSION} and {VERSION}|{listed(RUN, 'and')})"
 RELEASES = rf"(?:every release|{VERSIONS})"
 TERM = rf"(?:(?:every|any|the only) release of {NODE}|{NODE} {VERSIONS})"
+# one with which something doesn't go
+OTHER = rf"(?:(?:any|the only) release of {NODE}|{NODE} {VERSIONS})"
 REQUIREMENTS = listed(REQUIREMENT, "or")
 # releases that are asked for: runs, the last one of which may have no end
 PIECE = rf"{VERSION}(?: to {VERSION}| or newer)?"
@@ -33,10 +35,11 @@ ABSENT = " in versions that the index doesn't have"
 ASKED = rf"(?:{NODE} {RANGE}|{NODE}{ABSENT}|{REQUIREMENTS})"
 MISSING = rf"the index has no (?:package ({NAME})(?:; near names: {NAME}(?:, {NAME})*)?|release of ({NAME}) that can be used)"
 LACKING = "the index has no such release"
+NEWEST = "; the newest in the index is "
 HELD = rf"the lock keeps {VERSION}(?:, which the index doesn't have)?"
 CHAIN = (
     rf"So it goes on through (?P<count>[0-9]+) packages, from (?P<first>{NODE}) to (?P<last>{NODE}): "
-    rf"each needs the one before it, which is ruled out by the step before(?: beside (?P<beside>{listed(TERM, 'and')}))?"
+    rf"each needs the one before it, which is ruled out by the step before(?: with (?P<beside>{listed(OTHER, 'and')}))?"
 )
 # who asks: a line, as it is told in short or with what it asks for, or each release of a term, which is told by its node
 WHO = rf"line [0-9]+(?: as constrained)?(?: \(.*\))?|the new line(?: \(.*\))?|the version asked for(?: \(.*\))?|{NODE}"
@@ -77,17 +80,19 @@ class Cause(NamedTuple):
 
 class Side(NamedTuple):
     """Who asks for releases: a term, or the text of a line or its name in short, or None for the lock; and what, as it is told. It is
-    `any` where each release will do, and `none` where no release does, of a line."""
+    `any` where each release will do, and `none` where no release does, of a line; then the newest version of the index is told."""
 
     who: Term | str | None
     asked: str
+    newest: str | None = None
 
 
 class Step(NamedTuple):
     """A numbered sentence. With one side alone, or none, `causes` say what excludes the releases of `node` that it asks for, beside the
-    terms of `beside`; without a side these are the releases of the first term. With more sides, or where `lacks` says that the index
-    hasn't what is asked for, these leave none. `missing` says what the index lacks where no release is told of; `held` which version of
-    the name the lock keeps, where no other one counts."""
+    terms of `beside`; without a side these are the releases of the first term. Where the releases need what is told, `beside` may be left
+    away: then what they need excludes all others of its name. With more sides, or where `lacks` says that the index hasn't what is asked
+    for, these leave none. `missing` says what the index lacks where no release is told of; `held` which version of the name the lock
+    keeps, where no other one counts."""
 
     sides: list[Side]
     beside: list[Term]
@@ -110,11 +115,14 @@ class Chain(NamedTuple):
 
 
 class Front(NamedTuple):
-    """Two lines that don't go together, by their texts; and a term with what it needs, or the name of which no release matches both."""
+    """Two lines that don't go together, by their texts; and a term with what it needs, or the name of which no release matches both. Of
+    what is needed it may be told what that needs; or there is a second term, and what this needs."""
 
     lines: list[str]
     term: Term | None
     asked: str
+    beyond: str | None = None
+    second: tuple[Term, str] | None = None
 
 
 class Explanation(NamedTuple):
@@ -184,9 +192,9 @@ def read_term(text):
     return Term(node, releases)
 
 
-def take_terms(words):
+def take_others(words):
     """Terms with commas between them and `and` before the last one."""
-    return list(map(read_term, re.findall(TERM, words.must(listed(TERM, "and")))))
+    return list(map(read_term, re.findall(OTHER, words.must(listed(OTHER, "and")))))
 
 
 def read_cause(text):
@@ -206,8 +214,10 @@ def take_side(words, lines):
     """Who asks for releases, first: one of these lines, told with what it asks for, or a term."""
     for verb, asked in (" needs ", NODE), (" allows no release of ", NODE), (" allows ", rf"{NODE} {RANGE}"):
         line = words.take_one(lines, verb)
+        if line is not None and " no " in verb:
+            return Side(line, "none of " + words.must(asked), words.must(NEWEST + VERSION).removeprefix(NEWEST))
         if line is not None:
-            return Side(line, ("none of " if " no " in verb else "") + words.must(asked))
+            return Side(line, words.must(asked))
     term = read_term(words.must(TERM))
     words.must(" needs? ")
     return Side(term, words.must(ASKED))
@@ -252,7 +262,7 @@ def read_step(text, lines, shorts):
     if excluded:
         front = words.must(EXCLUDED)
         terms = [Term(excluded["node"], "every release") if excluded["node"] else read_term(excluded["term"])]
-        terms += take_terms(words) if front.endswith(" with ") else []
+        terms += take_others(words) if front.endswith(" with ") else []
         words.must(": ")
         return Step([], terms, terms[0].node, read_causes(words.rest))
     side = take_side(words, lines)
@@ -269,13 +279,12 @@ def read_step(text, lines, shorts):
         return Step(sides, [], None, [])
     number = words.take(", which is ruled out by [0-9]+")
     if number is not None:
-        beside = take_terms(words) if words.take(" beside ") else []
+        beside = take_others(words) if words.take(" with ") else []
         words.end()
         return Step([side], beside, None, [Cause("step", None, {"step": number.rpartition(" ")[2]})])
     if words.take(", which needs ") is not None:
         asked = words.must(ASKED)
-        words.must(" and not ")
-        beside = [read_term(words.must(TERM))]
+        beside = [read_term(words.must(TERM))] if words.take(" and not ") else []
         words.end()
         return Step([side], beside, None, [Cause("needs", None, {"asked": asked})])
     return read_none_left(words, side)
@@ -283,7 +292,7 @@ def read_step(text, lines, shorts):
 
 def read_none_left(words, side):
     words.must(", and ")
-    beside = take_terms(words) if words.take("beside ") else []
+    beside = take_others(words) if words.take("with ") else []
     words.take(" ")
     node = None
     if words.take("no such release is left: ") is None:
@@ -299,7 +308,7 @@ def read_none_left(words, side):
 def read_chain(numbers, text):
     found = re.fullmatch(CHAIN, text)
     want(found, f"a chain: {text}")
-    beside = take_terms(Words(found["beside"])) if found["beside"] else []
+    beside = take_others(Words(found["beside"])) if found["beside"] else []
     return Chain(numbers, int(found["count"]), found["first"], found["last"], beside)
 
 
@@ -314,9 +323,18 @@ def read_front(text, lines):
     both = re.fullmatch(f"no release of ({NAME}) matches both", words.rest)
     if both:
         return Front([one, other], None, both[1])
+    front = Front([one, other], *take_needing(words))
+    if words.take(", which needs "):
+        front = front._replace(beyond=words.must(ASKED))
+    elif words.take(", and "):
+        front = front._replace(second=take_needing(words))
+    words.end()
+    return front
+
+
+def take_needing(words):
+    """A term of the sentence in front, and what it needs."""
     begins = re.match(rf"({NODE}) (from {VERSION} on) needs ", words.rest)
     term = Term(begins[1], begins[2]) if begins else read_term(words.must(TERM))
     words.must(re.escape(begins[0]) if begins else " needs? ")
-    front = Front([one, other], term, words.must(ASKED))
-    words.end()
-    return front
+    return term, words.must(ASKED)

@@ -12,8 +12,8 @@ class CauseReader(ReleaseReader):
     """Reads what excludes releases. It keeps the conflicts of the sentences, which of them are named, and on which lines they rest: the
     lines of which one has to be named in the conclusion, and those that may be."""
 
-    def __init__(self, problem, lines):
-        super().__init__(problem, lines)
+    def __init__(self, problem, lines, limits):
+        super().__init__(problem, lines, limits)
         self.conflicts, self.cited = [], set()
         self.rested, self.possible = [], set()
 

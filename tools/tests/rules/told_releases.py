@@ -2,6 +2,7 @@
 to be the ones whose versions match."""
 
 import re
+from math import inf
 from typing import NamedTuple
 
 from rules import sentences
@@ -9,8 +10,16 @@ from rules.requirements import Requirement, matches, read_requirement, read_set,
 from rules.set_refutations import Term
 from rules.versions import canonical, order_key, read_version
 
-# how many different requirements and how many runs of releases a sentence tells
-MOST_REQUIREMENTS, MOST_RUNS = 3, 3
+
+class Limits(NamedTuple):
+    """How many lines of the file a conclusion names, and how many different requirements and runs of releases a sentence tells."""
+
+    lines: float
+    requirements: float
+    runs: float
+
+
+SHORT, LONG = Limits(6, 3, 3), Limits(inf, inf, inf)
 
 
 class Line(NamedTuple):
@@ -81,10 +90,10 @@ def read_requirements(text):
 
 
 class ReleaseReader:
-    """Reads which releases are told, over a problem and its active lines."""
+    """Reads which releases are told, over a problem and its active lines. What is more than the limits say may be left out."""
 
-    def __init__(self, problem, lines):
-        self.problem, self.lines = problem, lines
+    def __init__(self, problem, lines, limits):
+        self.problem, self.lines, self.limits = problem, lines, limits
 
     def release(self, name, key):
         return self.problem.releases[name][self.problem.places[name][key]]
@@ -130,7 +139,7 @@ class ReleaseReader:
             return node_of(name), self.asked_range(source, node_of(name), range_told)
         if told.endswith(sentences.ABSENT) or told.startswith("none of "):
             found, needed = self.wanted(source, node_of(name))
-            want(not found and (isinstance(source, Line) or len(needed) > MOST_REQUIREMENTS), f"nothing of {name}")
+            want(not found and (isinstance(source, Line) or len(needed) > self.limits.requirements), f"nothing of {name}")
             return node_of(name), found
         if isinstance(source, Line):
             found, _ = self.wanted(source, node_of(name))
@@ -145,7 +154,7 @@ class ReleaseReader:
         between = re.fullmatch("between (.*) and (.*)", told)
         if between:
             ends = [order_key(read_version(it)) for it in between.groups()]
-            want(run_count(self.problem, node[0], found) > MOST_RUNS and ends == [min(found), max(found)], f"the ends of {told}")
+            want(run_count(self.problem, node[0], found) > self.limits.runs and ends == [min(found), max(found)], f"the ends of {told}")
             return frozenset(key for key in keys if ends[0] <= key <= ends[1])
         bound = re.fullmatch(f"({sentences.VERSION}) or newer", told)
         clauses = {clauses for _, _, clauses in needed}
@@ -153,7 +162,7 @@ class ReleaseReader:
             return found
         told_keys = runs_told(self.problem, node[0], told, "or")
         want(told_keys == found and len(found) < len(keys), f"the releases that are asked for: {told}")
-        want(run_count(self.problem, node[0], found) <= MOST_RUNS, f"a few runs: {told}")
+        want(run_count(self.problem, node[0], found) <= self.limits.runs, f"a few runs: {told}")
         return found
 
     def asked_by_requirements(self, source, told):

@@ -1,6 +1,6 @@
 // What excludes releases of a node.
 
-use crate::asked::{Words, asked_by_term, requirement_on, requirements_of};
+use crate::asked::{Words, requirement_on, requirements_of};
 use crate::dependencies::NeededName;
 use crate::derivation::{Derivation, ExhaustedNode};
 use crate::exclusion::Exclusion;
@@ -60,8 +60,7 @@ impl Sentences<'_> {
         }
     }
 
-    /// What the excluded releases need, where they are excluded by their need of a term's name alone, and that they don't
-    /// need this term. Tells whether it is so.
+    /// What the excluded releases need, where they are excluded by their need of a term's name alone. Tells whether it is so.
     pub fn add_own_need(
         &self,
         text: &mut String,
@@ -92,10 +91,26 @@ impl Sentences<'_> {
             return Ok(false);
         }
         text.push_str(", which needs ")?;
-        self.add_needs(text, &term, &beside.node)?;
-        text.push_str(" and not ")?;
-        self.add_term(text, beside, "every")?;
+        self.add_needs_apart(text, &term, beside)?;
         Ok(true)
+    }
+
+    // What releases need of a term's name; and that they don't need this term, unless no release of the term is one of those
+    // that they need.
+    fn add_needs_apart(
+        &self,
+        text: &mut String,
+        term: &PlacedTerm,
+        beside: &PlacedTerm,
+    ) -> Result<(), AllocError> {
+        let asked = self.asked_of(term, &beside.node.name)?;
+        asked.add_needed(text, beside.node.name.normal())?;
+        let is_bare = beside.node.extra.is_none();
+        if is_bare && !asked.is_nothing() && !asked.places.meets(&beside.places) {
+            return Ok(());
+        }
+        text.push_str(" and not ")?;
+        self.add_term(text, beside, "every")
     }
 
     // By a sentence above.
@@ -138,6 +153,7 @@ impl Sentences<'_> {
             problem: self.problem,
             requirement: wanted,
             places,
+            telling: self.derived.telling,
         };
         unadmitted.add_reasons(self.alloc, text, of.as_str())
     }
@@ -177,8 +193,7 @@ impl Sentences<'_> {
         term: &PlacedTerm,
         other: &Node,
     ) -> Result<(), AllocError> {
-        let needed = NeededName::bare(&other.name);
-        let asked = asked_by_term(self.alloc, self.problem, term, needed)?;
+        let asked = self.asked_of(term, &other.name)?;
         asked.add_needed(text, other.name.normal())
     }
 
@@ -195,19 +210,21 @@ impl Sentences<'_> {
         if !is_needing {
             add_node(&mut of, &beside.node)?;
         }
-        let texts = requirements_of(self.alloc, self.problem, beside, needed)?;
+        let telling = self.derived.telling;
+        let texts = requirements_of(self.alloc, self.problem, beside, needed, telling)?;
         if texts.len() == 1 {
             if let Some(wanted) = requirement_on(self.problem, beside, needed) {
                 let unadmitted = Unadmitted {
                     problem: self.problem,
                     requirement: wanted,
                     places,
+                    telling,
                 };
                 return unadmitted.add_reasons(self.alloc, text, of.as_str());
             }
         }
         let releases = self.set_of(node, places);
-        let asked = asked_by_term(self.alloc, self.problem, beside, needed)?;
+        let asked = self.asked_of(beside, &node.name)?;
         if is_needing || asked.places.meets(places) {
             return self.add_unadmitted(text, releases, of.as_str());
         }

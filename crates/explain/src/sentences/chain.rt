@@ -5,7 +5,8 @@ use crate::exclusion::Exclusion;
 use crate::line_breaks::add_wrapped;
 use crate::placed_term::PlacedTerm;
 use crate::sentences::steps::Step;
-use crate::sentences::{Sentences, Telling, add_node};
+use crate::sentences::{Sentences, add_node};
+use crate::telling::Telling;
 use refutations::SetNeed;
 use std::alloc::AllocError;
 use std::collections::BTreeMap;
@@ -21,17 +22,13 @@ pub enum Part {
     Chain(usize, usize),
 }
 
-/// The steps in their order. Those of a chain but for its first and its last are told together.
-pub fn parts_of(
-    derived: Derived<'_>,
-    steps: &[Step],
-    telling: Telling,
-) -> Result<Vec<Part>, AllocError> {
+/// The steps in their order. In short, those of a chain but for its first and its last are told together.
+pub fn parts_of(derived: Derived<'_>, steps: &[Step]) -> Result<Vec<Part>, AllocError> {
     let uses = uses_of(derived, steps)?;
     let mut parts = Vec::new(derived.alloc);
     let mut first = 0;
     for place in 0..steps.len() {
-        let is_on = telling == Telling::Short && goes_on(derived, steps, &uses, place);
+        let is_on = derived.telling == Telling::Short && goes_on(derived, steps, &uses, place);
         if !is_on {
             add_parts(&mut parts, first, place)?;
             first = place.saturating_add(1);

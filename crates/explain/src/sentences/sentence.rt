@@ -62,7 +62,7 @@ impl Sentences<'_> {
             self.add_excluded(text, term, is_alone)?;
         }
         if !is_alone {
-            self.add_others(text, conflict, own, "any")?;
+            self.add_others(text, conflict, own)?;
         }
         text.push_str(": ")?;
         self.add_causes(text, conflict, exhausted, exclusions)
@@ -119,26 +119,25 @@ impl Sentences<'_> {
         set.add_versions(self.alloc, text)
     }
 
-    // The terms of a conflict but for the one at a place, with a word for all releases of a name.
+    // The terms of a conflict but for the one at a place.
     fn add_others(
         &self,
         text: &mut String,
         conflict: &[PlacedTerm],
         but: Option<usize>,
-        all: &str,
     ) -> Result<(), AllocError> {
         let mut items = Vec::new(self.alloc);
         for (at, term) in conflict.iter().enumerate() {
             if Some(at) != but {
                 let mut item = String::new(self.alloc);
-                self.add_term(&mut item, term, all)?;
+                self.add_term(&mut item, term, "any")?;
                 items.push(item)?;
             }
         }
         add_listed(text, items.as_slice(), "and")
     }
 
-    /// The terms that don't need the node, behind `beside` and with the texts around them.
+    /// The terms that don't need the node, behind `with` and with the texts around them.
     pub fn add_beside(
         &self,
         text: &mut String,
@@ -154,8 +153,8 @@ impl Sentences<'_> {
             return Ok(());
         }
         text.push_str(around.0)?;
-        text.push_str("beside ")?;
-        self.add_others(text, conflict, but, "every")?;
+        text.push_str("with ")?;
+        self.add_others(text, conflict, but)?;
         text.push_str(around.1)
     }
 
@@ -252,8 +251,9 @@ impl Sentences<'_> {
         };
         self.add_subject(text, term, (" needs ", " need "))?;
         let needed = NeededName::of(node);
-        let texts = requirements_of(self.alloc, self.problem, term, needed)?;
-        if texts.len() > REQUIREMENTS {
+        let telling = self.derived.telling;
+        let texts = requirements_of(self.alloc, self.problem, term, needed, telling)?;
+        if texts.len() > telling.most(REQUIREMENTS) {
             return add_node(text, node);
         }
         add_listed(text, texts.as_slice(), "or")

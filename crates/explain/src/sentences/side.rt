@@ -1,6 +1,6 @@
 // Who asks for which releases of a name.
 
-use crate::asked::{Asked, REQUIREMENTS, Words};
+use crate::asked::{Asked, Words};
 use crate::placed_term::PlacedTerm;
 use crate::release_set::add_listed;
 use crate::sentences::{Sentences, add_node};
@@ -47,7 +47,11 @@ impl Sentences<'_> {
                     Words::Nothing(_) => " allows no release of ",
                     _ => " allows ",
                 })?;
-                self.add_named(text, asked, node)
+                self.add_named(text, asked, node)?;
+                if asked.is_nothing() {
+                    return self.add_newest(text, node);
+                }
+                Ok(())
             }
             Party::Term(at) => {
                 if let Some(term) = conflict.get(at) {
@@ -59,10 +63,21 @@ impl Sentences<'_> {
         }
     }
 
+    // The newest release that the index has of a name, of which a line allows none.
+    fn add_newest(&self, text: &mut String, node: &Node) -> Result<(), AllocError> {
+        match self.problem.releases(&node.name).first() {
+            Some(release) => {
+                let version = release.version();
+                write!(text, "; the newest in the index is {version}")
+            }
+            None => Ok(()),
+        }
+    }
+
     // What releases need, also where no release matches it.
     fn add_wanted(&self, text: &mut String, asked: &Asked, node: &Node) -> Result<(), AllocError> {
         match &asked.words {
-            Words::Nothing(texts) if texts.len() > REQUIREMENTS => {
+            Words::Nothing(texts) if texts.is_empty() => {
                 add_node(text, node)?;
                 text.push_str(" in versions that the index doesn't have")
             }
