@@ -40,7 +40,7 @@ pub fn first_refuted(
     Ok(None)
 }
 
-// What shows that a problem has no solution. Nothing where it has one.
+/// What shows that a problem has no solution. Nothing where it has one.
 fn shown_of(
     alloc: Global,
     problem: &Problem<'_>,
@@ -62,7 +62,7 @@ fn shown_of(
     }
 }
 
-// A refutation of the problem, which `check` has accepted. Nothing where the problem has a solution.
+/// A refutation of the problem, which `check` has accepted. Nothing where the problem has a solution.
 fn refuted(alloc: Global, problem: &Problem<'_>) -> Result<Option<Refutation>, AllocError>
     ensures { IfOk result
         (λ found. MatchOption found (HasSolution problem.now)

@@ -132,7 +132,7 @@ pub fn print_why_init<R: Files + AllocGlobal, I: Read + Drop, O: Write>(
     )
 }
 
-// The line that an edit changes.
+/// The line that an edit changes.
 fn changed_by(edit: &Edit) -> ChangedLine<'_> {
     match edit {
         Edit::Add(text) => ChangedLine::Added(text),
@@ -144,7 +144,7 @@ fn changed_by(edit: &Edit) -> ChangedLine<'_> {
     }
 }
 
-// Tells of the first target without a solution why it has none, or that each has one.
+/// Tells of the first target without a solution why it has none, or that each has one.
 fn answer<O: Write>(
     alloc: Global,
     lines: ToldLines<'_>,
@@ -195,7 +195,7 @@ pub fn told_refutation(
     }
 }
 
-// A refutation, below the target's name.
+/// A refutation, below the target's name.
 fn plain_text(
     alloc: Global,
     name: &TargetName,

@@ -79,8 +79,8 @@ fn release_in(alloc: Global, text: &str, snapshot: &Snapshot) -> Result<NamedRel
     })
 }
 
-// The newest release that nothing has to ask for by its version: no pre-release, and not yanked. Where there is none, the
-// newest one.
+/// The newest release that nothing has to ask for by its version: no pre-release, and not yanked. Where there is none, the
+/// newest one.
 fn newest_of(releases: &[Release]) -> Option<&Release> {
     for release in releases {
         if !release.version().is_pre() && !release.yanked() {
@@ -108,8 +108,8 @@ fn version_in(alloc: Global, text: &str) -> Result<Version, Refusal> {
     }
 }
 
-// The answer of the first target whose lock has the name and not the release. A name that is in no lock is
-// refused.
+/// The answer of the first target whose lock has the name and not the release. A name that is in no lock is
+/// refused.
 fn why_not(
     alloc: Global,
     state: &State,
@@ -141,14 +141,14 @@ fn why_not(
     refuted_text(alloc, text, target, problem, ToldLines { changed, told })
 }
 
-// Whether the lock of some target has the name.
+/// Whether the lock of some target has the name.
 fn is_locked(targets: &[Target], name: &Name) -> bool
     ensures { result ≡ is_locked_for targets.now name.now }
 {
     targets.iter().any(|target| target.locked(name).is_some())
 }
 
-// The place of the first target whose lock has the name and not the release.
+/// The place of the first target whose lock has the name and not the release.
 fn first_lacking(targets: &[Target], named: &NamedRelease) -> Option<usize>
     ensures first { result ≡ position (lacks named.now) targets.now }
     ensures within { IfSome result (λ place. place < length targets.now) }
@@ -156,14 +156,14 @@ fn first_lacking(targets: &[Target], named: &NamedRelease) -> Option<usize>
     targets.iter().position(|target| lacks(target, named))
 }
 
-// Whether the lock of a target has the name, and not the release.
+/// Whether the lock of a target has the name, and not the release.
 fn lacks(target: &Target, named: &NamedRelease) -> bool
     ensures { result ≡ lacks named.now target.now }
 {
     is_other(&named.version, target.locked(&named.name))
 }
 
-// Whether a version is locked that isn't the one that is asked about.
+/// Whether a version is locked that isn't the one that is asked about.
 fn is_other(asked: &Option<Version>, locked: Option<&Version>) -> bool
     ensures { result ≡ is_other asked.now (option_copied locked.entry) }
 {
@@ -189,8 +189,8 @@ fn same_text(alloc: Global, named: &NamedRelease) -> Result<String, AllocError> 
     Ok(text)
 }
 
-// Tells why the release counts for nothing, or which name would have to give; nothing where there is no solution
-// with it.
+/// Tells why the release counts for nothing, or which name would have to give; nothing where there is no solution
+/// with it.
 fn is_told(
     alloc: Global,
     text: &mut String,
@@ -217,7 +217,7 @@ fn is_told(
     }
 }
 
-// Why there is no solution with the release.
+/// Why there is no solution with the release.
 fn refuted_text(
     alloc: Global,
     text: String,

@@ -47,8 +47,8 @@ pub fn show<O: Write>(output: &mut O, text: &[u8]) -> Result<bool, BatchFault>
     }
 }
 
-// Writes all of a text, in as many calls as it takes, or tells why not. `std`'s call of this name doesn't say
-// that something is missing where it fails.
+/// Writes all of a text, in as many calls as it takes, or tells why not. `std`'s call of this name doesn't say
+/// that something is missing where it fails.
 fn written<O: Write>(output: &mut O, text: &[u8]) -> io::Result<()>
     ensures bytes { OnOk result (Appends (O.contents output.old) (O.contents output.new) text.now) }
     ensures cut_off { OnErr result

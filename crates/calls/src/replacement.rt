@@ -99,7 +99,7 @@ fn read_handed<'a, R: Files + AllocGlobal, I: Read + Drop>(
     Ok(HandedRead { index, lines, pins })
 }
 
-// The edit over the history and the index.
+/// The edit over the history and the index.
 fn made_of(
     alloc: Global,
     files: SavedFiles,
@@ -119,7 +119,7 @@ fn made_of(
     Ok(ReplacedHistory { history, edit })
 }
 
-// The new lines. Where the folder's file was changed, it has them.
+/// The new lines. Where the folder's file was changed, it has them.
 fn new_lines(
     alloc: Global,
     files: &SavedFiles,
@@ -143,7 +143,7 @@ fn new_lines(
     }
 }
 
-// What the files pin for the targets of a history.
+/// What the files pin for the targets of a history.
 fn pins_for_targets(
     alloc: Global,
     targets: &[Target],

@@ -40,7 +40,7 @@ pub fn command<'a>(alloc: Global) -> Result<Command<'a>, AllocError>
     with_subcommands(alloc, program(alloc)?, &SUBCOMMANDS)
 }
 
-// The command with these subcommands behind its own.
+/// The command with these subcommands behind its own.
 fn with_subcommands<'a>(
     alloc: Global,
     start: Command<'a>,
@@ -56,7 +56,7 @@ fn with_subcommands<'a>(
     Ok(command)
 }
 
-// A subcommand, with the options, which may stand behind it too.
+/// A subcommand, with the options, which may stand behind it too.
 fn subcommand<'a>(
     alloc: Global,
     words: &SubcommandWords<'static>,
@@ -71,7 +71,7 @@ fn subcommand<'a>(
         .args(args)
 }
 
-// The program's own name and options.
+/// The program's own name and options.
 fn program<'a>(alloc: Global) -> Result<Command<'a>, AllocError>
     ensures app { IfOk result (λ c. app_of c ≡ options_app) }
 {
@@ -84,7 +84,7 @@ fn program<'a>(alloc: Global) -> Result<Command<'a>, AllocError>
         .args(args)
 }
 
-// The options that each subcommand takes, of which its help shows some.
+/// The options that each subcommand takes, of which its help shows some.
 fn options<'a>(alloc: Global, help: Help<'_>) -> Result<Vec<Arg<'a>>, AllocError>
     ensures args { IfOk result (λ args. map rule_of args.items ≡ option_rules) }
 {

@@ -52,7 +52,7 @@ fn read_removal(alloc: Global, name: Option<&str>) -> Result<Option<Edit>, Alloc
     }
 }
 
-// Without specifiers, those of the line are taken away.
+/// Without specifiers, those of the line are taken away.
 fn read_constraint(
     alloc: Global,
     name: Option<&str>,

@@ -76,7 +76,7 @@ pub(crate) fn missing(name: &str, behind: &ArgMatches<'_>) -> Option<&'static st
     ])
 }
 
-// Whether lines are to be replaced by none that are named.
+/// Whether lines are to be replaced by none that are named.
 fn lacks_lines(name: &str, behind: &ArgMatches<'_>) -> bool
     ensures { result ≡ (is_replacement name.now (rows_of (found_of behind.now))
         && not (has_lines (rows_of (found_of behind.now)))) }
@@ -84,7 +84,7 @@ fn lacks_lines(name: &str, behind: &ArgMatches<'_>) -> bool
     is_replacement(name, behind) && !has_lines(behind)
 }
 
-// Whether new lines are named, and none are to be replaced.
+/// Whether new lines are named, and none are to be replaced.
 fn lacks_replacement(name: &str, behind: &ArgMatches<'_>) -> bool
     ensures { result ≡ (not (is_replacement name.now (rows_of (found_of behind.now)))
         && has_old_or_line (rows_of (found_of behind.now))) }
@@ -98,7 +98,7 @@ fn is_replacement(name: &str, behind: &ArgMatches<'_>) -> bool
     name == "replace" || is_given(behind, "replace")
 }
 
-// Whether new lines are named.
+/// Whether new lines are named.
 fn has_lines(behind: &ArgMatches<'_>) -> bool
     ensures { result ≡ has_lines (rows_of (found_of behind.now)) }
 {
@@ -111,7 +111,7 @@ fn has_old_or_line(behind: &ArgMatches<'_>) -> bool
     is_given(behind, "was") || is_given(behind, "line")
 }
 
-// Whether `why` is to leave nothing out of sentences that it isn't asked for.
+/// Whether `why` is to leave nothing out of sentences that it isn't asked for.
 fn lacks_sentences(name: &str, behind: &ArgMatches<'_>) -> bool
     ensures { result ≡ (bytes_eq name.now (codes "why")
         && (has_flag (rows_of (found_of behind.now)) (codes "long")
@@ -120,7 +120,7 @@ fn lacks_sentences(name: &str, behind: &ArgMatches<'_>) -> bool
     name == "why" && has_flag(behind, "long") && !has_flag(behind, "explain")
 }
 
-// Whether `why` has pins for no question.
+/// Whether `why` has pins for no question.
 fn lacks_question(name: &str, behind: &ArgMatches<'_>) -> bool
     ensures { result ≡ (bytes_eq name.now (codes "why")
         && (is_given (rows_of (found_of behind.now)) (codes "pins")
@@ -140,7 +140,7 @@ pub(crate) fn is_given(behind: &ArgMatches<'_>, id: &str) -> bool
     values(behind, id).is_some()
 }
 
-// Whether a text is given that isn't that of `--init`.
+/// Whether a text is given that isn't that of `--init`.
 fn is_text_alone(behind: &ArgMatches<'_>) -> bool
     ensures { result ≡ (not (has_flag (rows_of (found_of behind.now)) (codes "init"))
         && is_given (rows_of (found_of behind.now)) (codes "text")) }

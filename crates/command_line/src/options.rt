@@ -131,7 +131,7 @@ pub(crate) fn stray_flag(before: &ArgMatches<'_>, subcommand: &str) -> Option<&'
     ])
 }
 
-// Whether a flag stands before a subcommand, which doesn't take it.
+/// Whether a flag stands before a subcommand, which doesn't take it.
 fn is_stray(before: &ArgMatches<'_>, flag: &str, is_taken: bool) -> bool
     ensures { result ≡ is_stray (rows_of (found_of before.now)) flag.now is_taken }
 {
@@ -162,14 +162,14 @@ fn takes_json(subcommand: &str) -> bool
     matches!(subcommand, "show" | "log" | "diff" | "check" | "outdated")
 }
 
-// Whether an option stands in both places.
+/// Whether an option stands in both places.
 fn is_twice(before: &ArgMatches<'_>, behind: &ArgMatches<'_>, option: &str) -> bool
     ensures { result ≡ is_twice (rows_of (found_of before.now)) (rows_of (found_of behind.now)) option.now }
 {
     has_value(before, option) && has_value(behind, option)
 }
 
-// Whether a flag does.
+/// Whether a flag does.
 fn is_flag_twice(before: &ArgMatches<'_>, behind: &ArgMatches<'_>, flag: &str) -> bool
     ensures { result ≡ is_flag_twice (rows_of (found_of before.now))
         (rows_of (found_of behind.now)) flag.now }
@@ -185,7 +185,7 @@ pub(crate) fn copies(alloc: Global, texts: &[&str]) -> Result<Seq<Text>, AllocEr
     Ok(Seq::from_vec(copies))
 }
 
-// Copies of the texts, behind others.
+/// Copies of the texts, behind others.
 fn with_copies(alloc: Global, front: Vec<Text>, texts: &[&str]) -> Result<Vec<Text>, AllocError>
     ensures { IfOk result (λ copies.
         copies.items ≡ front.items ++ map (λ n. n.now) texts.now) }

@@ -44,8 +44,8 @@ pub(crate) fn read_question<'a>(
     Ok(Question::Edit(read_questioned(alloc, behind)?, inputs))
 }
 
-// The edit that a question is about: that of the option which names it, or the addition of the text, or
-// a new lock.
+/// The edit that a question is about: that of the option which names it, or the addition of the text, or
+/// a new lock.
 fn read_questioned(alloc: Global, behind: &ArgMatches<'_>) -> Result<Edit, AllocError>
     ensures edit { IfOk result (λ edit. edit ≡ questioned (rows_of (found_of behind.now))) }
 {
@@ -62,7 +62,7 @@ fn read_questioned(alloc: Global, behind: &ArgMatches<'_>) -> Result<Edit, Alloc
     Ok(addition.unwrap_or(Edit::Relock))
 }
 
-// The constraint of a name and its specifiers; without specifiers, those of the line are taken away.
+/// The constraint of a name and its specifiers; without specifiers, those of the line are taken away.
 fn constraint_of(alloc: Global, texts: &[&str]) -> Result<Edit, AllocError>
     ensures edit { IfOk result (λ edit. edit ≡ constraint_of (map (λ s. s.now) texts.now)) }
 {

@@ -38,7 +38,7 @@ pub fn request<'a, S: AsStr>(alloc: Global, words: &'a [S]) -> Result<Invocation
     }
 }
 
-// The request of a subcommand, with what stands before it and behind it.
+/// The request of a subcommand, with what stands before it and behind it.
 fn read_invocation<'a>(
     alloc: Global,
     before: &ArgMatches<'a>,
@@ -61,7 +61,7 @@ fn read_invocation<'a>(
     })
 }
 
-// The first misuse of an argument.
+/// The first misuse of an argument.
 fn first_misuse<'a>(
     before: &ArgMatches<'a>,
     name: &str,
@@ -86,7 +86,7 @@ fn first_misuse<'a>(
     unknown_value(before, behind)
 }
 
-// The first value that an option doesn't know.
+/// The first value that an option doesn't know.
 fn unknown_value<'a>(before: &ArgMatches<'a>, behind: &ArgMatches<'a>) -> Option<Misuse<'a>>
     ensures unknown { MatchOption result
         ((unknown_color (rows_of (found_of before.now)) (rows_of (found_of behind.now)) ≡ None)

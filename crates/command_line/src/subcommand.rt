@@ -59,8 +59,8 @@ pub(crate) fn read_subcommand<'a>(
     }
 }
 
-// The subcommand of this name that prints what is there, as lines or as JSON; none where the name is of
-// another.
+/// The subcommand of this name that prints what is there, as lines or as JSON; none where the name is of
+/// another.
 fn read_view<'a>(
     name: &str,
     before: &ArgMatches<'a>,
@@ -93,7 +93,7 @@ fn saving(before: &ArgMatches<'_>, behind: &ArgMatches<'_>) -> Saving
     }
 }
 
-// In which form a lock is printed; where the value is unknown, as where none is given.
+/// In which form a lock is printed; where the value is unknown, as where none is given.
 fn export<'a>(before: &ArgMatches<'a>, behind: &ArgMatches<'a>) -> Export<'a>
     ensures { IsExport (rows_of (found_of before.now)) (rows_of (found_of behind.now)) result }
 {
@@ -123,7 +123,7 @@ fn format_named(format: &str) -> ExportFormat
     }
 }
 
-// How `why` tells what it knows.
+/// How `why` tells what it knows.
 fn told(behind: &ArgMatches<'_>) -> Told
     ensures { result ≡ told_of (rows_of (found_of behind.now)) }
 {
@@ -146,7 +146,7 @@ fn format(before: &ArgMatches<'_>, behind: &ArgMatches<'_>) -> Format
     }
 }
 
-// What of the lock is printed; beside a name `--tree` is refused before.
+/// What of the lock is printed; beside a name `--tree` is refused before.
 fn read_shown<'a>(before: &ArgMatches<'a>, behind: &ArgMatches<'a>) -> Shown<'a>
     ensures shown { IsShown (rows_of (found_of before.now)) (rows_of (found_of behind.now)) result }
 {
@@ -171,7 +171,7 @@ fn read_range<'a>(behind: &ArgMatches<'a>) -> Result<DiffRange, ReadFault<'a>>
     }
 }
 
-// The place of the history that a text names, of an argument as help shows it.
+/// The place of the history that a text names, of an argument as help shows it.
 fn read_place<'a>(text: &'a str, shown: &'static str) -> Result<usize, ReadFault<'a>>
     ensures place { IfOk result (λ place. IsPlace place text.entry.now) }
     ensures fault { IfErr result (IsNoNumber text.entry shown.entry) }
@@ -182,7 +182,7 @@ fn read_place<'a>(text: &'a str, shown: &'static str) -> Result<usize, ReadFault
     }
 }
 
-// The index of a `check` whether the lock is current.
+/// The index of a `check` whether the lock is current.
 fn checked_index<'a>(
     before: &ArgMatches<'a>,
     behind: &ArgMatches<'a>,

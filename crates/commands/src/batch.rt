@@ -127,7 +127,7 @@ pub fn accepted_in<S: Source, K: Sink>(
     Ok(batch.has_accepted)
 }
 
-// Answers each line of the input.
+/// Answers each line of the input.
 fn answer_all<S: Source, K: Sink>(
     batch: &mut BatchState,
     source: &mut S,
@@ -156,7 +156,7 @@ fn answer_all<S: Source, K: Sink>(
     answer_last(batch, sink, session, pool)
 }
 
-// Answers a last line, of which no LF has come.
+/// Answers a last line, of which no LF has come.
 fn answer_last<K: Sink>(
     batch: &mut BatchState,
     sink: &mut K,
@@ -176,7 +176,7 @@ fn answer_last<K: Sink>(
     answer_line(batch, false, sink, session, pool)
 }
 
-// Reads to the end of input and answers each line that an LF ended. The last line is left.
+/// Reads to the end of input and answers each line that an LF ended. The last line is left.
 fn answer_lines<S: Source, K: Sink>(
     batch: &mut BatchState,
     source: &mut S,
@@ -228,7 +228,7 @@ fn read_piece<S: Source>(source: &mut S, piece: &mut [u8]) -> Result<usize, Batc
     }
 }
 
-// Answers each line whose LF is in the piece, and keeps what is left of it.
+/// Answers each line whose LF is in the piece, and keeps what is left of it.
 fn answer_piece<K: Sink>(
     batch: &mut BatchState,
     piece: &[u8],
@@ -258,7 +258,7 @@ fn answer_piece<K: Sink>(
     Ok(())
 }
 
-// The first line, and what is behind its LF.
+/// The first line, and what is behind its LF.
 fn split_line(bytes: &[u8]) -> Option<(&[u8], &[u8])>
     ensures none { IfNone result (IsUnbroken bytes.now) }
     ensures line { IfSome result (λ parts. IsUnbroken parts.0.now) }
@@ -269,7 +269,7 @@ fn split_line(bytes: &[u8]) -> Option<(&[u8], &[u8])>
     Some((&bytes[..at], &bytes[at + 1..]))
 }
 
-// Where the first LF is.
+/// Where the first LF is.
 fn line_end(bytes: &[u8]) -> Option<usize>
     ensures none { IfNone result (IsUnbroken bytes.now) }
     ensures bound { IfSome result (λ at. at < length bytes.now) }
@@ -280,7 +280,7 @@ fn line_end(bytes: &[u8]) -> Option<usize>
     memchr::memchr(b'\n', bytes)
 }
 
-// Does the command of the line, and writes the reply. A blank line has none.
+/// Does the command of the line, and writes the reply. A blank line has none.
 fn answer_line<K: Sink>(
     batch: &mut BatchState,
     is_ended: bool,
@@ -303,7 +303,7 @@ fn answer_line<K: Sink>(
     }
 }
 
-// Writes a reply.
+/// Writes a reply.
 fn send<K: Sink>(batch: &mut BatchState, reply: &Reply, sink: &mut K) -> Result<(), BatchFault>
     requires { K.has_failed sink.old ≡ false }
     ensures reply { OnOk result

@@ -38,7 +38,7 @@ pub fn read_item(alloc: Global, line: &[u8], is_ended: bool) -> Result<Option<It
     read_bytes(alloc, line_text(line, is_ended))
 }
 
-// A line without the CR before its LF.
+/// A line without the CR before its LF.
 fn line_text(line: &[u8], is_ended: bool) -> &[u8]
     ensures { result.now ≡ line_text (record { bytes = line.now; is_ended = is_ended }) }
 {
@@ -100,7 +100,7 @@ fn read_command(alloc: Global, word: &str, rest: &str) -> Result<Item, AllocErro
     Ok(Item::BadCommand)
 }
 
-// A command that takes no text.
+/// A command that takes no text.
 fn alone(item: Item, rest: &str) -> Item
     ensures { result ≡ plain item rest.now }
 {
@@ -156,7 +156,7 @@ fn read_upgrade(alloc: Global, rest: &str) -> Result<Item, AllocError>
     Ok(Item::Edit(Edit::Upgrade(names)))
 }
 
-// The words of a text.
+/// The words of a text.
 fn words_of(alloc: Global, text: &str) -> Result<Seq<Text>, AllocError>
     ensures { IfOk result (λ words. words ≡ words_of text.now) }
 {

@@ -65,7 +65,7 @@ impl PendingLine {
     }
 }
 
-// Puts as many of the bytes behind a line as it has room for.
+/// Puts as many of the bytes behind a line as it has room for.
 fn append_held(line: &mut Vec<u8>, bytes: &[u8])
     requires held { vec_len line.old ≤ 65537 }
     requires room { 65537 ≤ vec_capacity line.old }
@@ -76,7 +76,7 @@ fn append_held(line: &mut Vec<u8>, bytes: &[u8])
     append_within(line, front(bytes, HELD - line.len()));
 }
 
-// The first bytes, as many as `most`, or all where they are fewer.
+/// The first bytes, as many as `most`, or all where they are fewer.
 fn front(bytes: &[u8], most: usize) -> &[u8]
     ensures front { result.now ≡ take most bytes.now }
     ensures length { length result.now ≤ most }

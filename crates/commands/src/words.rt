@@ -8,7 +8,7 @@ ghost use Rattle.commands.specs.BatchLine.{behind_word, first_word};
 
 use lists::{is_space_or_tab, trim_start};
 
-// How long the first word is: up to a space or a tab, or to the end.
+/// How long the first word is: up to a space or a tab, or to the end.
 fn word_length(bytes: &[u8]) -> usize
     ensures { result ≡ position_or_len spaces.is_space_or_tab bytes.now }
 {

@@ -24,12 +24,12 @@ impl Containable {
     }
 }
 
-// Whether a term of the conflict is at the term's node, and has nothing beside its releases.
+/// Whether a term of the conflict is at the term's node, and has nothing beside its releases.
 fn is_bound(term: &PlacedTerm, own: &[PlacedTerm]) -> bool {
     own.iter().any(|binding| binding.lies_within(term))
 }
 
-// Whether all terms that the conflict doesn't bind are at one node.
+/// Whether all terms that the conflict doesn't bind are at one node.
 fn may_be_contained(old: &[PlacedTerm], own: &[PlacedTerm]) -> bool {
     let mut free: Option<&PlacedTerm> = None;
     for term in old {

@@ -22,7 +22,7 @@ pub(crate) struct Descent<'a> {
     frames: Vec<Frame>,
 }
 
-// For each term the choice that it has: the candidate, or else one of the choices. Nothing where one has none.
+/// For each term the choice that it has: the candidate, or else one of the choices. Nothing where one has none.
 fn choices_for(
     alloc: Global,
     terms: &[PlacedTerm],
@@ -95,8 +95,8 @@ impl<'a> Descent<'a> {
         Ok(false)
     }
 
-    // Enters a conflict with a choice for each of its terms, or in its stead the one that it rests on. Whether
-    // there is a way on.
+    /// Enters a conflict with a choice for each of its terms, or in its stead the one that it rests on. Whether
+    /// there is a way on.
     fn enter(&mut self, conflict: usize, choices: Vec<PlacedChoice>) -> Result<bool, AllocError> {
         let (mut at, mut chosen) = (conflict, choices);
         for _ in 0..conflict.saturating_add(1) {
@@ -112,7 +112,7 @@ impl<'a> Descent<'a> {
         Ok(false)
     }
 
-    // Makes the conflict that follows by itself, or begins to make the one that rests on others.
+    /// Makes the conflict that follows by itself, or begins to make the one that rests on others.
     fn begin(&mut self, conflict: usize, choices: Vec<PlacedChoice>) -> Result<Next, AllocError> {
         match self.sets.way(conflict)? {
             Some(Way::Refused(term)) => self.put(conflict, (term, term), choices.as_slice()),
@@ -134,7 +134,7 @@ impl<'a> Descent<'a> {
         }
     }
 
-    // The choice of a term.
+    /// The choice of a term.
     fn chosen(
         &self,
         conflict: usize,
@@ -144,7 +144,7 @@ impl<'a> Descent<'a> {
         self.sets.terms(conflict).get(term)?.choice_among(choices)
     }
 
-    // Puts the conflict of the choices of two terms, or of one, behind the others.
+    /// Puts the conflict of the choices of two terms, or of one, behind the others.
     fn put(
         &mut self,
         conflict: usize,
@@ -166,7 +166,7 @@ impl<'a> Descent<'a> {
         Ok(Next::Done)
     }
 
-    // The earlier conflict that one with these choices rests on, where the choice is at its node.
+    /// The earlier conflict that one with these choices rests on, where the choice is at its node.
     fn next_earlier(
         &mut self,
         conflict: usize,
@@ -183,7 +183,7 @@ impl<'a> Descent<'a> {
         }
     }
 
-    // Looks at the next candidate of the topmost frame. Whether there is a way on.
+    /// Looks at the next candidate of the topmost frame. Whether there is a way on.
     fn step(&mut self) -> Result<bool, AllocError> {
         let Some(mut frame) = self.frames.pop() else {
             return Ok(false);
@@ -206,7 +206,7 @@ impl<'a> Descent<'a> {
         }
     }
 
-    // Asks for the conflict that excludes a candidate.
+    /// Asks for the conflict that excludes a candidate.
     fn ask(&mut self, frame: Frame, candidate: PlacedChoice) -> Result<bool, AllocError> {
         let next = self.next_earlier(frame.conflict, candidate, frame.choices.as_slice())?;
         self.frames.push(frame)?;

@@ -48,7 +48,7 @@ pub(crate) fn place_of(releases: &[Release], version: &Version) -> Option<usize>
     None
 }
 
-// A term over the releases of a problem. A version that no release has is left out.
+/// A term over the releases of a problem. A version that no release has is left out.
 fn placed_term(
     alloc: Global,
     problem: &Problem<'_>,

@@ -15,7 +15,7 @@ use refutations::{Choice, Refutation, SetRefutation, check, cut};
 use resolve::Learning;
 use std::alloc::{AllocError, Global};
 
-// The choice that one by numbers stands for; nothing where there is none.
+/// The choice that one by numbers stands for; nothing where there is none.
 fn choice_of(
     problem: &Problem<'_>,
     sets: &SetConflicts<'_>,
@@ -49,7 +49,7 @@ fn conflict_of(
     Ok(Seq::from_vec(choices))
 }
 
-// The list of the conflicts that were made, with names and versions.
+/// The list of the conflicts that were made, with names and versions.
 fn listed(
     alloc: Global,
     problem: &Problem<'_>,
@@ -63,7 +63,7 @@ fn listed(
     Ok(Refutation::new(Seq::from_vec(conflicts)))
 }
 
-// A list of single versions that is made of a refutation by sets; nothing where it grows past a bound.
+/// A list of single versions that is made of a refutation by sets; nothing where it grows past a bound.
 fn expanded(
     alloc: Global,
     problem: &Problem<'_>,
@@ -77,7 +77,7 @@ fn expanded(
     Ok(None)
 }
 
-// The same list, where `check` accepts it, without the conflicts that its last one doesn't rest on.
+/// The same list, where `check` accepts it, without the conflicts that its last one doesn't rest on.
 fn accepted(
     alloc: Global,
     problem: &Problem<'_>,

@@ -104,7 +104,7 @@ impl<'a> SetConflicts<'a> {
         Ok(Some(way))
     }
 
-    // Finds the earlier conflicts that one may contain with a release more. All others are of no use to it.
+    /// Finds the earlier conflicts that one may contain with a release more. All others are of no use to it.
     fn look(&mut self, conflict: usize) -> Result<(), AllocError> {
         if self.containable.get(&conflict).is_none() {
             let found = containable_before(

@@ -17,7 +17,7 @@ pub(crate) struct SingleConflicts {
     size: usize,
 }
 
-// Under what a conflict is listed; nothing for the empty one.
+/// Under what a conflict is listed; nothing for the empty one.
 fn greatest_of(conflict: &[PlacedChoice]) -> Option<Greatest> {
     let (last, rest) = conflict.split_last()?;
     Some((*last, *rest.last().unwrap_or(last)))
@@ -85,7 +85,7 @@ impl SingleConflicts {
         least
     }
 
-    // The same of the conflicts that are listed under two choices.
+    /// The same of the conflicts that are listed under two choices.
     fn listed_within(
         &self,
         greatest: Greatest,
@@ -103,7 +103,7 @@ impl SingleConflicts {
     }
 }
 
-// The one with fewer choices, the first where they have as many.
+/// The one with fewer choices, the first where they have as many.
 fn shorter<'c>(
     one: Option<&'c [PlacedChoice]>,
     other: Option<&'c [PlacedChoice]>,

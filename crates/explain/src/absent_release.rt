@@ -52,7 +52,7 @@ pub fn add_difference(
     add_wrapped(text, sentence.as_str(), "")
 }
 
-// The first name on the walk that the lock and the best solution give another version.
+/// The first name on the walk that the lock and the best solution give another version.
 fn first_difference(
     alloc: Global,
     problem: &Problem<'_>,
@@ -81,7 +81,7 @@ fn first_difference(
     Ok(None)
 }
 
-// The least name that is needed beside what is taken and isn't taken.
+/// The least name that is needed beside what is taken and isn't taken.
 fn next_name(
     alloc: Global,
     problem: &Problem<'_>,
@@ -130,7 +130,7 @@ pub fn add_same(text: &mut String, wanted: WantedRelease<'_>) -> Result<(), Allo
 }
 
 impl WantedRelease<'_> {
-    // What the best solution with it has in place of what is locked.
+    /// What the best solution with it has in place of what is locked.
     fn add_difference(
         &self,
         alloc: Global,
@@ -171,8 +171,8 @@ impl WantedRelease<'_> {
         }
     }
 
-    // Why the release doesn't go with another one that is taken before it, where one of them needs the other's name in
-    // another version. Tells whether that is so.
+    /// Why the release doesn't go with another one that is taken before it, where one of them needs the other's name in
+    /// another version. Tells whether that is so.
     fn add_hindrance(
         &self,
         alloc: Global,
@@ -191,7 +191,7 @@ impl WantedRelease<'_> {
         Ok(true)
     }
 
-    // What the release needs of another name, where that isn't the version that the other one has. Tells whether it is so.
+    /// What the release needs of another name, where that isn't the version that the other one has. Tells whether it is so.
     fn add_need(
         &self,
         alloc: Global,
@@ -226,7 +226,7 @@ impl WantedRelease<'_> {
         Ok(true)
     }
 
-    // That the lock keeps a version for which nothing else would have to change.
+    /// That the lock keeps a version for which nothing else would have to change.
     fn add_kept(&self, text: &mut String, locked: &Version) -> Result<(), AllocError> {
         let name = self.name.normal();
         let version = self.version;
@@ -241,7 +241,7 @@ impl WantedRelease<'_> {
     }
 }
 
-// What is taken before a name: no solution that has it keeps the name.
+/// What is taken before a name: no solution that has it keeps the name.
 fn add_before(
     alloc: Global,
     text: &mut String,

@@ -91,7 +91,7 @@ impl Derived<'_> {
     }
 }
 
-// Some exclusions once more.
+/// Some exclusions once more.
 fn copies_of(alloc: Global, exclusions: &[Exclusion]) -> Result<Vec<Exclusion>, AllocError> {
     let mut copies = Vec::new(alloc);
     for exclusion in exclusions {
@@ -103,7 +103,7 @@ fn copies_of(alloc: Global, exclusions: &[Exclusion]) -> Result<Vec<Exclusion>, 
     Ok(copies)
 }
 
-// Some exclusions, as far as they exclude one of these releases.
+/// Some exclusions, as far as they exclude one of these releases.
 fn exclusions_within(
     alloc: Global,
     exclusions: &[Exclusion],

@@ -37,7 +37,7 @@ pub enum Words {
 }
 
 impl Asked {
-    // Whether some releases match and others don't.
+    /// Whether some releases match and others don't.
     fn is_range(&self) -> bool {
         match &self.words {
             Words::Range(_) => true,
@@ -146,7 +146,7 @@ pub fn asked_by_term(
     Ok(asked)
 }
 
-// What is asked where of the releases of a name these match, by these requirements.
+/// What is asked where of the releases of a name these match, by these requirements.
 fn asked_of(
     alloc: Global,
     releases: &[Release],
@@ -175,7 +175,7 @@ fn asked_of(
     })
 }
 
-// A lower bound is told in words, another requirement as it stands.
+/// A lower bound is told in words, another requirement as it stands.
 fn words_of(alloc: Global, requirement: &Requirement) -> Result<Words, AllocError> {
     if let [clause] = requirement.specifiers().clauses() {
         if let Operator::AtLeast = clause.operator {
@@ -188,7 +188,7 @@ fn words_of(alloc: Global, requirement: &Requirement) -> Result<Words, AllocErro
     Ok(Words::Requirement(text))
 }
 
-// The places of the releases that match all that one of a term's releases needs of the name.
+/// The places of the releases that match all that one of a term's releases needs of the name.
 fn taken_by(
     alloc: Global,
     problem: &Problem<'_>,
@@ -203,7 +203,7 @@ fn taken_by(
     Ok(taken)
 }
 
-// Those that match all that the release at a place needs of the name.
+/// Those that match all that the release at a place needs of the name.
 fn taken_at(
     alloc: Global,
     problem: &Problem<'_>,
@@ -242,7 +242,7 @@ pub fn requirements_of(
     Ok(texts)
 }
 
-// Those of the release at a place.
+/// Those of the release at a place.
 fn add_requirements(
     alloc: Global,
     texts: &mut Vec<String>,

@@ -52,7 +52,7 @@ pub fn does_need(
     needed.is_in(dependency) && problem.does_count(node, dependency)
 }
 
-// Puts the places of what isn't admitted to others.
+/// Puts the places of what isn't admitted to others.
 fn add_unadmitted(refused: &mut Bits, admitted: &[bool]) -> Result<(), AllocError> {
     for (place, admits) in admitted.iter().enumerate() {
         if !*admits {

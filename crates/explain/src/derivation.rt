@@ -88,7 +88,7 @@ pub fn derivations(
     Ok(derived)
 }
 
-// A ground with the earlier conflicts that are told of it.
+/// A ground with the earlier conflicts that are told of it.
 fn derivation_by(
     alloc: Global,
     problem: &Problem<'_>,
@@ -129,7 +129,7 @@ fn derivation_by(
     }
 }
 
-// What is told to need a node: in the place of a line that excludes none of its releases another line that needs it and does.
+/// What is told to need a node: in the place of a line that excludes none of its releases another line that needs it and does.
 fn told_need(
     problem: &Problem<'_>,
     earlier: Earlier<'_>,
@@ -154,7 +154,7 @@ fn told_need(
     told.unwrap_or(need)
 }
 
-// Whether the active line at a place needs a node.
+/// Whether the active line at a place needs a node.
 fn does_line_need(problem: &Problem<'_>, place: usize, node: &Node) -> bool {
     match problem.active.as_slice().get(place) {
         Some(line) => NeededName::of(node).is_in(line),

@@ -30,7 +30,7 @@ pub fn binding<'c>(term: &PlacedTerm, conflict: &'c [PlacedTerm]) -> Option<&'c 
     conflict.iter().find(|own| binds(own, term))
 }
 
-// The releases at the node with which the conflict contains the earlier one; nothing where it does with none.
+/// The releases at the node with which the conflict contains the earlier one; nothing where it does with none.
 fn excluded_by(
     alloc: Global,
     old: &[PlacedTerm],
@@ -53,14 +53,14 @@ fn excluded_by(
     Ok(Some(excluded))
 }
 
-// How many releases an exclusion has among these.
+/// How many releases an exclusion has among these.
 fn gain_of(alloc: Global, exclusion: &Exclusion, left: &Bits) -> Result<usize, AllocError> {
     let mut gained = exclusion.places.clone()?;
     gained.keep(left);
     Ok(gained.places(alloc)?.len())
 }
 
-// The exclusion of most of what is left.
+/// The exclusion of most of what is left.
 fn widest<'a>(
     alloc: Global,
     exclusions: &'a [Exclusion],
@@ -78,7 +78,7 @@ fn widest<'a>(
     Ok(found)
 }
 
-// Takes exclusions until nothing is left that they exclude, each with what the ones before it leave.
+/// Takes exclusions until nothing is left that they exclude, each with what the ones before it leave.
 fn take_widest(
     alloc: Global,
     exclusions: &[Exclusion],

@@ -25,7 +25,7 @@ pub fn without_idle_terms(
     Ok(lean)
 }
 
-// The terms of a conflict on which its derivation rests, over the earlier conflicts without their idle ones.
+/// The terms of a conflict on which its derivation rests, over the earlier conflicts without their idle ones.
 fn busy_terms(
     alloc: Global,
     conflict: &[PlacedTerm],
@@ -41,7 +41,7 @@ fn busy_terms(
     Ok(terms)
 }
 
-// Whether a derivation rests on the term at the place.
+/// Whether a derivation rests on the term at the place.
 fn rests_on(
     derivation: &Derivation,
     place: usize,
@@ -62,7 +62,7 @@ fn rests_on(
     }
 }
 
-// Whether the term binds one of an earlier conflict that is told of the derivation.
+/// Whether the term binds one of an earlier conflict that is told of the derivation.
 fn is_bound(term: &PlacedTerm, exclusions: &[Exclusion], earlier: &[Vec<PlacedTerm>]) -> bool {
     exclusions.iter().any(|exclusion| match earlier.get(exclusion.conflict) {
         Some(old) => old.iter().any(|other| binds(term, other)),

@@ -42,7 +42,7 @@ pub fn line_names<'a>(
     Ok(names)
 }
 
-// The name of the line that is gone or has other specifiers.
+/// The name of the line that is gone or has other specifiers.
 fn changed_name(alloc: Global, changed: ChangedLine<'_>) -> Result<Option<Name>, AllocError> {
     match changed {
         ChangedLine::Removed(name) | ChangedLine::Constrained(name) => {

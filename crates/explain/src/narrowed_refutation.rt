@@ -38,8 +38,8 @@ pub fn narrowed_refutation(
     Ok(SetRefutation::new(Seq::from_vec(narrowed)))
 }
 
-// What is kept of the conflicts: those on which the last one rests, this first, and in their terms the releases alone
-// that it takes.
+/// What is kept of the conflicts: those on which the last one rests, this first, and in their terms the releases alone
+/// that it takes.
 fn kept_conflicts(
     alloc: Global,
     problem: &Problem<'_>,
@@ -67,7 +67,7 @@ fn kept_conflicts(
     Ok(kept)
 }
 
-// Nothing of each conflict but of the last one, which is used whole.
+/// Nothing of each conflict but of the last one, which is used whole.
 fn shares_of(alloc: Global, conflicts: &[Vec<PlacedTerm>]) -> Result<Vec<Share>, AllocError> {
     let last = conflicts.len().saturating_sub(1);
     let mut shares = Vec::new(alloc);
@@ -88,7 +88,7 @@ fn shares_of(alloc: Global, conflicts: &[Vec<PlacedTerm>]) -> Result<Vec<Share>,
     Ok(shares)
 }
 
-// A conflict with these releases in its terms.
+/// A conflict with these releases in its terms.
 fn terms_over(
     alloc: Global,
     conflict: &[PlacedTerm],
@@ -101,7 +101,7 @@ fn terms_over(
     Ok(terms)
 }
 
-// The earlier conflicts on which one rests by its derivation, each with the releases that it excludes.
+/// The earlier conflicts on which one rests by its derivation, each with the releases that it excludes.
 fn exclusions_of(
     alloc: Global,
     problem: &Problem<'_>,
@@ -121,7 +121,7 @@ fn exclusions_of(
     earlier.exclusions(alloc, conflict, node, &wanted)
 }
 
-// Adds what a conflict takes of the earlier ones on which it rests.
+/// Adds what a conflict takes of the earlier ones on which it rests.
 fn add_uses(
     shares: &mut [Share],
     conflicts: &[Vec<PlacedTerm>],
@@ -139,7 +139,7 @@ fn add_uses(
     Ok(())
 }
 
-// Of a term that the conflict binds, its releases are taken; else those that are excluded.
+/// Of a term that the conflict binds, its releases are taken; else those that are excluded.
 fn add_use(
     share: &mut Share,
     old: &[PlacedTerm],

@@ -76,8 +76,8 @@ fn placed_terms(
     Ok(terms)
 }
 
-// The places of the releases that have these versions. Mostly the versions stand in the order of the
-// releases, so each is looked for behind the last one first.
+/// The places of the releases that have these versions. Mostly the versions stand in the order of the
+/// releases, so each is looked for behind the last one first.
 fn places_of(
     alloc: Global,
     releases: &[Release],

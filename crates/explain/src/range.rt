@@ -43,12 +43,12 @@ pub fn range_of(
     })
 }
 
-// Whether a run of several goes to the newest release.
+/// Whether a run of several goes to the newest release.
 fn is_open(run: Run) -> bool {
     run.newest == 0 && run.oldest > 0
 }
 
-// The versions of a run. Two side by side are told as two.
+/// The versions of a run. Two side by side are told as two.
 fn add_pieces(
     alloc: Global,
     pieces: &mut Vec<String>,
@@ -70,7 +70,7 @@ fn add_pieces(
     Ok(pieces.push(format!(in alloc; "{oldest} to {newest}")?)?)
 }
 
-// The pieces with `or` before the last one. Where that has an `or` of its own, a comma parts them.
+/// The pieces with `or` before the last one. Where that has an `or` of its own, a comma parts them.
 fn alternatives(alloc: Global, pieces: &[String], ends_open: bool) -> Result<String, AllocError> {
     let mut text = String::new(alloc);
     let last = pieces.len().saturating_sub(1);
@@ -87,7 +87,7 @@ fn alternatives(alloc: Global, pieces: &[String], ends_open: bool) -> Result<Str
     Ok(text)
 }
 
-// The releases from the oldest of some runs to the newest.
+/// The releases from the oldest of some runs to the newest.
 fn range_between(alloc: Global, releases: &[Release], runs: &[Run]) -> Result<Range, AllocError> {
     let mut places = Bits::new(alloc);
     let mut text = String::new(alloc);

@@ -27,7 +27,7 @@ struct ReasonGroup<'a> {
     places: Bits,
 }
 
-// Whether a release isn't admitted for the reason of the group.
+/// Whether a release isn't admitted for the reason of the group.
 fn belongs_to(group: &ReasonGroup<'_>, reason: Inadmissible, release: &Release) -> bool {
     match (group.reason, reason) {
         (Inadmissible::Clause(place), Inadmissible::Clause(another)) => place == another,
@@ -41,7 +41,7 @@ fn belongs_to(group: &ReasonGroup<'_>, reason: Inadmissible, release: &Release) 
     }
 }
 
-// What a release needs of Python.
+/// What a release needs of Python.
 fn python_of(release: &Release) -> &str {
     match release.requires_python() {
         Some(python) => python.text(),
@@ -49,7 +49,7 @@ fn python_of(release: &Release) -> &str {
     }
 }
 
-// Puts a release, with its place, to those of its reason.
+/// Puts a release, with its place, to those of its reason.
 fn put<'a>(
     alloc: Global,
     groups: &mut Vec<ReasonGroup<'a>>,
@@ -99,12 +99,12 @@ impl Unadmitted<'_> {
         Ok(())
     }
 
-    // The releases of the name.
+    /// The releases of the name.
     fn releases(&self) -> &[Release] {
         self.problem.releases(self.requirement.name())
     }
 
-    // The releases by the reason for which they aren't admitted.
+    /// The releases by the reason for which they aren't admitted.
     fn groups(&self, alloc: Global) -> Result<Vec<ReasonGroup<'_>>, AllocError> {
         let mut groups = Vec::new(alloc);
         let listed = self.places.places(alloc)?;
@@ -147,7 +147,7 @@ impl Unadmitted<'_> {
         }
     }
 
-    // What stands behind the verb of a reason: what isn't met.
+    /// What stands behind the verb of a reason: what isn't met.
     fn add_condition(&self, text: &mut String, group: &ReasonGroup<'_>) -> Result<(), AllocError> {
         match group.reason {
             Inadmissible::Clause(place) => self.add_clause_at(text, place),
@@ -166,7 +166,7 @@ impl Unadmitted<'_> {
     }
 }
 
-// The verb of a reason, in the singular and in the plural.
+/// The verb of a reason, in the singular and in the plural.
 fn verbs_of(reason: Inadmissible) -> (&'static str, &'static str) {
     match reason {
         Inadmissible::Clause(_) => (" doesn't match ", " don't match "),

@@ -39,7 +39,7 @@ pub fn add_conflict(
     Ok(())
 }
 
-// A conflict is a set: a choice that stands twice in it is told once.
+/// A conflict is a set: a choice that stands twice in it is told once.
 fn sorted_texts(alloc: Global, conflict: &[Choice]) -> Result<BTreeSet<String>, AllocError> {
     let mut texts = BTreeSet::new(alloc);
     for choice in conflict {

@@ -17,7 +17,7 @@ pub struct ReleaseSet<'a> {
     pub telling: Telling,
 }
 
-// The versions and runs to be told: two versions side by side are told as two.
+/// The versions and runs to be told: two versions side by side are told as two.
 fn pieces_of(alloc: Global, releases: &[Release], runs: &[Run]) -> Result<Vec<String>, AllocError> {
     let mut pieces = Vec::new(alloc);
     for run in runs {
@@ -97,7 +97,7 @@ impl ReleaseSet<'_> {
         add_listed(text, pieces.as_slice(), "and")
     }
 
-    // The first and the last version of these runs of so many releases.
+    /// The first and the last version of these runs of so many releases.
     fn add_ends(
         &self,
         alloc: Global,

@@ -53,7 +53,7 @@ impl Sentences<'_> {
         self.add_left_out(text, parts.as_slice())
     }
 
-    // A sentence with its number, in lines of a terminal's width.
+    /// A sentence with its number, in lines of a terminal's width.
     fn add_numbered(&self, text: &mut String, place: usize) -> Result<(), AllocError> {
         let Some(step) = self.steps.get(place) else {
             return Ok(());
@@ -65,7 +65,7 @@ impl Sentences<'_> {
         add_wrapped(text, sentence.as_str(), "   ")
     }
 
-    // These releases of a node's name.
+    /// These releases of a node's name.
     fn set_of<'s>(&'s self, node: &Node, places: &'s Bits) -> ReleaseSet<'s> {
         ReleaseSet {
             releases: self.problem.releases(&node.name),
@@ -74,25 +74,25 @@ impl Sentences<'_> {
         }
     }
 
-    // What the releases of a term ask of a name.
+    /// What the releases of a term ask of a name.
     fn asked_of(&self, term: &PlacedTerm, name: &Name) -> Result<Asked, AllocError> {
         let telling = self.derived.telling;
         let needed = NeededName::bare(name);
         asked_by_term(self.alloc, self.problem, term, needed, telling)
     }
 
-    // The requirement of the active line at a place.
+    /// The requirement of the active line at a place.
     fn line_requirement(&self, place: usize) -> Option<&Requirement> {
         let problem = self.problem;
         problem.active.as_slice().get(place)
     }
 
-    // A line with what it requires.
+    /// A line with what it requires.
     fn add_whole_line(&self, text: &mut String, place: usize) -> Result<(), AllocError> {
         add_line(text, self.lines.get(place), self.line_requirement(place))
     }
 
-    // A line by its number alone, where the conclusion tells what it requires.
+    /// A line by its number alone, where the conclusion tells what it requires.
     fn add_known_line(&self, text: &mut String, place: usize) -> Result<(), AllocError> {
         if self.is_named(place) {
             return add_short(text, self.lines.get(place));

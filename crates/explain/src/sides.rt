@@ -35,7 +35,7 @@ pub fn party_of(need: SetNeed) -> Party {
     }
 }
 
-// The turn in which a party is told.
+/// The turn in which a party is told.
 fn turn_of(party: Party) -> usize {
     match party {
         Party::Term(_) => 0,
@@ -71,7 +71,7 @@ impl Derived<'_> {
         least_sides(self.alloc, all, sides)
     }
 
-    // The one who needs the node and those behind each exclusion, where each has one.
+    /// The one who needs the node and those behind each exclusion, where each has one.
     fn parties(
         &self,
         conflict: &[PlacedTerm],
@@ -94,7 +94,7 @@ impl Derived<'_> {
         Ok(parties)
     }
 
-    // Who may exclude releases of a node by asking for others.
+    /// Who may exclude releases of a node by asking for others.
     fn party_behind(
         &self,
         conflict: &[PlacedTerm],
@@ -158,7 +158,7 @@ impl Derived<'_> {
         }
     }
 
-    // What is locked of a name, where no other version counts.
+    /// What is locked of a name, where no other version counts.
     fn asked_by_lock(&self, name: &Name) -> Result<Asked, AllocError> {
         let problem = self.problem;
         let places = candidate_places(self.alloc, problem, name)?;
@@ -176,8 +176,8 @@ impl Derived<'_> {
     }
 }
 
-// The sides without those that can be spared; nothing where all of them leave one of the releases. Where the index lacks
-// what the lock keeps, the first side tells who needs it.
+/// The sides without those that can be spared; nothing where all of them leave one of the releases. Where the index lacks
+/// what the lock keeps, the first side tells who needs it.
 fn least_sides(
     alloc: Global,
     all: Bits,
@@ -205,7 +205,7 @@ fn least_sides(
     Ok(Some(kept))
 }
 
-// Whether some sides leave one of these releases.
+/// Whether some sides leave one of these releases.
 fn leave_any(releases: &Bits, sides: &[Side]) -> Result<bool, AllocError> {
     let mut left = releases.clone()?;
     for side in sides {

@@ -49,7 +49,7 @@ fn add_lock(
     Ok(())
 }
 
-// An active line with its number, and an edge to what it asks for.
+/// An active line with its number, and an edge to what it asks for.
 fn add_line(
     alloc: Global,
     text: &mut String,
@@ -71,7 +71,7 @@ fn add_line(
     add_edge(text, target, wanted.name().normal())
 }
 
-// An entry with its version, and an edge to each that it needs.
+/// An entry with its version, and an edge to each that it needs.
 fn add_entry(text: &mut String, target: &Target, entry: &Entry) -> Result<(), AllocError> {
     let name = entry.name().normal();
     let version = entry.version();
@@ -84,7 +84,7 @@ fn add_entry(text: &mut String, target: &Target, entry: &Entry) -> Result<(), Al
     Ok(())
 }
 
-// A node is called by its target and its name. A line has a space in its name, and an entry has none.
+/// A node is called by its target and its name. A line has a space in its name, and an entry has none.
 fn add_node(text: &mut String, target: &Target, name: &str) -> Result<(), AllocError> {
     let target = target.name.as_str();
     write!(text, "    \"{target}:{name}\"")

@@ -21,7 +21,7 @@ pub fn requirements_text(alloc: Global, lock: &Lock) -> Result<String, AllocErro
     Ok(text)
 }
 
-// The name, the version and the digests of the files, each digest on a line of its own.
+/// The name, the version and the digests of the files, each digest on a line of its own.
 fn add_pin(alloc: Global, text: &mut String, entry: &Entry) -> Result<(), AllocError> {
     let name = entry.name().normal();
     let version = entry.version();
@@ -33,7 +33,7 @@ fn add_pin(alloc: Global, text: &mut String, entry: &Entry) -> Result<(), AllocE
     text.push_str("\n")
 }
 
-// The digests of the files in the order of their bytes, none twice.
+/// The digests of the files in the order of their bytes, none twice.
 fn digests_of(alloc: Global, entry: &Entry) -> Result<BTreeSet<Text>, AllocError> {
     let mut digests = BTreeSet::new(alloc);
     for file in entry.wheels() {
@@ -59,7 +59,7 @@ fn add_users(text: &mut String, users: &str) -> Result<(), AllocError> {
     text.push_str("\n")
 }
 
-// For each entry the names of those that need it, in their order.
+/// For each entry the names of those that need it, in their order.
 fn users_of(alloc: Global, entries: &[Entry]) -> Result<Vec<String>, AllocError> {
     let mut users = Vec::with_capacity(alloc, entries.len())?;
     for _ in 0..entries.len() {

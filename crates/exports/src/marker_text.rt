@@ -50,7 +50,7 @@ fn add_ranked(
     Ok(())
 }
 
-// Lower bounds come before upper ones, and these before all else.
+/// Lower bounds come before upper ones, and these before all else.
 fn rank_of(condition: &Condition) -> usize {
     match condition {
         Condition::Same(_) => 0,

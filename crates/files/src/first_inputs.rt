@@ -62,7 +62,7 @@ pub fn first_inputs<R: Files + AllocGlobal, I: Read + Drop>(
     })
 }
 
-// The targets, for which pins may be handed in.
+/// The targets, for which pins may be handed in.
 fn named_targets(alloc: Global, targets: &Targets) -> Result<Vec<PinsTarget<'_>>, AllocError> {
     let mut named = Vec::new(alloc);
     for (name, environment) in targets.as_slice() {

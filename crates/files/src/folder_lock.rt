@@ -80,7 +80,7 @@ fn open_folder<R: Files + AllocGlobal>(rt: &R, dir: &str) -> io::Result<R::File>
     File::open(rt, path.as_str())
 }
 
-// Whether no folder has this path. Then none of its files can be read, which is told of the first.
+/// Whether no folder has this path. Then none of its files can be read, which is told of the first.
 fn is_without_folder(error: &io::Error) -> bool
     ensures { result ≡ tells_no_folder (error_kind error.now) }
 {
@@ -93,7 +93,7 @@ fn is_without_folder(error: &io::Error) -> bool
     }
 }
 
-// Whether the file system knows no locks.
+/// Whether the file system knows no locks.
 fn is_without_locks(error: &io::Error) -> bool
     ensures told { tells_no_locks (error_kind error.now) ≡ true → result ≡ true }
     ensures number { tells_no_locks (error_kind error.now) ≡ false

@@ -39,7 +39,7 @@ impl<'a, R: Files + AllocGlobal, I: Read + Drop> HandedIn<'a, R, I> {
     }
 }
 
-// All bytes of standard input, in the place of a file.
+/// All bytes of standard input, in the place of a file.
 fn read_input<I: Read + Drop>(
     alloc: Global,
     file: InputFile,

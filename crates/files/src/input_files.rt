@@ -77,7 +77,7 @@ impl fmt::Display for InputFile {
     }
 }
 
-// The empty name of a target is left out with its space.
+/// The empty name of a target is left out with its space.
 fn write_named<W: fmt::Write>(
     f: &mut fmt::Formatter<W>,
     word: &'static str,
@@ -135,7 +135,7 @@ pub fn read_bytes<R: Files + AllocGlobal>(
     read_as(file, read)
 }
 
-// What was read of a file, or why it can't be read.
+/// What was read of a file, or why it can't be read.
 fn read_as<T>(file: InputFile, read: io::Result<T>) -> Result<T, Fault>
     ensures { result ≡ read_as file read }
 {
@@ -161,7 +161,7 @@ pub fn read_file<R: Files + AllocGlobal>(
     Err(io::Error::from(NO_REGULAR_FILE))
 }
 
-// Whether a call names the file itself, in a place where the shell and the system hand over.
+/// Whether a call names the file itself, in a place where the shell and the system hand over.
 fn is_handed_over(file: &InputFile, path: &str) -> bool {
     match file {
         InputFile::Index

@@ -39,7 +39,7 @@ pub fn link_out<R: Files + AllocGlobal>(
     link_of(rt, dir, InputFile::Journal)
 }
 
-// The link in the place of a file, where it leads to what isn't ours. What can't be told here, the save tells.
+/// The link in the place of a file, where it leads to what isn't ours. What can't be told here, the save tells.
 fn link_of<R: Files + AllocGlobal>(
     rt: &R,
     dir: &str,
@@ -58,7 +58,7 @@ fn link_of<R: Files + AllocGlobal>(
     }
 }
 
-// Where a link leads, if that is outside of the folder.
+/// Where a link leads, if that is outside of the folder.
 fn place_outside<R: Files + AllocGlobal>(
     rt: &R,
     dir: &str,
@@ -75,7 +75,7 @@ fn place_outside<R: Files + AllocGlobal>(
     Ok(Some(place))
 }
 
-// Whether a file is a lock or a journal that reqlock wrote.
+/// Whether a file is a lock or a journal that reqlock wrote.
 fn is_ours<R: Files + AllocGlobal>(rt: &R, file: InputFile, place: &str) -> Result<bool, Fault> {
     let is_journal = matches!(file, InputFile::Journal);
     let bytes = match read_bytes(rt, file, place) {

@@ -57,7 +57,7 @@ pub fn pins_paths(alloc: Global, values: &[Text]) -> Result<Vec<PinsPath>, Fault
     Ok(paths)
 }
 
-// The target and the path of a value. No target has a bad name.
+/// The target and the path of a value. No target has a bad name.
 fn pins_path(alloc: Global, value: &str) -> Result<PinsPath, Fault> {
     let (name, path) = parts_of(value);
     match TargetName::parse(alloc, name) {
@@ -99,7 +99,7 @@ pub fn read_pin_file(alloc: Global, is_lock: bool, bytes: &[u8]) -> Result<PinFi
     }
 }
 
-// A file of pins, or its fault as that of an input.
+/// A file of pins, or its fault as that of an input.
 fn as_input(read: Result<PinFile, PinFault>) -> Result<PinFile, InputFault>
     ensures { result ≡ spec.as_pins read }
 {
@@ -112,7 +112,7 @@ fn as_input(read: Result<PinFile, PinFault>) -> Result<PinFile, InputFault>
     }
 }
 
-// The files that the bytes are; faults are told in their order.
+/// The files that the bytes are; faults are told in their order.
 fn pins_files(alloc: Global, read: Vec<PinsBytes>) -> Result<Vec<PinsFile>, Fault> {
     let mut files = Vec::with_capacity(alloc, read.len())?;
     for PinsBytes {

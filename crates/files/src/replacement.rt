@@ -92,14 +92,14 @@ pub fn rename_to_place<R: Files + AllocGlobal>(rt: &R, places: &Places) -> Resul
     }
 }
 
-// Makes the names last in the folder of a place, to which a link may have led.
+/// Makes the names last in the folder of a place, to which a link may have led.
 fn sync_names<R: Files + AllocGlobal>(rt: &R, place: &str) {
     if let Some(folder) = Path::new(place).parent() {
         sync_folder(rt, folder.as_str());
     }
 }
 
-// Writes a file beside its place.
+/// Writes a file beside its place.
 fn stage<R: Files + AllocGlobal>(
     rt: &R,
     dir: &str,
@@ -147,8 +147,8 @@ fn places_of<R: Files + AllocGlobal>(rt: &R, file: InputFile, path: &str) -> io:
     })
 }
 
-// Where a file stands: its path, or the end of all symbolic links where it is one. A link that leads
-// nowhere has no place.
+/// Where a file stands: its path, or the end of all symbolic links where it is one. A link that leads
+/// nowhere has no place.
 fn place_of<R: Files + AllocGlobal>(rt: &R, path: &str) -> io::Result<String> {
     match fs::symlink_metadata(rt, path) {
         Ok(metadata) if metadata.is_symlink() => Ok(fs::canonicalize(rt, path)?.into_string()),
@@ -160,8 +160,8 @@ fn place_of<R: Files + AllocGlobal>(rt: &R, path: &str) -> io::Result<String> {
     }
 }
 
-// What the system tells of the file in this place, or none where nothing stands there. A folder can't
-// be replaced, nor a file that may not be written.
+/// What the system tells of the file in this place, or none where nothing stands there. A folder can't
+/// be replaced, nor a file that may not be written.
 fn metadata_at<R: Files>(rt: &R, place: &str) -> io::Result<Option<Metadata>> {
     match fs::metadata(rt, place) {
         Ok(metadata) if metadata.is_file() => {
@@ -174,7 +174,7 @@ fn metadata_at<R: Files>(rt: &R, place: &str) -> io::Result<Option<Metadata>> {
     }
 }
 
-// A new file at a path, in the place of one that a stopped call left there.
+/// A new file at a path, in the place of one that a stopped call left there.
 fn create_anew<R: Files>(rt: &R, path: &str) -> io::Result<R::File> {
     match fs::remove_file(rt, path) {
         Ok(()) => {}
@@ -184,13 +184,13 @@ fn create_anew<R: Files>(rt: &R, path: &str) -> io::Result<R::File> {
     File::create_new(rt, path)
 }
 
-// Gives a file the group and the owner of the one that it replaces, each where the system lets it.
+/// Gives a file the group and the owner of the one that it replaces, each where the system lets it.
 fn keep_owner<R: Files>(rt: &R, path: &str, replaced: &Metadata) {
     let _ = lchown(rt, path, None, Some(replaced.gid()));
     let _ = lchown(rt, path, Some(replaced.uid()), None);
 }
 
-// The mode comes behind the owner, whose change may take bits of it away.
+/// The mode comes behind the owner, whose change may take bits of it away.
 fn write_whole<F: Write + OpenFile>(
     file: &mut F,
     bytes: &[u8],

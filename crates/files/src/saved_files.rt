@@ -145,8 +145,8 @@ impl SavedFiles {
         replace_all(rt, dir, replacements.as_slice())
     }
 
-    // The files that are to hold other bytes than were read, with these: the requirements file, the locks by
-    // name, and the journal.
+    /// The files that are to hold other bytes than were read, with these: the requirements file, the locks by
+    /// name, and the journal.
     fn replacements<'a>(
         &self,
         alloc: Global,
@@ -165,7 +165,7 @@ impl SavedFiles {
         Ok(files)
     }
 
-    // Puts the locks that are to hold other bytes behind other files.
+    /// Puts the locks that are to hold other bytes behind other files.
     fn push_locks<'a>(
         &self,
         files: &mut Vec<Replacement<'a>>,
@@ -182,7 +182,7 @@ impl SavedFiles {
         Ok(())
     }
 
-    // Whether the lock of the target was read, and holds these bytes.
+    /// Whether the lock of the target was read, and holds these bytes.
     fn has_lock(&self, name: &TargetName, bytes: &[u8]) -> bool
         ensures { result ≡ has_lock self.now name.now bytes.now }
     {
@@ -193,7 +193,7 @@ impl SavedFiles {
     }
 }
 
-// Puts a file with the bytes that are to stand in its place behind others, unless it holds them.
+/// Puts a file with the bytes that are to stand in its place behind others, unless it holds them.
 fn push_unless<'a>(
     files: &mut Vec<Replacement<'a>>,
     is_same: bool,

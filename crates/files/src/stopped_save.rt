@@ -33,7 +33,7 @@ impl Beside {
         Beside::of(alloc, false, false)
     }
 
-    // No lock, and of the other two those that are told.
+    /// No lock, and of the other two those that are told.
     fn of(alloc: Global, requirements: bool, journal: bool) -> Beside
         ensures requirements { result.requirements ≡ requirements }
         ensures locks { result.locks.keys ≡ [] }
@@ -62,7 +62,7 @@ impl Beside {
         }
     }
 
-    // The files, in the order in which a save renames them to their places.
+    /// The files, in the order in which a save renames them to their places.
     fn files(&self, alloc: Global) -> Result<Vec<InputFile>, AllocError>
         ensures { IfOk result (λ files. files.items ≡ files_of self.now) }
     {
@@ -142,7 +142,7 @@ pub fn remove_left_of_opened<R: Files + AllocGlobal>(
     remove_named(rt, dir, left, session)
 }
 
-// Removes these files, and the locks of this history's targets, from beside their places.
+/// Removes these files, and the locks of this history's targets, from beside their places.
 fn remove_named<R: Files + AllocGlobal>(
     rt: &R,
     dir: &str,
@@ -167,8 +167,8 @@ fn is_any_left<R: Files + AllocGlobal>(rt: &R, dir: &str) -> Result<bool, Fault>
     Ok(false)
 }
 
-// All files that can be left beside: of the locks, those that the journal names, in its place and
-// beside it.
+/// All files that can be left beside: of the locks, those that the journal names, in its place and
+/// beside it.
 fn named_files<R: Files + AllocGlobal>(rt: &R, dir: &str) -> Result<Beside, Fault> {
     let mut all = Beside::of(rt.alloc(), true, true);
     for is_beside in [false, true] {
@@ -177,7 +177,7 @@ fn named_files<R: Files + AllocGlobal>(rt: &R, dir: &str) -> Result<Beside, Faul
     Ok(all)
 }
 
-// Adds the locks that a journal names. One that can't be read names none.
+/// Adds the locks that a journal names. One that can't be read names none.
 fn add_named<R: Files + AllocGlobal>(
     rt: &R,
     dir: &str,
@@ -206,8 +206,8 @@ fn rename_left<R: Files + AllocGlobal>(rt: &R, dir: &str, left: &Beside) -> Resu
     Ok(())
 }
 
-// The places of those of the files that can have some. All memory for them is taken before a file
-// changes.
+/// The places of those of the files that can have some. All memory for them is taken before a file
+/// changes.
 fn all_places<R: Files + AllocGlobal>(
     rt: &R,
     dir: &str,
@@ -222,9 +222,9 @@ fn all_places<R: Files + AllocGlobal>(
     Ok(found)
 }
 
-// What a save left beside, where the files open with these from there and with each lock that doesn't
-// fit in its place. A requirements file gives way only where its history has it: one that was changed by
-// hand stays.
+/// What a save left beside, where the files open with these from there and with each lock that doesn't
+/// fit in its place. A requirements file gives way only where its history has it: one that was changed by
+/// hand stays.
 fn left_with<R: Files + AllocGlobal>(
     rt: &R,
     dir: &str,
@@ -242,8 +242,8 @@ fn left_with<R: Files + AllocGlobal>(
     Ok(Some(left))
 }
 
-// The files with which the folder opens, and what it stands for with them. A lock that is told not to
-// fit is taken from beside, each of those that the journal names once.
+/// The files with which the folder opens, and what it stands for with them. A lock that is told not to
+/// fit is taken from beside, each of those that the journal names once.
 fn completed<R: Files + AllocGlobal>(
     rt: &R,
     dir: &str,
@@ -263,7 +263,7 @@ fn completed<R: Files + AllocGlobal>(
     completed_by(beside, opened)
 }
 
-// Takes the lock of a fault from beside too. It answers whether it is a lock's, and wasn't taken from there.
+/// Takes the lock of a fault from beside too. It answers whether it is a lock's, and wasn't taken from there.
 fn add_lock(beside: &mut Beside, file: InputFile) -> Result<bool, Fault> {
     match file {
         InputFile::Lock(name) => Ok(beside.locks.insert(name)?),
@@ -271,7 +271,7 @@ fn add_lock(beside: &mut Beside, file: InputFile) -> Result<bool, Fault> {
     }
 }
 
-// How many locks the journal names; none where it can't be read.
+/// How many locks the journal names; none where it can't be read.
 fn count_named<R: Files + AllocGlobal>(rt: &R, dir: &str, beside: &Beside) -> Result<usize, Fault> {
     match journal_in(rt, dir, beside) {
         Ok(journal) => Ok(names_in(rt.alloc(), &journal)?.len()),
@@ -280,7 +280,7 @@ fn count_named<R: Files + AllocGlobal>(rt: &R, dir: &str, beside: &Beside) -> Re
     }
 }
 
-// These files, where the folder opens with them.
+/// These files, where the folder opens with them.
 fn completed_by(
     beside: Beside,
     opened: Result<Session, Fault>,
@@ -294,7 +294,7 @@ fn completed_by(
     }
 }
 
-// Whether the files stand for no history in their places.
+/// Whether the files stand for no history in their places.
 fn does_not_open<R: Files + AllocGlobal>(rt: &R, dir: &str) -> Result<bool, Fault> {
     match open_with(rt, dir, &Beside::none(rt.alloc())) {
         Ok(_) => Ok(false),
@@ -307,7 +307,7 @@ fn open_with<R: Files + AllocGlobal>(rt: &R, dir: &str, beside: &Beside) -> Resu
     SavedFiles::read_with(rt, dir, beside)?.open(rt.alloc())
 }
 
-// Whether a state of the history has this requirements file.
+/// Whether a state of the history has this requirements file.
 fn has_requirements(alloc: Global, mut session: Session, requirements: &[u8]) -> Result<bool, Fault>
     ensures { IfOk result
         (λ has. has ≡ has_requirements session.past.states requirements.now) }
@@ -352,7 +352,7 @@ fn redo(alloc: Global, session: &mut Session) -> Result<(), Fault>
     }
 }
 
-// Whether the present state has this requirements file.
+/// Whether the present state has this requirements file.
 fn is_present(alloc: Global, session: &Session, requirements: &[u8]) -> Result<bool, Fault>
     ensures { IfOk result (λ is. IsSomeAnd (present session.now.past)
         (λ state. is ≡ has_lines requirements.now state)) }

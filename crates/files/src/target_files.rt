@@ -79,7 +79,7 @@ pub fn target_files(alloc: Global, values: &[Text]) -> Result<Vec<TargetFile>, F
     Ok(files)
 }
 
-// The same, where a name may stand twice.
+/// The same, where a name may stand twice.
 fn named_files(alloc: Global, values: &[Text]) -> Result<Vec<TargetFile>, Fault>
     ensures files { IfOk result (λ files. files.items ≡ map target_file_of values.now) }
     ensures named { OnOk result (are_named values.now ≡ true) }
@@ -94,7 +94,7 @@ fn named_files(alloc: Global, values: &[Text]) -> Result<Vec<TargetFile>, Fault>
     Ok(files)
 }
 
-// The name and the path: the first `=` divides them, and without one the name is empty.
+/// The name and the path: the first `=` divides them, and without one the name is empty.
 pub(crate) fn parts_of(value: &str) -> (&str, &str)
     ensures name { result.0.now ≡ (parts_of value.now).0 }
     ensures path { result.1.now ≡ (parts_of value.now).1 }
@@ -157,7 +157,7 @@ pub fn targets_of(alloc: Global, read: Vec<TargetBytes>) -> Result<Targets, Faul
     Ok(Targets::new(alloc, environments)?)
 }
 
-// The environments that the bytes are, with their names.
+/// The environments that the bytes are, with their names.
 fn environments_of(
     alloc: Global,
     read: Vec<TargetBytes>,

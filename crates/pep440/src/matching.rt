@@ -8,7 +8,7 @@ use crate::order;
 use crate::specifier::{Clause, Operator, SpecifierSet};
 use crate::version::Version;
 
-// The number at a place of a release, which is 0 past its end.
+/// The number at a place of a release, which is 0 past its end.
 fn number_at(release: &[u64], place: usize) -> u64
     ensures { result ≡ slice_index release.now place }
 {
@@ -19,7 +19,7 @@ fn number_at(release: &[u64], place: usize) -> u64
     }
 }
 
-// Whether `release`, padded with zeros, begins with `prefix`.
+/// Whether `release`, padded with zeros, begins with `prefix`.
 fn begins(release: &[u64], prefix: &[u64]) -> bool
     ensures { result ≡ begins release.now prefix.now }
 {

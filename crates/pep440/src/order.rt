@@ -13,7 +13,7 @@ use crate::version::Version;
 use std::cmp::Ordering;
 use std::hash::{Hash, Hasher};
 
-// The release without its trailing zeros.
+/// The release without its trailing zeros.
 pub(crate) fn trimmed(release: &[u64]) -> &[u64]
     ensures { result.now ≡ trimmed release.now }
 {
@@ -24,7 +24,7 @@ pub(crate) fn trimmed(release: &[u64]) -> &[u64]
     &release[..len]
 }
 
-// The rank of a pre part, and its number.
+/// The rank of a pre part, and its number.
 fn pre_key(version: &Version) -> (u8, u64)
     ensures { result ≡ pre_key version.now }
 {

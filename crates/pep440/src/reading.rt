@@ -19,7 +19,7 @@ use crate::{spans, text, words};
 use lists::{Seq, Text};
 use std::alloc::{AllocError, Global};
 
-// The number `value` with one digit more, if that fits.
+/// The number `value` with one digit more, if that fits.
 fn with_digit(value: u64, digit: u8) -> Option<u64>
     ensures none { IfNone result (2 ^ 64 ≤ value * 10 + (digit - 48)) }
     ensures some { IfSome result (λ sum. (sum ≡ value * 10 + (digit - 48)) × (sum < 2 ^ 64)) }
@@ -28,7 +28,7 @@ fn with_digit(value: u64, digit: u8) -> Option<u64>
     tens.checked_add(u64::from(digit.saturating_sub(b'0')))
 }
 
-// The number that digits write.
+/// The number that digits write.
 fn number_of(digits: &[u8]) -> Result<u64, Fault>
     ensures { result ≡ capped (value_from 0 digits.now) }
 {
@@ -42,7 +42,7 @@ fn number_of(digits: &[u8]) -> Result<u64, Fault>
     Ok(value)
 }
 
-// The numbers of a text of digits and `.`.
+/// The numbers of a text of digits and `.`.
 fn release_numbers(alloc: Global, text: &[u8]) -> Result<Vec<u64>, Fault>
     ensures { Gives (λ v. v.items) result (fitting_numbers (numbers_from 0 text.now)) }
 {
@@ -100,7 +100,7 @@ fn dev_in(spans: &SpannedText) -> Result<Option<u64>, Fault>
     }
 }
 
-// A text of ASCII letters and digits in lower case.
+/// A text of ASCII letters and digits in lower case.
 fn lower_text(alloc: Global, text: &[u8]) -> Result<Text, AllocError>
     requires { list_all is_ascii_alphanumeric text.now ≡ true }
     ensures { IfOk result (λ lower. lower ≡ map to_ascii_lowercase text.now) }
@@ -118,7 +118,7 @@ fn are_digits(text: &[u8]) -> bool
     text.iter().all(|byte| byte.is_ascii_digit())
 }
 
-// The local part that letters and digits spell.
+/// The local part that letters and digits spell.
 fn part_at(alloc: Global, text: &[u8]) -> Result<LocalPart, Fault>
     requires { list_all is_ascii_alphanumeric text.now ≡ true }
     ensures { Gives (λ p. p) result (fitting_part (part_of text.now)) }
@@ -129,7 +129,7 @@ fn part_at(alloc: Global, text: &[u8]) -> Result<LocalPart, Fault>
     Ok(LocalPart::Word(lower_text(alloc, text)?))
 }
 
-// The place of the first separator.
+/// The place of the first separator.
 fn separator_at(text: &[u8]) -> Option<usize>
     ensures none { IfNone result (locals_from [] text.now ≡ part_of text.now ∷ []) }
     ensures none_within { IfNone result (is_local_from false text.now ≡ true
@@ -149,7 +149,7 @@ fn separator_at(text: &[u8]) -> Option<usize>
     None
 }
 
-// The local parts that stand behind `+`.
+/// The local parts that stand behind `+`.
 fn local_parts(alloc: Global, text: &[u8]) -> Result<Vec<LocalPart>, Fault>
     requires { is_local text.now ≡ true }
     ensures { Gives (λ v. v.items) result (fitting_locals (locals_of text.now)) }
@@ -170,7 +170,7 @@ fn local_parts(alloc: Global, text: &[u8]) -> Result<Vec<LocalPart>, Fault>
     Ok(parts)
 }
 
-// The version that stands in the spans.
+/// The version that stands in the spans.
 pub(crate) fn version_of_spans(alloc: Global, spans: &SpannedText) -> Result<Version, Fault>
     requires { is_local spans.now.local.now ≡ true }
     ensures { Gives (λ v. v) result (fitting (Some (parts_in (span_view spans.now)))) }
@@ -218,7 +218,7 @@ fn trim_space_end(text: &[u8]) -> &[u8]
     &text[..len]
 }
 
-// The version that a text spells, white space around it or not.
+/// The version that a text spells, white space around it or not.
 fn version_at(alloc: Global, text: &[u8]) -> Result<Version, Fault>
     ensures { Gives (λ v. v) result (version_of text.now) }
 {

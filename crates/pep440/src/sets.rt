@@ -50,7 +50,7 @@ fn trim_blank(text: &[u8]) -> &[u8]
     trim_end(trim_front(text))
 }
 
-// The place of the first comma.
+/// The place of the first comma.
 fn comma_at(text: &[u8]) -> Option<usize>
     ensures none { IfNone result (pieces text.now ≡ text.now ∷ []) }
     ensures within { IfSome result (λ i. i < length text.now) }
@@ -65,7 +65,7 @@ fn comma_at(text: &[u8]) -> Option<usize>
     None
 }
 
-// The operator of two characters that ends in `=`.
+/// The operator of two characters that ends in `=`.
 fn double_of(first: u8) -> Option<Operator>
     ensures { result ≡ double_of first }
 {
@@ -89,7 +89,7 @@ fn single_of(first: u8) -> Option<Operator>
     }
 }
 
-// The longest operator that begins a piece, and the text behind it.
+/// The longest operator that begins a piece, and the text behind it.
 fn operator_of(piece: &[u8]) -> Option<(Operator, &[u8])>
     ensures { operator_view result ≡ operator_of piece.now }
 {
@@ -109,7 +109,7 @@ fn is_arbitrary(piece: &[u8]) -> bool
     }
 }
 
-// Whether `.*` ends the text.
+/// Whether `.*` ends the text.
 fn ends_in_star(text: &[u8]) -> bool
     ensures { result ≡ ends_in_star text.now }
 {
@@ -117,7 +117,7 @@ fn ends_in_star(text: &[u8]) -> bool
     len >= 2 && text[len - 2] == b'.' && text[len - 1] == b'*'
 }
 
-// What an operator means where `.*` stands behind the version, or not.
+/// What an operator means where `.*` stands behind the version, or not.
 fn star_operator(star: bool, operator: Operator) -> Option<Operator>
     ensures { result ≡ star_operator star operator }
 {
@@ -131,7 +131,7 @@ fn star_operator(star: bool, operator: Operator) -> Option<Operator>
     }
 }
 
-// The text in front of `.*`.
+/// The text in front of `.*`.
 fn version_text(star: bool, text: &[u8]) -> &[u8]
     ensures { result.now ≡ version_text star text.now }
 {
@@ -144,7 +144,7 @@ fn version_text(star: bool, text: &[u8]) -> &[u8]
     text
 }
 
-// Whether a release has more than one number.
+/// Whether a release has more than one number.
 fn has_dot(release: &[u8]) -> bool
     ensures { result ≡ list_any (λ b. b == 46) release.now }
 {
@@ -158,7 +158,7 @@ fn is_release_alone(spans: &SpannedText) -> bool
     spans.pre.is_none() && spans.post.is_none() && spans.dev.is_none() && spans.local.is_empty()
 }
 
-// Whether an operator may stand before a version.
+/// Whether an operator may stand before a version.
 #[tactic(auto, using(crate::proofs::SpansRead::no_locals, crate::proofs::SpansRead::dots_numbers))]
 fn takes(operator: Operator, spans: &SpannedText) -> bool
     ensures { result ≡ takes operator (parts_in (span_view spans.now)) }
@@ -173,7 +173,7 @@ fn takes(operator: Operator, spans: &SpannedText) -> bool
     }
 }
 
-// The clause of an operator and the text of its version.
+/// The clause of an operator and the text of its version.
 fn clause_text(
     alloc: Global,
     operator: Operator,
@@ -196,7 +196,7 @@ fn clause_text(
     Ok(Clause { operator, version })
 }
 
-// The clause at a place, counted from 1, that a piece spells.
+/// The clause at a place, counted from 1, that a piece spells.
 fn clause_at(alloc: Global, piece: &[u8], place: usize) -> Result<Clause, Fault>
     ensures { Gives (λ c. c) result (clause_of place piece.now) }
 {
@@ -209,14 +209,14 @@ fn clause_at(alloc: Global, piece: &[u8], place: usize) -> Result<Clause, Fault>
     clause_text(alloc, operator, trim_front(rest), place)
 }
 
-// Whether the last piece is what may stand behind a trailing comma.
+/// Whether the last piece is what may stand behind a trailing comma.
 fn is_end(piece: &[u8], place: usize) -> bool
     ensures { result ≡ (nat_lt 1 place && list_all is_space_or_tab piece.now) }
 {
     place > 1 && are_blank(piece)
 }
 
-// How many commas a text has.
+/// How many commas a text has.
 fn commas_in(text: &[u8]) -> usize
     ensures { result ≤ length text.now }
 {
@@ -229,7 +229,7 @@ fn commas_in(text: &[u8]) -> usize
     commas
 }
 
-// The clauses of a text that isn't blank. There is one more than commas, at most.
+/// The clauses of a text that isn't blank. There is one more than commas, at most.
 fn clauses_at(alloc: Global, text: &[u8]) -> Result<Vec<Clause>, Fault>
     ensures { Gives (λ v. v.items) result (clauses_from 1 (pieces text.now)) }
 {

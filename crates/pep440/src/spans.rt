@@ -26,7 +26,7 @@ pub(crate) struct SpannedText<'a> {
     pub(crate) local: &'a [u8],
 }
 
-// A text without a `v` at its front.
+/// A text without a `v` at its front.
 fn after_lead(text: &[u8]) -> &[u8]
     ensures { result.now ≡ after_lead text.now }
 {
@@ -36,7 +36,7 @@ fn after_lead(text: &[u8]) -> &[u8]
     }
 }
 
-// The digits of an epoch, none where there is none, and what follows it.
+/// The digits of an epoch, none where there is none, and what follows it.
 fn epoch_at(text: &[u8]) -> (&[u8], &[u8])
     ensures digits { result.0.now ≡ (epoch_at text.now).0 }
     ensures rest { result.1.now ≡ (epoch_at text.now).1 }
@@ -50,14 +50,14 @@ fn epoch_at(text: &[u8]) -> (&[u8], &[u8])
     (&text[..0], text)
 }
 
-// Whether a release goes on with a byte, behind which the text stands.
+/// Whether a release goes on with a byte, behind which the text stands.
 fn goes_on(byte: u8, rest: &[u8]) -> bool
     ensures { result ≡ goes_on byte rest.now }
 {
     byte.is_ascii_digit() || (byte == b'.' && words::starts_digit(rest))
 }
 
-// The release that a text begins with, and what follows it.
+/// The release that a text begins with, and what follows it.
 fn cut_release(text: &[u8]) -> (&[u8], &[u8])
     ensures release { result.0.now ≡ release_of text.now }
     ensures rest { result.1.now ≡ after_release text.now }
@@ -70,7 +70,7 @@ fn cut_release(text: &[u8]) -> (&[u8], &[u8])
     (text, &text[text.len()..])
 }
 
-// The pre word with its digits, and what follows them.
+/// The pre word with its digits, and what follows them.
 fn pre_at(text: &[u8]) -> (Option<(PreWord, &[u8])>, &[u8])
     ensures part { word_view result.0 ≡ (pre_at text.now).0 }
     ensures rest { result.1.now ≡ (pre_at text.now).1 }
@@ -84,7 +84,7 @@ fn pre_at(text: &[u8]) -> (Option<(PreWord, &[u8])>, &[u8])
     }
 }
 
-// The digits of a post part, and what follows it.
+/// The digits of a post part, and what follows it.
 fn post_at(text: &[u8]) -> (Option<&[u8]>, &[u8])
     ensures part { option_copied result.0 ≡ (post_at text.now).0 }
     ensures rest { result.1.now ≡ (post_at text.now).1 }
@@ -102,7 +102,7 @@ fn post_at(text: &[u8]) -> (Option<&[u8]>, &[u8])
     }
 }
 
-// The digits of a dev part, and what follows it.
+/// The digits of a dev part, and what follows it.
 fn dev_at(text: &[u8]) -> (Option<&[u8]>, &[u8])
     ensures part { option_copied result.0 ≡ (dev_at text.now).0 }
     ensures rest { result.1.now ≡ (dev_at text.now).1 }
@@ -116,7 +116,7 @@ fn dev_at(text: &[u8]) -> (Option<&[u8]>, &[u8])
     }
 }
 
-// Whether the text is local parts with separators between them.
+/// Whether the text is local parts with separators between them.
 fn is_local(text: &[u8]) -> bool
     ensures { result ≡ is_local_from false text.now }
 {
@@ -136,7 +136,7 @@ fn is_local(text: &[u8]) -> bool
     some
 }
 
-// What stands behind `+`, where the text is a local part or empty.
+/// What stands behind `+`, where the text is a local part or empty.
 fn local_at(text: &[u8]) -> Option<&[u8]>
     ensures value { option_copied result ≡ local_at text.now }
     ensures lawful { IfSome result (λ local. is_local local.now ≡ true) }

@@ -28,7 +28,7 @@ pub(crate) fn starts_digit(text: &[u8]) -> bool
     }
 }
 
-// The digits that a text begins with, and what follows them.
+/// The digits that a text begins with, and what follows them.
 pub(crate) fn cut_digits(text: &[u8]) -> (&[u8], &[u8])
     ensures digits { result.0.now ≡ digits_of text.now }
     ensures rest { result.1.now ≡ after_digits text.now }
@@ -41,7 +41,7 @@ pub(crate) fn cut_digits(text: &[u8]) -> (&[u8], &[u8])
     (text, &text[text.len()..])
 }
 
-// A text without a separator at its front.
+/// A text without a separator at its front.
 pub(crate) fn after_separator(text: &[u8]) -> &[u8]
     ensures { result.now ≡ after_separator text.now }
 {
@@ -51,7 +51,7 @@ pub(crate) fn after_separator(text: &[u8]) -> &[u8]
     }
 }
 
-// What follows a word in lower case that the text begins with, in letters of either case.
+/// What follows a word in lower case that the text begins with, in letters of either case.
 pub(crate) fn strip_word<'a>(text: &'a [u8], word: &[u8]) -> Option<&'a [u8]>
     ensures { option_copied result ≡ strip_word word.now text.now }
 {
@@ -66,7 +66,7 @@ pub(crate) fn strip_word<'a>(text: &'a [u8], word: &[u8]) -> Option<&'a [u8]>
     Some(&text[word.len()..])
 }
 
-// The text without a word that it may begin with.
+/// The text without a word that it may begin with.
 fn optional_word<'a>(text: &'a [u8], word: &[u8]) -> &'a [u8]
     ensures { result.now ≡ optional_word word.now text.now }
 {
@@ -76,7 +76,7 @@ fn optional_word<'a>(text: &'a [u8], word: &[u8]) -> &'a [u8]
     }
 }
 
-// The pre word that a text begins with, and what follows it.
+/// The pre word that a text begins with, and what follows it.
 pub(crate) fn pre_word_at(text: &[u8]) -> Option<(PreWord, &[u8])>
     ensures { word_view result ≡ pre_word_at text.now }
 {
@@ -96,7 +96,7 @@ pub(crate) fn pre_word_at(text: &[u8]) -> Option<(PreWord, &[u8])>
     }
 }
 
-// What follows the post word that a text begins with.
+/// What follows the post word that a text begins with.
 pub(crate) fn post_word_at(text: &[u8]) -> Option<&[u8]>
     ensures { option_copied result ≡ post_word_at text.now }
 {
@@ -110,7 +110,7 @@ pub(crate) fn post_word_at(text: &[u8]) -> Option<&[u8]>
     }
 }
 
-// Whether a text begins with `-` and a digit.
+/// Whether a text begins with `-` and a digit.
 pub(crate) fn is_implicit(text: &[u8]) -> bool
     ensures { result ≡ is_implicit text.now }
 {
@@ -120,7 +120,7 @@ pub(crate) fn is_implicit(text: &[u8]) -> bool
     }
 }
 
-// The digits behind a word, a separator before them or not, and what follows them.
+/// The digits behind a word, a separator before them or not, and what follows them.
 pub(crate) fn number_behind(text: &[u8]) -> (&[u8], &[u8])
     ensures digits { result.0.now ≡ (number_behind text.now).0 }
     ensures rest { result.1.now ≡ (number_behind text.now).1 }

@@ -17,7 +17,7 @@ pub fn add_word(text: &mut String, word: &str) -> Result<(), AllocError> {
     text.push_str("'")
 }
 
-// A letter in single quotes. A quote ends them, stands behind a backslash, and begins them again.
+/// A letter in single quotes. A quote ends them, stands behind a backslash, and begins them again.
 fn add_quoted(text: &mut String, letter: char) -> Result<(), AllocError> {
     match letter {
         '\'' => text.push_str("'\\''"),

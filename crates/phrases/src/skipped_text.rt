@@ -34,7 +34,7 @@ fn add_release(text: &mut String, release: &Skipped) -> Result<(), AllocError> {
     add_place(text, release)
 }
 
-// Where the release stands, and why it was left out.
+/// Where the release stands, and why it was left out.
 fn add_place(text: &mut String, release: &Skipped) -> Result<(), AllocError> {
     let place = release.place();
     write!(text, ": release {place}: ")?;

@@ -25,7 +25,7 @@ pub fn add_table(
     Ok(())
 }
 
-// How wide a column is, the head of which is this wide.
+/// How wide a column is, the head of which is this wide.
 fn width_of(column: usize, head: usize, rows: &[Vec<String>]) -> usize {
     let mut width = head;
     for row in rows {
@@ -49,7 +49,7 @@ fn add_row(
     add_line(text, line.as_str())
 }
 
-// Puts a cell and the space behind its column behind a line.
+/// Puts a cell and the space behind its column behind a line.
 fn add_cell(line: &mut String, width: usize, cell: &str) -> Result<(), AllocError> {
     write!(line, "{cell:width$}  ")
 }

@@ -26,7 +26,7 @@ pub fn clause_column(text: &str, fault: SpecifierFault) -> usize {
     clause_place(text, 0, fault).saturating_add(1)
 }
 
-// Where the refused clause begins, of those that begin in this place, with a parenthesis or without.
+/// Where the refused clause begins, of those that begin in this place, with a parenthesis or without.
 fn clause_place(text: &str, from: usize, fault: SpecifierFault) -> usize {
     let mut place = behind_space(text, from);
     if is_at(text, place, '(') {
@@ -42,7 +42,7 @@ fn clause_place(text: &str, from: usize, fault: SpecifierFault) -> usize {
     place
 }
 
-// Where the name is that doesn't read: that of the line, or one of the extras behind it.
+/// Where the name is that doesn't read: that of the line, or one of the extras behind it.
 fn bad_name_place(alloc: Global, line: &str, start: usize) -> Result<usize, AllocError> {
     let end = behind_name(line, start);
     let mut name = String::new(alloc);
@@ -56,7 +56,7 @@ fn bad_name_place(alloc: Global, line: &str, start: usize) -> Result<usize, Allo
     }
 }
 
-// Where the first letter stands behind the letters of a name.
+/// Where the first letter stands behind the letters of a name.
 fn behind_name(text: &str, from: usize) -> usize {
     for (place, letter) in text.chars().enumerate() {
         if place >= from && !is_name_letter(letter) {
@@ -73,7 +73,7 @@ fn is_name_letter(letter: char) -> bool {
     }
 }
 
-// Where the version part begins behind the name and its extras.
+/// Where the version part begins behind the name and its extras.
 fn behind_extras(text: &str, start: usize) -> usize {
     let place = behind_space(text, behind_name(text, start));
     if !is_at(text, place, '[') {
@@ -82,7 +82,7 @@ fn behind_extras(text: &str, start: usize) -> usize {
     behind_space(text, place_from(text, place, ']').saturating_add(1))
 }
 
-// Where the first letter from here on stands that is no space or tab.
+/// Where the first letter from here on stands that is no space or tab.
 fn behind_space(text: &str, from: usize) -> usize {
     for (place, letter) in text.chars().enumerate() {
         if place >= from && letter != ' ' && letter != '\t' {
@@ -92,7 +92,7 @@ fn behind_space(text: &str, from: usize) -> usize {
     text.chars().count()
 }
 
-// Where the letter first stands from here on, or the end of the text.
+/// Where the letter first stands from here on, or the end of the text.
 fn place_from(text: &str, from: usize, wanted: char) -> usize {
     for (place, letter) in text.chars().enumerate() {
         if place >= from && letter == wanted {
@@ -106,7 +106,7 @@ fn is_at(text: &str, place: usize, wanted: char) -> bool {
     text.chars().nth(place) == Some(wanted)
 }
 
-// Where the first letter stands that no line may have.
+/// Where the first letter stands that no line may have.
 fn odd_place(line: &str) -> usize {
     for (place, letter) in line.chars().enumerate() {
         if is_odd(letter) {

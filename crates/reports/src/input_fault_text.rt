@@ -63,7 +63,7 @@ fn write_index_fault<W: fmt::Write>(f: &mut fmt::Formatter<W>, fault: &IndexFaul
     }
 }
 
-// An empty detail is left out with its space.
+/// An empty detail is left out with its space.
 fn write_detail<W: fmt::Write>(f: &mut fmt::Formatter<W>, word: &str, detail: &str) -> fmt::Result {
     if detail.is_empty() {
         write!(f, "{word}")

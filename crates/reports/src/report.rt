@@ -88,7 +88,7 @@ fn report_needed<E: Write>(option: NeededOption, errors: &mut E) -> Status
     Status::Usage
 }
 
-// The empty name is left out with its space.
+/// The empty name is left out with its space.
 fn report_twice<E: Write>(name: &str, errors: &mut E) -> Status
     ensures { result ≡ statuses.Usage }
 {
@@ -97,7 +97,7 @@ fn report_twice<E: Write>(name: &str, errors: &mut E) -> Status
     Status::Usage
 }
 
-// Help goes to the output, and is no mistake.
+/// Help goes to the output, and is no mistake.
 fn report_usage<O: Write, E: Write>(error: &clap::Error, output: &mut O, errors: &mut E) -> Status
     ensures { HasUsageStatus (kind_of error.now) result }
 {
@@ -113,7 +113,7 @@ fn report_usage<O: Write, E: Write>(error: &clap::Error, output: &mut O, errors:
     }
 }
 
-// A target that is refused is a mistake in the words of the call.
+/// A target that is refused is a mistake in the words of the call.
 fn report_refusal<O: Write, E: Write>(refusal: &Refusal, output: &mut O, errors: &mut E) -> Status
     ensures { HasStatus (stops.Refused refusal.now) result
         (O.contents output.old) (O.contents output.new) }
@@ -141,7 +141,7 @@ fn report_refusal<O: Write, E: Write>(refusal: &Refusal, output: &mut O, errors:
     }
 }
 
-// Writes the word of a refusal, which has this status.
+/// Writes the word of a refusal, which has this status.
 fn report_word<O: Write, E: Write>(
     refusal: &Refusal,
     status: Status,
@@ -169,7 +169,7 @@ fn print_refusal<O: Write>(refusal: &Refusal, output: &mut O) -> Result<(), Batc
     Ok(())
 }
 
-// Writes the text of an answer that has this status.
+/// Writes the text of an answer that has this status.
 fn report_text<O: Write, E: Write>(
     text: &str,
     status: Status,

@@ -58,7 +58,7 @@ pub fn given_words<R: Env + AllocGlobal>(rt: &R) -> Result<Vec<String>, NoWords>
     Ok(words)
 }
 
-// Puts an option behind the program's name, with the value of a variable.
+/// Puts an option behind the program's name, with the value of a variable.
 fn add_option<R: Env + AllocGlobal>(
     rt: &R,
     words: &mut Vec<String>,

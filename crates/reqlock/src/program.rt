@@ -82,7 +82,7 @@ where
     status
 }
 
-// Tells why a call stops, in a text that looks as the output does.
+/// Tells why a call stops, in a text that looks as the output does.
 fn report_shown<O: Write, E: Write>(
     alloc: Global,
     stop: Stop,
@@ -96,7 +96,7 @@ fn report_shown<O: Write, E: Write>(
     }
 }
 
-// Tells why words are no request, and what to type where an option is missing.
+/// Tells why words are no request, and what to type where an option is missing.
 fn refuse_words<R: Files + AllocGlobal, O: Write, E: Write>(
     rt: &R,
     given: Given<'_>,
@@ -120,7 +120,7 @@ fn refuse_words<R: Files + AllocGlobal, O: Write, E: Write>(
     status
 }
 
-// How much words ask for that are no request.
+/// How much words ask for that are no request.
 fn telling_in(words: &[String]) -> Telling {
     if has_option(words, "--quiet") || has_option(words, "-q") {
         Telling::Quiet
@@ -131,7 +131,7 @@ fn telling_in(words: &[String]) -> Telling {
     }
 }
 
-// What is known of a file that is refused is noted behind all else.
+/// What is known of a file that is refused is noted behind all else.
 fn obey<R: Files + AllocGlobal, I: Read + Drop, O: Write>(
     call: &mut Call<'_, R, O>,
     subcommand: Subcommand<'_>,
@@ -204,7 +204,7 @@ where
     }
 }
 
-// A first lock, with the pins that it keeps.
+/// A first lock, with the pins that it keeps.
 fn init<R: Files + AllocGlobal, I: Read + Drop, O: Write>(
     call: &mut Call<'_, R, O>,
     details: &mut Details,
@@ -216,7 +216,7 @@ fn init<R: Files + AllocGlobal, I: Read + Drop, O: Write>(
     begin_history(call, details, paths, input)
 }
 
-// An undo or a redo, saved or not.
+/// An undo or a redo, saved or not.
 fn step<R: Files + AllocGlobal, O: Write>(
     call: &mut Call<'_, R, O>,
     details: &mut Details,

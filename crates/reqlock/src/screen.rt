@@ -79,7 +79,7 @@ pub fn shown_stop(alloc: Global, stop: Stop, style: Style) -> Result<Stop, Alloc
     }
 }
 
-// A difference as it looks there; JSON stays as it is.
+/// A difference as it looks there; JSON stays as it is.
 fn shown_change(alloc: Global, text: String, style: Style) -> Result<String, AllocError> {
     if text.as_str().starts_with("{") {
         return Ok(text);
@@ -94,7 +94,7 @@ fn is_dumb<R: Env + AllocGlobal>(rt: &R) -> Result<bool, NoWords> {
     }
 }
 
-// The width of the terminal, as the shell tells it.
+/// The width of the terminal, as the shell tells it.
 fn width_of<R: Env + AllocGlobal>(rt: &R) -> Result<Option<usize>, NoWords> {
     let Some(value) = variable(rt, "COLUMNS")? else {
         return Ok(None);
@@ -105,7 +105,7 @@ fn width_of<R: Env + AllocGlobal>(rt: &R) -> Result<Option<usize>, NoWords> {
     }
 }
 
-// Whether a variable is set, and not empty.
+/// Whether a variable is set, and not empty.
 fn has_variable<R: Env + AllocGlobal>(rt: &R, name: &str) -> Result<bool, NoWords> {
     match variable(rt, name)? {
         Some(value) => Ok(!value.is_empty()),
@@ -113,7 +113,7 @@ fn has_variable<R: Env + AllocGlobal>(rt: &R, name: &str) -> Result<bool, NoWord
     }
 }
 
-// The value of a variable. One that isn't UTF-8 counts as absent: it says nothing about files.
+/// The value of a variable. One that isn't UTF-8 counts as absent: it says nothing about files.
 fn variable<R: Env + AllocGlobal>(rt: &R, name: &str) -> Result<Option<String>, NoWords> {
     match std::env::var(rt, name) {
         Ok(value) => Ok(Some(value)),

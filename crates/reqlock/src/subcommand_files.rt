@@ -56,7 +56,7 @@ pub fn has_old_lines(subcommand: &Subcommand<'_>) -> bool
     }
 }
 
-// Where the new lines of a replacement are.
+/// Where the new lines of a replacement are.
 fn new_lines_of<'a>(subcommand: &Subcommand<'a>) -> Option<NewLines<'a>>
     ensures { result ≡ new_lines_of subcommand.now }
 {

@@ -32,6 +32,7 @@ fn best_in(
 {
     laws::a_picture_keeps_the_best_solution::<Name, Node, Version, Requirement>();
     let table = &tabled.table;
+    // What is known of every table comes with its count.
     let _count = table.name_count();
     match method.best(alloc, table)? {
         None => Ok(Answer::NoSolution),
@@ -69,6 +70,7 @@ pub(crate) fn refuted_in(
     laws::a_picture_keeps_the_best_solution::<Name, Node, Version, Requirement>();
     laws::a_picture_keeps_refutations::<Name, Node, Version, Requirement>();
     let table = &tabled.table;
+    // What is known of every table comes with its count.
     let _count = table.name_count();
     match learned_or_refuted(alloc, table)? {
         Found::Best(_) => Ok(None),

@@ -49,6 +49,7 @@ fn refuted_by_sets_in(
     laws::a_picture_keeps_the_best_solution::<Name, Node, Version, Requirement>();
     laws::a_picture_keeps_set_refutations::<Name, Node, Version, Requirement>();
     let table = &tabled.table;
+    // What is known of every table comes with its count.
     let _count = table.name_count();
     match solved(alloc, table)? {
         SetVerdict::Best(_) => Ok(None),

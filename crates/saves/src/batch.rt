@@ -62,7 +62,7 @@ pub fn try_commands<R: Files + AllocGlobal, I: Read + Drop, O: Write>(
     Ok(print(&mut call.output, text.as_str().as_bytes())?)
 }
 
-// Does the commands of the input on a session, prints the replies, and tells whether one was accepted.
+/// Does the commands of the input on a session, prints the replies, and tells whether one was accepted.
 fn accepts_one<I: Read + Drop, O: Write>(
     alloc: Global,
     input: I,

@@ -81,7 +81,7 @@ impl Details {
         Ok(self.add_forgotten(from, session)?)
     }
 
-    // How many steps an edit made an end of, that an undo had left.
+    /// How many steps an edit made an end of, that an undo had left.
     fn add_forgotten(&mut self, from: Place, session: &Session) -> Result<(), AllocError> {
         let forgotten = from.steps.saturating_sub(from.cursor);
         if !self.manner.is_person || forgotten == 0 || session.cursor() == from.cursor {
@@ -174,7 +174,7 @@ impl Details {
     }
 }
 
-// The state at a place of the history.
+/// The state at a place of the history.
 fn state_at(alloc: Global, session: &Session, place: usize) -> Result<State, Stop> {
     if place > session.steps() {
         return Err(Stop::NoPlace(place));
@@ -182,7 +182,7 @@ fn state_at(alloc: Global, session: &Session, place: usize) -> Result<State, Sto
     Ok(session.state_at(alloc, place)?)
 }
 
-// The state that an edit leads to where every locked version has to stay, if there is one.
+/// The state that an edit leads to where every locked version has to stay, if there is one.
 fn state_that_keeps(
     alloc: Global,
     old: State,

@@ -37,7 +37,7 @@ impl Details {
         }
     }
 
-    // How a requirements file is taken over that was changed by hand.
+    /// How a requirements file is taken over that was changed by hand.
     fn add_taking_over(&mut self, files: &CallFiles<'_>) -> Result<(), AllocError> {
         self.known.push_str(
             "requirements.txt was changed since reqlock saved it. Where git has the saved one, this takes the change over:\n",
@@ -54,7 +54,7 @@ impl Details {
         self.add_beginning()
     }
 
-    // How the requirements file is found that was saved, where another one is handed in as it.
+    /// How the requirements file is found that was saved, where another one is handed in as it.
     fn add_seeking(&mut self, files: &CallFiles<'_>) -> Result<(), AllocError> {
         self.known.push_str(
             "The file of --was isn't requirements.txt as reqlock saved it. In a git checkout this looks for that one in the last commits:\n",
@@ -62,7 +62,7 @@ impl Details {
         self.add_merge(files)
     }
 
-    // The command that takes over what git has.
+    /// The command that takes over what git has.
     fn add_merge(&mut self, files: &CallFiles<'_>) -> Result<(), AllocError> {
         self.known.push_str("    reqlock-merge")?;
         if files.dir != "." {
@@ -91,7 +91,7 @@ impl Details {
         self.add_beginning()
     }
 
-    // What to do where git left a conflict in a file; and whether it did.
+    /// What to do where git left a conflict in a file; and whether it did.
     fn add_conflict(
         &mut self,
         files: &CallFiles<'_>,

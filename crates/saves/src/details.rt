@@ -139,7 +139,7 @@ impl Details {
         }
     }
 
-    // All of it, as it looks in the manner of the call.
+    /// All of it, as it looks in the manner of the call.
     fn shown(&self, alloc: Global) -> Result<String, AllocError> {
         let style: Style = self.manner.style;
         let mut text = style.change(alloc, self.changes.clone()?)?;
@@ -156,7 +156,7 @@ fn write_text<E: Write>(text: &str, errors: &mut E) {
     }
 }
 
-// Where the requirements file stands, as a command names it.
+/// Where the requirements file stands, as a command names it.
 fn requirements_path(alloc: Global, dir: &str) -> Result<String, AllocError> {
     if dir == "." {
         return String::from_str(alloc, "requirements.txt");

@@ -45,8 +45,8 @@ pub fn step_once<R: Files + AllocGlobal, O: Write>(
     apply(call, details, &files, session, command)
 }
 
-// Does one command, saves where it was accepted, and prints the reply. What changed is worked out before anything is
-// saved, since memory may be wanting for it.
+/// Does one command, saves where it was accepted, and prints the reply. What changed is worked out before anything is
+/// saved, since memory may be wanting for it.
 pub(crate) fn apply<R: Files + AllocGlobal, O: Write>(
     call: &mut Call<'_, R, O>,
     details: &mut Details,

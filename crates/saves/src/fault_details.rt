@@ -50,7 +50,7 @@ impl Details {
         }
     }
 
-    // A file that was read, and is refused.
+    /// A file that was read, and is refused.
     fn add_refused_file<R: Files + AllocGlobal>(
         &mut self,
         rt: &R,
@@ -110,7 +110,7 @@ impl Details {
         Ok(())
     }
 
-    // All lines that don't read.
+    /// All lines that don't read.
     fn add_bad_requirements(&mut self, alloc: Global, bytes: &[u8]) -> Result<(), AllocError> {
         match str::from_utf8(bytes) {
             Ok(text) => add_bad_lines(alloc, &mut self.known, text),
@@ -145,7 +145,7 @@ impl Details {
         )
     }
 
-    // The path of a file that can't be read, and the cause that the system tells. No folder has the empty name.
+    /// The path of a file that can't be read, and the cause that the system tells. No folder has the empty name.
     fn add_unread<R: Files + AllocGlobal>(
         &mut self,
         rt: &R,
@@ -180,7 +180,7 @@ impl Details {
         Ok(())
     }
 
-    // How a file is made that isn't there.
+    /// How a file is made that isn't there.
     fn add_absent<R: Files + AllocGlobal>(
         &mut self,
         rt: &R,
@@ -217,7 +217,7 @@ impl Details {
         }
     }
 
-    // What a person types where there is no history.
+    /// What a person types where there is no history.
     fn add_first_command(&mut self, files: &CallFiles<'_>) -> Result<(), AllocError> {
         if !self.manner.is_person {
             return Ok(());
@@ -233,7 +233,7 @@ impl Details {
         self.steps.push_str(" init\n")
     }
 
-    // A project of pip-tools has its requirements in another file.
+    /// A project of pip-tools has its requirements in another file.
     fn add_no_requirements<R: Files + AllocGlobal>(
         &mut self,
         rt: &R,
@@ -253,7 +253,7 @@ impl Details {
 }
 
 impl CallFiles<'_> {
-    // The path of a file; empty where the call names none.
+    /// The path of a file; empty where the call names none.
     pub(crate) fn path_of(&self, alloc: Global, file: &InputFile) -> Result<String, Stop> {
         match file {
             InputFile::Index => Ok(String::from_str(alloc, self.index.unwrap_or(""))?),
@@ -271,7 +271,7 @@ impl CallFiles<'_> {
     }
 }
 
-// The path of the environment of a target; empty where no target has the name.
+/// The path of the environment of a target; empty where no target has the name.
 fn environment_path<'a>(targets: &'a [TargetFile], name: &TargetName) -> &'a str
     ensures { result.now ≡ path_named name.now targets.now }
 {
@@ -281,14 +281,14 @@ fn environment_path<'a>(targets: &'a [TargetFile], name: &TargetName) -> &'a str
     }
 }
 
-// The target of a name.
+/// The target of a name.
 fn target_named<'a>(targets: &'a [TargetFile], name: &str) -> Option<&'a TargetFile>
     ensures { option_copied result ≡ find (has_name name.now) targets.now }
 {
     targets.iter().find(|target| target.name().as_str() == name)
 }
 
-// The variable that an environment lacks or has wrong.
+/// The variable that an environment lacks or has wrong.
 fn variable_in(cause: Cause) -> &'static str {
     match cause {
         Cause::BadEnvironment(Some(variable)) => variable.name(),
@@ -304,7 +304,7 @@ pub(crate) fn is_there<R: Files + AllocGlobal>(rt: &R, path: &str) -> bool {
     }
 }
 
-// The bytes of a file that was read already; none where it can't be read again.
+/// The bytes of a file that was read already; none where it can't be read again.
 fn bytes_of<R: Files + AllocGlobal>(
     rt: &R,
     file: &InputFile,
@@ -317,7 +317,7 @@ fn bytes_of<R: Files + AllocGlobal>(
     }
 }
 
-// The number of the first line that is no UTF-8.
+/// The number of the first line that is no UTF-8.
 fn odd_line(bytes: &[u8]) -> usize {
     let mut number: usize = 1;
     for line in bytes.split(|byte| *byte == b'\n') {

@@ -67,7 +67,7 @@ impl Details {
         self.add_call(words, "--env", ENVIRONMENT)
     }
 
-    // The call with one option more, behind the program's name.
+    /// The call with one option more, behind the program's name.
     fn add_call(&mut self, words: &[String], option: &str, value: &str) -> Result<(), AllocError> {
         write!(self.known, "    reqlock {option} {value}")?;
         for (place, word) in words.iter().enumerate() {

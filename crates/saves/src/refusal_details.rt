@@ -57,7 +57,7 @@ impl Details {
         self.add_question(alloc, refused, pool)
     }
 
-    // Why there is no solution, or the question that tells it.
+    /// Why there is no solution, or the question that tells it.
     fn add_question(
         &mut self,
         alloc: Global,
@@ -90,7 +90,7 @@ impl Details {
             .push_str("without --keep-locked there is a solution\n")
     }
 
-    // They say all that was known, in the place of it.
+    /// They say all that was known, in the place of it.
     fn add_reasons(&mut self, reasons: String) {
         self.known.clear();
         self.reasons = reasons;
@@ -142,7 +142,7 @@ impl Details {
         write!(self.known, "ask: reqlock{options} why --explain --init\n")
     }
 
-    // The names that the index lacks of a first lock, and how it is made with them.
+    /// The names that the index lacks of a first lock, and how it is made with them.
     fn add_lacking(
         &mut self,
         alloc: Global,
@@ -178,7 +178,7 @@ fn is_told_at_once(reasons: &str) -> bool {
     !reasons.is_empty() && reasons.lines().count() <= MOST_LINES
 }
 
-// The sentences that tell why a refused edit has no solution.
+/// The sentences that tell why a refused edit has no solution.
 fn reasons_of(
     alloc: Global,
     refused: RefusedEdit<'_>,
@@ -196,7 +196,7 @@ fn reasons_of(
     }
 }
 
-// The same of a first lock.
+/// The same of a first lock.
 fn first_reasons(
     alloc: Global,
     lines: &ReqFile,
@@ -217,7 +217,7 @@ fn first_reasons(
     }
 }
 
-// The environments of the targets, in their order.
+/// The environments of the targets, in their order.
 fn environments_of(alloc: Global, targets: &Targets) -> Result<Vec<&Environment>, AllocError>
     ensures { IfOk result (λ environments. map (λ environment. environment.now) environments.items
         ≡ map (λ target. target.1) targets.now) }
@@ -229,7 +229,7 @@ fn environments_of(alloc: Global, targets: &Targets) -> Result<Vec<&Environment>
     Ok(environments)
 }
 
-// Whether an edit that was refused has a solution where locked versions may move.
+/// Whether an edit that was refused has a solution where locked versions may move.
 fn has_solution(alloc: Global, refused: RefusedEdit<'_>) -> Result<bool, AllocError> {
     let pool = Pool::whole(refused.snapshot);
     match edit(alloc, refused.state, refused.edit, &pool, &RESOLVER) {

@@ -51,7 +51,7 @@ fn splices_value(alloc: Global, splices: &[Splice]) -> Result<Value, AllocError>
     Ok(Value::Array(values))
 }
 
-// Lines count from 1.
+/// Lines count from 1.
 fn splice_value(alloc: Global, splice: &Splice) -> Result<Value, AllocError> {
     let mut members = Map::new(alloc);
     let line = splice.place.saturating_add(1);

@@ -32,7 +32,7 @@ fn add_splices(text: &mut String, splices: &[Splice]) -> Result<(), AllocError> 
     Ok(())
 }
 
-// Lines of which the first has this number.
+/// Lines of which the first has this number.
 fn add_lines(text: &mut String, sign: &str, first: u64, lines: &[Text]) -> Result<(), AllocError> {
     let mut number = first;
     for line in lines {
@@ -43,7 +43,7 @@ fn add_lines(text: &mut String, sign: &str, first: u64, lines: &[Text]) -> Resul
     Ok(())
 }
 
-// A line without its ending. Where it has none, that is told, since an edit may give it one.
+/// A line without its ending. Where it has none, that is told, since an edit may give it one.
 fn add_content(text: &mut String, line: &str) -> Result<(), AllocError> {
     let Some(content) = line.strip_suffix('\n') else {
         add_plain(text, line)?;
@@ -66,7 +66,7 @@ fn add_entries(text: &mut String, changes: &[EntryChange]) -> Result<(), AllocEr
     Ok(())
 }
 
-// Whether the last change is one of the same target.
+/// Whether the last change is one of the same target.
 fn has_same_target(last: Option<&EntryChange>, change: &EntryChange) -> bool {
     match last {
         Some(last) => last.target.as_str() == change.target.as_str(),

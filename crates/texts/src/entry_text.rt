@@ -31,7 +31,7 @@ pub fn entry_text(
     Ok(text)
 }
 
-// The entry at a place of a target's lock, given what requires each of its entries.
+/// The entry at a place of a target's lock, given what requires each of its entries.
 fn add_target(
     text: &mut String,
     target: &Target,
@@ -80,7 +80,7 @@ fn add_pin(text: &mut String, entry: &Entry) -> Result<(), AllocError> {
     write!(text, "{name} {version}")
 }
 
-// A line with its text as it stands, or an entry with what it requires.
+/// A line with its text as it stands, or an entry with what it requires.
 fn add_required_by_line(text: &mut String, by: RequiredBy<'_>) -> Result<(), AllocError> {
     match by.requirer {
         Requirer::Line(_, line) => {

@@ -35,7 +35,7 @@ pub fn form_of(bytes: &[u8]) -> FileForm {
     }
 }
 
-// A snapshot has the same words as an environment or a page where a project's name is one of them, so it comes first.
+/// A snapshot has the same words as an environment or a page where a project's name is one of them, so it comes first.
 fn form_of_text(text: &str) -> FileForm {
     if text.contains("\"snapshot\"") {
         return FileForm::Snapshot;
@@ -52,7 +52,7 @@ fn form_of_text(text: &str) -> FileForm {
     FileForm::Other
 }
 
-// Whether JSON is what an index answers: of a project, or a list of projects.
+/// Whether JSON is what an index answers: of a project, or a list of projects.
 fn is_page(text: &str) -> bool {
     text.contains("\"api-version\"") || (text.contains("\"info\"") && text.contains("\"urls\""))
 }

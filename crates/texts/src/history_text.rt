@@ -42,7 +42,7 @@ fn add_entries(text: &mut String, changes: &[EntryChange]) -> Result<(), AllocEr
     Ok(())
 }
 
-// The name of a named target.
+/// The name of a named target.
 fn add_target(text: &mut String, target: &TargetName) -> Result<(), AllocError> {
     let name = target.as_str();
     if name.is_empty() {
@@ -56,7 +56,7 @@ fn add_number(text: &mut String, step: usize, cursor: usize) -> Result<(), Alloc
     write!(text, "{mark} {step} ")
 }
 
-// A line, or as much of it as a line may have.
+/// A line, or as much of it as a line may have.
 fn add_cut(text: &mut String, line: &str) -> Result<(), AllocError> {
     if line.chars().count() <= WIDTH {
         return text.push_str(line);
@@ -74,7 +74,7 @@ pub(crate) fn step_text(alloc: Global, change: &Change) -> Result<String, AllocE
     Ok(text)
 }
 
-// What a step did: an edit of one line, or a new lock.
+/// What a step did: an edit of one line, or a new lock.
 fn add_step(alloc: Global, text: &mut String, change: &Change) -> Result<(), AllocError> {
     match change.splices().first() {
         Some(splice) => add_edit(alloc, text, splice),
@@ -82,7 +82,7 @@ fn add_step(alloc: Global, text: &mut String, change: &Change) -> Result<(), All
     }
 }
 
-// The line that came behind others, the one that went, the one with other specifiers, or how many were replaced.
+/// The line that came behind others, the one that went, the one with other specifiers, or how many were replaced.
 fn add_edit(alloc: Global, text: &mut String, splice: &Splice) -> Result<(), AllocError> {
     let (old, new) = (splice.old.as_slice(), splice.new.as_slice());
     match told_as(alloc, old, new)? {
@@ -107,7 +107,7 @@ fn add_replaced(text: &mut String, lines: usize) -> Result<(), AllocError> {
     write!(text, "replace: {lines} {word}")
 }
 
-// A line without its ending.
+/// A line without its ending.
 fn add_line(text: &mut String, line: Option<&Text>) -> Result<(), AllocError> {
     match line {
         Some(line) => add_plain(text, line.as_str().trim_end()),
@@ -115,7 +115,7 @@ fn add_line(text: &mut String, line: Option<&Text>) -> Result<(), AllocError> {
     }
 }
 
-// The name of the requirement of a line, and its specifiers with `with_specifiers`.
+/// The name of the requirement of a line, and its specifiers with `with_specifiers`.
 fn add_name(
     alloc: Global,
     text: &mut String,

@@ -31,7 +31,7 @@ pub(crate) fn told_as(alloc: Global, old: &[Text], new: &[Text]) -> Result<Told,
     }
 }
 
-// Whether a line asks for something.
+/// Whether a line asks for something.
 fn asks(alloc: Global, line: &Text) -> Result<bool, AllocError> {
     match Line::read(alloc, line.as_str()) {
         Ok(line) => Ok(line.requirement().is_some()),
@@ -40,14 +40,14 @@ fn asks(alloc: Global, line: &Text) -> Result<bool, AllocError> {
     }
 }
 
-// Whether a line without an ending got one.
+/// Whether a line without an ending got one.
 fn is_ended(line: &Text, ended: &Text) -> bool {
     !line.as_str().ends_with('\n')
         && (ended.as_str().strip_suffix("\r\n") == Some(line.as_str())
             || ended.as_str().strip_suffix('\n') == Some(line.as_str()))
 }
 
-// Whether two lines differ in their version part alone.
+/// Whether two lines differ in their version part alone.
 fn is_constrained(alloc: Global, line: &Text, other: &Text) -> Result<bool, AllocError> {
     let (Some(line), Some(other)) = (slices(alloc, line)?, slices(alloc, other)?) else {
         return Ok(false);

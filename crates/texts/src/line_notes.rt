@@ -75,7 +75,7 @@ pub fn add_line_note(
     }
 }
 
-// What is told of a line without a look at its words. What a line has of other files counts before its cause.
+/// What is told of a line without a look at its words. What a line has of other files counts before its cause.
 fn known_note(line: &str, cause: Cause) -> Option<&'static str> {
     if line.starts_with('\u{feff}') {
         return Some("The file begins with a byte-order mark: save it as UTF-8 without one.");
@@ -120,7 +120,7 @@ fn option_note(line: &str) -> &'static str {
     "Take the line out: reqlock-snapshot is told the index and what of it counts."
 }
 
-// The comparison that a clause lacks or has wrong.
+/// The comparison that a clause lacks or has wrong.
 fn add_clause_note(text: &mut String, line: &str) -> Result<(), AllocError> {
     let wanted = line
         .split_once(" #")
@@ -149,7 +149,7 @@ fn add_clause_note(text: &mut String, line: &str) -> Result<(), AllocError> {
     }
 }
 
-// What stands before and behind the first `=` that is no part of a longer comparison.
+/// What stands before and behind the first `=` that is no part of a longer comparison.
 fn lone_equals(line: &str) -> Option<(&str, &str)> {
     let (before, behind) = line.split_once('=')?;
     if before.ends_with(is_sign) || behind.starts_with(is_sign) {

@@ -51,7 +51,7 @@ fn is_meant(name: Option<&Name>, entry: &Entry) -> bool {
     }
 }
 
-// An entry with what requires it and what it needs.
+/// An entry with what requires it and what it needs.
 fn told_value(
     alloc: Global,
     entries: &[Entry],

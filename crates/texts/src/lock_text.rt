@@ -29,8 +29,8 @@ pub fn lock_text(alloc: Global, state: &State) -> Result<String, AllocError> {
     Ok(text)
 }
 
-// A line for each entry of the lock, below a head line: the name, the version, the numbers of the
-// lines that require it, and the names of the entries that need it.
+/// A line for each entry of the lock, below a head line: the name, the version, the numbers of the
+/// lines that require it, and the names of the entries that need it.
 fn add_lock(
     alloc: Global,
     text: &mut String,
@@ -73,7 +73,7 @@ pub(crate) fn is_active(environment: &Environment, line: &Line) -> bool {
     }
 }
 
-// Notes the number of a line with the entry that it requires.
+/// Notes the number of a line with the entry that it requires.
 fn add_line(
     alloc: Global,
     rows: &mut Vec<Row>,
@@ -94,7 +94,7 @@ fn add_line(
     }
 }
 
-// Notes an entry with each entry that it needs.
+/// Notes an entry with each entry that it needs.
 fn add_needs(rows: &mut Vec<Row>, entries: &[Entry], entry: &Entry) -> Result<(), AllocError> {
     for needed in entry.dependencies() {
         add_need(rows, entries, needed.normal(), entry.name().normal())?;
@@ -131,7 +131,7 @@ fn add_item(list: &mut String, item: &str) -> Result<(), AllocError> {
     list.push_str(item)
 }
 
-// The cells of each row.
+/// The cells of each row.
 fn cells_of(alloc: Global, rows: Vec<Row>) -> Result<Vec<Vec<String>>, AllocError> {
     let mut cells = Vec::with_capacity(alloc, rows.len())?;
     for row in rows {

@@ -22,7 +22,7 @@ pub fn log_json(alloc: Global, session: &Session) -> Result<String, AllocError> 
     Ok(text)
 }
 
-// A step with these members of its change.
+/// A step with these members of its change.
 fn step_value(
     alloc: Global,
     mut members: Map<String, Value>,

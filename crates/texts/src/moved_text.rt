@@ -41,7 +41,7 @@ pub fn add_moved(
     Ok(())
 }
 
-// Whether an entry has another version, and the edit doesn't name it.
+/// Whether an entry has another version, and the edit doesn't name it.
 fn is_moved(alloc: Global, edit: &Edit, entry: &EntryChange) -> Result<bool, AllocError> {
     let (Some(old), Some(new)) = (&entry.old, &entry.new) else {
         return Ok(false);
@@ -52,7 +52,7 @@ fn is_moved(alloc: Global, edit: &Edit, entry: &EntryChange) -> Result<bool, All
     Ok(!is_named(alloc, edit, &entry.name)?)
 }
 
-// Whether an edit names a package, so that another version of it is no surprise.
+/// Whether an edit names a package, so that another version of it is no surprise.
 fn is_named(alloc: Global, edit: &Edit, name: &Name) -> Result<bool, AllocError> {
     match edit {
         Edit::Add(line) => match Line::read(alloc, line.as_str()) {
@@ -103,8 +103,8 @@ fn add_move(text: &mut String, entry: &EntryChange) -> Result<(), AllocError> {
     Ok(())
 }
 
-// What becomes of a moved version where every locked version has to stay: it stays too, or its name isn't needed
-// there. Then the versions that other names of the same target have there, as far as they differ.
+/// What becomes of a moved version where every locked version has to stay: it stays too, or its name isn't needed
+/// there. Then the versions that other names of the same target have there, as far as they differ.
 fn add_kept(
     alloc: Global,
     text: &mut String,

@@ -30,8 +30,8 @@ fn add_count(text: &mut String, word: &str, change: &Change) -> Result<(), Alloc
     write!(text, "{word}: {entries} {noun}")
 }
 
-// The name on which all that changed hangs. The last of the starts from which walks have reached everything is the only one
-// from which a single walk can.
+/// The name on which all that changed hangs. The last of the starts from which walks have reached everything is the only one
+/// from which a single walk can.
 fn upgraded_in<'a>(
     alloc: Global,
     changes: &'a [EntryChange],
@@ -63,8 +63,8 @@ fn has_moved(change: &EntryChange) -> bool {
     }
 }
 
-// The places of the changes of the names that each changed entry needs, before the step or behind it; and of its own name, which
-// several targets may have.
+/// The places of the changes of the names that each changed entry needs, before the step or behind it; and of its own name, which
+/// several targets may have.
 fn needs_of(alloc: Global, changes: &[EntryChange]) -> Result<Vec<Vec<usize>>, AllocError> {
     let mut places = BTreeMap::new(alloc);
     for (place, change) in changes.iter().enumerate() {
@@ -120,7 +120,7 @@ fn is_reached(reached: &[bool], place: usize) -> bool {
     reached.get(place).copied().unwrap_or(true)
 }
 
-// Marks what is reached from a place. Each place is looked at once.
+/// Marks what is reached from a place. Each place is looked at once.
 fn walk(
     alloc: Global,
     needs: &[Vec<usize>],

@@ -42,7 +42,7 @@ impl IndexPlan<'_> {
         text.push_str("\n")
     }
 
-    // Where a file was given that is no index: the one that is there, or how one is made, not in the place of that file.
+    /// Where a file was given that is no index: the one that is there, or how one is made, not in the place of that file.
     fn add_other(self, text: &mut String) -> Result<(), AllocError> {
         if self.is_there && self.index != INDEX {
             return text.push_str("index.json is here: give that.\n");
@@ -53,7 +53,7 @@ impl IndexPlan<'_> {
     }
 }
 
-// Where an index is written. What the shell hands over can't be written to.
+/// Where an index is written. What the shell hands over can't be written to.
 fn output_of(index: &str) -> &str {
     if index.is_empty() || index.starts_with("/dev/") || index.starts_with("/proc/") {
         return INDEX;
@@ -94,7 +94,7 @@ pub fn add_index_note(
     }
 }
 
-// What a file looks like that is no snapshot that reads.
+/// What a file looks like that is no snapshot that reads.
 fn index_look(form: FileForm) -> &'static str {
     match form {
         FileForm::Environment => {
@@ -164,7 +164,7 @@ pub fn add_environment_note(
     add_environment_command(alloc, text, file.path)
 }
 
-// Where a file was given that is no environment: the one that is there, or how one is made, not in the place of that file.
+/// Where a file was given that is no environment: the one that is there, or how one is made, not in the place of that file.
 fn add_other_environment(
     alloc: Global,
     text: &mut String,

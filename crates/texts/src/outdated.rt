@@ -76,7 +76,7 @@ fn add_outdated<'a>(
     }
 }
 
-// Whether the first of the releases is newer than what is locked.
+/// Whether the first of the releases is newer than what is locked.
 fn begin_newer(releases: &[Release], entry: &Entry) -> bool {
     match releases.first() {
         Some(release) => release.version().cmp(entry.version()).is_gt(),
@@ -84,7 +84,7 @@ fn begin_newer(releases: &[Release], entry: &Entry) -> bool {
     }
 }
 
-// Which releases a requirement admits that is the name alone.
+/// Which releases a requirement admits that is the name alone.
 fn admitted_by_name(
     alloc: Global,
     problem: &Problem<'_>,
@@ -98,7 +98,7 @@ fn admitted_by_name(
     }
 }
 
-// What those admit of which it is known what they require.
+/// What those admit of which it is known what they require.
 fn admitted_by<'a>(
     alloc: Global,
     problem: &Problem<'_>,
@@ -121,7 +121,7 @@ fn admits(releases: &Seq<bool>, place: usize) -> bool {
     }
 }
 
-// Whether the name alone or one of those that require the entry admits the release at a place.
+/// Whether the name alone or one of those that require the entry admits the release at a place.
 fn does_count(admitted: &Admitted<'_>, place: usize) -> bool {
     if admits(&admitted.by_name, place) {
         return true;
@@ -134,7 +134,7 @@ fn does_count(admitted: &Admitted<'_>, place: usize) -> bool {
     false
 }
 
-// Whether all that require the entry admit the release at a place, and it counts.
+/// Whether all that require the entry admit the release at a place, and it counts.
 fn do_admit(admitted: &Admitted<'_>, place: usize) -> bool {
     for one in admitted.by_requirers.as_slice() {
         if !admits(&one.admits, place) {
@@ -144,7 +144,7 @@ fn do_admit(admitted: &Admitted<'_>, place: usize) -> bool {
     does_count(admitted, place)
 }
 
-// The place of the newest release that counts.
+/// The place of the newest release that counts.
 fn newest_of(releases: &[Release], admitted: &Admitted<'_>) -> Option<usize> {
     for place in 0..releases.len() {
         if does_count(admitted, place) {
@@ -154,7 +154,7 @@ fn newest_of(releases: &[Release], admitted: &Admitted<'_>) -> Option<usize> {
     None
 }
 
-// The newest version that all admit that require the entry.
+/// The newest version that all admit that require the entry.
 fn admitted_of<'a>(releases: &'a [Release], admitted: &Admitted<'_>) -> Option<&'a Version> {
     for (place, release) in releases.iter().enumerate() {
         if do_admit(admitted, place) {
@@ -164,7 +164,7 @@ fn admitted_of<'a>(releases: &'a [Release], admitted: &Admitted<'_>) -> Option<&
     None
 }
 
-// An entry where the release at a place is newer than what is locked.
+/// An entry where the release at a place is newer than what is locked.
 fn newer_at<'a>(
     alloc: Global,
     entry: &'a Entry,
@@ -187,7 +187,7 @@ fn newer_at<'a>(
     }))
 }
 
-// What doesn't admit the release at a place.
+/// What doesn't admit the release at a place.
 fn holders_of<'a>(
     alloc: Global,
     admitted: &Admitted<'a>,

@@ -33,7 +33,7 @@ pub fn outdated_text(
     Ok(text)
 }
 
-// The table of a target, and the line below it.
+/// The table of a target, and the line below it.
 fn target_text(
     alloc: Global,
     state: &State,
@@ -90,7 +90,7 @@ fn holders_text(alloc: Global, holders: &[RequiredBy<'_>]) -> Result<String, All
     Ok(text)
 }
 
-// The entries whose releases the index doesn't have, in a line.
+/// The entries whose releases the index doesn't have, in a line.
 fn add_absent(
     text: &mut String,
     problem: &Problem<'_>,

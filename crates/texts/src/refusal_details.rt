@@ -38,7 +38,7 @@ pub fn add_refusal_details(
     }
 }
 
-// The line of a number, which counts from 1.
+/// The line of a number, which counts from 1.
 fn add_numbered(text: &mut String, lines: &[Line], number: usize) -> Result<(), AllocError> {
     match lines.get(number.saturating_sub(1)) {
         Some(line) => add_line(text, number, line),
@@ -52,7 +52,7 @@ fn add_line(text: &mut String, number: usize, line: &Line) -> Result<(), AllocEr
     text.push_str("\n")
 }
 
-// The lines on the name of an edit.
+/// The lines on the name of an edit.
 fn add_lines_on(
     alloc: Global,
     text: &mut String,
@@ -82,7 +82,7 @@ fn is_on(line: &Line, name: &Name) -> bool {
     }
 }
 
-// Which text of an edit doesn't read, where, and why.
+/// Which text of an edit doesn't read, where, and why.
 fn add_bad_text(alloc: Global, text: &mut String, edit: &Edit) -> Result<(), AllocError> {
     match edit {
         Edit::Add(line) => add_bad_line(alloc, text, line.as_str()),
@@ -115,7 +115,7 @@ fn add_bad_line(alloc: Global, text: &mut String, line: &str) -> Result<(), Allo
     }
 }
 
-// Nothing where the text is a name.
+/// Nothing where the text is a name.
 fn add_bad_name(alloc: Global, text: &mut String, name: &Text) -> Result<(), AllocError> {
     match Name::read(alloc, name.as_str()) {
         Ok(_) => Ok(()),
@@ -127,7 +127,7 @@ fn add_bad_name(alloc: Global, text: &mut String, name: &Text) -> Result<(), All
     }
 }
 
-// Nothing where the text is a set of specifiers.
+/// Nothing where the text is a set of specifiers.
 fn add_bad_set(alloc: Global, text: &mut String, specifiers: &str) -> Result<(), AllocError> {
     match SpecifierSet::parse(alloc, specifiers) {
         Ok(_) => Ok(()),
@@ -140,7 +140,7 @@ fn add_bad_set(alloc: Global, text: &mut String, specifiers: &str) -> Result<(),
     }
 }
 
-// The names of the lines that count for some target, and that of an added one, of which the index has no release.
+/// The names of the lines that count for some target, and that of an added one, of which the index has no release.
 fn add_lacking_names(
     alloc: Global,
     text: &mut String,
@@ -201,7 +201,7 @@ fn add_lacking_name(
     Ok(())
 }
 
-// A name of which the index has no release.
+/// A name of which the index has no release.
 fn add_lacked(
     alloc: Global,
     text: &mut String,

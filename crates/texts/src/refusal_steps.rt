@@ -32,7 +32,7 @@ pub fn add_refusal_steps(
     }
 }
 
-// The same of the line that the edit would change, and of the other lines.
+/// The same of the line that the edit would change, and of the other lines.
 fn add_lines_steps(
     alloc: Global,
     text: &mut String,
@@ -91,7 +91,7 @@ fn add_index_step(
     add_newest(text, requirement, snapshot)
 }
 
-// The newest release of a name, where a requirement admits none. One that isn't final counts where there is no other.
+/// The newest release of a name, where a requirement admits none. One that isn't final counts where there is no other.
 fn add_newest(
     text: &mut String,
     requirement: &Requirement,
@@ -119,7 +119,7 @@ fn add_bad_line_note(alloc: Global, text: &mut String, line: &str) -> Result<(),
     }
 }
 
-// How the line that is there already comes to what is asked for. Extras are no part of what `constrain` changes.
+/// How the line that is there already comes to what is asked for. Extras are no part of what `constrain` changes.
 fn add_constraint(
     alloc: Global,
     text: &mut String,
@@ -165,7 +165,7 @@ fn read_line(alloc: Global, line: &str) -> Result<Option<Line>, AllocError> {
     }
 }
 
-// Who needs a name that no line has, and how it gets a line.
+/// Who needs a name that no line has, and how it gets a line.
 fn add_need(
     alloc: Global,
     text: &mut String,
@@ -199,7 +199,7 @@ fn add_need(
     text.push_str("\n")
 }
 
-// The line that an edit adds or changes, as it would be.
+/// The line that an edit adds or changes, as it would be.
 fn changed_lines(alloc: Global, refused: RefusedEdit<'_>) -> Result<Vec<Line>, AllocError> {
     let mut lines = Vec::new(alloc);
     let found = match refused.edit {

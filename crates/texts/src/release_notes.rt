@@ -64,7 +64,7 @@ fn add_new_line_notes(
     Ok(())
 }
 
-// What is told of the release that an entry locks. A release of several targets is told once.
+/// What is told of the release that an entry locks. A release of several targets is told once.
 fn add_entry_note(
     alloc: Global,
     text: &mut String,
@@ -98,7 +98,7 @@ fn release_of<'a>(snapshot: &'a Snapshot, entry: &Entry) -> Option<&'a Release> 
         .find(|release| release.version() == entry.version())
 }
 
-// Whether a line on the name names a pre-release.
+/// Whether a line on the name names a pre-release.
 fn names_pre(lines: &[Line], name: &Name) -> bool {
     for line in lines {
         if let Some(requirement) = line.requirement() {
@@ -112,7 +112,7 @@ fn names_pre(lines: &[Line], name: &Name) -> bool {
     false
 }
 
-// The extras of the lines that count for a target, for which the locked release asks for nothing more there.
+/// The extras of the lines that count for a target, for which the locked release asks for nothing more there.
 fn add_extra_notes(
     alloc: Global,
     text: &mut String,
@@ -153,7 +153,7 @@ fn add_extras_of(
     Ok(())
 }
 
-// Whether no release of a name has a dependency that counts with the extra alone.
+/// Whether no release of a name has a dependency that counts with the extra alone.
 fn asks_nothing(snapshot: &Snapshot, environment: &Environment, name: &Name, extra: &Name) -> bool {
     for release in snapshot.releases(name) {
         for dependency in release.dependencies() {

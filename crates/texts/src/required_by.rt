@@ -68,7 +68,7 @@ pub(crate) fn requirers_of<'a>(
     Ok(requirers)
 }
 
-// Notes each active line with the entry that it requires.
+/// Notes each active line with the entry that it requires.
 fn add_lines<'a>(
     requirers: &mut Vec<Vec<RequiredBy<'a>>>,
     environment: &Environment,
@@ -99,7 +99,7 @@ fn add_line<'a>(
     add_requirer(requirers, entries, wanted.name().normal(), by)
 }
 
-// Notes what requires an entry with the entry of this name.
+/// Notes what requires an entry with the entry of this name.
 fn add_requirer<'a>(
     requirers: &mut Vec<Vec<RequiredBy<'a>>>,
     entries: &[Entry],
@@ -115,7 +115,7 @@ fn add_requirer<'a>(
     }
 }
 
-// Notes each entry with the entries that it needs, as the lock has them.
+/// Notes each entry with the entries that it needs, as the lock has them.
 fn add_unknown<'a>(
     requirers: &mut Vec<Vec<RequiredBy<'a>>>,
     entries: &'a [Entry],
@@ -141,7 +141,7 @@ fn add_dependencies<'a>(
     Ok(())
 }
 
-// Notes each entry with the entries that its release needs. Where the index doesn't have that, as the lock has them.
+/// Notes each entry with the entries that its release needs. Where the index doesn't have that, as the lock has them.
 fn add_entries<'a>(
     alloc: Global,
     requirers: &mut Vec<Vec<RequiredBy<'a>>>,
@@ -164,7 +164,7 @@ pub(crate) fn is_in_index(problem: &Problem<'_>, entry: &Entry) -> bool {
     problem.release(entry.name(), entry.version()).is_some()
 }
 
-// The needed nodes of the entries that have an extra, in the order of the entries.
+/// The needed nodes of the entries that have an extra, in the order of the entries.
 fn extras_of(
     alloc: Global,
     problem: &Problem<'_>,
@@ -194,8 +194,8 @@ fn add_extra(extras: &mut Vec<Vec<Node>>, entries: &[Entry], node: Node) -> Resu
     }
 }
 
-// Notes an entry with the entries that its release needs: each dependency once that counts at one of its nodes. What
-// a release requires of its own name is gone with the release, so it isn't noted.
+/// Notes an entry with the entries that its release needs: each dependency once that counts at one of its nodes. What
+/// a release requires of its own name is gone with the release, so it isn't noted.
 fn add_needs<'a>(
     requirers: &mut Vec<Vec<RequiredBy<'a>>>,
     problem: &'a Problem<'a>,
@@ -220,7 +220,7 @@ fn is_own(entry: &Entry, name: &Name) -> bool {
     entry.name().normal() == name.normal()
 }
 
-// Whether a dependency counts with no extra, or with one of those of these nodes.
+/// Whether a dependency counts with no extra, or with one of those of these nodes.
 fn does_count(environment: &Environment, extras: &[Node], wanted: &Requirement) -> bool {
     if counts(environment, None, wanted) {
         return true;

@@ -117,7 +117,7 @@ impl Style {
         Ok(shown)
     }
 
-    // A sentence of an explanation. What a step goes on with stands below its first word.
+    /// A sentence of an explanation. What a step goes on with stands below its first word.
     fn add_step(self, text: &mut String, sentence: &str) -> Result<(), AllocError> {
         if sentence.is_empty() {
             return Ok(());
@@ -133,7 +133,7 @@ impl Style {
         text.push_str("\n")
     }
 
-    // Each line of the sentence but the first begins with the indent.
+    /// Each line of the sentence but the first begins with the indent.
     fn add_sentence(
         self,
         text: &mut String,
@@ -160,7 +160,7 @@ impl Style {
         text.push_str("\n")
     }
 
-    // A part of a text, as it looks where there are colours.
+    /// A part of a text, as it looks where there are colours.
     fn add(self, text: &mut String, ink: Ink, part: &str) -> Result<(), AllocError> {
         if !self.colors {
             return text.push_str(part);
@@ -179,7 +179,7 @@ fn add_inked(text: &mut String, ink: Ink, part: &str) -> Result<(), AllocError> 
     text.push_str("\u{1b}[0m")
 }
 
-// A line of a difference. An entry with another version is told as `NAME OLD -> NEW`, and `moved: ` may stand in front.
+/// A line of a difference. An entry with another version is told as `NAME OLD -> NEW`, and `moved: ` may stand in front.
 fn add_change_line(text: &mut String, line: &str) -> Result<(), AllocError> {
     if line.starts_with("+ ") {
         return add_inked(text, Ink::Green, line);
@@ -232,7 +232,7 @@ fn add_history_line(text: &mut String, line: &str) -> Result<(), AllocError> {
     }
 }
 
-// A row of a table. A head line and the name of a target stay as they are.
+/// A row of a table. A head line and the name of a target stay as they are.
 fn add_row(text: &mut String, line: &str) -> Result<(), AllocError> {
     if line.starts_with("name ") || line.starts_with("target ") {
         return text.push_str(line);
@@ -247,8 +247,8 @@ fn add_row(text: &mut String, line: &str) -> Result<(), AllocError> {
     }
 }
 
-// Whether a line of an explanation begins a sentence: the first line, one with a number, and the one below the target's
-// name.
+/// Whether a line of an explanation begins a sentence: the first line, one with a number, and the one below the target's
+/// name.
 fn begins_sentence(last: &str, line: &str) -> bool {
     last.is_empty() || is_step(line) || is_target(last)
 }

@@ -63,7 +63,7 @@ fn add_row(text: &mut String, row: TreeRow<'_>) -> Result<(), AllocError> {
     text.push_str("\n")
 }
 
-// Two spaces for the line, and for each entry that leads to this one. Where that are too many, their number follows.
+/// Two spaces for the line, and for each entry that leads to this one. Where that are too many, their number follows.
 fn add_depth(text: &mut String, depth: usize) -> Result<(), AllocError> {
     for _ in 0..=depth.min(DEEPEST) {
         text.push_str("  ")?;
@@ -74,7 +74,7 @@ fn add_depth(text: &mut String, depth: usize) -> Result<(), AllocError> {
     Ok(())
 }
 
-// The rows of a target's tree.
+/// The rows of a target's tree.
 fn rows_of<'a>(
     alloc: Global,
     lines: &'a [Line],
@@ -97,7 +97,7 @@ fn rows_of<'a>(
     Ok(rows)
 }
 
-// What a line requires is left.
+/// What a line requires is left.
 fn begin(walk: &mut Walk, entries: &[Entry], line: &Line) -> Result<(), AllocError> {
     match line.requirement() {
         Some(wanted) => put_left(walk, entries, wanted.name(), 0),
@@ -117,8 +117,8 @@ fn put_left(
     }
 }
 
-// A row for each entry that is left, until none is. An entry's dependencies are left once, so that there are no more
-// turns than these.
+/// A row for each entry that is left, until none is. An entry's dependencies are left once, so that there are no more
+/// turns than these.
 fn add_entries<'a>(
     rows: &mut Vec<TreeRow<'a>>,
     walk: &mut Walk,
@@ -140,7 +140,7 @@ fn add_entries<'a>(
     Ok(())
 }
 
-// One for what a line requires, and one for each dependency.
+/// One for what a line requires, and one for each dependency.
 fn most_turns(entries: &[Entry]) -> usize {
     let mut turns: usize = 1;
     for entry in entries {
@@ -149,7 +149,7 @@ fn most_turns(entries: &[Entry]) -> usize {
     turns
 }
 
-// What an entry needs is left, to be put in so far.
+/// What an entry needs is left, to be put in so far.
 fn put_needed(
     walk: &mut Walk,
     entries: &[Entry],
@@ -162,7 +162,7 @@ fn put_needed(
     Ok(())
 }
 
-// Whether an entry was told. From now on it was.
+/// Whether an entry was told. From now on it was.
 fn was_told(walk: &mut Walk, place: usize) -> bool {
     match walk.told.get_mut(place) {
         Some(told) => {

@@ -59,7 +59,7 @@ fn print_place<O: Write>(
     }
 }
 
-// A lock that isn't current is told by the stop, which has its own status.
+/// A lock that isn't current is told by the stop, which has its own status.
 fn print_current<O: Write>(
     alloc: Global,
     session: &Session,
@@ -97,7 +97,7 @@ fn current_text(
     }
 }
 
-// What a new lock over the index would change; nothing where it would change nothing.
+/// What a new lock over the index would change; nothing where it would change nothing.
 fn relock_change(alloc: Global, state: &State, snapshot: &Snapshot) -> Result<Option<Change>, Stop>
     ensures change { IfOk result (λ change. MatchOption change
         (IsCurrent state.now snapshot.now)

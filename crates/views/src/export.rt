@@ -33,7 +33,7 @@ where
     Ok(())
 }
 
-// The lock of a target, for pip.
+/// The lock of a target, for pip.
 fn hashes_of<R: Files + AllocGlobal>(rt: &R, dir: &str, name: Option<&str>) -> Result<String, Stop>
 where
     R::File: LockFile,
@@ -44,7 +44,7 @@ where
     Ok(requirements_text(alloc, &only_target(alloc, targets)?.lock)?)
 }
 
-// The graph of the locks, for Graphviz.
+/// The graph of the locks, for Graphviz.
 fn graph_of<R: Files + AllocGlobal>(rt: &R, dir: &str, name: Option<&str>) -> Result<String, Stop>
 where
     R::File: LockFile,
@@ -56,7 +56,7 @@ where
     Ok(graph_text(alloc, state.lines().lines(), targets)?)
 }
 
-// The lock of a target, with what was asked of its environment over the index that it was made of.
+/// The lock of a target, with what was asked of its environment over the index that it was made of.
 fn portable_lock<R: Files + AllocGlobal>(
     rt: &R,
     dir: &str,
@@ -83,7 +83,7 @@ where
     Ok(portable_text(alloc, &target.lock, marker.as_str())?)
 }
 
-// The target of the name, or all where there is no name.
+/// The target of the name, or all where there is no name.
 fn wanted_targets<'s>(
     alloc: Global,
     state: &'s State,
@@ -99,7 +99,7 @@ fn wanted_targets<'s>(
     }
 }
 
-// The target that is there alone.
+/// The target that is there alone.
 fn only_target(alloc: Global, targets: &[Target]) -> Result<&Target, Stop> {
     match targets {
         [target] => Ok(target),
@@ -137,7 +137,7 @@ fn other_index(alloc: Global) -> Stop {
     usage(alloc, ErrorKind::ValueValidation, message)
 }
 
-// The names of the targets, with commas between them.
+/// The names of the targets, with commas between them.
 fn names_of(alloc: Global, targets: &[Target]) -> Result<String, AllocError> {
     let mut names = String::new(alloc);
     let mut mark = "the targets are ";
@@ -152,7 +152,7 @@ fn names_of(alloc: Global, targets: &[Target]) -> Result<String, AllocError> {
     Ok(names)
 }
 
-// A mistake in the words of the call.
+/// A mistake in the words of the call.
 fn usage(alloc: Global, kind: ErrorKind, message: Result<String, AllocError>) -> Stop {
     match told(alloc, kind, message) {
         Ok(error) => Stop::Usage(error),

@@ -63,7 +63,7 @@ fn told_tree(alloc: Global, session: &Session, format: Format) -> Result<String,
     }
 }
 
-// The entry of a name, which is locked for some target.
+/// The entry of a name, which is locked for some target.
 fn told_entry(
     alloc: Global,
     state: &State,

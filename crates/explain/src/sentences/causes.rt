@@ -95,8 +95,8 @@ impl Sentences<'_> {
         Ok(true)
     }
 
-    // What releases need of a term's name; and that they don't need this term, unless no release of the term is one of those
-    // that they need.
+    /// What releases need of a term's name; and that they don't need this term, unless no release of the term is one of those
+    /// that they need.
     fn add_needs_apart(
         &self,
         text: &mut String,
@@ -113,7 +113,7 @@ impl Sentences<'_> {
         self.add_term(text, beside, "every")
     }
 
-    // By a sentence above.
+    /// By a sentence above.
     fn add_step(
         &self,
         text: &mut String,
@@ -129,8 +129,8 @@ impl Sentences<'_> {
         Ok(())
     }
 
-    // By a line: the reasons for which it doesn't admit them. A line that isn't the one that needs the node is
-    // named.
+    /// By a line: the reasons for which it doesn't admit them. A line that isn't the one that needs the node is
+    /// named.
     fn add_line_cause(
         &self,
         text: &mut String,
@@ -158,8 +158,8 @@ impl Sentences<'_> {
         unadmitted.add_reasons(self.alloc, text, of.as_str())
     }
 
-    // By another term, which needs them otherwise or is needed otherwise by them. It is named unless it is what
-    // needs the node.
+    /// By another term, which needs them otherwise or is needed otherwise by them. It is named unless it is what
+    /// needs the node.
     fn add_clash(&self, text: &mut String, clashing: Clashing<'_>) -> Result<(), AllocError> {
         let Clashing {
             node,
@@ -186,7 +186,7 @@ impl Sentences<'_> {
         self.add_needs(text, &term, &beside.node)
     }
 
-    // What releases need of a name, of which the ones that they need aren't there.
+    /// What releases need of a name, of which the ones that they need aren't there.
     fn add_needs(
         &self,
         text: &mut String,
@@ -197,7 +197,7 @@ impl Sentences<'_> {
         asked.add_needed(text, other.name.normal())
     }
 
-    // By what the term needs. Where that is one requirement, the reasons are told.
+    /// By what the term needs. Where that is one requirement, the reasons are told.
     fn add_refused(&self, text: &mut String, clashing: Clashing<'_>) -> Result<(), AllocError> {
         let Clashing {
             node,
@@ -240,7 +240,7 @@ impl Sentences<'_> {
         }
     }
 
-    // Releases that the requirements of a term refuse for more than their versions.
+    /// Releases that the requirements of a term refuse for more than their versions.
     fn add_unadmitted(
         &self,
         text: &mut String,
@@ -256,7 +256,7 @@ impl Sentences<'_> {
     }
 }
 
-// The term of a conflict on the node of an earlier one's.
+/// The term of a conflict on the node of an earlier one's.
 fn bound_term<'c>(conflict: &'c [PlacedTerm], earlier: &'c PlacedTerm) -> &'c PlacedTerm {
     conflict
         .iter()
@@ -264,7 +264,7 @@ fn bound_term<'c>(conflict: &'c [PlacedTerm], earlier: &'c PlacedTerm) -> &'c Pl
         .unwrap_or(earlier)
 }
 
-// Whether it is the term on this node that needs another one.
+/// Whether it is the term on this node that needs another one.
 fn is_needing(conflict: &[PlacedTerm], need: Option<SetNeed>, node: &Node) -> bool {
     match need {
         Some(SetNeed::Term(at)) => match conflict.get(at) {
@@ -275,7 +275,7 @@ fn is_needing(conflict: &[PlacedTerm], need: Option<SetNeed>, node: &Node) -> bo
     }
 }
 
-// Releases with a verb that denies something of them: of all releases, where there are several, of one or of more.
+/// Releases with a verb that denies something of them: of all releases, where there are several, of one or of more.
 fn add_negated(
     alloc: Global,
     text: &mut String,

@@ -37,7 +37,7 @@ pub fn parts_of(derived: Derived<'_>, steps: &[Step]) -> Result<Vec<Part>, Alloc
     Ok(parts)
 }
 
-// How many sentences name each conflict.
+/// How many sentences name each conflict.
 fn uses_of(derived: Derived<'_>, steps: &[Step]) -> Result<BTreeMap<usize, usize>, AllocError> {
     let mut uses = BTreeMap::new(derived.alloc);
     for step in steps {
@@ -49,7 +49,7 @@ fn uses_of(derived: Derived<'_>, steps: &[Step]) -> Result<BTreeMap<usize, usize
     Ok(uses)
 }
 
-// Whether a step is a link of a chain and the next step is one that rests on it, and no other one does.
+/// Whether a step is a link of a chain and the next step is one that rests on it, and no other one does.
 fn goes_on(
     derived: Derived<'_>,
     steps: &[Step],
@@ -66,8 +66,8 @@ fn goes_on(
     }
 }
 
-// Whether a step says that some releases need a package of which the step before rules out all that they need, beside the
-// same others.
+/// Whether a step says that some releases need a package of which the step before rules out all that they need, beside the
+/// same others.
 fn is_link(derived: Derived<'_>, steps: &[Step], place: usize) -> bool {
     if place == 0 {
         return false;
@@ -85,7 +85,7 @@ fn is_link(derived: Derived<'_>, steps: &[Step], place: usize) -> bool {
     }
 }
 
-// Whether a step alone excludes what there is to exclude.
+/// Whether a step alone excludes what there is to exclude.
 fn is_by(exclusions: &[Exclusion], before: &Step) -> bool {
     match exclusions {
         [exclusion] => exclusion.conflict == before.conflict,
@@ -93,7 +93,7 @@ fn is_by(exclusions: &[Exclusion], before: &Step) -> bool {
     }
 }
 
-// Whether the conflict of a step but for the term at a place is that of the step before but for one term.
+/// Whether the conflict of a step but for the term at a place is that of the step before but for one term.
 fn are_beside_alike(derived: Derived<'_>, step: &Step, before: &Step, at: usize) -> bool {
     let (Some(conflict), Some(earlier)) = (
         derived.conflicts.get(step.conflict),
@@ -114,7 +114,7 @@ fn is_held(derived: Derived<'_>, step: &Step) -> bool {
     }
 }
 
-// The steps from one to another: those between the two together, where they are many.
+/// The steps from one to another: those between the two together, where they are many.
 fn add_parts(parts: &mut Vec<Part>, first: usize, last: usize) -> Result<(), AllocError> {
     let behind = first.saturating_add(1);
     if last.saturating_sub(behind) >= LEFT_OUT {
@@ -156,7 +156,7 @@ impl Sentences<'_> {
         add_wrapped(text, sentence.as_str(), "   ")
     }
 
-    // The node of a link.
+    /// The node of a link.
     fn add_link(&self, text: &mut String, place: usize) -> Result<(), AllocError> {
         match self.link_at(place) {
             Some(term) => add_node(text, &term.node),

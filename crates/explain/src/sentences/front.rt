@@ -67,7 +67,7 @@ impl Sentences<'_> {
         Ok(true)
     }
 
-    // The names of the packages that the sentences are about.
+    /// The names of the packages that the sentences are about.
     fn names(&self) -> Result<BTreeSet<Name>, AllocError> {
         let mut names = BTreeSet::new(self.alloc);
         for step in self.steps {
@@ -76,7 +76,7 @@ impl Sentences<'_> {
         Ok(names)
     }
 
-    // What the one line takes leaves nothing of what the other one takes, by itself or by another one of the packages.
+    /// What the one line takes leaves nothing of what the other one takes, by itself or by another one of the packages.
     fn add_reason(
         &self,
         text: &mut String,
@@ -103,7 +103,7 @@ impl Sentences<'_> {
         Ok(false)
     }
 
-    // What the one line takes needs what the other one doesn't take.
+    /// What the one line takes needs what the other one doesn't take.
     fn add_direct(
         &self,
         text: &mut String,
@@ -121,7 +121,7 @@ impl Sentences<'_> {
         Ok(false)
     }
 
-    // The same by a package of a third name, which leads from the one to the other, or which both need otherwise.
+    /// The same by a package of a third name, which leads from the one to the other, or which both need otherwise.
     fn add_between(
         &self,
         text: &mut String,
@@ -144,7 +144,7 @@ impl Sentences<'_> {
         self.add_shared(text, &term, (third, &asked), other)
     }
 
-    // The releases of a term need releases of another name, which need what the line doesn't take.
+    /// The releases of a term need releases of another name, which need what the line doesn't take.
     fn add_linked(
         &self,
         text: &mut String,
@@ -172,7 +172,7 @@ impl Sentences<'_> {
         Ok(true)
     }
 
-    // The releases of a term need releases of another name, and those that the line takes need others of it.
+    /// The releases of a term need releases of another name, and those that the line takes need others of it.
     fn add_shared(
         &self,
         text: &mut String,
@@ -194,7 +194,7 @@ impl Sentences<'_> {
         Ok(true)
     }
 
-    // The releases that a line takes, at the node of one of its extras or of none.
+    /// The releases that a line takes, at the node of one of its extras or of none.
     fn term_of(&self, line: &Requirement, extra: Option<&Name>) -> Result<PlacedTerm, AllocError> {
         Ok(PlacedTerm {
             node: Node {
@@ -205,7 +205,7 @@ impl Sentences<'_> {
         })
     }
 
-    // Whether each release of a term needs a name.
+    /// Whether each release of a term needs a name.
     fn does_each_need(&self, term: &PlacedTerm, name: &Name) -> bool {
         let releases = self.problem.releases(&term.node.name);
         for (place, release) in releases.iter().enumerate() {
@@ -224,7 +224,7 @@ impl Sentences<'_> {
         true
     }
 
-    // Two lines on one name, where no release matches both.
+    /// Two lines on one name, where no release matches both.
     fn add_both_lines(
         &self,
         text: &mut String,
@@ -241,8 +241,8 @@ impl Sentences<'_> {
         Ok(true)
     }
 
-    // The releases that the one line takes, at the node of one of its extras or of none, need what the other line doesn't
-    // take.
+    /// The releases that the one line takes, at the node of one of its extras or of none, need what the other line doesn't
+    /// take.
     fn add_needed(
         &self,
         text: &mut String,
@@ -265,7 +265,7 @@ impl Sentences<'_> {
         Ok(true)
     }
 
-    // The releases of a term, and that they need what comes: `a from 2 on needs`.
+    /// The releases of a term, and that they need what comes: `a from 2 on needs`.
     fn add_needing(&self, text: &mut String, term: &PlacedTerm) -> Result<(), AllocError> {
         let releases = self.problem.releases(&term.node.name);
         let listed = term.places.places(self.alloc)?;

@@ -32,7 +32,7 @@ impl Sentences<'_> {
         Ok(())
     }
 
-    // The release that was left out at a place, where it is of this name.
+    /// The release that was left out at a place, where it is of this name.
     fn add_skipped_at(
         &self,
         text: &mut String,
@@ -50,7 +50,7 @@ impl Sentences<'_> {
         }
     }
 
-    // The names that a part tells.
+    /// The names that a part tells.
     fn add_part_names(&self, names: &mut BTreeSet<Name>, part: Part) -> Result<(), AllocError> {
         match part {
             Part::Step(place) => match self.steps.get(place) {
@@ -81,8 +81,8 @@ impl Sentences<'_> {
         Ok(())
     }
 
-    // Whether a release that was left out could have been taken: its version doesn't read, or it matches the lines that are
-    // told and all that a step says is asked of the name. One whose version another release has couldn't.
+    /// Whether a release that was left out could have been taken: its version doesn't read, or it matches the lines that are
+    /// told and all that a step says is asked of the name. One whose version another release has couldn't.
     fn could_matter(&self, skipped: &Skipped) -> Result<bool, AllocError> {
         if let SkipCause::Duplicate = skipped.cause() {
             return Ok(false);
@@ -101,7 +101,7 @@ impl Sentences<'_> {
         }
     }
 
-    // Whether the lock keeps no other version alone.
+    /// Whether the lock keeps no other version alone.
     fn may_be_kept(&self, name: &Name, version: &Version) -> bool {
         let problem = self.problem;
         match problem.kept.get(name) {
@@ -110,14 +110,14 @@ impl Sentences<'_> {
         }
     }
 
-    // Whether a version matches each line on its name that is told.
+    /// Whether a version matches each line on its name that is told.
     fn lines_match(&self, name: &Name, version: &Version) -> bool {
         self.cited
             .iter()
             .all(|place| self.line_matches(*place, name, version))
     }
 
-    // Whether a version matches a line, where that is on its name.
+    /// Whether a version matches a line, where that is on its name.
     fn line_matches(&self, place: usize, name: &Name, version: &Version) -> bool {
         match self.line_requirement(place) {
             Some(wanted) => {
@@ -127,7 +127,7 @@ impl Sentences<'_> {
         }
     }
 
-    // Whether a version matches what a step tells that is needed of its name.
+    /// Whether a version matches what a step tells that is needed of its name.
     fn need_matches(&self, name: &Name, version: &Version) -> bool {
         self.steps
             .iter()
@@ -151,7 +151,7 @@ impl Sentences<'_> {
         }
     }
 
-    // Whether a version matches a line that is told, or what one of the releases of a term needs.
+    /// Whether a version matches a line that is told, or what one of the releases of a term needs.
     fn party_matches(&self, step: &Step, party: Party, name: &Name, version: &Version) -> bool {
         match party {
             Party::Line(place) => self.line_matches(place, name, version),
@@ -167,7 +167,7 @@ impl Sentences<'_> {
         }
     }
 
-    // Whether a version matches what one of the releases of a term needs of the name.
+    /// Whether a version matches what one of the releases of a term needs of the name.
     fn term_matches(&self, term: &PlacedTerm, name: &Name, version: &Version) -> bool {
         let releases = self.problem.releases(&term.node.name);
         for (place, release) in releases.iter().enumerate() {

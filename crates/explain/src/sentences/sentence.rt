@@ -47,7 +47,7 @@ impl Sentences<'_> {
         }
     }
 
-    // That none of a node's releases goes with the other terms.
+    /// That none of a node's releases goes with the other terms.
     fn add_joined(
         &self,
         text: &mut String,
@@ -68,7 +68,7 @@ impl Sentences<'_> {
         self.add_causes(text, conflict, exhausted, exclusions)
     }
 
-    // That none of a term's releases is left; or, where others follow, that none goes with them.
+    /// That none of a term's releases is left; or, where others follow, that none goes with them.
     fn add_excluded(
         &self,
         text: &mut String,
@@ -119,7 +119,7 @@ impl Sentences<'_> {
         set.add_versions(self.alloc, text)
     }
 
-    // The terms of a conflict but for the one at a place.
+    /// The terms of a conflict but for the one at a place.
     fn add_others(
         &self,
         text: &mut String,
@@ -158,7 +158,7 @@ impl Sentences<'_> {
         text.push_str(around.1)
     }
 
-    // That none of the releases of a node that are asked for is left beside the other terms, and why.
+    /// That none of the releases of a node that are asked for is left beside the other terms, and why.
     fn add_none_left(
         &self,
         text: &mut String,
@@ -195,7 +195,7 @@ impl Sentences<'_> {
         self.add_causes(text, conflict, exhausted, exclusions)
     }
 
-    // The version that alone counts of a name, since it is locked, and that the index doesn't have it where so it is.
+    /// The version that alone counts of a name, since it is locked, and that the index doesn't have it where so it is.
     fn add_held(&self, text: &mut String, node: &Node) -> Result<(), AllocError> {
         let problem = self.problem;
         if let Some(kept) = problem.kept.get(&node.name) {
@@ -207,8 +207,8 @@ impl Sentences<'_> {
         Ok(())
     }
 
-    // That what needs a node needs what the index lacks: it has no package of the name, and which ones have nearly this
-    // name; or it has no release of it that can be used.
+    /// That what needs a node needs what the index lacks: it has no package of the name, and which ones have nearly this
+    /// name; or it has no release of it that can be used.
     fn add_missing(
         &self,
         text: &mut String,
@@ -230,7 +230,7 @@ impl Sentences<'_> {
         add_near_names(self.alloc, text, snapshot, &node.name)
     }
 
-    // What needs a node, and by which requirements.
+    /// What needs a node, and by which requirements.
     fn add_need(
         &self,
         text: &mut String,
@@ -259,7 +259,7 @@ impl Sentences<'_> {
         add_listed(text, texts.as_slice(), "or")
     }
 
-    // What excludes the releases of a node, with `; ` between two causes.
+    /// What excludes the releases of a node, with `; ` between two causes.
     fn add_causes(
         &self,
         text: &mut String,
@@ -277,7 +277,7 @@ impl Sentences<'_> {
     }
 }
 
-// How many terms of a conflict don't need the node.
+/// How many terms of a conflict don't need the node.
 fn other_count(conflict: &[PlacedTerm], need: Option<SetNeed>) -> usize {
     match need {
         Some(SetNeed::Term(_)) => conflict.len().saturating_sub(1),

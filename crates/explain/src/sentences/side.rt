@@ -63,7 +63,7 @@ impl Sentences<'_> {
         }
     }
 
-    // The newest release that the index has of a name, of which a line allows none.
+    /// The newest release that the index has of a name, of which a line allows none.
     fn add_newest(&self, text: &mut String, node: &Node) -> Result<(), AllocError> {
         match self.problem.releases(&node.name).first() {
             Some(release) => {
@@ -74,7 +74,7 @@ impl Sentences<'_> {
         }
     }
 
-    // What releases need, also where no release matches it.
+    /// What releases need, also where no release matches it.
     fn add_wanted(&self, text: &mut String, asked: &Asked, node: &Node) -> Result<(), AllocError> {
         match &asked.words {
             Words::Nothing(texts) if texts.is_empty() => {
@@ -107,7 +107,7 @@ impl Sentences<'_> {
         }
     }
 
-    // A side behind another one. A line and the lock don't tell the name again.
+    /// A side behind another one. A line and the lock don't tell the name again.
     fn add_next_side(
         &self,
         text: &mut String,

@@ -40,7 +40,7 @@ pub fn told_steps(derived: Derived<'_>) -> Result<Vec<Step>, AllocError> {
     Ok(told)
 }
 
-// Puts what the sentence of a conflict cites before its own visit. A conflict is entered once.
+/// Puts what the sentence of a conflict cites before its own visit. A conflict is entered once.
 fn enter(
     visits: &mut Vec<Visit>,
     entered: &mut BTreeSet<usize>,
@@ -64,7 +64,7 @@ fn enter(
     Ok(())
 }
 
-// The conflicts that some exclusions name.
+/// The conflicts that some exclusions name.
 fn cited_by(alloc: Global, exclusions: &[Exclusion]) -> Result<Vec<usize>, AllocError> {
     let mut cited = Vec::new(alloc);
     for exclusion in exclusions {
@@ -92,7 +92,7 @@ pub fn cited_lines(derived: Derived<'_>, steps: &[Step]) -> Result<Vec<usize>, A
     Ok(listed)
 }
 
-// Those of one sentence.
+/// Those of one sentence.
 fn add_lines(
     lines: &mut BTreeSet<usize>,
     derived: Derived<'_>,
