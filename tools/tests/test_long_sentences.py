@@ -10,22 +10,13 @@ from rules.explanations import check, lines_of, numbered
 from rules.locks import Problem
 from rules.requirements import Fault
 from rules.sentences import cut
+from test_sentences import BOUND, BOUND_FILE, BOUND_INDEX
 
 NUMBERS = tuple(map(str, range(1, 10)))
 
 # the lines of a file, an index, what is told in short, and what is told in the place of its middle
 CHAIN = (
-    ("k0>=2", "k8<2"),
-    tuple((f"k{place}", version, [f"k{place + 1}>={version}"] * (place < 8)) for place in range(9) for version in NUMBERS[:3]),
-    """\
-No choice of versions meets line 1 (k0>=2) and line 2 (k8<2).
-1. k6 2 and 3 need k7 2 or newer, which needs k8 2 or newer.
-2. k5 2 and 3 need k6 2 or newer, which is ruled out by 1 with k8 1.
-3 to 6. So it goes on through 4 packages, from k4 to k1: each needs the one before it, which is ruled out by the step before with k8 1.
-7. k0 2 and 3 need k1 2 or newer, which is ruled out by 6 with k8 1.
-8. line 2 (k8<2) allows k8 1, which is ruled out by 7 with k0 2 and 3.
-9. line 1 (k0>=2) allows k0 2 or newer, which is ruled out by 8.
-""",
+    BOUND_FILE, BOUND_INDEX, BOUND,
     "3 to 6. So it goes on through 4 packages, from k4 to k1: each needs the one before it, which is ruled out by the step before with k8 1.\n",
     "".join(f"{7 - place}. k{place} 2 and 3 need k{place + 1} 2 or newer, which is ruled out by {6 - place} with k8 1.\n" for place in (4, 3, 2, 1)),
 )
