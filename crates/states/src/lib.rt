@@ -31,7 +31,7 @@ pub use crate::refusal::{Refusal, SavedFile};
 pub use crate::state::State;
 pub use crate::state::fit::{first_unfit, state_of};
 pub use crate::target::Target;
-pub use crate::target_name::{LockFile, TargetName};
+pub use crate::target_name::{LockFileName, TargetName};
 pub use crate::targets::Targets;
 pub use pep508::{Environment, Line, Name, ReqFile};
 pub use pylock::{Entry, FileEntry, Lock};

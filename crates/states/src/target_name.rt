@@ -101,10 +101,10 @@ impl TargetName {
     }
 
     /// The name of the file that the lock of the target is written to.
-    pub fn lock_file(&self) -> LockFile<'_>
+    pub fn lock_file(&self) -> LockFileName<'_>
         ensures { result.name.now ≡ self.now }
     {
-        LockFile { name: self }
+        LockFileName { name: self }
     }
 
     /// The text of that name.
@@ -157,15 +157,15 @@ impl fmt::Display for TargetName {
 /// The name of the file that the lock of a target is written to: `pylock.toml` of the empty name, else
 /// `pylock.NAME.toml` (PEP 751, "File Name").
 #[derive(Clone, Copy)]
-pub struct LockFile<'n> {
+pub struct LockFileName<'n> {
     name: &'n TargetName,
 }
 
-impl fmt::Display for LockFile<'_> {
+impl fmt::Display for LockFileName<'_> {
     ghost output = { λ file. Some (file_name file.name.now) };
 
     fn fmt<W: fmt::Write>(&self, f: &mut fmt::Formatter<W>) -> fmt::Result {
-        let LockFile { name } = self;
+        let LockFileName { name } = self;
         if name.is_empty() {
             write!(f, "pylock.toml")
         } else {
