@@ -8,7 +8,7 @@ use crate::shown::{Shown, first_refuted};
 use calls::{Call, ReplacedHistory, Stop, pool_of, print, replaced};
 use command_line::request::{EditInputs, Replacement, Told};
 use edits::{Edit, Line, Problem, Refutation, State, TargetName, problem_after, problems_of_init};
-use explain::{ChangedLine, ChangedLines, Explanation, Telling, add_refutation};
+use explain::{ChangedLine, ChangedLines, Explanation, Extent, Wording, add_refutation};
 use files::LockFile;
 use files::first_inputs::{FirstInputs, FirstPaths, first_inputs};
 use files::saved_history::session_over;
@@ -215,12 +215,15 @@ pub fn explained_text(
     explanation: &Explanation,
     lines: ToldLines<'_>,
 ) -> Result<String, AllocError> {
-    let telling = match lines.told {
-        Told::LongSentences => Telling::Long,
-        Told::Sentences | Told::Conflicts => Telling::Short,
+    let wording = Wording {
+        lines: lines.changed,
+        extent: match lines.told {
+            Told::LongSentences => Extent::Long,
+            Told::Sentences | Told::Conflicts => Extent::Short,
+        },
     };
     let mut text = String::new(alloc);
     add_target_line(&mut text, name.as_str())?;
-    explanation.add_sentences(alloc, &mut text, problem, lines.changed, telling)?;
+    explanation.add_sentences(alloc, &mut text, problem, wording)?;
     Ok(text)
 }

@@ -33,8 +33,8 @@ abbrev pub is_given : List Row → Text → Bool
 is_given rows id = is_some (all_of id rows)
 
 -- how much is told, each with whether it is asked for
-abbrev pub telling_marks : List Row → List Row → List (Text × Bool)
-telling_marks before behind =
+abbrev pub verbosity_marks : List Row → List Row → List (Text × Bool)
+verbosity_marks before behind =
     (codes "--quiet", is_flagged before behind (codes "quiet"))
     ∷ (codes "--verbose", is_flagged before behind (codes "verbose"))
     ∷ []
@@ -70,7 +70,7 @@ lines_marks behind =
 -- the first argument beside which another stands that excludes it
 abbrev pub excluded : List Row → List Row → Option Text
 excluded before behind =
-    option_or (first_of_two (telling_marks before behind)) (option_or (first_of_two (shown_marks behind)) (option_or (first_of_two (question_marks behind)) (first_of_two (lines_marks behind))))
+    option_or (first_of_two (verbosity_marks before behind)) (option_or (first_of_two (shown_marks behind)) (option_or (first_of_two (question_marks behind)) (first_of_two (lines_marks behind))))
 
 -- whether lines are to be replaced, and whether new ones are named
 abbrev pub is_replacement : Text → List Row → Bool

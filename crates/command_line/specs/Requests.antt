@@ -10,7 +10,7 @@ use Rattle.command_line.specs.declared.usage.RequestFault.TheVariants.{Usage, Ne
 use Rattle.clap_command.specs.CommandWords.{reqlock_app}
 use Rattle.command_line.specs.Misuses.{IsMisused, IsWellUsed}
 use Rattle.command_line.specs.Options.{chosen}
-use Rattle.command_line.specs.Subcommands.{IsSubcommand, color_of, telling_of}
+use Rattle.command_line.specs.Subcommands.{IsSubcommand, color_of, verbosity_of}
 use Rattle.command_line.specs.UsageFaults.{FaultWith, IsLacking, IsTold}
 
 -- the request of a subcommand with what stands before it and behind it: no argument is misused, and the request has what was found
@@ -18,7 +18,7 @@ pub record IsReadAs (before : List Row) (name : Text) (behind : List Row) (reque
   pub used : IsWellUsed before name behind
   pub subcommand : IsSubcommand before behind name request.subcommand
   pub dir : request.dir.now ≡ unwrap_or (chosen before behind (codes "dir")) (codes ".")
-  pub telling : request.telling ≡ telling_of before behind
+  pub verbosity : request.verbosity ≡ verbosity_of before behind
   pub color : request.color ≡ color_of before behind
 
 -- clap reads the words, and the request has what it finds in them

@@ -28,8 +28,8 @@ use Rattle.command_line.specs.declared.invocation.Shown.{Shown}
 use Rattle.command_line.specs.declared.invocation.Shown.TheVariants.{Table, Entry, Tree}
 use Rattle.command_line.specs.declared.invocation.Subcommand.{Subcommand}
 use Rattle.command_line.specs.declared.invocation.Subcommand.TheVariants.{Init, Edit, Replace, Undo, Redo, Batch, Try, Show, Log, Diff, Check, Outdated, Export, Skipped, Why}
-use Rattle.command_line.specs.declared.invocation.Telling.{Telling as TellingValue}
-use Rattle.command_line.specs.declared.invocation.Telling.TheVariants.{Quiet, Usual, Verbose}
+use Rattle.command_line.specs.declared.invocation.Verbosity.{Verbosity as VerbosityValue}
+use Rattle.command_line.specs.declared.invocation.Verbosity.TheVariants.{Quiet, Usual, Verbose}
 use Rattle.command_line.specs.declared.invocation.Told.{Told as ToldValue}
 use Rattle.command_line.specs.declared.invocation.Told.TheVariants.{Conflicts, LongSentences, Sentences}
 use Rattle.command_line.specs.Misuses.{is_given}
@@ -102,8 +102,8 @@ IsChecked before behind None = has_flag behind (codes "current") ≡ false
 IsChecked before behind (Some over) = (has_flag behind (codes "current") ≡ true) × (index_of before behind ≡ Some over.now)
 
 -- how much is told, and whether in colors
-abbrev pub telling_of : List Row → List Row → TellingValue
-telling_of before behind =
+abbrev pub verbosity_of : List Row → List Row → VerbosityValue
+verbosity_of before behind =
     if is_flagged before behind (codes "quiet") then Quiet else
     if is_flagged before behind (codes "verbose") then Verbose else
     Usual

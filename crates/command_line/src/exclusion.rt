@@ -4,7 +4,7 @@ ghost use Rattle.std.specs.Prelude.{◌≡◌, ◌&&◌, codes, not};
 ghost use Rattle.std.specs.Str.{bytes_eq};
 ghost use Rattle.clap.specs.Words.{found_of, rows_of};
 ghost use Rattle.command_line.specs.Marks.{first_marked, first_of_two};
-ghost use Rattle.command_line.specs.Misuses.{excluded, has_lines, has_old_or_line, is_given, is_replacement, lines_marks, missing_marks, question_marks, shown_marks, telling_marks};
+ghost use Rattle.command_line.specs.Misuses.{excluded, has_lines, has_old_or_line, is_given, is_replacement, lines_marks, missing_marks, question_marks, shown_marks, verbosity_marks};
 ghost use Rattle.command_line.specs.Options.{has_flag, text_of};
 
 use crate::marks::{first_marked, first_of_two};
@@ -17,11 +17,11 @@ pub(crate) fn excluded(before: &ArgMatches<'_>, behind: &ArgMatches<'_>) -> Opti
         (rows_of (found_of behind.now)) }
 {
     let other = excluded_question(behind).or(excluded_lines(behind));
-    excluded_telling(before, behind).or(excluded_shown(behind).or(other))
+    excluded_verbosity(before, behind).or(excluded_shown(behind).or(other))
 }
 
-fn excluded_telling(before: &ArgMatches<'_>, behind: &ArgMatches<'_>) -> Option<&'static str>
-    ensures { text_of result ≡ first_of_two (telling_marks (rows_of (found_of before.now))
+fn excluded_verbosity(before: &ArgMatches<'_>, behind: &ArgMatches<'_>) -> Option<&'static str>
+    ensures { text_of result ≡ first_of_two (verbosity_marks (rows_of (found_of before.now))
         (rows_of (found_of behind.now))) }
 {
     first_of_two(&[

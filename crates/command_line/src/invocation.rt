@@ -8,14 +8,14 @@ use lists::{Seq, Text};
 pub struct Invocation<'a> {
     /// The folder of the three files.
     pub dir: &'a str,
-    pub telling: Telling,
+    pub verbosity: Verbosity,
     pub color: ColorChoice,
     pub subcommand: Subcommand<'a>,
 }
 
 /// How much is told beside the answer.
 #[derive(Clone, Copy, Debug, PartialEq, Eq)]
-pub enum Telling {
+pub enum Verbosity {
     /// Nothing.
     Quiet,
     Usual,

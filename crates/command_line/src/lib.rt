@@ -12,6 +12,7 @@
 mod edit_words;
 mod exclusion;
 mod invocation;
+mod manner;
 mod marks;
 mod misuse;
 mod options;
@@ -19,5 +20,4 @@ mod question;
 mod replacement;
 pub mod request;
 mod subcommand;
-mod telling;
 mod usage;

@@ -9,12 +9,12 @@ ghost use Rattle.command_line.specs.Requests.{IsFault, IsReadAs, IsRequest, IsUn
 use crate::exclusion::{excluded, missing};
 pub use crate::invocation::{
     ColorChoice, DiffRange, EditInputs, Export, ExportFormat, Format, Inputs, Invocation, NewLines,
-    Question, Replacement, Saving, Shown, Subcommand, Telling, Told,
+    Question, Replacement, Saving, Shown, Subcommand, Told, Verbosity,
 };
+use crate::manner::{color, unknown_color, unknown_format, verbosity};
 use crate::misuse::{Misuse, ReadFault, told};
 use crate::options::{chosen, option_twice, stray_flag};
 use crate::subcommand::read_subcommand;
-use crate::telling::{color, telling, unknown_color, unknown_format};
 use crate::usage::fault_of_clap;
 pub use crate::usage::{NeededOption, RequestFault};
 use clap::ArgMatches;
@@ -55,7 +55,7 @@ fn read_invocation<'a>(
     }
     Ok(Invocation {
         dir: chosen(before, behind, "dir").unwrap_or("."),
-        telling: telling(before, behind),
+        verbosity: verbosity(before, behind),
         color: color(before, behind),
         subcommand: read_subcommand(alloc, name, before, behind)?,
     })

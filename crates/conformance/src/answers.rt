@@ -166,7 +166,7 @@ fn of_histories(
         "empty writes" => batch_rows::writes(alloc, background, &case_of(texts, false)?),
         "do" => session_rows::done(alloc, background, first, false),
         "keep" => session_rows::done(alloc, background, first, true),
-        _ => of_history(alloc, background, kind, first, second, text_at(texts, 2)),
+        _ => of_history(alloc, background, kind, texts),
     }
 }
 
@@ -175,9 +175,7 @@ fn of_history(
     alloc: Global,
     background: &Background,
     kind: &str,
-    first: &str,
-    second: &str,
-    third: &str,
+    texts: &[String],
 ) -> Option<String> {
     let session = background.session.as_ref()?;
     match kind {
@@ -185,7 +183,10 @@ fn of_history(
         "files" => files_text(alloc, session.state()),
         "change" => session_rows::change(alloc, session),
         "saved" => saved_rows::saved(alloc, session),
-        "altered" => saved_rows::altered(alloc, session, first, second, third),
+        "altered" => {
+            let (file, old, new) = (text_at(texts, 0), text_at(texts, 1), text_at(texts, 2));
+            saved_rows::altered(alloc, session, file, old, new)
+        }
         _ => None,
     }
 }

@@ -1,9 +1,9 @@
 // Rows of batches over memory, whose reader or writer stops at its first call, at its second, and so on.
 
 use crate::background::Background;
+use crate::growing_text::GrowingText;
 use crate::session_rows::session_of;
 use crate::streams::{Narrow, Pieces};
-use crate::telling::Telling;
 use commands::Counted;
 use commands::batch::{BatchFault, batch};
 use edits::Pool;
@@ -45,7 +45,7 @@ fn told(
     let written = String::from_utf8(written).ok()?;
     let (cursor, steps) = (session.cursor(), session.steps());
     let lines = session.state().lines().bytes(alloc).ok()?;
-    let mut text = Telling::new(alloc);
+    let mut text = GrowingText::new(alloc);
     write!(text, "{done:?} {written:?} {cursor} of {steps} {lines:?}");
     text.told()
 }
@@ -123,7 +123,7 @@ fn write_once(
 
 /// What each batch comes to, until the reader of one doesn't stop.
 pub fn reads(alloc: Global, background: &Background, case: &Case<'_>) -> Option<String> {
-    let mut answers = Telling::new(alloc);
+    let mut answers = GrowingText::new(alloc);
     for calls in 0..MANY {
         let (answer, has_stopped) = read_once(alloc, background, case, calls)?;
         answers.push_str(answer.as_str());
@@ -137,7 +137,7 @@ pub fn reads(alloc: Global, background: &Background, case: &Case<'_>) -> Option<
 
 /// What each batch comes to, until the writer of one doesn't stop.
 pub fn writes(alloc: Global, background: &Background, case: &Case<'_>) -> Option<String> {
-    let mut answers = Telling::new(alloc);
+    let mut answers = GrowingText::new(alloc);
     for calls in 0..MANY {
         let (answer, has_stopped) = write_once(alloc, background, case, calls)?;
         answers.push_str(answer.as_str());

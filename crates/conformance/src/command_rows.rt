@@ -1,12 +1,12 @@
 // Rows of command lines.
 
 use crate::environment_rows::bytes_of;
+use crate::growing_text::GrowingText;
 use crate::notation::owned;
-use crate::telling::Telling;
 use command_line::request::{
     ColorChoice, DiffRange, EditInputs, Export, ExportFormat, Format, Inputs, Invocation,
-    NeededOption, NewLines, Question, Replacement, RequestFault, Saving, Shown, Subcommand,
-    Telling as Loudness, Told, request,
+    NeededOption, NewLines, Question, Replacement, RequestFault, Saving, Shown, Subcommand, Told,
+    Verbosity, request,
 };
 use commands::{Item, read_item};
 use edits::Edit;
@@ -14,7 +14,7 @@ use lists::Text;
 use std::alloc::Global;
 
 /// Pushes an edit, as a short text.
-fn push_edit(text: &mut Telling, edit: &Edit) {
+fn push_edit(text: &mut GrowingText, edit: &Edit) {
     match edit {
         Edit::Add(line) => write!(text, "(add)|{line}"),
         Edit::Remove(name) => write!(text, "(remove)|{name}"),
@@ -33,7 +33,7 @@ fn push_edit(text: &mut Telling, edit: &Edit) {
 
 /// What a line of a batch asks for.
 pub fn command(alloc: Global, line: &str, is_ended: bool) -> Option<String> {
-    let mut text = Telling::new(alloc);
+    let mut text = GrowingText::new(alloc);
     match read_item(alloc, bytes_of(alloc, line)?.as_slice(), is_ended).ok()? {
         None => text.push_str("(nothing)"),
         Some(Item::Edit(edit)) => push_edit(&mut text, &edit),
@@ -45,7 +45,7 @@ pub fn command(alloc: Global, line: &str, is_ended: bool) -> Option<String> {
 }
 
 /// Pushes a subcommand with the files that a history begins with.
-fn push_inputs(text: &mut Telling, name: &str, inputs: &Inputs<'_>) {
+fn push_inputs(text: &mut GrowingText, name: &str, inputs: &Inputs<'_>) {
     let index = inputs.index;
     write!(text, "{name} {index}");
     for environment in inputs.environments.as_slice() {
@@ -55,14 +55,14 @@ fn push_inputs(text: &mut Telling, name: &str, inputs: &Inputs<'_>) {
 }
 
 /// Pushes versions to keep.
-fn push_pins(text: &mut Telling, pins: &[Text]) {
+fn push_pins(text: &mut GrowingText, pins: &[Text]) {
     for pin in pins {
         write!(text, " pins {pin}");
     }
 }
 
 /// Pushes lines that take the place of others.
-fn push_replacement(text: &mut Telling, replacement: &Replacement<'_>) {
+fn push_replacement(text: &mut GrowingText, replacement: &Replacement<'_>) {
     match replacement.lines {
         NewLines::File(file) => write!(text, "(replace)|{file}"),
         NewLines::Was(old) => write!(text, "(replace) was {old}"),
@@ -72,21 +72,21 @@ fn push_replacement(text: &mut Telling, replacement: &Replacement<'_>) {
 }
 
 /// Pushes how a result is printed.
-fn push_format(text: &mut Telling, format: Format) {
+fn push_format(text: &mut GrowingText, format: Format) {
     if format == Format::Json {
         text.push_str(" as json");
     }
 }
 
 /// Pushes whether a step is saved.
-fn push_saving(text: &mut Telling, saving: Saving) {
+fn push_saving(text: &mut GrowingText, saving: Saving) {
     if saving == Saving::DryRun {
         text.push_str(" unsaved");
     }
 }
 
 /// Pushes what of the lock is printed.
-fn push_shown(text: &mut Telling, shown: Shown<'_>) {
+fn push_shown(text: &mut GrowingText, shown: Shown<'_>) {
     match shown {
         Shown::Table => {}
         Shown::Entry(name, None) => write!(text, " {name}"),
@@ -96,7 +96,7 @@ fn push_shown(text: &mut Telling, shown: Shown<'_>) {
 }
 
 /// Pushes two places of the history.
-fn push_range(text: &mut Telling, range: DiffRange) {
+fn push_range(text: &mut GrowingText, range: DiffRange) {
     match range {
         DiffRange::LastStep => {}
         DiffRange::Since(from) => write!(text, " {from}"),
@@ -105,7 +105,7 @@ fn push_range(text: &mut Telling, range: DiffRange) {
 }
 
 /// Pushes what an edit is made over.
-fn push_edit_inputs(text: &mut Telling, inputs: EditInputs<'_>) {
+fn push_edit_inputs(text: &mut GrowingText, inputs: EditInputs<'_>) {
     let index = inputs.index;
     write!(text, " {index}");
     if inputs.keeps_locked {
@@ -114,7 +114,7 @@ fn push_edit_inputs(text: &mut Telling, inputs: EditInputs<'_>) {
 }
 
 /// Pushes the question of `why`.
-fn push_question(text: &mut Telling, question: &Question<'_>) {
+fn push_question(text: &mut GrowingText, question: &Question<'_>) {
     match question {
         Question::Edit(edit, inputs) => {
             push_edit(text, edit);
@@ -135,7 +135,7 @@ fn push_question(text: &mut Telling, question: &Question<'_>) {
 }
 
 /// Pushes what words ask for.
-fn push_subcommand(text: &mut Telling, subcommand: Subcommand<'_>) {
+fn push_subcommand(text: &mut GrowingText, subcommand: Subcommand<'_>) {
     match subcommand {
         Subcommand::Init(inputs) => push_inputs(text, "init", &inputs),
         Subcommand::Edit(edit, inputs, saving) => {
@@ -176,7 +176,7 @@ fn push_subcommand(text: &mut Telling, subcommand: Subcommand<'_>) {
 }
 
 /// Pushes how a lock is printed for another tool.
-fn push_export(text: &mut Telling, export: Export<'_>) {
+fn push_export(text: &mut GrowingText, export: Export<'_>) {
     text.push_str(match export.format {
         ExportFormat::Hashes => "export hashes",
         ExportFormat::Dot => "export dot",
@@ -191,7 +191,7 @@ fn push_export(text: &mut Telling, export: Export<'_>) {
 }
 
 /// Pushes a subcommand that prints what is there.
-fn push_view(text: &mut Telling, view: Subcommand<'_>) {
+fn push_view(text: &mut GrowingText, view: Subcommand<'_>) {
     match view {
         Subcommand::Show(shown, format) => {
             text.push_str("show");
@@ -219,16 +219,25 @@ fn push_view(text: &mut Telling, view: Subcommand<'_>) {
             write!(text, "outdated {index}");
             push_format(text, format);
         }
-        _ => {}
+        // these are pushed before
+        Subcommand::Init(_)
+        | Subcommand::Edit(_, _, _)
+        | Subcommand::Replace(_, _, _)
+        | Subcommand::Undo(_)
+        | Subcommand::Redo(_)
+        | Subcommand::Batch(_)
+        | Subcommand::Try(_)
+        | Subcommand::Skipped(_)
+        | Subcommand::Why(_, _) => {}
     }
 }
 
 /// Pushes how much is told, and in which colors.
-fn push_told(text: &mut Telling, loudness: Loudness, color: ColorChoice) {
-    text.push_str(match loudness {
-        Loudness::Quiet => " quiet",
-        Loudness::Usual => "",
-        Loudness::Verbose => " verbose",
+fn push_told(text: &mut GrowingText, verbosity: Verbosity, color: ColorChoice) {
+    text.push_str(match verbosity {
+        Verbosity::Quiet => " quiet",
+        Verbosity::Usual => "",
+        Verbosity::Verbose => " verbose",
     });
     text.push_str(match color {
         ColorChoice::Auto => "",
@@ -241,14 +250,14 @@ fn push_told(text: &mut Telling, loudness: Loudness, color: ColorChoice) {
 fn invocation_text(alloc: Global, invocation: Invocation<'_>) -> Option<String> {
     let Invocation {
         dir,
-        telling,
+        verbosity,
         color,
         subcommand,
     } = invocation;
-    let mut text = Telling::new(alloc);
+    let mut text = GrowingText::new(alloc);
     write!(text, "{dir} ");
     push_subcommand(&mut text, subcommand);
-    push_told(&mut text, telling, color);
+    push_told(&mut text, verbosity, color);
     text.told()
 }
 

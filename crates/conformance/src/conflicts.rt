@@ -1,6 +1,6 @@
 // Conflicts as rows write them.
 
-use crate::telling::Telling;
+use crate::growing_text::GrowingText;
 use lists::Seq;
 use markers::Name;
 use pep440::Version;
@@ -35,7 +35,7 @@ fn sign(one: &Choice, other: &Choice) -> &'static str {
 
 /// Choices, and between each two how they are ordered.
 pub fn choices(alloc: Global, told: &[String]) -> Option<String> {
-    let mut text = Telling::new(alloc);
+    let mut text = GrowingText::new(alloc);
     let mut before = None;
     for one in told {
         let choice = choice_of(alloc, one.as_str())?;
@@ -78,7 +78,7 @@ fn texts_of(alloc: Global, conflict: &[Choice]) -> Option<BTreeSet<String>> {
 }
 
 /// Pushes a conflict: its choices in the order of their bytes, or `-`.
-fn push_conflict(alloc: Global, text: &mut Telling, conflict: &[Choice]) -> Option<()> {
+fn push_conflict(alloc: Global, text: &mut GrowingText, conflict: &[Choice]) -> Option<()> {
     if conflict.is_empty() {
         text.push_str("-");
         return Some(());
@@ -94,7 +94,7 @@ fn push_conflict(alloc: Global, text: &mut Telling, conflict: &[Choice]) -> Opti
 
 /// The conflicts of a refutation, with a bar between two.
 pub fn refutation_text(alloc: Global, refutation: &Refutation) -> Option<String> {
-    let mut text = Telling::new(alloc);
+    let mut text = GrowingText::new(alloc);
     let mut separator = "";
     for conflict in refutation.conflicts() {
         text.push_str(separator);

@@ -1,10 +1,10 @@
 // Rows of environments.
 
 use crate::background::Background;
+use crate::growing_text::GrowingText;
 use crate::marker_rows::told_fault;
 use crate::notation::owned;
 use crate::targets::copies;
-use crate::telling::Telling;
 use edits::{Refusal, TargetName, Targets};
 use markers::{Environment, Fault, VARIABLES};
 use std::alloc::Global;
@@ -30,7 +30,7 @@ fn parts(
     environment: &Environment,
     earlier: Option<&Environment>,
 ) -> Option<String> {
-    let mut text = Telling::new(alloc);
+    let mut text = GrowingText::new(alloc);
     let mut separator = "";
     for variable in &VARIABLES {
         let value = environment.text(*variable);
@@ -92,7 +92,7 @@ pub fn target(alloc: Global, background: &mut Background, name: &str) -> Option<
 
 /// The names of targets with those of their lock files.
 fn told_targets(alloc: Global, targets: &Targets) -> Option<String> {
-    let mut text = Telling::new(alloc);
+    let mut text = GrowingText::new(alloc);
     for (name, _) in targets.as_slice() {
         let file = name.file_name(alloc).ok()?;
         write!(text, "({name} {file})");

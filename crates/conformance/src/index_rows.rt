@@ -2,15 +2,15 @@
 
 use crate::background::Background;
 use crate::environment_rows::bytes_of;
+use crate::growing_text::GrowingText;
 use crate::short_form::json_of;
-use crate::telling::Telling;
 use markers::Name;
 use snapshot::{Fault, Release, ReleaseFile, Snapshot};
 use std::alloc::Global;
 
 /// What is left out of an index: each release by its package, its place and the cause.
 fn left_out(alloc: Global, index: &Snapshot) -> Option<String> {
-    let mut text = Telling::new(alloc);
+    let mut text = GrowingText::new(alloc);
     let mut separator = "";
     for skipped in index.skipped() {
         let (package, place) = (skipped.package().normal(), skipped.place());
@@ -53,13 +53,13 @@ pub fn digest(alloc: Global, background: &Background) -> Option<String> {
     format!(in alloc; "{digest:?}").ok()
 }
 
-fn push_file(text: &mut Telling, file: &ReleaseFile) {
+fn push_file(text: &mut GrowingText, file: &ReleaseFile) {
     let (name, url, size, sha256) = (file.name(), file.url(), file.size(), file.sha256());
     write!(text, " {name} {url} {size} {sha256}");
 }
 
 /// Pushes a release: its version, what it asks of Python, what it needs, whether it is yanked, and its files.
-fn push_release(text: &mut Telling, release: &Release) {
+fn push_release(text: &mut GrowingText, release: &Release) {
     let version = release.version();
     write!(text, "{version}");
     if let Some(python) = release.requires_python() {
@@ -76,7 +76,7 @@ fn push_release(text: &mut Telling, release: &Release) {
     push_files(text, release);
 }
 
-fn push_files(text: &mut Telling, release: &Release) {
+fn push_files(text: &mut GrowingText, release: &Release) {
     if let Some(sdist) = release.sdist() {
         push_file(text, sdist);
     }
@@ -88,7 +88,7 @@ fn push_files(text: &mut Telling, release: &Release) {
 /// The releases of a name.
 pub fn releases(alloc: Global, background: &Background, name: &str) -> Option<String> {
     let name = Name::parse(alloc, name).ok()?;
-    let mut text = Telling::new(alloc);
+    let mut text = GrowingText::new(alloc);
     let mut separator = "";
     for release in background.index.as_ref()?.releases(&name) {
         text.push_str(separator);
@@ -104,7 +104,7 @@ pub fn releases(alloc: Global, background: &Background, name: &str) -> Option<St
 /// The versions of a name.
 pub fn versions(alloc: Global, background: &Background, name: &str) -> Option<String> {
     let name = Name::parse(alloc, name).ok()?;
-    let mut text = Telling::new(alloc);
+    let mut text = GrowingText::new(alloc);
     let mut separator = "";
     for release in background.index.as_ref()?.releases(&name) {
         let version = release.version();

@@ -2,10 +2,10 @@
 
 use crate::background::Background;
 use crate::environment_rows::bytes_of;
+use crate::growing_text::GrowingText;
 use crate::marker_rows::told_fault;
 use crate::notation::owned;
 use crate::requirement_rows;
-use crate::telling::Telling;
 use pep508::{Line, ReqFile, ReqLine, Requirement, SpecifierText};
 use std::alloc::Global;
 
@@ -23,7 +23,7 @@ fn asked(
 
 /// The slices of a line, each with a bar behind it.
 fn slices(alloc: Global, line: &ReqLine<'_>) -> Option<String> {
-    let mut text = Telling::new(alloc);
+    let mut text = GrowingText::new(alloc);
     for slice in [
         line.lead(),
         line.name(),

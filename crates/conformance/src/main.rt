@@ -10,6 +10,7 @@ mod command_rows;
 mod conflicts;
 mod environment_rows;
 mod examples;
+mod growing_text;
 mod index_rows;
 mod line_rows;
 mod lock_rows;
@@ -26,7 +27,6 @@ mod state_texts;
 mod streams;
 mod table_rows;
 mod targets;
-mod telling;
 mod version_rows;
 
 use crate::answers::answer_to;

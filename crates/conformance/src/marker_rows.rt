@@ -1,8 +1,8 @@
 // Rows of names and markers.
 
 use crate::background::Background;
+use crate::growing_text::GrowingText;
 use crate::notation::{mark, owned};
-use crate::telling::Telling;
 use markers::{Cause, Environment, Fault, Marker, Name, VersionFault};
 use std::alloc::Global;
 
@@ -34,7 +34,7 @@ pub fn marker(
         Ok(marker) => marker,
         Err(fault) => return told_fault(alloc, fault),
     };
-    let mut marks = Telling::new(alloc);
+    let mut marks = GrowingText::new(alloc);
     for extra in extras {
         marks.push(mark(holds(alloc, &marker, environment, extra.as_str())?));
     }

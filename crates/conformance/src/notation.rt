@@ -1,6 +1,6 @@
 // Texts as rows write them, and answers as they are printed.
 
-use crate::telling::Telling;
+use crate::growing_text::GrowingText;
 use std::alloc::Global;
 
 /// What a repetition begins with.
@@ -8,7 +8,7 @@ const REPETITION: &str = "\\{";
 
 /// The text that a row writes so.
 pub fn expanded(alloc: Global, written: &str) -> Option<String> {
-    let mut text = Telling::new(alloc);
+    let mut text = GrowingText::new(alloc);
     let mut parts = written.split(REPETITION);
     push_plain(&mut text, parts.next()?, 0)?;
     for part in parts {
@@ -18,7 +18,7 @@ pub fn expanded(alloc: Global, written: &str) -> Option<String> {
 }
 
 /// Pushes a repetition such as `200*.7}` or `100..120*p\#}`, and what stands behind it.
-fn push_repeated(text: &mut Telling, part: &str) -> Option<()> {
+fn push_repeated(text: &mut GrowingText, part: &str) -> Option<()> {
     let (repetition, behind) = part.split_once('}')?;
     let (rounds, repeated) = repetition.split_once('*')?;
     let (first, end) = rounds.split_once("..").unwrap_or(("0", rounds));
@@ -30,7 +30,7 @@ fn push_repeated(text: &mut Telling, part: &str) -> Option<()> {
 }
 
 /// Pushes a text that has no repetition, in the round of this number.
-fn push_plain(text: &mut Telling, written: &str, number: usize) -> Option<()> {
+fn push_plain(text: &mut GrowingText, written: &str, number: usize) -> Option<()> {
     let mut rest = written;
     for _ in 0..written.len() {
         let Some((plain, behind)) = rest.split_once('\\') else {
@@ -44,7 +44,7 @@ fn push_plain(text: &mut Telling, written: &str, number: usize) -> Option<()> {
 }
 
 /// Pushes what stands behind a backslash, and gives what is left.
-fn push_marked<'a>(text: &mut Telling, behind: &'a str, number: usize) -> Option<&'a str> {
+fn push_marked<'a>(text: &mut GrowingText, behind: &'a str, number: usize) -> Option<&'a str> {
     let mut letters = behind.chars();
     let mark = letters.next()?;
     let rest = letters.as_str();
@@ -76,7 +76,7 @@ fn meant_by(mark: char) -> Option<&'static str> {
 }
 
 /// Pushes the letter of a number such as `{85}`, and gives what is left.
-fn push_numbered<'a>(text: &mut Telling, behind: &'a str) -> Option<&'a str> {
+fn push_numbered<'a>(text: &mut GrowingText, behind: &'a str) -> Option<&'a str> {
     let (code, rest) = behind.strip_prefix('{')?.split_once('}')?;
     let code = u32::from_str_radix(code, 16).ok()?;
     text.push(char::from_u32(code)?);
@@ -85,14 +85,14 @@ fn push_numbered<'a>(text: &mut Telling, behind: &'a str) -> Option<&'a str> {
 
 /// The answer in printable ASCII.
 pub fn shown(alloc: Global, answer: &str) -> Option<String> {
-    let mut line = Telling::new(alloc);
+    let mut line = GrowingText::new(alloc);
     for letter in answer.chars() {
         push_shown(&mut line, letter);
     }
     line.told()
 }
 
-fn push_shown(line: &mut Telling, letter: char) {
+fn push_shown(line: &mut GrowingText, letter: char) {
     match letter {
         '\n' => line.push_str("\\n"),
         '\r' => line.push_str("\\r"),

@@ -2,8 +2,8 @@
 
 use crate::background::Background;
 use crate::conflicts::{refutation_of, refutation_text};
+use crate::growing_text::GrowingText;
 use crate::notation::owned;
-use crate::telling::Telling;
 use pep440::Version;
 use pep508::{Name, ReqFile};
 use resolve::{Answer, Learning, Problem, Resolver, check, check_sets};
@@ -25,7 +25,7 @@ fn solution_text(
     versions: &BTreeMap<Name, Version>,
 ) -> Option<String> {
     let count = problem.needed(alloc, versions).ok()?.len();
-    let mut text = Telling::new(alloc);
+    let mut text = GrowingText::new(alloc);
     write!(text, "{count} nodes:");
     for (name, version) in versions {
         let name = name.normal();

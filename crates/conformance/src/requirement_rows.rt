@@ -1,15 +1,15 @@
 // Rows of requirements.
 
 use crate::background::Background;
+use crate::growing_text::GrowingText;
 use crate::marker_rows::told_fault;
 use crate::specifier_rows::marks_of;
-use crate::telling::Telling;
 use pep508::{Cause, Requirement};
 use std::alloc::Global;
 
 /// The extras of a requirement.
 fn extras(alloc: Global, requirement: &Requirement) -> Option<String> {
-    let mut text = Telling::new(alloc);
+    let mut text = GrowingText::new(alloc);
     let mut separator = "";
     for extra in requirement.extras() {
         let name = extra.normal();
@@ -39,7 +39,7 @@ pub fn told(alloc: Global, background: &Background, requirement: &Requirement) -
     let count = set.clauses().len();
     let marks = marks_of(alloc, set, background.candidates.as_slice(), "")?;
     let activity = activity(background, requirement)?;
-    let mut text = Telling::new(alloc);
+    let mut text = GrowingText::new(alloc);
     write!(text, "{name} [{extras}] {count} {marks} {activity}");
     text.told()
 }
@@ -54,7 +54,7 @@ pub fn requirement(alloc: Global, background: &Background, text: &str) -> Option
 
 /// `1` for each text that is a requirement, and `0` for each that is refused.
 pub fn requirements(alloc: Global, texts: &[String]) -> Option<String> {
-    let mut marks = Telling::new(alloc);
+    let mut marks = GrowingText::new(alloc);
     for text in texts {
         match Requirement::read(alloc, text.as_str()) {
             Ok(_) => marks.push('1'),

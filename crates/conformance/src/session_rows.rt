@@ -1,9 +1,9 @@
 // Rows of histories.
 
 use crate::background::Background;
+use crate::growing_text::GrowingText;
 use crate::notation::owned;
 use crate::state_texts::{change_text, push_lock};
-use crate::telling::Telling;
 use commands::{Item, ReplyText, read_item};
 use edits::{Change, Pool, Refusal, ReqFile, State};
 use journal::{Command, Learning, Reply, Session};
@@ -20,7 +20,7 @@ fn printed(alloc: Global, reply: &Reply) -> Option<String> {
 }
 
 /// Pushes a reply as it is printed, and behind a refusal how it is told.
-fn push_reply(alloc: Global, text: &mut Telling, reply: &Reply) -> Option<()> {
+fn push_reply(alloc: Global, text: &mut GrowingText, reply: &Reply) -> Option<()> {
     text.push_str(printed(alloc, reply)?.as_str());
     if let Reply::Refused(refusal) = reply {
         write!(text, " ({refusal})");
@@ -30,7 +30,7 @@ fn push_reply(alloc: Global, text: &mut Telling, reply: &Reply) -> Option<()> {
 
 /// Replies that no row leads to.
 pub fn others(alloc: Global) -> Option<String> {
-    let mut text = Telling::new(alloc);
+    let mut text = GrowingText::new(alloc);
     for reply in [
         Reply::Done(usize::MAX),
         Reply::Refused(Refusal::NothingChanges),
@@ -56,7 +56,7 @@ pub fn session_of(
 
 /// Begins a history of the lines: what is locked, or why there is none.
 pub fn begin(alloc: Global, background: &mut Background, lines: &str) -> Option<String> {
-    let mut text = Telling::new(alloc);
+    let mut text = GrowingText::new(alloc);
     match session_of(alloc, background, lines)? {
         Ok(session) => {
             text.push_str("ok 0:");
@@ -89,7 +89,7 @@ fn commands_of<'a>(alloc: Global, pool: &Pool<'a>, lines: &str) -> Option<Vec<Co
 
 /// The replies, and what is locked behind the last.
 fn replies_text(alloc: Global, replies: &[Reply], state: &State) -> Option<String> {
-    let mut text = Telling::new(alloc);
+    let mut text = GrowingText::new(alloc);
     let mut separator = "";
     for reply in replies {
         text.push_str(separator);
@@ -145,7 +145,7 @@ pub fn applied(alloc: Global, background: &Background, lines: &str) -> Option<St
     match change.apply(alloc, first.state()).ok()? {
         Some(state) => {
             let lines = state.lines().bytes(alloc).ok()?;
-            let mut text = Telling::new(alloc);
+            let mut text = GrowingText::new(alloc);
             write!(text, "{lines:?}");
             push_lock(&mut text, &state);
             text.told()

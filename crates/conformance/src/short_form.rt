@@ -1,6 +1,6 @@
 // Indexes in a short form.
 
-use crate::telling::Telling;
+use crate::growing_text::GrowingText;
 use std::alloc::Global;
 
 /// The file of each release, behind its other parts.
@@ -8,7 +8,7 @@ const FILES: &str = r#","files":[{"name":"w.whl","url":"https://files.example/w.
     "sha256":"0000000000000000000000000000000000000000000000000000000000000000"}]}"#;
 
 /// Pushes texts that have bars between them as JSON strings.
-fn push_texts(json: &mut Telling, texts: &str) {
+fn push_texts(json: &mut GrowingText, texts: &str) {
     let mut is_first = true;
     for text in texts.split('|') {
         json.push_str(if is_first { "\"" } else { "\",\"" });
@@ -19,7 +19,7 @@ fn push_texts(json: &mut Telling, texts: &str) {
 }
 
 /// Pushes a version, and what its release asks of Python.
-fn push_version(json: &mut Telling, version: &str) {
+fn push_version(json: &mut GrowingText, version: &str) {
     match version.split_once('@') {
         Some((version, python)) => {
             push_texts(json, version);
@@ -31,7 +31,7 @@ fn push_version(json: &mut Telling, version: &str) {
 }
 
 /// Pushes a release.
-fn push_release(json: &mut Telling, release: &str) {
+fn push_release(json: &mut GrowingText, release: &str) {
     json.push_str("{\"version\":");
     match release.split_once('|') {
         Some((version, dependencies)) => {
@@ -49,7 +49,7 @@ fn push_release(json: &mut Telling, release: &str) {
 }
 
 /// Pushes a package: its name and its releases.
-fn push_package(json: &mut Telling, package: &str) {
+fn push_package(json: &mut GrowingText, package: &str) {
     let Some((name, releases)) = package.split_once(' ') else {
         return json.miss();
     };
@@ -68,7 +68,7 @@ fn push_package(json: &mut Telling, package: &str) {
 /// The JSON text of an index of packages with slashes between them. In `a 1@>=3.8 2|b<2/b 1 !2` the first
 /// release asks for Python `>=3.8`, the second depends on `b<2`, and the last is yanked.
 pub fn json_of(alloc: Global, packages: &str) -> Option<String> {
-    let mut json = Telling::new(alloc);
+    let mut json = GrowingText::new(alloc);
     json.push_str("{\"snapshot\":1,\"packages\":[");
     let mut is_first = true;
     for package in packages.split('/') {

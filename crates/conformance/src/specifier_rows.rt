@@ -1,8 +1,8 @@
 // Rows of sets of specifiers.
 
 use crate::background::Background;
+use crate::growing_text::GrowingText;
 use crate::notation::mark;
-use crate::telling::Telling;
 use crate::version_rows::told_fault;
 use pep440::{SpecifierSet, Version};
 use std::alloc::Global;
@@ -13,7 +13,7 @@ pub fn set(alloc: Global, text: &str) -> Option<String> {
         Ok(set) => set,
         Err(fault) => return told_fault(alloc, fault),
     };
-    let mut text = Telling::new(alloc);
+    let mut text = GrowingText::new(alloc);
     for clause in set.clauses() {
         let operator = clause.operator;
         let version = &clause.version;
@@ -28,7 +28,7 @@ pub fn set(alloc: Global, text: &str) -> Option<String> {
 /// The mark of each of the versions.
 pub fn matched(alloc: Global, set: &str, versions: &[String]) -> Option<String> {
     let set = SpecifierSet::parse(alloc, set).ok()?;
-    let mut marks = Telling::new(alloc);
+    let mut marks = GrowingText::new(alloc);
     for version in versions {
         let version = Version::parse(alloc, version.as_str()).ok()?;
         marks.push(mark(set.matches(&version)));
@@ -54,7 +54,7 @@ pub fn marks_of(
     candidates: &[Vec<Version>],
     left_out: &str,
 ) -> Option<String> {
-    let mut marks = Telling::new(alloc);
+    let mut marks = GrowingText::new(alloc);
     for (place, versions) in candidates.iter().enumerate() {
         let mark = match left_out.as_bytes().get(place) {
             Some(b'-') => '-',

@@ -1,11 +1,11 @@
 // States and changes as they are told.
 
-use crate::telling::Telling;
+use crate::growing_text::GrowingText;
 use edits::{Change, Entry, FileEntry, State, Target, TargetName};
 use std::alloc::Global;
 
 /// Pushes what is asked of Python, and each name that is needed.
-fn push_needs(text: &mut Telling, entry: &Entry) {
+fn push_needs(text: &mut GrowingText, entry: &Entry) {
     if let Some(python) = entry.requires_python().as_ref() {
         write!(text, "@{python}");
     }
@@ -16,13 +16,13 @@ fn push_needs(text: &mut Telling, entry: &Entry) {
 }
 
 /// Pushes the name and the version of an entry behind a space.
-fn push_pin(text: &mut Telling, entry: &Entry) {
+fn push_pin(text: &mut GrowingText, entry: &Entry) {
     let (name, version) = (entry.name().normal(), entry.version());
     write!(text, " {name}={version}");
 }
 
 /// Pushes the name of a named target behind a space, in brackets.
-fn push_target(text: &mut Telling, name: &TargetName) {
+fn push_target(text: &mut GrowingText, name: &TargetName) {
     if !name.is_empty() {
         write!(text, " [{name}]");
     }
@@ -30,7 +30,7 @@ fn push_target(text: &mut Telling, name: &TargetName) {
 
 /// Pushes what is locked for each target, a space before each name: its version, what it asks of Python,
 /// and behind a `>` each name that it needs.
-pub fn push_lock(text: &mut Telling, state: &State) {
+pub fn push_lock(text: &mut GrowingText, state: &State) {
     for target in state.targets() {
         push_target(text, &target.name);
         for entry in target.lock.entries() {
@@ -40,21 +40,21 @@ pub fn push_lock(text: &mut Telling, state: &State) {
     }
 }
 
-fn push_pins(text: &mut Telling, target: &Target) {
+fn push_pins(text: &mut GrowingText, target: &Target) {
     for entry in target.lock.entries() {
         push_pin(text, entry);
     }
 }
 
 /// Pushes the names and versions alone.
-pub fn push_versions(text: &mut Telling, state: &State) {
+pub fn push_versions(text: &mut GrowingText, state: &State) {
     for target in state.targets() {
         push_target(text, &target.name);
         push_pins(text, target);
     }
 }
 
-fn push_file(text: &mut Telling, file: &FileEntry) {
+fn push_file(text: &mut GrowingText, file: &FileEntry) {
     let FileEntry {
         name,
         url,
@@ -64,7 +64,7 @@ fn push_file(text: &mut Telling, file: &FileEntry) {
     write!(text, " {name} {url} {size} {sha256}");
 }
 
-fn push_files(text: &mut Telling, entry: &Entry) {
+fn push_files(text: &mut GrowingText, entry: &Entry) {
     if let Some(sdist) = entry.sdist().as_ref() {
         push_file(text, sdist);
     }
@@ -73,7 +73,7 @@ fn push_files(text: &mut Telling, entry: &Entry) {
     }
 }
 
-fn push_lock_files(text: &mut Telling, target: &Target) {
+fn push_lock_files(text: &mut GrowingText, target: &Target) {
     push_target(text, &target.name);
     text.push_str(target.lock.environment());
     for entry in target.lock.entries() {
@@ -85,7 +85,7 @@ fn push_lock_files(text: &mut Telling, target: &Target) {
 
 /// The environment of each lock, and the files of each of its entries.
 pub fn files_text(alloc: Global, state: &State) -> Option<String> {
-    let mut text = Telling::new(alloc);
+    let mut text = GrowingText::new(alloc);
     for target in state.targets() {
         push_lock_files(&mut text, target);
     }
@@ -93,7 +93,7 @@ pub fn files_text(alloc: Global, state: &State) -> Option<String> {
 }
 
 /// Pushes the version of an entry, where there is one.
-fn push_version(text: &mut Telling, entry: &Option<Entry>) {
+fn push_version(text: &mut GrowingText, entry: &Option<Entry>) {
     if let Some(entry) = entry.as_ref() {
         let version = entry.version();
         write!(text, "{version}");
@@ -101,7 +101,7 @@ fn push_version(text: &mut Telling, entry: &Option<Entry>) {
 }
 
 /// Pushes each splice: its place, the lines that give way, and those that come.
-fn push_splices(text: &mut Telling, change: &Change) {
+fn push_splices(text: &mut GrowingText, change: &Change) {
     for splice in change.splices() {
         let (place, old, new) = (splice.place, &splice.old, &splice.new);
         write!(text, "{place} {old:?} {new:?}; ");
@@ -111,7 +111,7 @@ fn push_splices(text: &mut Telling, change: &Change) {
 /// A change: its splices, each name, behind that of a named target, with the versions before and behind, and
 /// whether the digest changes.
 pub fn change_text(alloc: Global, change: &Change) -> Option<String> {
-    let mut text = Telling::new(alloc);
+    let mut text = GrowingText::new(alloc);
     push_splices(&mut text, change);
     for entry in change.entries() {
         let (target, name) = (entry.target.as_str(), entry.name.normal());

@@ -1,7 +1,7 @@
 // Rows of tables of numbers, over which the searches go.
 
+use crate::growing_text::GrowingText;
 use crate::notation::owned;
-use crate::telling::Telling;
 use learning_search::learned_best;
 use lists::Seq;
 use search::{Table, TableChoice, TableRequirement};
@@ -83,7 +83,7 @@ fn table_of(alloc: Global, told: &[String]) -> Option<Option<Table>> {
 
 /// The best solution: each name with the place of its release.
 fn best_text(alloc: Global, choices: &[TableChoice]) -> Option<String> {
-    let mut text = Telling::new(alloc);
+    let mut text = GrowingText::new(alloc);
     text.push_str("best:");
     for choice in choices {
         let (name, place) = (choice.name, choice.place);

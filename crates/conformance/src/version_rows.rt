@@ -1,8 +1,8 @@
 // Rows of versions.
 
 use crate::background::Background;
+use crate::growing_text::GrowingText;
 use crate::notation::owned;
-use crate::telling::Telling;
 use pep440::{Fault, Version};
 use std::alloc::Global;
 use std::cmp::Ordering;
@@ -17,7 +17,7 @@ pub fn told_fault(alloc: Global, fault: Fault) -> Option<String> {
 }
 
 /// Tells the canonical text of a version, and whether it is a pre-release and a post-release.
-fn tell(alloc: Global, text: &mut Telling, version: &Version) -> Option<()> {
+fn tell(alloc: Global, text: &mut GrowingText, version: &Version) -> Option<()> {
     text.push_str(version.canonical(alloc).ok()?.as_str());
     if version.is_pre() {
         text.push_str(" pre");
@@ -32,7 +32,7 @@ fn tell(alloc: Global, text: &mut Telling, version: &Version) -> Option<()> {
 pub fn version(alloc: Global, text: &str) -> Option<String> {
     match Version::parse(alloc, text) {
         Ok(version) => {
-            let mut told = Telling::new(alloc);
+            let mut told = GrowingText::new(alloc);
             tell(alloc, &mut told, &version)?;
             told.told()
         }
@@ -45,7 +45,7 @@ pub fn parts(alloc: Global, text: &str) -> Option<String> {
     let version = Version::parse(alloc, text).ok()?;
     let (epoch, release, pre) = (version.epoch(), version.release(), version.pre());
     let (post, dev, local) = (version.post(), version.dev(), version.local());
-    let mut text = Telling::new(alloc);
+    let mut text = GrowingText::new(alloc);
     write!(
         text,
         "{epoch} {release:?} {pre:?} {post:?} {dev:?} {local:?} {version:?}"
@@ -85,7 +85,7 @@ fn versions_of(alloc: Global, texts: &[String]) -> Option<Vec<Version>> {
 /// Makes equal versions candidates, above the earlier ones, and tells each of them.
 pub fn above(alloc: Global, background: &mut Background, texts: &[String]) -> Option<String> {
     let versions = versions_of(alloc, texts)?;
-    let mut text = Telling::new(alloc);
+    let mut text = GrowingText::new(alloc);
     let mut separator = "";
     for version in &versions {
         text.push_str(separator);

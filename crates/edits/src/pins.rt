@@ -28,8 +28,8 @@ fn is_newer(versions: &BTreeMap<Name, Version>, name: &Name, version: &Version) 
     }
 }
 
-/// Puts a version to the others. It takes the place of an older one of its name.
-fn put(
+/// Inserts a version. It takes the place of an older one of its name.
+fn insert_newer(
     versions: &mut BTreeMap<Name, Version>,
     name: &Name,
     version: &Version,
@@ -45,15 +45,15 @@ fn put(
     Ok(())
 }
 
-/// Puts the versions to the others, each in the place of an older one of its name.
-fn put_all(
+/// Inserts the versions, each in the place of an older one of its name.
+fn insert_all_newer(
     versions: &mut BTreeMap<Name, Version>,
     pins: &[(Name, Version)],
 ) -> Result<(), AllocError>
     ensures { OnOk result (versions.new.entries ≡ spec.newer_of versions.old.entries pins.now) }
 {
     for (name, version) in pins {
-        put(versions, name, version)?;
+        insert_newer(versions, name, version)?;
     }
     Ok(())
 }
@@ -69,7 +69,7 @@ pub(crate) fn with_pins(
 {
     for pin in pins {
         if pin.target == *target {
-            put_all(&mut versions, pin.versions.as_slice())?;
+            insert_all_newer(&mut versions, pin.versions.as_slice())?;
         }
     }
     Ok(versions)

@@ -115,8 +115,16 @@ impl<'a> Descent<'a> {
     /// Makes the conflict that follows by itself, or begins to make the one that rests on others.
     fn begin(&mut self, conflict: usize, choices: Vec<PlacedChoice>) -> Result<Next, AllocError> {
         match self.sets.way(conflict)? {
-            Some(Way::Refused(term)) => self.put(conflict, (term, term), choices.as_slice()),
-            Some(Way::Clash(one, other)) => self.put(conflict, (one, other), choices.as_slice()),
+            Some(Way::Refused(term)) => self.append_conflict(
+                conflict,
+                (term, term),
+                choices.as_slice(),
+            ),
+            Some(Way::Clash(one, other)) => self.append_conflict(
+                conflict,
+                (one, other),
+                choices.as_slice(),
+            ),
             Some(Way::Rests(term)) => match self.chosen(conflict, term, choices.as_slice()) {
                 Some(choice) => self.next_earlier(conflict, choice, choices.as_slice()),
                 None => Ok(Next::Stuck),
@@ -144,8 +152,8 @@ impl<'a> Descent<'a> {
         self.sets.terms(conflict).get(term)?.choice_among(choices)
     }
 
-    /// Puts the conflict of the choices of two terms, or of one, behind the others.
-    fn put(
+    /// Appends the conflict of the choices of two terms, or of one.
+    fn append_conflict(
         &mut self,
         conflict: usize,
         terms: (usize, usize),
@@ -162,7 +170,7 @@ impl<'a> Descent<'a> {
         if one != other {
             made.push(other)?;
         }
-        self.singles.put(made)?;
+        self.singles.append(made)?;
         Ok(Next::Done)
     }
 
@@ -189,7 +197,7 @@ impl<'a> Descent<'a> {
             return Ok(false);
         };
         let Some(candidate) = self.sets.candidate(frame.node, frame.turn) else {
-            self.singles.put(frame.into_conflict())?;
+            self.singles.append(frame.into_conflict())?;
             return Ok(true);
         };
         let choices = frame.with(candidate)?;

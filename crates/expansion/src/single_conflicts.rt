@@ -49,8 +49,8 @@ impl SingleConflicts {
         }
     }
 
-    /// Puts a conflict behind the others.
-    pub(crate) fn put(&mut self, mut conflict: Vec<PlacedChoice>) -> Result<(), AllocError> {
+    /// Appends a conflict.
+    pub(crate) fn append(&mut self, mut conflict: Vec<PlacedChoice>) -> Result<(), AllocError> {
         conflict.sort_unstable();
         self.list(conflict.as_slice())?;
         self.size = self.size.saturating_add(conflict.len());

@@ -6,7 +6,7 @@ use crate::line_breaks::add_wrapped;
 use crate::placed_term::{PlacedTerm, place_of};
 use crate::reasons::Unadmitted;
 use crate::release_set::add_listed;
-use crate::telling::Telling;
+use crate::wording::Extent;
 use lists::Bits;
 use pep440::Version;
 use pep508::{Name, Requirement};
@@ -215,7 +215,7 @@ impl WantedRelease<'_> {
             places,
         };
         let needed = NeededName::bare(other.name);
-        let asked = asked_by_term(alloc, problem, &term, needed, Telling::Short)?;
+        let asked = asked_by_term(alloc, problem, &term, needed, Extent::Short)?;
         if asked.places.has(place) {
             return Ok(false);
         }
@@ -290,7 +290,7 @@ pub fn add_uncounted(
         problem,
         requirement,
         places: &places,
-        telling: Telling::Short,
+        extent: Extent::Short,
     };
     let mut sentence = String::from_str(alloc, wanted.name.normal())?;
     sentence.push_str(" ")?;

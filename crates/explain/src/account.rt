@@ -1,12 +1,11 @@
 // How it is told why a conflict follows.
 
-use crate::asked::Asked;
 use crate::dependencies::NeededName;
 use crate::derivation::{Derivation, ExhaustedNode};
 use crate::exclusion::Exclusion;
 use crate::placed_term::PlacedTerm;
 use crate::sides::{Side, party_of};
-use crate::telling::Telling;
+use crate::wording::Extent;
 use lists::Bits;
 use problems::Problem;
 use refutations::SetNeed;
@@ -17,7 +16,7 @@ use std::alloc::{AllocError, Global};
 pub struct Derived<'a> {
     pub alloc: Global,
     pub problem: &'a Problem<'a>,
-    pub telling: Telling,
+    pub extent: Extent,
     pub conflicts: &'a [Vec<PlacedTerm>],
     pub derivations: &'a [Derivation],
 }
@@ -29,8 +28,8 @@ pub enum Account {
     Missing,
     /// What some parties ask of a name leaves no release of it.
     Sides(Vec<Side>),
-    /// What is asked of a node that is needed, and what excludes the releases that match.
-    Needed(Asked, Vec<Exclusion>),
+    /// Who asks what of a node that is needed, and what excludes the releases that match.
+    Needed(Side, Vec<Exclusion>),
     /// What excludes the releases of a term.
     Joined(Vec<Exclusion>),
 }
@@ -84,10 +83,11 @@ impl Derived<'_> {
         if let Some(sides) = self.sides(conflict, exhausted, need)? {
             return Ok(Account::Sides(sides));
         }
-        let asked = self.asked(conflict, party_of(need), NeededName::of(node))?;
+        let party = party_of(need);
+        let asked = self.asked(conflict, party, NeededName::of(node))?;
         let exclusions = exhausted.exclusions.as_slice();
         let left = exclusions_within(self.alloc, exclusions, &asked.places)?;
-        Ok(Account::Needed(asked, left))
+        Ok(Account::Needed(Side { party, asked }, left))
     }
 }
 

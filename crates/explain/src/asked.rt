@@ -4,7 +4,7 @@ use crate::dependencies::{NeededName, does_need};
 use crate::placed_term::PlacedTerm;
 use crate::range::{Range, range_of};
 use crate::release_set::add_listed;
-use crate::telling::Telling;
+use crate::wording::Extent;
 use lists::Bits;
 use pep508::{Name, Operator, Requirement};
 use phrases::add_requirement;
@@ -115,11 +115,11 @@ pub fn asked_by_line(
     alloc: Global,
     problem: &Problem<'_>,
     requirement: &Requirement,
-    telling: Telling,
+    extent: Extent,
 ) -> Result<Asked, AllocError> {
     let releases = problem.releases(requirement.name());
     let places = matching(alloc, problem, requirement)?;
-    asked_of(alloc, releases, places, Vec::new(alloc), telling)
+    asked_of(alloc, releases, places, Vec::new(alloc), extent)
 }
 
 /// What the releases of a term ask of a name: what any of them takes. A requirement that is all of them is told by itself.
@@ -128,13 +128,13 @@ pub fn asked_by_term(
     problem: &Problem<'_>,
     term: &PlacedTerm,
     needed: NeededName<'_>,
-    telling: Telling,
+    extent: Extent,
 ) -> Result<Asked, AllocError> {
-    let texts = requirements_of(alloc, problem, term, needed, telling)?;
+    let texts = requirements_of(alloc, problem, term, needed, extent)?;
     let is_one = texts.len() == 1;
     let releases = problem.releases(needed.name);
     let places = taken_by(alloc, problem, term, needed)?;
-    let asked = asked_of(alloc, releases, places, texts, telling)?;
+    let asked = asked_of(alloc, releases, places, texts, extent)?;
     if is_one && asked.is_range() {
         if let Some(requirement) = requirement_on(problem, term, needed) {
             return Ok(Asked {
@@ -152,10 +152,10 @@ fn asked_of(
     releases: &[Release],
     places: Bits,
     texts: Vec<String>,
-    telling: Telling,
+    extent: Extent,
 ) -> Result<Asked, AllocError> {
     if places.is_empty() {
-        let is_told = texts.len() <= telling.most(REQUIREMENTS);
+        let is_told = texts.len() <= extent.most(REQUIREMENTS);
         let texts = if is_told { texts } else { Vec::new(alloc) };
         return Ok(Asked {
             words: Words::Nothing(texts),
@@ -168,7 +168,7 @@ fn asked_of(
             places,
         });
     }
-    let Range { text, places } = range_of(alloc, releases, &places, telling)?;
+    let Range { text, places } = range_of(alloc, releases, &places, extent)?;
     Ok(Asked {
         words: Words::Range(text),
         places,
@@ -229,9 +229,9 @@ pub fn requirements_of(
     problem: &Problem<'_>,
     term: &PlacedTerm,
     needed: NeededName<'_>,
-    telling: Telling,
+    extent: Extent,
 ) -> Result<Vec<String>, AllocError> {
-    let most = telling.most(REQUIREMENTS);
+    let most = extent.most(REQUIREMENTS);
     let mut texts: Vec<String> = Vec::new(alloc);
     let listed = term.places.places(alloc)?;
     for place in listed.as_slice().iter().rev() {

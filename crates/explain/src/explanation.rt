@@ -5,7 +5,6 @@ ghost use Rattle.search.specs.SetConflicts.{IsSetRefutation};
 ghost use Rattle.problems.specs.Rules.{rules_of, same_version};
 
 use crate::account::Derived;
-use crate::changed_lines::ChangedLines;
 use crate::derivation::{Derivation, derivations};
 use crate::grounds::grounds_of;
 use crate::line_name::line_names;
@@ -13,7 +12,7 @@ use crate::narrowed_refutation::narrowed_refutation;
 use crate::placed_term::{PlacedTerm, placed_conflicts};
 use crate::sentences::Sentences;
 use crate::sentences::steps::{cited_lines, told_steps};
-use crate::telling::Telling;
+use crate::wording::Wording;
 use problems::Problem;
 use refutations::SetRefutation;
 use std::alloc::{AllocError, Global};
@@ -137,14 +136,13 @@ impl Explanation {
         alloc: Global,
         text: &mut String,
         problem: &Problem<'_>,
-        lines: ChangedLines<'_>,
-        telling: Telling,
+        wording: Wording<'_>,
     ) -> Result<(), AllocError> {
-        let lines = line_names(alloc, problem, lines)?;
+        let lines = line_names(alloc, problem, wording.lines)?;
         let derived = Derived {
             alloc,
             problem,
-            telling,
+            extent: wording.extent,
             conflicts: self.followed.conflicts.as_slice(),
             derivations: self.followed.derivations.as_slice(),
         };

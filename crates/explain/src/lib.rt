@@ -22,10 +22,10 @@ mod release_runs;
 mod release_set;
 mod sentences;
 mod sides;
-mod telling;
+mod wording;
 
 pub use crate::absent_release::{WantedRelease, add_difference, add_same, add_uncounted};
 pub use crate::changed_lines::{ChangedLine, ChangedLines};
 pub use crate::explanation::{Explanation, explained};
 pub use crate::refutation_text::add_refutation;
-pub use crate::telling::Telling;
+pub use crate::wording::{Extent, Wording};

@@ -1,7 +1,7 @@
 // Releases of a name that somebody asks for, as a few runs of versions.
 
 use crate::release_runs::{Run, runs_of, version_text};
-use crate::telling::Telling;
+use crate::wording::Extent;
 use lists::Bits;
 use snapshot::Release;
 use std::alloc::{AllocError, Global};
@@ -22,11 +22,11 @@ pub fn range_of(
     alloc: Global,
     releases: &[Release],
     places: &Bits,
-    telling: Telling,
+    extent: Extent,
 ) -> Result<Range, AllocError> {
     let listed = places.places(alloc)?;
     let runs = runs_of(alloc, listed.as_slice())?;
-    if runs.len() > telling.most(RUNS) {
+    if runs.len() > extent.most(RUNS) {
         return range_between(alloc, releases, runs.as_slice());
     }
     let mut pieces = Vec::new(alloc);

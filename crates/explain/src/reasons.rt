@@ -1,7 +1,7 @@
 // Why a requirement doesn't admit releases of its name.
 
 use crate::release_set::ReleaseSet;
-use crate::telling::Telling;
+use crate::wording::Extent;
 use lists::Bits;
 use pep508::Requirement;
 use phrases::{add_clause, add_plain};
@@ -16,7 +16,7 @@ pub struct Unadmitted<'a> {
     pub problem: &'a Problem<'a>,
     pub requirement: &'a Requirement,
     pub places: &'a Bits,
-    pub telling: Telling,
+    pub extent: Extent,
 }
 
 /// Releases that aren't admitted for one reason. What is needed of Python is a reason of its own.
@@ -49,8 +49,8 @@ fn python_of(release: &Release) -> &str {
     }
 }
 
-/// Puts a release, with its place, to those of its reason.
-fn put<'a>(
+/// Adds a release, with its place, to those of its reason.
+fn add_to_group<'a>(
     alloc: Global,
     groups: &mut Vec<ReasonGroup<'a>>,
     reason: Inadmissible,
@@ -111,7 +111,7 @@ impl Unadmitted<'_> {
         for place in listed.as_slice() {
             if let Some(release) = self.releases().get(*place) {
                 if let Some(reason) = inadmissible(self.problem, self.requirement, release) {
-                    put(alloc, &mut groups, reason, release, *place)?;
+                    add_to_group(alloc, &mut groups, reason, release, *place)?;
                 }
             }
         }
@@ -127,7 +127,7 @@ impl Unadmitted<'_> {
         let releases = ReleaseSet {
             releases: self.releases(),
             places: &group.places,
-            telling: self.telling,
+            extent: self.extent,
         };
         if let Inadmissible::Clause(place) = group.reason {
             if releases.are_every(alloc)? {

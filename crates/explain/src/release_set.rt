@@ -1,7 +1,7 @@
 // Some releases of a name, as runs of versions.
 
 use crate::release_runs::{Run, runs_of, version_text};
-use crate::telling::Telling;
+use crate::wording::Extent;
 use lists::Bits;
 use snapshot::Release;
 use std::alloc::{AllocError, Global};
@@ -14,7 +14,7 @@ const PIECES: usize = 6;
 pub struct ReleaseSet<'a> {
     pub releases: &'a [Release],
     pub places: &'a Bits,
-    pub telling: Telling,
+    pub extent: Extent,
 }
 
 /// The versions and runs to be told: two versions side by side are told as two.
@@ -91,7 +91,7 @@ impl ReleaseSet<'_> {
         let count = places.len();
         let runs = runs_of(alloc, places.as_slice())?;
         let pieces = pieces_of(alloc, self.releases, runs.as_slice())?;
-        if pieces.len() > self.telling.most(PIECES) {
+        if pieces.len() > self.extent.most(PIECES) {
             return self.add_ends(alloc, text, runs.as_slice(), count);
         }
         add_listed(text, pieces.as_slice(), "and")

@@ -70,15 +70,15 @@ impl Sentences<'_> {
         ReleaseSet {
             releases: self.problem.releases(&node.name),
             places,
-            telling: self.derived.telling,
+            extent: self.derived.extent,
         }
     }
 
     /// What the releases of a term ask of a name.
     fn asked_of(&self, term: &PlacedTerm, name: &Name) -> Result<Asked, AllocError> {
-        let telling = self.derived.telling;
+        let extent = self.derived.extent;
         let needed = NeededName::bare(name);
-        asked_by_term(self.alloc, self.problem, term, needed, telling)
+        asked_by_term(self.alloc, self.problem, term, needed, extent)
     }
 
     /// The requirement of the active line at a place.

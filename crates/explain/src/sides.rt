@@ -147,11 +147,11 @@ impl Derived<'_> {
         let problem = self.problem;
         match party {
             Party::Term(at) => match conflict.get(at) {
-                Some(term) => asked_by_term(self.alloc, problem, term, needed, self.telling),
+                Some(term) => asked_by_term(self.alloc, problem, term, needed, self.extent),
                 None => anything(self.alloc, problem, needed.name),
             },
             Party::Line(place) => match problem.active.as_slice().get(place) {
-                Some(requirement) => asked_by_line(self.alloc, problem, requirement, self.telling),
+                Some(requirement) => asked_by_line(self.alloc, problem, requirement, self.extent),
                 None => anything(self.alloc, problem, needed.name),
             },
             Party::Lock => self.asked_by_lock(needed.name),

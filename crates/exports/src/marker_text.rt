@@ -57,7 +57,11 @@ fn rank_of(condition: &Condition) -> usize {
         Condition::Matches(_, clause) => match clause.operator {
             Operator::AtLeast | Operator::Above => 1,
             Operator::AtMost | Operator::Below => 2,
-            _ => 3,
+            Operator::Compatible
+            | Operator::Equal
+            | Operator::NotEqual
+            | Operator::EqualPrefix
+            | Operator::NotEqualPrefix => 3,
         },
     }
 }

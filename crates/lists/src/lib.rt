@@ -13,15 +13,15 @@
 #![tactic(auto)]
 
 mod bits;
-mod copying;
-mod rising;
+mod copies;
+mod name_order;
 mod seq;
 mod spaces;
 mod text;
 
 pub use crate::bits::Bits;
-pub use crate::copying::copied;
-pub use crate::rising::{Named, rises};
+pub use crate::copies::copied;
+pub use crate::name_order::{Named, rises};
 pub use crate::seq::{Faithful, Seq};
 pub use crate::spaces::{
     cut_lead, cut_tail, is_blank, is_space_or_tab, trim, trim_end, trim_start,

@@ -20,8 +20,8 @@ use Rattle.snapshot.specs.declared.package.Package.{Package}
 use Rattle.questions.specs.Alike.{AnswersAlike, LineAlike, MarkerAlike, ReleaseAlike}
 use Rattle.questions.specs.Conditions.{Meets, MeetsAll, is_matched}
 use Rattle.questions.specs.Laws.{HasSameBest}
-use Rattle.questions.specs.Tied.Following.{opposite_of}
-use Rattle.questions.specs.Tied.Keeping.{ClauseAlike, ClausesAlike, Keeps, OperandAlike, SaysAmong, Settles, VersionsAlike, both_read, same_text}
+use Rattle.questions.specs.Tied.Implication.{opposite_of}
+use Rattle.questions.specs.Tied.Kept.{ClauseAlike, ClausesAlike, Keeps, OperandAlike, SaysAmong, Settles, VersionsAlike, both_read, same_text}
 use Rattle.questions.specs.declared.condition.Condition.{Condition}
 use Rattle.questions.specs.declared.condition.Condition.TheVariants as conditions
 use Rattle.questions.proofs.SaidConditions.{opposite-turns}

@@ -20,8 +20,8 @@ use Rattle.pep440.specs.declared.specifier.Clause.{Clause}
 use Rattle.pep440.specs.declared.specifier.Operator.{Operator}
 use Rattle.pep440.specs.declared.specifier.Operator.TheVariants as operators
 use Rattle.questions.specs.Conditions.{is_matched}
-use Rattle.questions.specs.Tied.Following.{are_both, does_follow, has_release_of, is_from, is_plain, is_same_clause, is_same_plain, is_up_to, number_of, opposite_of, says}
-use Rattle.questions.specs.Tied.Keeping.{ClauseFollows, Says, SaysAmong}
+use Rattle.questions.specs.Tied.Implication.{are_both, does_follow, has_release_of, is_from, is_plain, is_same_clause, is_same_plain, is_up_to, number_of, opposite_of, says}
+use Rattle.questions.specs.Tied.Kept.{ClauseFollows, Says, SaysAmong}
 use Rattle.questions.specs.declared.condition.Condition.{Condition}
 use Rattle.questions.specs.declared.condition.Condition.TheVariants.{Same, Matches}
 

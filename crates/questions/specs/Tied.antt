@@ -1,3 +1,3 @@
 -- What serves proofs alone. Each file begins with the law that ties it to a definition outside this folder.
-pub mod Keeping
-pub mod Following
+pub mod Kept
+pub mod Implication

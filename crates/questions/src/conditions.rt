@@ -9,10 +9,10 @@ ghost use Rattle.snapshot.specs.Packages.{releases_of};
 ghost use Rattle.questions.specs.Alike.{AnswersAlike, LineAlike, ReleaseAlike, marker_in};
 ghost use Rattle.questions.specs.Conditions.{MeetsAll};
 ghost use Rattle.questions.specs.Laws.{HasSameBest};
-ghost use Rattle.questions.specs.Tied.Keeping.{Keeps};
+ghost use Rattle.questions.specs.Tied.Kept.{Keeps};
 
 use crate::condition::Condition;
-use crate::keeping::{keep, keep_marker, keep_releases};
+use crate::kept_conditions::{keep, keep_marker, keep_releases};
 use lists::Seq;
 use pep508::{Environment, Line, Marker, ReqFile};
 use snapshot::Snapshot;

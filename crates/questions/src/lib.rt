@@ -9,8 +9,8 @@
 
 mod condition;
 mod conditions;
-mod following;
-mod keeping;
+mod implication;
+mod kept_conditions;
 pub mod laws;
 
 pub use crate::condition::Condition;

@@ -8,7 +8,7 @@ use crate::subcommand_files::{
 };
 use calls::{Call, Stop};
 use command_line::request::{
-    ColorChoice, Inputs, Invocation, RequestFault, Saving, Subcommand, Telling, request,
+    ColorChoice, Inputs, Invocation, RequestFault, Saving, Subcommand, Verbosity, request,
 };
 use commands::batch::BatchFault;
 use files::LockFile;
@@ -54,12 +54,12 @@ where
     };
     let Invocation {
         dir,
-        telling,
+        verbosity,
         color,
         subcommand,
     } = invocation;
     let style = given.screen.style(color);
-    let mut details = Details::new(alloc, given.screen.manner(telling, color));
+    let mut details = Details::new(alloc, given.screen.manner(verbosity, color));
     let mut call = Call {
         rt,
         dir,
@@ -106,7 +106,7 @@ fn refuse_words<R: Files + AllocGlobal, O: Write, E: Write>(
 ) -> Status {
     let manner = given
         .screen
-        .manner(telling_in(given.words), ColorChoice::Auto);
+        .manner(verbosity_in(given.words), ColorChoice::Auto);
     let mut details = Details::new(rt.alloc(), manner);
     let noted = match &fault {
         RequestFault::Needed(option) => details.add_needed(rt, *option, given.words),
@@ -121,13 +121,13 @@ fn refuse_words<R: Files + AllocGlobal, O: Write, E: Write>(
 }
 
 /// How much words ask for that are no request.
-fn telling_in(words: &[String]) -> Telling {
+fn verbosity_in(words: &[String]) -> Verbosity {
     if has_option(words, "--quiet") || has_option(words, "-q") {
-        Telling::Quiet
+        Verbosity::Quiet
     } else if has_option(words, "--verbose") || has_option(words, "-v") {
-        Telling::Verbose
+        Verbosity::Verbose
     } else {
-        Telling::Usual
+        Verbosity::Usual
     }
 }
 

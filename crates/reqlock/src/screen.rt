@@ -2,7 +2,7 @@
 
 use crate::given_words::NoWords;
 use calls::Stop;
-use command_line::request::{ColorChoice, Telling};
+use command_line::request::{ColorChoice, Verbosity};
 use saves::Manner;
 use std::alloc::{AllocError, Global};
 use std::env::VarError;
@@ -49,10 +49,10 @@ impl Screen {
     }
 
     /// What is told on standard error beside the output, and how.
-    pub fn manner(self, telling: Telling, color: ColorChoice) -> Manner {
-        let is_person = self.readers.errors && telling != Telling::Quiet;
+    pub fn manner(self, verbosity: Verbosity, color: ColorChoice) -> Manner {
+        let is_person = self.readers.errors && verbosity != Verbosity::Quiet;
         Manner {
-            tells: is_person || telling == Telling::Verbose,
+            tells: is_person || verbosity == Verbosity::Verbose,
             is_person,
             style: self.style_for(self.readers.errors, color),
         }

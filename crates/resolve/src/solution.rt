@@ -16,8 +16,8 @@ use search::TableChoice;
 use std::alloc::{AllocError, Global};
 use std::collections::BTreeMap;
 
-/// Puts the version that a choice stands for at its name.
-fn put(
+/// Inserts the version that a choice stands for, at its name.
+fn insert_version(
     problem: &Problem<'_>,
     names: &[Name],
     choice: TableChoice,
@@ -50,7 +50,7 @@ pub(crate) fn versions_of(
     let mut left = choices.len();
     while left > 0 {
         left -= 1;
-        put(problem, names, choices[left], &mut versions)?;
+        insert_version(problem, names, choices[left], &mut versions)?;
     }
     Ok(versions)
 }

@@ -29,6 +29,13 @@ impl Place {
     }
 }
 
+/// What a command changed, and where the history stood before it.
+#[derive(Clone, Copy)]
+pub struct Changed<'a> {
+    pub from: Place,
+    pub change: &'a Change,
+}
+
 impl Details {
     /// Notes what a command changed, before which the history stood in this place.
     pub fn add_change(
@@ -43,7 +50,11 @@ impl Details {
         }
         let change = change_between(alloc, session, from.cursor, session.cursor())?;
         self.changes = diff_text(alloc, &change)?;
-        self.add_moved(alloc, session, from, command, &change)
+        let changed = Changed {
+            from,
+            change: &change,
+        };
+        self.add_moved(alloc, session, command, changed)
     }
 
     /// Notes which locked versions an edit moved that it doesn't name, and whether all could have stayed. The
@@ -52,10 +63,10 @@ impl Details {
         &mut self,
         alloc: Global,
         session: &Session,
-        from: Place,
         command: &Command<'_>,
-        change: &Change,
+        changed: Changed<'_>,
     ) -> Result<(), Stop> {
+        let Changed { from, change } = changed;
         let Command::Edit(wanted, pool) = command else {
             return Ok(());
         };
@@ -161,16 +172,25 @@ impl Details {
         if !self.manner.is_person {
             return Ok(());
         }
-        let Command::Edit(Edit::Upgrade(_) | Edit::UpgradeAll, _) = command else {
-            return self
-                .known
-                .push_str("Nothing changes, and nothing is saved.\n");
-        };
         let options = self.options.as_str();
-        write!(
-            self.known,
-            "Nothing newer fits. What holds newer releases back is told by:\n    reqlock{options} outdated\n"
-        )
+        match command {
+            Command::Edit(Edit::Upgrade(_) | Edit::UpgradeAll, _) => write!(
+                self.known,
+                "Nothing newer fits. What holds newer releases back is told by:\n    reqlock{options} outdated\n"
+            ),
+            Command::Edit(
+                Edit::Add(_)
+                | Edit::Remove(_)
+                | Edit::Constrain(_, _)
+                | Edit::Relock
+                | Edit::Replace(_, _),
+                _,
+            )
+            | Command::Undo
+            | Command::Redo => self
+                .known
+                .push_str("Nothing changes, and nothing is saved.\n"),
+        }
     }
 }
 

@@ -1,6 +1,6 @@
 // What `--dry-run` prints: an edit, `undo` or `redo` as it would be, of which nothing is saved.
 
-use crate::change_details::Place;
+use crate::change_details::{Changed, Place};
 use crate::details::Details;
 use crate::edit::applied;
 use calls::{Call, Stop, change_between, pool_of, print};
@@ -54,7 +54,11 @@ pub(crate) fn rehearse<R: AllocGlobal, O: Write>(
     let mut text = ReplyText::new(alloc)?;
     text.set(&applied(alloc, details, &mut session, command)?);
     let change = change_between(alloc, &session, from.cursor, session.cursor())?;
-    details.add_moved(alloc, &session, from, command, &change)?;
+    let changed = Changed {
+        from,
+        change: &change,
+    };
+    details.add_moved(alloc, &session, command, changed)?;
     let change = call.style.change(alloc, diff_text(alloc, &change)?)?;
     print(&mut call.output, text.as_bytes())?;
     Ok(print(&mut call.output, change.as_bytes())?)

@@ -46,7 +46,15 @@ impl Details {
             Stop::Refused(refusal) if self.known.is_empty() && self.reasons.is_empty() => {
                 Ok(write!(self.known, "{refusal}\n")?)
             }
-            _ => Ok(()),
+            Stop::Unwritten(_) | Stop::NoPlace(_) | Stop::Refused(_) => Ok(()),
+            // what these stop for is told already
+            Stop::Usage(_)
+            | Stop::Needed(_)
+            | Stop::Refuted(_)
+            | Stop::Explained(_)
+            | Stop::Stale(_)
+            | Stop::NoTarget(_)
+            | Stop::Fault(_) => Ok(()),
         }
     }
 

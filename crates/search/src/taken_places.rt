@@ -66,6 +66,5 @@ pub fn choices_of(
     ensures ascending { IfOk result (λ choices. IsAscending choices) }
 {
     let taken = taken_of(alloc, table, frames)?;
-    let choices = choices_taken(alloc, taken.as_slice())?;
-    Ok(choices)
+    choices_taken(alloc, taken.as_slice())
 }

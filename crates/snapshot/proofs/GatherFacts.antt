@@ -17,7 +17,7 @@ use Rattle.snapshot.specs.Tied.Gathering.{Gathered, gather_release, kept, left_o
 use Rattle.snapshot.specs.declared.skipped.SkipCause.TheVariants.{Duplicate}
 use Rattle.snapshot.specs.declared.skipped.SkipCause.{SkipCause}
 use Rattle.snapshot.specs.declared.skipped.Skipped.{Skipped}
-use Rattle.snapshot.specs.declared.usable.Outcome.{Outcome}
+use Rattle.snapshot.specs.declared.usable.ReleaseOutcome.{ReleaseOutcome}
 
 new_by : (b added : Bool) → added ≡ not b → added ≡ true → b ≡ false
 new_by true added is new = absurd (true≢false (sym new ∙ is))
@@ -49,10 +49,10 @@ pub release_left : (name : List ℕ) (place : ℕ) (version : List ℕ) (keys : 
 release_left name place version keys skipped all cause left = λ i. record { place = place + 1; releases = keys; skipped = left i }
 
 -- what an array lists for a package
-abbrev listed_with : List ℕ → Result (List Outcome) Fault → Result ReadReleases Fault
+abbrev listed_with : List ℕ → Result (List ReleaseOutcome) Fault → Result ReadReleases Fault
 listed_with name read = read >>= λ listed. Ok (record { releases = newest_first (usable_of listed); skipped = skipped_of name listed })
 
-kept_by : (name : List ℕ) (read : Result (List Outcome) Fault) (g : Gathered) → gather (gather_release name) nothing read ≡ Ok g → listed_with name read ≡ Ok (kept g)
+kept_by : (name : List ℕ) (read : Result (List ReleaseOutcome) Fault) (g : Gathered) → gather (gather_release name) nothing read ≡ Ok g → listed_with name read ≡ Ok (kept g)
 kept_by name (Ok listed) g is =
     ap (λ (r : ReadReleases). let whole : Result ReadReleases Fault = Ok r in whole) (sym (gathered-is name listed) ∙ ap (λ (h : Gathered). kept h) (ok-inside _ _ is))
 kept_by name (Err e) g is = absurd cc
@@ -62,7 +62,7 @@ pub kept_gathered : (name : List ℕ) (ds : Items) (g : Gathered) → gather (ga
 unfolding releases_in
 kept_gathered name ds g is = kept_by name (each_from release_of 0 ds) g is
 
-fault_by : (name : List ℕ) (read : Result (List Outcome) Fault) (e : Fault) → gather (gather_release name) nothing read ≡ Err e → listed_with name read ≡ Err e
+fault_by : (name : List ℕ) (read : Result (List ReleaseOutcome) Fault) (e : Fault) → gather (gather_release name) nothing read ≡ Err e → listed_with name read ≡ Err e
 fault_by name (Ok listed) e is = absurd cc
 fault_by name (Err d) e is = cc
 

@@ -9,7 +9,7 @@ use Rattle.std.specs.Result.{result_ok}
 use Rattle.snapshot.specs.declared.skipped.SkipCause.{SkipCause}
 use Rattle.snapshot.specs.declared.skipped.SkipCause.TheVariants.{Duplicate}
 use Rattle.snapshot.specs.declared.skipped.Skipped.{Skipped}
-use Rattle.snapshot.specs.declared.usable.Outcome.{Outcome}
+use Rattle.snapshot.specs.declared.usable.ReleaseOutcome.{ReleaseOutcome}
 use Rattle.snapshot.specs.Release.{Release}
 use Rattle.snapshot.specs.Releases.{cause_behind, has_version_of, left_out_for, newer_cmp, newest_first, skipped_of, usable_of}
 use Rattle.snapshot.specs.Tied.Gathering.{Gathered, gather_release, kept, left_out, nothing, skipped_at, with_release}
@@ -19,7 +19,7 @@ use Rattle.snapshot.proofs.ItemsOneByOne.{fold-last}
 -- ---- the releases that are kept
 
 -- the releases with that of one more outcome
-abbrev with_outcome : List Release → Outcome → List Release
+abbrev with_outcome : List Release → ReleaseOutcome → List Release
 with_outcome releases o = with_release releases o.release
 
 usable-first : (so_far : List Release) (r : Result Release SkipCause) (others : List Release)
@@ -27,11 +27,11 @@ usable-first : (so_far : List Release) (r : Result Release SkipCause) (others : 
 usable-first so_far (Ok r) others = refl
 usable-first so_far (Err cause) others = refl
 
-with-usable : (so_far : List Release) (listed : List Outcome) → fold with_outcome so_far listed ≡ fold (insert_key newer_cmp) so_far (usable_of listed)
+with-usable : (so_far : List Release) (listed : List ReleaseOutcome) → fold with_outcome so_far listed ≡ fold (insert_key newer_cmp) so_far (usable_of listed)
 with-usable so_far [] = refl
 with-usable so_far (o ∷ listed) = with-usable (with_outcome so_far o) listed ∙ usable-first so_far o.release (usable_of listed)
 
-releases-gathered : (name : List ℕ) (g : Gathered) (listed : List Outcome) → (fold (gather_release name) g listed).releases ≡ fold with_outcome g.releases listed
+releases-gathered : (name : List ℕ) (g : Gathered) (listed : List ReleaseOutcome) → (fold (gather_release name) g listed).releases ≡ fold with_outcome g.releases listed
 releases-gathered name g [] = refl
 releases-gathered name g (o ∷ listed) = releases-gathered name (gather_release name g o) listed
 
@@ -55,7 +55,7 @@ before_others None others = others
 before_others (Some one) others = one ∷ others
 
 -- those that are left out behind others
-skipped_behind : List ℕ → List Outcome → List Outcome → List Skipped
+skipped_behind : List ℕ → List ReleaseOutcome → List ReleaseOutcome → List Skipped
 skipped_behind name before [] = []
 skipped_behind name before (o ∷ rest) = before_others (left_out_for name (length before) o.version (cause_behind before o.release)) (skipped_behind name (before ++ o ∷ []) rest)
 
@@ -63,7 +63,7 @@ one-more : {X : Type 0} (before : List X) (x : X) → length (before ++ x ∷ []
 one-more before x = length-append before (x ∷ [])
 
 -- the rule, gone through from the front
-behind-front : (name : List ℕ) (before rest : List Outcome)
+behind-front : (name : List ℕ) (before rest : List ReleaseOutcome)
     → filter_map (λ at. left_out_for name at.0 at.1.version (cause_behind (take at.0 (before ++ rest)) at.1.release)) (enumerate_from (length before) rest) ≡ skipped_behind name before rest
 unfolding skipped_behind before_others
 behind-front name before [] = refl
@@ -72,7 +72,7 @@ behind-front name before (o ∷ rest) =
     let more : filter_map (λ at. left_out_for name at.0 at.1.version (cause_behind (take at.0 (before ++ o ∷ rest)) at.1.release)) (enumerate_from (length before + 1) rest) ≡ skipped_behind name (before ++ o ∷ []) rest =
     (λ i. filter_map (λ at. left_out_for name at.0 at.1.version (cause_behind (take at.0 (sym all i)) at.1.release)) (enumerate_from (sym (one-more before o) i) rest)) ∙ behind-front name (before ++ o ∷ []) rest in
     front (left_out_for name (length before) o.version (cause_behind (take (length before) (before ++ o ∷ rest)) o.release)) (left_out_for name (length before) o.version (cause_behind before o.release)) _ _
-    (ap (λ (front : List Outcome). left_out_for name (length before) o.version (cause_behind front o.release)) (take-append_seam before (o ∷ rest))) more
+    (ap (λ (front : List ReleaseOutcome). left_out_for name (length before) o.version (cause_behind front o.release)) (take-append_seam before (o ∷ rest))) more
   where
     front : (a b : Option Skipped) (xs ys : List Skipped) → a ≡ b → xs ≡ ys → cons_option a xs ≡ before_others b ys
     front None None xs ys e f = f
@@ -81,7 +81,7 @@ behind-front name before (o ∷ rest) =
     front (Some x) (Some y) xs ys e f = let same : x ≡ y = cc in λ i. same i ∷ f i
 
 -- a release that is gone through
-one-skipped : (name : List ℕ) (before : List Outcome) (version : List ℕ) (r : Result Release SkipCause) (others : List Skipped)
+one-skipped : (name : List ℕ) (before : List ReleaseOutcome) (version : List ℕ) (r : Result Release SkipCause) (others : List Skipped)
     → skipped_at name (length before) version (newest_first (usable_of before)) r ++ others ≡ before_others (left_out_for name (length before) version (cause_behind before r)) others
 unfolding before_others
 one-skipped name before version (Err cause) others = refl
@@ -91,7 +91,7 @@ one-skipped name before version (Ok r) others = rw (repeats r (usable_of before)
     by true = refl
     by false = refl
 
-skipped-gathered : (name : List ℕ) (g : Gathered) (before listed : List Outcome) → g.place ≡ length before → g.releases ≡ fold with_outcome [] before
+skipped-gathered : (name : List ℕ) (g : Gathered) (before listed : List ReleaseOutcome) → g.place ≡ length before → g.releases ≡ fold with_outcome [] before
     → (fold (gather_release name) g listed).skipped ≡ g.skipped ++ skipped_behind name before listed
 unfolding skipped_behind
 skipped-gathered name g before [] at kept = sym (append-nil g.skipped)
@@ -108,7 +108,7 @@ skipped-gathered name g before (o ∷ listed) at kept =
 
 -- ---- the whole list
 
-pub gathered-is : (name : List ℕ) (listed : List Outcome)
+pub gathered-is : (name : List ℕ) (listed : List ReleaseOutcome)
     → kept (fold (gather_release name) nothing listed) ≡ record { releases = newest_first (usable_of listed); skipped = skipped_of name listed }
 gathered-is name listed =
     let releases = releases-gathered name nothing listed ∙ with-usable [] listed in

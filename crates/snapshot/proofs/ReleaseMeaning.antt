@@ -17,7 +17,7 @@ use Rattle.snapshot.specs.declared.file.ReleaseFile.{ReleaseFile}
 use Rattle.snapshot.specs.declared.listed.Listed.{Listed}
 use Rattle.snapshot.specs.declared.release.reading.Gathering.{Gathering}
 use Rattle.snapshot.specs.declared.release.reading.ReadReleases.{ReadReleases}
-use Rattle.snapshot.specs.declared.usable.Outcome.{Outcome}
+use Rattle.snapshot.specs.declared.usable.ReleaseOutcome.{ReleaseOutcome}
 use Rattle.snapshot.specs.Files.{digest_in, file_of}
 use Rattle.snapshot.specs.Lawful.{IsFile}
 use Rattle.snapshot.specs.Packages.{as_name, package_of}
@@ -115,14 +115,14 @@ release_means j r listed d read = rw (listed d read) refl
 
 -- how far the releases of a package are gone through
 pub record GatheredSoFar (name : List ℕ) (vs : List (Value Global)) (place : ℕ) (g : Gathering) : Type 0 where
-  pub outcomes : List Outcome
+  pub outcomes : List ReleaseOutcome
   pub each : EachMeans release_of (take place vs) outcomes
   pub is : gathered_view place g ≡ fold (gather_release name) nothing outcomes
 
 pub none_gathered : (name : List ℕ) (vs : List (Value Global)) (g : Gathering) → gathered_view 0 g ≡ nothing → GatheredSoFar name vs 0 g
 none_gathered name vs g is = record { outcomes = []; each = tt; is = is }
 
-pub one_gathered : (name : List ℕ) (vs : List (Value Global)) (place : ℕ) (w : Value Global) (g h : Gathering) (o : Outcome) → place < length vs → GatheredSoFar name vs place g
+pub one_gathered : (name : List ℕ) (vs : List (Value Global)) (place : ℕ) (w : Value Global) (g h : Gathering) (o : ReleaseOutcome) → place < length vs → GatheredSoFar name vs place g
     → Means release_of (value_view (get_or vs place w)) o → gathered_view (place + 1) h ≡ gather_release name (gathered_view place g) o → GatheredSoFar name vs (place + 1) h
 one_gathered name vs place w g h o lt s means added = record {
   outcomes = s.outcomes ++ o ∷ [];
@@ -130,7 +130,7 @@ one_gathered name vs place w g h o lt s means added = record {
   is = added ∙ ap (λ view. gather_release name view o) s.is ∙ sym (fold-last (gather_release name) nothing s.outcomes o);
 }
 
-releases_by : (name : List ℕ) (ds : Items) (outcomes : List Outcome) → each_from release_of 0 ds ≡ Ok outcomes → releases_in name ds ≡ Ok (kept (fold (gather_release name) nothing outcomes))
+releases_by : (name : List ℕ) (ds : Items) (outcomes : List ReleaseOutcome) → each_from release_of 0 ds ≡ Ok outcomes → releases_in name ds ≡ Ok (kept (fold (gather_release name) nothing outcomes))
 unfolding releases_in
 releases_by name ds outcomes e = rw (e, gathered-is name outcomes) refl
 

@@ -20,7 +20,7 @@ use Rattle.snapshot.specs.declared.release.reading.ReadReleases.{ReadReleases}
 use Rattle.snapshot.specs.declared.skipped.SkipCause.{SkipCause}
 use Rattle.snapshot.specs.declared.skipped.SkipCause.TheVariants as causes
 use Rattle.snapshot.specs.declared.skipped.Skipped.{Skipped}
-use Rattle.snapshot.specs.declared.usable.Outcome.{Outcome}
+use Rattle.snapshot.specs.declared.usable.ReleaseOutcome.{ReleaseOutcome}
 use Rattle.snapshot.specs.Files.{file_of, has_file, sdist_of, wheels_of}
 use Rattle.snapshot.specs.Python.{python_of}
 use Rattle.snapshot.specs.Release.{Release}
@@ -70,11 +70,11 @@ usable r = do
   with_file (record { version = version; requires_python = requires_python; dependencies = dependencies; yanked = r.yanked; sdist = sdist_of r.files; wheels = wheels_of r.files })
 
 -- what comes of a listed release: its version as the index writes it, and the release, or why it can't be used
-abbrev pub outcome_of : Listed → Outcome
+abbrev pub outcome_of : Listed → ReleaseOutcome
 outcome_of r = record { version = r.version; release = usable r }
 
 -- what comes of the release that a value lists
-unfoldable pub release_of : Data → Result Outcome Fault
+unfoldable pub release_of : Data → Result ReleaseOutcome Fault
 release_of d = do
   r ← listed_of d
   Ok (outcome_of r)
@@ -88,7 +88,7 @@ abbrev pub has_version_of : Release → Release → Bool
 has_version_of r s = is_eq (newer_cmp r s)
 
 -- the releases of a list that can be used, as they are listed
-abbrev pub usable_of : List Outcome → List Release
+abbrev pub usable_of : List ReleaseOutcome → List Release
 usable_of listed = filter_map (λ o. result_ok o.release) listed
 
 -- the newest release first; of those with equal versions the first that is listed
@@ -97,7 +97,7 @@ newest_first releases = fold (insert_key newer_cmp) [] releases
 
 -- why a release is left out behind those before it: it can't be used, or one that can is before it with an equal
 -- version
-abbrev pub cause_behind : List Outcome → Result Release SkipCause → Option SkipCause
+abbrev pub cause_behind : List ReleaseOutcome → Result Release SkipCause → Option SkipCause
 cause_behind before (Ok r) = if list_any (has_version_of r) (usable_of before) then Some causes.Duplicate else None
 cause_behind before (Err cause) = Some cause
 
@@ -106,7 +106,7 @@ abbrev pub left_out_for : List ℕ → ℕ → List ℕ → Option SkipCause →
 left_out_for name place version cause = option_map (λ cause. record { name = name; place = place; version = version; cause = cause }) cause
 
 -- the releases of a package that are left out, as they are listed
-abbrev pub skipped_of : List ℕ → List Outcome → List Skipped
+abbrev pub skipped_of : List ℕ → List ReleaseOutcome → List Skipped
 skipped_of name listed =
     filter_map (λ at. left_out_for name at.0 at.1.version (cause_behind (take at.0 listed) at.1.release)) (enumerate_from 0 listed)
 

@@ -25,16 +25,16 @@ use std::alloc::Global;
 /// What comes of a release that the index lists: the text of its version, and the release, or the first
 /// cause for which it can't be used.
 #[derive(Drop)]
-pub(crate) struct Outcome {
+pub(crate) struct ReleaseOutcome {
     pub(crate) version: Text,
     pub(crate) release: Result<Release, SkipCause>,
 }
 
-impl Outcome {
-    fn refused(version: Text, cause: SkipCause) -> Outcome
+impl ReleaseOutcome {
+    fn refused(version: Text, cause: SkipCause) -> ReleaseOutcome
         ensures { result ≡ record { version = version; release = Err cause } }
     {
-        Outcome {
+        ReleaseOutcome {
             version,
             release: Err(cause),
         }
@@ -113,7 +113,11 @@ fn has_file(files: &Chosen) -> bool
 /// What comes of a listed release. The text of its version goes along, and is never copied. What it depends on is
 /// known from then on.
 #[tactic(auto, unfolding(crate::specs::Releases::usable))]
-pub(crate) fn outcome_of(alloc: Global, known: &mut Known, listed: Listed) -> Result<Outcome, Fault>
+pub(crate) fn outcome_of(
+    alloc: Global,
+    known: &mut Known,
+    listed: Listed,
+) -> Result<ReleaseOutcome, Fault>
     requires { AllByRecursion IsFile listed.files }
     ensures { Gives (λ o. o) (Ok (outcome_of listed)) result }
 {
@@ -126,23 +130,23 @@ pub(crate) fn outcome_of(alloc: Global, known: &mut Known, listed: Listed) -> Re
     } = listed;
     let parsed = match version_of(alloc, version.as_str())? {
         Ok(parsed) => parsed,
-        Err(cause) => return Ok(Outcome::refused(version, cause)),
+        Err(cause) => return Ok(ReleaseOutcome::refused(version, cause)),
     };
     let requires_python = match python_of(alloc, requires_python)? {
         Ok(python) => python,
-        Err(cause) => return Ok(Outcome::refused(version, cause)),
+        Err(cause) => return Ok(ReleaseOutcome::refused(version, cause)),
     };
     let dependencies = match requirements_of(alloc, known, requires_dist.as_slice())? {
         Ok(dependencies) => dependencies,
-        Err(cause) => return Ok(Outcome::refused(version, cause)),
+        Err(cause) => return Ok(ReleaseOutcome::refused(version, cause)),
     };
     known.keep(requires_dist, &dependencies)?;
     let files = choose(alloc, files)?;
     if !has_file(&files) {
-        return Ok(Outcome::refused(version, SkipCause::NoFile));
+        return Ok(ReleaseOutcome::refused(version, SkipCause::NoFile));
     }
     let release = Release::new(parsed, requires_python, dependencies, yanked, files);
-    Ok(Outcome {
+    Ok(ReleaseOutcome {
         version,
         release: Ok(release),
     })

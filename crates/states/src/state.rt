@@ -114,7 +114,7 @@ impl State {
 
     /// Puts lines and targets into the place of the state's own. Where they make a state, it has no
     /// refusal.
-    pub fn put(&mut self, lines: Seq<Line>, targets: Seq<Target>)
+    pub fn replace(&mut self, lines: Seq<Line>, targets: Seq<Target>)
         requires { IsState (record { lines = lines; targets = targets }) }
         ensures { self.new ≡ record { lines = lines; targets = targets } }
     {

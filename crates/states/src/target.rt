@@ -37,8 +37,8 @@ impl Drop for Target {
     }
 }
 
-/// Puts the version of the entry to the others, by its name.
-fn put(versions: &mut BTreeMap<Name, Version>, entry: &Entry) -> Result<(), AllocError>
+/// Inserts the version of the entry, by its name.
+fn insert_version(versions: &mut BTreeMap<Name, Version>, entry: &Entry) -> Result<(), AllocError>
     ensures { OnOk result (versions.new.entries
         ≡ insert_entry (slice_cmp nat_cmp) versions.old.entries entry.now.name entry.now.version) }
 {
@@ -56,7 +56,7 @@ fn versions_of(alloc: Global, lock: &Lock) -> Result<BTreeMap<Name, Version>, Al
     let entries = lock.entries();
     let mut versions = BTreeMap::new(alloc);
     for entry in entries {
-        put(&mut versions, entry)?;
+        insert_version(&mut versions, entry)?;
     }
     Ok(versions)
 }

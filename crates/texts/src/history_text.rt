@@ -1,7 +1,7 @@
 // The history for people: a line for each step.
 
 use crate::diff_text::add_entry_change;
-use crate::line_edit::{Told, told_as};
+use crate::line_edit::{LineEdit, line_edit};
 use crate::new_lock_text::add_new_lock;
 use edits::{Cause, Change, EntryChange, Line, Splice, TargetName};
 use journal::Session;
@@ -85,20 +85,20 @@ fn add_step(alloc: Global, text: &mut String, change: &Change) -> Result<(), All
 /// The line that came behind others, the one that went, the one with other specifiers, or how many were replaced.
 fn add_edit(alloc: Global, text: &mut String, splice: &Splice) -> Result<(), AllocError> {
     let (old, new) = (splice.old.as_slice(), splice.new.as_slice());
-    match told_as(alloc, old, new)? {
-        Told::Addition => {
+    match line_edit(alloc, old, new)? {
+        LineEdit::Addition => {
             text.push_str("add ")?;
             add_line(text, new.last())
         }
-        Told::Removal => {
+        LineEdit::Removal => {
             text.push_str("remove ")?;
             add_name(alloc, text, old.first(), false)
         }
-        Told::Constraint => {
+        LineEdit::Constraint => {
             text.push_str("constrain ")?;
             add_name(alloc, text, new.first(), true)
         }
-        Told::Replacement => add_replaced(text, old.len().max(new.len())),
+        LineEdit::Replacement => add_replaced(text, old.len().max(new.len())),
     }
 }
 

@@ -7,7 +7,7 @@ use std::alloc::{AllocError, Global};
 
 /// What a change of lines is told as.
 #[derive(Clone, Copy, Debug, PartialEq, Eq)]
-pub(crate) enum Told {
+pub(crate) enum LineEdit {
     /// One line came behind the others; the one before it may have got an ending.
     Addition,
     /// One line went.
@@ -19,15 +19,15 @@ pub(crate) enum Told {
 }
 
 /// What a change of lines is told as, which takes out the old lines and puts the new ones in their place.
-pub(crate) fn told_as(alloc: Global, old: &[Text], new: &[Text]) -> Result<Told, AllocError> {
+pub(crate) fn line_edit(alloc: Global, old: &[Text], new: &[Text]) -> Result<LineEdit, AllocError> {
     match (old, new) {
-        ([], [line]) if asks(alloc, line)? => Ok(Told::Addition),
+        ([], [line]) if asks(alloc, line)? => Ok(LineEdit::Addition),
         ([last], [ended, line]) if is_ended(last, ended) && asks(alloc, line)? => {
-            Ok(Told::Addition)
+            Ok(LineEdit::Addition)
         }
-        ([line], []) if asks(alloc, line)? => Ok(Told::Removal),
-        ([line], [other]) if is_constrained(alloc, line, other)? => Ok(Told::Constraint),
-        _ => Ok(Told::Replacement),
+        ([line], []) if asks(alloc, line)? => Ok(LineEdit::Removal),
+        ([line], [other]) if is_constrained(alloc, line, other)? => Ok(LineEdit::Constraint),
+        _ => Ok(LineEdit::Replacement),
     }
 }
 

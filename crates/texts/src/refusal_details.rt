@@ -34,7 +34,19 @@ pub fn add_refusal_details(
         Refusal::AlreadyPresent(number) => add_numbered(text, state.lines().lines(), *number),
         Refusal::Ambiguous(_) => add_lines_on(alloc, text, state.lines().lines(), edit),
         Refusal::NoSolution => add_lacking_names(alloc, text, state, edit, snapshot),
-        _ => Ok(()),
+        // their sentences say all
+        Refusal::NotPresent
+        | Refusal::NotLocked(_)
+        | Refusal::NothingChanges
+        | Refusal::OutOfMemory
+        | Refusal::NothingToUndo
+        | Refusal::NothingToRedo
+        | Refusal::FilesDisagree(_)
+        | Refusal::JournalBroken(_)
+        | Refusal::BadCommand
+        | Refusal::BadTarget
+        | Refusal::DuplicateTarget(_)
+        | Refusal::NoTarget => Ok(()),
     }
 }
 
@@ -59,8 +71,11 @@ fn add_lines_on(
     lines: &[Line],
     edit: &Edit,
 ) -> Result<(), AllocError> {
-    let (Edit::Remove(name) | Edit::Constrain(name, _)) = edit else {
-        return Ok(());
+    let name = match edit {
+        Edit::Remove(name) | Edit::Constrain(name, _) => name,
+        Edit::Add(_) | Edit::Upgrade(_) | Edit::UpgradeAll | Edit::Relock | Edit::Replace(_, _) => {
+            return Ok(());
+        }
     };
     let name = match Name::read(alloc, name.as_str()) {
         Ok(name) => name,

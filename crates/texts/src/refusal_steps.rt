@@ -28,7 +28,22 @@ pub fn add_refusal_steps(
             text.push_str("What is locked is told by:\n    reqlock show\n")
         }
         (Refusal::NoSolution, _) => add_lines_steps(alloc, text, plan, refused),
-        _ => Ok(()),
+        (Refusal::BadText | Refusal::AlreadyPresent(_) | Refusal::NotPresent, _) => Ok(()),
+        // of these there is nothing to type
+        (
+            Refusal::Ambiguous(_)
+            | Refusal::NothingChanges
+            | Refusal::OutOfMemory
+            | Refusal::NothingToUndo
+            | Refusal::NothingToRedo
+            | Refusal::FilesDisagree(_)
+            | Refusal::JournalBroken(_)
+            | Refusal::BadCommand
+            | Refusal::BadTarget
+            | Refusal::DuplicateTarget(_)
+            | Refusal::NoTarget,
+            _,
+        ) => Ok(()),
     }
 }
 

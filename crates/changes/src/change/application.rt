@@ -60,6 +60,6 @@ pub(crate) fn carried(alloc: Global, change: &Change, state: &mut State) -> Resu
         unreachable!();
     };
     let Outcome { lines, targets } = made;
-    state.put(lines, targets);
+    state.replace(lines, targets);
     Ok(())
 }

@@ -62,7 +62,7 @@ fn copy_of(entry: Option<&Entry>) -> Result<Option<Entry>, AllocError>
 }
 
 /// Appends what becomes of the name's entry in the target's lock, where it becomes another.
-fn put(
+fn append_change(
     made: &mut Vec<EntryChange>,
     target: &TargetName,
     name: &Name,
@@ -108,7 +108,7 @@ pub(crate) fn entries_between(
     'names: while let Some(name) = least_name(old_left, new_left) {
         let (gone, old_behind) = cut(old_left, name);
         let (come, new_behind) = cut(new_left, name);
-        put(&mut made, target, name, gone, come)?;
+        append_change(&mut made, target, name, gone, come)?;
         old_left = old_behind;
         new_left = new_behind;
     }

@@ -1,7 +1,7 @@
 // A call in which growths of memory may be refused.
 
-use crate::scenarios::told::Told;
-use crate::telling::Telling;
+use crate::growing_text::GrowingText;
+use crate::scenarios::told::Tell;
 use edits::Refusal;
 use std::alloc::Global;
 use std::fmt::Display;
@@ -22,7 +22,7 @@ const REFUSED: [&str; 3] = [
 
 /// Tells what stands before a call, does it, and tells the answer and what stands behind it. Where memory
 /// was refused the call is done once more.
-pub fn play<S: Told, T: Told, E: Display + Drop, W: Write, F: FnMut(&mut S) -> Result<T, E>>(
+pub fn play<S: Tell, T: Tell, E: Display + Drop, W: Write, F: FnMut(&mut S) -> Result<T, E>>(
     alloc: Global,
     out: &mut W,
     subject: &mut S,
@@ -49,8 +49,8 @@ pub fn surely<T>(answer: T) -> Result<T, Refusal> {
 }
 
 /// Tells what stands there, if anything.
-fn show<S: Told, W: Write>(alloc: Global, out: &mut W, word: &str, subject: &S) -> Option<()> {
-    let mut text = Telling::new(alloc);
+fn show<S: Tell, W: Write>(alloc: Global, out: &mut W, word: &str, subject: &S) -> Option<()> {
+    let mut text = GrowingText::new(alloc);
     subject.tell(alloc, &mut text);
     if !text.is_empty() {
         out.write_all(word.as_bytes()).ok()?;
@@ -60,13 +60,13 @@ fn show<S: Told, W: Write>(alloc: Global, out: &mut W, word: &str, subject: &S) 
 }
 
 /// Tells the answer of a call, and whether it is want of memory.
-fn answered<T: Told, E: Display + Drop, W: Write>(
+fn answered<T: Tell, E: Display + Drop, W: Write>(
     alloc: Global,
     out: &mut W,
     answer: Result<T, E>,
 ) -> Option<bool> {
     out.write_all(ANSWER).ok()?;
-    let mut text = Telling::new(alloc);
+    let mut text = GrowingText::new(alloc);
     match answer {
         Ok(value) => value.tell(alloc, &mut text),
         Err(fault) => write!(text, "{fault}"),

@@ -2,14 +2,14 @@
 
 use crate::scenarios::calls::play;
 use crate::scenarios::data::{read_indexes, state};
-use crate::scenarios::told::Told;
+use crate::scenarios::told::Tell;
 use edits::{FileEntry, Requirement, State};
 use pep440::{SpecifierSet, Version};
 use std::alloc::Global;
 use std::io::Write;
 
 /// Clones a value.
-pub fn cloned<T: Told + Clone, W: Write>(alloc: Global, out: &mut W, mut value: T) -> Option<()> {
+pub fn cloned<T: Tell + Clone, W: Write>(alloc: Global, out: &mut W, mut value: T) -> Option<()> {
     play(alloc, out, &mut value, |value| value.clone())
 }
 

@@ -1,7 +1,7 @@
 // What the scenarios begin with.
 
+use crate::growing_text::GrowingText;
 use crate::targets::unnamed;
-use crate::telling::Telling;
 use edits::{Environment, ReqFile, Snapshot, State, Targets, init};
 use journal::Plain;
 use std::alloc::Global;
@@ -42,7 +42,7 @@ impl Drop for Indexes {
 
 /// The text of the index.
 pub fn index_text(alloc: Global) -> Option<String> {
-    let mut text = Telling::new(alloc);
+    let mut text = GrowingText::new(alloc);
     for part in INDEX.split('@') {
         if !text.is_empty() {
             text.push_str(FILES);

@@ -1,11 +1,11 @@
 // States and the problems of their edits.
 
+use crate::growing_text::GrowingText;
 use crate::scenarios::calls::{play, surely};
 use crate::scenarios::data::{read_indexes, state};
-use crate::scenarios::told::Told;
+use crate::scenarios::told::Tell;
 use crate::scenarios::told_commands::edit_of;
 use crate::targets::{locks_of, targets_of};
-use crate::telling::Telling;
 use edits::{Edit, Pool, Refusal, Snapshot, State, problem_after};
 use journal::Learning;
 use resolve::{Problem, check};
@@ -56,8 +56,8 @@ impl<'a> Drop for Question<'a> {
     }
 }
 
-impl<'a> Told for Question<'a> {
-    fn tell(&self, alloc: Global, text: &mut Telling) {
+impl<'a> Tell for Question<'a> {
+    fn tell(&self, alloc: Global, text: &mut GrowingText) {
         self.state.tell(alloc, text);
         if let Some(problem) = &self.problem {
             text.push_str(" ");

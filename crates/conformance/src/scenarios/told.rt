@@ -1,8 +1,8 @@
 // What values are told as.
 
+use crate::growing_text::GrowingText;
 use crate::state_texts::push_versions;
 use crate::targets::{bytes_of, journal_of};
-use crate::telling::Telling;
 use edits::{Change, Entry, Environment, FileEntry, Line, ReqFile, Requirement, Snapshot, State};
 use journal::{History, Plain, Reply, Resolver, Saved, Session, WholeHistory};
 use lists::Seq;
@@ -12,28 +12,28 @@ use resolve::{Answer, Choice, Problem, Refutation};
 use std::alloc::Global;
 
 /// A value that is told in a text, with ample memory.
-pub trait Told: Drop {
-    fn tell(&self, alloc: Global, text: &mut Telling);
+pub trait Tell: Drop {
+    fn tell(&self, alloc: Global, text: &mut GrowingText);
 }
 
-impl Told for () {
-    fn tell(&self, _alloc: Global, _text: &mut Telling) {}
+impl Tell for () {
+    fn tell(&self, _alloc: Global, _text: &mut GrowingText) {}
 }
 
-impl Told for bool {
-    fn tell(&self, _alloc: Global, text: &mut Telling) {
+impl Tell for bool {
+    fn tell(&self, _alloc: Global, text: &mut GrowingText) {
         write!(text, "{self}");
     }
 }
 
-impl Told for [bool; 4] {
-    fn tell(&self, _alloc: Global, text: &mut Telling) {
+impl Tell for [bool; 4] {
+    fn tell(&self, _alloc: Global, text: &mut GrowingText) {
         write!(text, "{self:?}");
     }
 }
 
-impl<T: Told> Told for Option<T> {
-    fn tell(&self, alloc: Global, text: &mut Telling) {
+impl<T: Tell> Tell for Option<T> {
+    fn tell(&self, alloc: Global, text: &mut GrowingText) {
         match self {
             Some(value) => value.tell(alloc, text),
             None => text.push_str("none"),
@@ -41,8 +41,8 @@ impl<T: Told> Told for Option<T> {
     }
 }
 
-impl<T: Told> Told for Seq<T> {
-    fn tell(&self, alloc: Global, text: &mut Telling) {
+impl<T: Tell> Tell for Seq<T> {
+    fn tell(&self, alloc: Global, text: &mut GrowingText) {
         let mut separator = "";
         for item in self.as_slice() {
             text.push_str(separator);
@@ -52,27 +52,27 @@ impl<T: Told> Told for Seq<T> {
     }
 }
 
-impl Told for Version {
-    fn tell(&self, _alloc: Global, text: &mut Telling) {
+impl Tell for Version {
+    fn tell(&self, _alloc: Global, text: &mut GrowingText) {
         write!(text, "{self}");
     }
 }
 
-impl Told for Name {
-    fn tell(&self, _alloc: Global, text: &mut Telling) {
+impl Tell for Name {
+    fn tell(&self, _alloc: Global, text: &mut GrowingText) {
         text.push_str(self.normal());
     }
 }
 
-impl Told for SpecifierSet {
-    fn tell(&self, _alloc: Global, text: &mut Telling) {
+impl Tell for SpecifierSet {
+    fn tell(&self, _alloc: Global, text: &mut GrowingText) {
         let clauses = self.clauses();
         write!(text, "{clauses:?}");
     }
 }
 
-impl Told for Environment {
-    fn tell(&self, alloc: Global, text: &mut Telling) {
+impl Tell for Environment {
+    fn tell(&self, alloc: Global, text: &mut GrowingText) {
         match self.marker_text(alloc) {
             Ok(marker) => text.push_str(marker.as_str()),
             Err(_) => text.miss(),
@@ -80,8 +80,8 @@ impl Told for Environment {
     }
 }
 
-impl Told for Line {
-    fn tell(&self, _alloc: Global, text: &mut Telling) {
+impl Tell for Line {
+    fn tell(&self, _alloc: Global, text: &mut GrowingText) {
         match self.requirement() {
             Some(requirement) => {
                 let (line, name) = (self.text(), requirement.name());
@@ -93,22 +93,22 @@ impl Told for Line {
 }
 
 /// Its name, its extras, its clauses, and whether it has a marker.
-impl Told for Requirement {
-    fn tell(&self, _alloc: Global, text: &mut Telling) {
+impl Tell for Requirement {
+    fn tell(&self, _alloc: Global, text: &mut GrowingText) {
         let (name, extras) = (self.name(), self.extras());
         let (clauses, is_marked) = (self.specifiers().clauses(), self.marker().is_some());
         write!(text, "{name:?} {extras:?} {clauses:?} {is_marked}");
     }
 }
 
-impl Told for FileEntry {
-    fn tell(&self, _alloc: Global, text: &mut Telling) {
+impl Tell for FileEntry {
+    fn tell(&self, _alloc: Global, text: &mut GrowingText) {
         write!(text, "{self:?}");
     }
 }
 
-impl Told for ReqFile {
-    fn tell(&self, alloc: Global, text: &mut Telling) {
+impl Tell for ReqFile {
+    fn tell(&self, alloc: Global, text: &mut GrowingText) {
         match self.bytes(alloc) {
             Ok(bytes) => write!(text, "{bytes:?}"),
             Err(_) => text.miss(),
@@ -116,8 +116,8 @@ impl Told for ReqFile {
     }
 }
 
-impl Told for Snapshot {
-    fn tell(&self, alloc: Global, text: &mut Telling) {
+impl Tell for Snapshot {
+    fn tell(&self, alloc: Global, text: &mut GrowingText) {
         for name in ["a", "b-b", "c", "d", "x"] {
             match Name::parse(alloc, name) {
                 Ok(name) => tell_releases(self, &name, text),
@@ -130,7 +130,7 @@ impl Told for Snapshot {
 }
 
 /// Tells a name with the versions of its releases.
-fn tell_releases(snapshot: &Snapshot, name: &Name, text: &mut Telling) {
+fn tell_releases(snapshot: &Snapshot, name: &Name, text: &mut GrowingText) {
     text.push_str(name.normal());
     for release in snapshot.releases(name) {
         let version = release.version();
@@ -139,8 +139,8 @@ fn tell_releases(snapshot: &Snapshot, name: &Name, text: &mut Telling) {
     text.push_str("; ");
 }
 
-impl Told for Entry {
-    fn tell(&self, _alloc: Global, text: &mut Telling) {
+impl Tell for Entry {
+    fn tell(&self, _alloc: Global, text: &mut GrowingText) {
         let (name, version) = (self.name().normal(), self.version());
         let (python, dependencies) = (self.requires_python(), self.dependencies());
         let (sdist, wheels) = (self.sdist(), self.wheels());
@@ -151,8 +151,8 @@ impl Told for Entry {
     }
 }
 
-impl Told for State {
-    fn tell(&self, alloc: Global, text: &mut Telling) {
+impl Tell for State {
+    fn tell(&self, alloc: Global, text: &mut GrowingText) {
         self.lines().tell(alloc, text);
         push_versions(text, self);
         let digest = self.digest();
@@ -161,8 +161,8 @@ impl Told for State {
 }
 
 /// Its splices, the entries that give way, each with the one that takes its place, and its digests.
-impl Told for Change {
-    fn tell(&self, alloc: Global, text: &mut Telling) {
+impl Tell for Change {
+    fn tell(&self, alloc: Global, text: &mut GrowingText) {
         let (splices, digests) = (self.splices(), self.digests());
         write!(text, "<{splices:?} {digests:?}");
         for change in self.entries() {
@@ -176,8 +176,8 @@ impl Told for Change {
     }
 }
 
-impl Told for Reply {
-    fn tell(&self, _alloc: Global, text: &mut Telling) {
+impl Tell for Reply {
+    fn tell(&self, _alloc: Global, text: &mut GrowingText) {
         match self {
             Reply::Done(cursor) => write!(text, "ok {cursor}"),
             Reply::Same => text.push_str("same"),
@@ -187,8 +187,8 @@ impl Told for Reply {
 }
 
 /// The present state with its place among the steps, and the change of each step.
-impl Told for Session {
-    fn tell(&self, alloc: Global, text: &mut Telling) {
+impl Tell for Session {
+    fn tell(&self, alloc: Global, text: &mut GrowingText) {
         let steps = self.steps();
         tell_present(alloc, text, self.cursor(), steps, self.state());
         for step in 0..steps {
@@ -198,8 +198,8 @@ impl Told for Session {
 }
 
 /// The same of a history of whole states.
-impl Told for WholeHistory {
-    fn tell(&self, alloc: Global, text: &mut Telling) {
+impl Tell for WholeHistory {
+    fn tell(&self, alloc: Global, text: &mut GrowingText) {
         let steps = self.steps();
         tell_present(alloc, text, self.cursor(), steps, self.state());
         for step in 0..steps {
@@ -208,14 +208,14 @@ impl Told for WholeHistory {
     }
 }
 
-fn tell_present(alloc: Global, text: &mut Telling, cursor: usize, steps: usize, state: &State) {
+fn tell_present(alloc: Global, text: &mut GrowingText, cursor: usize, steps: usize, state: &State) {
     write!(text, "{cursor} of {steps} ");
     state.tell(alloc, text);
 }
 
 /// What the files open as.
-impl Told for Saved {
-    fn tell(&self, alloc: Global, text: &mut Telling) {
+impl Tell for Saved {
+    fn tell(&self, alloc: Global, text: &mut GrowingText) {
         let requirements = self.requirements.as_str().as_bytes();
         let Ok(locks) = bytes_of(alloc, &self.locks) else {
             text.miss();
@@ -232,8 +232,8 @@ impl Told for Saved {
     }
 }
 
-impl<'a> Told for Problem<'a> {
-    fn tell(&self, alloc: Global, text: &mut Telling) {
+impl<'a> Tell for Problem<'a> {
+    fn tell(&self, alloc: Global, text: &mut GrowingText) {
         match Plain.resolve(alloc, self) {
             Ok(Answer::Solution(versions)) => {
                 for (name, version) in &versions {
@@ -247,15 +247,15 @@ impl<'a> Told for Problem<'a> {
     }
 }
 
-impl Told for Choice {
-    fn tell(&self, _alloc: Global, text: &mut Telling) {
+impl Tell for Choice {
+    fn tell(&self, _alloc: Global, text: &mut GrowingText) {
         let (name, extra, version) = (&self.name, &self.extra, &self.version);
         write!(text, "{name:?} {extra:?} {version}");
     }
 }
 
-impl Told for Refutation {
-    fn tell(&self, alloc: Global, text: &mut Telling) {
+impl Tell for Refutation {
+    fn tell(&self, alloc: Global, text: &mut GrowingText) {
         for conflict in self.conflicts() {
             text.push_str("(");
             conflict.tell(alloc, text);

@@ -153,7 +153,7 @@ impl Sentences<'_> {
             problem: self.problem,
             requirement: wanted,
             places,
-            telling: self.derived.telling,
+            extent: self.derived.extent,
         };
         unadmitted.add_reasons(self.alloc, text, of.as_str())
     }
@@ -210,15 +210,15 @@ impl Sentences<'_> {
         if !is_needing {
             add_node(&mut of, &beside.node)?;
         }
-        let telling = self.derived.telling;
-        let texts = requirements_of(self.alloc, self.problem, beside, needed, telling)?;
+        let extent = self.derived.extent;
+        let texts = requirements_of(self.alloc, self.problem, beside, needed, extent)?;
         if texts.len() == 1 {
             if let Some(wanted) = requirement_on(self.problem, beside, needed) {
                 let unadmitted = Unadmitted {
                     problem: self.problem,
                     requirement: wanted,
                     places,
-                    telling,
+                    extent,
                 };
                 return unadmitted.add_reasons(self.alloc, text, of.as_str());
             }

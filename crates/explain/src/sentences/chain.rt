@@ -6,7 +6,7 @@ use crate::line_breaks::add_wrapped;
 use crate::placed_term::PlacedTerm;
 use crate::sentences::steps::Step;
 use crate::sentences::{Sentences, add_node};
-use crate::telling::Telling;
+use crate::wording::Extent;
 use refutations::SetNeed;
 use std::alloc::AllocError;
 use std::collections::BTreeMap;
@@ -28,7 +28,7 @@ pub fn parts_of(derived: Derived<'_>, steps: &[Step]) -> Result<Vec<Part>, Alloc
     let mut parts = Vec::new(derived.alloc);
     let mut first = 0;
     for place in 0..steps.len() {
-        let is_on = derived.telling == Telling::Short && goes_on(derived, steps, &uses, place);
+        let is_on = derived.extent == Extent::Short && goes_on(derived, steps, &uses, place);
         if !is_on {
             add_parts(&mut parts, first, place)?;
             first = place.saturating_add(1);

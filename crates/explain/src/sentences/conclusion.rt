@@ -11,13 +11,13 @@ const NAMED: usize = 6;
 impl Sentences<'_> {
     /// Whether the conclusion names a line.
     pub fn is_named(&self, place: usize) -> bool {
-        let most = self.derived.telling.most(NAMED);
+        let most = self.derived.extent.most(NAMED);
         self.cited.iter().take(most).any(|cited| *cited == place)
     }
 
     /// Names the lines on which the refutation rests, and what they require.
     pub fn add_conclusion(&self, text: &mut String) -> Result<(), AllocError> {
-        let most = self.derived.telling.most(NAMED);
+        let most = self.derived.extent.most(NAMED);
         let mut items = Vec::new(self.alloc);
         for place in self.cited.iter().take(most) {
             let mut item = String::new(self.alloc);

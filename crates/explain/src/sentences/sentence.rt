@@ -9,7 +9,6 @@ use crate::placed_term::PlacedTerm;
 use crate::release_set::add_listed;
 use crate::sentences::steps::{Step, number_of};
 use crate::sentences::{Sentences, add_node};
-use crate::sides::party_of;
 use phrases::{add_near_names, has_package};
 use problems::Node;
 use refutations::SetNeed;
@@ -36,9 +35,14 @@ impl Sentences<'_> {
             (Account::Missing, Some(need)) => {
                 self.add_missing(text, conflict, &exhausted.node, need)
             }
-            (Account::Needed(asked, exclusions), Some(need)) => {
-                self.add_asking(text, conflict, party_of(need), asked, &exhausted.node)?;
-                self.add_none_left(text, conflict, exhausted, (asked, exclusions.as_slice()))
+            (Account::Needed(side, exclusions), Some(_)) => {
+                self.add_asking(text, conflict, side, &exhausted.node)?;
+                self.add_none_left(
+                    text,
+                    conflict,
+                    exhausted,
+                    (&side.asked, exclusions.as_slice()),
+                )
             }
             (Account::Joined(exclusions), _) => {
                 self.add_joined(text, conflict, exhausted, exclusions.as_slice())
@@ -251,9 +255,9 @@ impl Sentences<'_> {
         };
         self.add_subject(text, term, (" needs ", " need "))?;
         let needed = NeededName::of(node);
-        let telling = self.derived.telling;
-        let texts = requirements_of(self.alloc, self.problem, term, needed, telling)?;
-        if texts.len() > telling.most(REQUIREMENTS) {
+        let extent = self.derived.extent;
+        let texts = requirements_of(self.alloc, self.problem, term, needed, extent)?;
+        if texts.len() > extent.most(REQUIREMENTS) {
             return add_node(text, node);
         }
         add_listed(text, texts.as_slice(), "or")

@@ -20,8 +20,7 @@ impl Sentences<'_> {
         let last = sides.len().saturating_sub(1);
         for (place, side) in sides.iter().enumerate() {
             if place == 0 {
-                let asked = &side.asked;
-                self.add_asking(text, conflict, side.party, asked, node)?;
+                self.add_asking(text, conflict, side, node)?;
             } else {
                 text.push_str(if place == last { ", and " } else { ", " })?;
                 self.add_next_side(text, conflict, side, node)?;
@@ -35,11 +34,11 @@ impl Sentences<'_> {
         &self,
         text: &mut String,
         conflict: &[PlacedTerm],
-        party: Party,
-        asked: &Asked,
+        side: &Side,
         node: &Node,
     ) -> Result<(), AllocError> {
-        match party {
+        let asked = &side.asked;
+        match side.party {
             Party::Line(place) => {
                 self.add_whole_line(text, place)?;
                 text.push_str(match &asked.words {
@@ -122,7 +121,7 @@ impl Sentences<'_> {
             }
             Party::Lock => text.push_str("the lock keeps ")?,
             Party::Term(_) => {
-                return self.add_asking(text, conflict, side.party, &side.asked, node);
+                return self.add_asking(text, conflict, side, node);
             }
         }
         match &side.asked.words {

@@ -8,7 +8,7 @@ use Rattle.snapshot.specs.declared.release.reading.ReadReleases.{ReadReleases}
 use Rattle.snapshot.specs.declared.skipped.SkipCause.{SkipCause}
 use Rattle.snapshot.specs.declared.skipped.SkipCause.TheVariants as causes
 use Rattle.snapshot.specs.declared.skipped.Skipped.{Skipped}
-use Rattle.snapshot.specs.declared.usable.Outcome.{Outcome}
+use Rattle.snapshot.specs.declared.usable.ReleaseOutcome.{ReleaseOutcome}
 use Rattle.snapshot.specs.Release.{Release}
 use Rattle.snapshot.specs.Releases.{has_version_of, newer_cmp}
 
@@ -36,7 +36,7 @@ skipped_at name place version kept (Ok r) = if list_any (has_version_of r) kept 
 skipped_at name place version kept (Err cause) = left_out name place version cause
 
 -- one more release of the package
-abbrev pub gather_release : List ℕ → Gathered → Outcome → Gathered
+abbrev pub gather_release : List ℕ → Gathered → ReleaseOutcome → Gathered
 gather_release name g o = record {
   place = g.place + 1;
   releases = with_release g.releases o.release;

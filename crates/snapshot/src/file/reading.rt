@@ -14,7 +14,7 @@ use crate::members::values_at;
 use crate::shape::{below_place, misshapen, text_of};
 use lists::{Seq, Text};
 use serde_json::Value;
-use std::alloc::{AllocError, Global};
+use std::alloc::Global;
 
 /// The name of a file, which is not empty.
 fn name_of(alloc: Global, found: Option<Value>) -> Result<Text, Fault>

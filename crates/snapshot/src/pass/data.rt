@@ -1,6 +1,6 @@
 // Whether a JSON value that borrows its text is one that `serde_json` reads.
 
-ghost use Rattle.std.specs.Prelude.{◌≡◌, ◌==◌, ◌<◌, IfSome, IsTrue, Some, length, slice_index};
+ghost use Rattle.std.specs.Prelude.{◌≡◌, ◌==◌, ◌<◌, IfSome, IsTrue, Some, slice_index};
 ghost use Rattle.json.specs.Value.{members_view, value_view};
 ghost use Rattle.serde_json.specs.Data.{Members, unsigned};
 ghost use Rattle.serde_json.specs.Read.{number_of, of_members};

@@ -1,6 +1,6 @@
 // Reading the releases of a package that borrows its text.
 
-ghost use Rattle.std.specs.Prelude.{◌≡◌, IfSome, Ok, Some, codes};
+ghost use Rattle.std.specs.Prelude.{◌≡◌, IfSome, Ok, Some};
 ghost use Rattle.std.specs.List.{AllByRecursion};
 ghost use Rattle.json.specs.Value.{items_view, value_view};
 ghost use Rattle.serde_json.specs.Data.{Items};
@@ -16,7 +16,7 @@ use crate::listed::Listed;
 use crate::pass::file::files_of;
 use crate::pass::members::{copy_at, flag_at, items_at, optional_copy_at};
 use crate::release::reading::{Gathering, add};
-use crate::usable::{Outcome, outcome_of};
+use crate::usable::{ReleaseOutcome, outcome_of};
 use json::Value;
 use lists::{Seq, Text};
 use pep508::Name;
@@ -69,7 +69,7 @@ fn listed_of(alloc: Global, value: &Value<'_>) -> Option<Listed>
 }
 
 /// What comes of the release that a value lists.
-fn release_of(alloc: Global, known: &mut Known, value: &Value<'_>) -> Option<Outcome>
+fn release_of(alloc: Global, known: &mut Known, value: &Value<'_>) -> Option<ReleaseOutcome>
     ensures { IfSome result (λ outcome. Means release_of (value_view value.now) outcome) }
 {
     let listed = listed_of(alloc, value)?;

@@ -15,7 +15,7 @@ use crate::listed::listed_of;
 use crate::release::{Newest, Release};
 use crate::shape::below_place;
 use crate::skipped::{SkipCause, Skipped};
-use crate::usable::{Outcome, outcome_of};
+use crate::usable::{ReleaseOutcome, outcome_of};
 use lists::{Seq, Text};
 use pep508::Name;
 use serde_json::Value;
@@ -50,7 +50,7 @@ impl Gathering {
 
 /// What comes of the release that a value lists.
 #[tactic(auto, unfolding(crate::specs::Releases::release_of))]
-fn release_of(alloc: Global, known: &mut Known, value: Value) -> Result<Outcome, Fault>
+fn release_of(alloc: Global, known: &mut Known, value: Value) -> Result<ReleaseOutcome, Fault>
     ensures { Gives (λ o. o) (release_of (view value)) result }
 {
     let listed = listed_of(alloc, value)?;
@@ -63,14 +63,14 @@ fn release_at_place(
     known: &mut Known,
     place: usize,
     value: Value,
-) -> Result<Outcome, Fault>
+) -> Result<ReleaseOutcome, Fault>
     ensures { Gives (λ o. o) (below (place_path place) (release_of (view value))) result }
 {
     below_place(alloc, place, release_of(alloc, known, value))
 }
 
-/// Puts the release into its place, unless one of an equal version is there, and says whether it did.
-fn put(newest: &mut BTreeSet<Newest>, release: Newest) -> Result<bool, Fault>
+/// Inserts the release, unless one of an equal version is there, and says whether it did.
+fn insert_new(newest: &mut BTreeSet<Newest>, release: Newest) -> Result<bool, Fault>
     ensures is_new { IfOk result (λ new. new
         ≡ not (list_any (has_version_of release) newest.old.keys)) }
     ensures keys { OnOk result (newest.new.keys ≡ insert_key newer_cmp newest.old.keys release) }
@@ -102,17 +102,17 @@ pub(crate) fn add(
     gathering: &mut Gathering,
     name: &Name,
     place: usize,
-    outcome: Outcome,
+    outcome: ReleaseOutcome,
 ) -> Result<(), Fault>
     ensures kept { OnOk result
         (gathered_view (place + 1) gathering.new
         ≡ gather_release name.now (gathered_view place gathering.old) outcome) }
     ensures memory { IsOkUnless result OutOfMemory }
 {
-    let Outcome { version, release } = outcome;
+    let ReleaseOutcome { version, release } = outcome;
     match release {
         Ok(release) => {
-            if !put(&mut gathering.newest, Newest::new(release))? {
+            if !insert_new(&mut gathering.newest, Newest::new(release))? {
                 leave_out(
                     &mut gathering.skipped,
                     name,

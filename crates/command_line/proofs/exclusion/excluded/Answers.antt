@@ -8,4 +8,4 @@ pub returns : goal.returns
 returns c =
     let other = ap text_of c.or-other.ensures ∙ text_of_either _ _ ∙ ap₂ option_or c.excluded_question.ensures c.excluded_lines.ensures in
     let shown = ap text_of c.or.ensures ∙ text_of_either _ _ ∙ ap₂ option_or c.excluded_shown.ensures other in
-    ap text_of c.or-2.ensures ∙ text_of_either _ _ ∙ ap₂ option_or c.excluded_telling.ensures shown
+    ap text_of c.or-2.ensures ∙ text_of_either _ _ ∙ ap₂ option_or c.excluded_verbosity.ensures shown

@@ -29,6 +29,6 @@ returns-clause-read c =
       used = subst P c.in_default.is c.first_misuse.ensures.misuse;
       subcommand = c.in_ok-read_subcommand.ensures.subcommand;
       dir = ap (λ s. s.now) c.unwrap_or.ensures ∙ now_or c.chosen.result _ ∙ ap (λ text. unwrap_or text (codes ".")) c.chosen.ensures;
-      telling = c.telling.ensures;
+      verbosity = c.verbosity.ensures;
       color = c.color.ensures;
     }

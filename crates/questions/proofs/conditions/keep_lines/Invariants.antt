@@ -1,7 +1,7 @@
 use Rattle.std.proofs.Common.{take}
 use Rattle.std.specs.List.{AllByRecursion}
 use Rattle.questions.specs.Alike.{LineAlike}
-use Rattle.questions.specs.Tied.Keeping.{Keeps}
+use Rattle.questions.specs.Tied.Kept.{Keeps}
 use Rattle.questions.proofs.conditions.keep_lines.Given as goal
 
 abbrev pub invariant-loop-line : goal.invariant-loop-line

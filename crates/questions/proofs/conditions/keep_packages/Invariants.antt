@@ -2,7 +2,7 @@ use Rattle.std.proofs.Common.{take}
 use Rattle.std.specs.List.{AllByRecursion}
 use Rattle.snapshot.specs.Packages.{releases_of}
 use Rattle.questions.specs.Alike.{ReleaseAlike}
-use Rattle.questions.specs.Tied.Keeping.{Keeps}
+use Rattle.questions.specs.Tied.Kept.{Keeps}
 use Rattle.questions.proofs.conditions.keep_packages.Given as goal
 
 abbrev pub invariant-loop-place : goal.invariant-loop-place

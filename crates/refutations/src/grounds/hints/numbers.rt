@@ -59,8 +59,8 @@ fn empty_lists(alloc: Global, count: usize) -> Result<Vec<Vec<usize>>, AllocErro
     Ok(lists)
 }
 
-/// Puts a number behind those of a list; nothing where there is no such list.
-fn put(lists: &mut [Vec<usize>], at: usize, number: usize) -> Result<(), AllocError> {
+/// Pushes a number behind those of a list; nothing where there is no such list.
+fn push_to(lists: &mut [Vec<usize>], at: usize, number: usize) -> Result<(), AllocError> {
     if let Some(list) = lists.get_mut(at) {
         list.push(number)?;
     }
@@ -96,7 +96,7 @@ fn by_numbers<'c>(
         if !is_last(choices.as_slice(), choice) {
             choices.push(choice)?;
         }
-        put(&mut numbers, place, choices.len().saturating_sub(1))?;
+        push_to(&mut numbers, place, choices.len().saturating_sub(1))?;
     }
     Ok((choices, numbers))
 }
@@ -148,7 +148,7 @@ fn listed_of(
     let mut listed = empty_lists(alloc, choices)?;
     for place in 0..conflicts.len() {
         if let Some(number) = rarest(counts.as_slice(), conflicts[place].as_slice()) {
-            put(&mut listed, number, place)?;
+            push_to(&mut listed, number, place)?;
         }
     }
     Ok(listed)
@@ -191,7 +191,7 @@ fn lacked(old: &[usize], own: &[usize]) -> Lacking {
 }
 
 /// Puts a place with each of the numbers behind the others.
-fn put_each(
+fn push_each(
     near: &mut Vec<(usize, usize)>,
     numbers: &[usize],
     place: usize,
@@ -205,7 +205,7 @@ fn put_each(
 impl Numbers {
     /// Puts those of the places before one behind the others at which a conflict stands that has at most one choice
     /// which the conflict at this one hasn't: with the number of this choice, or with each of its own.
-    fn put_near(
+    fn push_near(
         &self,
         near: &mut Vec<(usize, usize)>,
         listed: &[usize],
@@ -218,7 +218,7 @@ impl Numbers {
             }
             let old = list_at(self.conflicts.as_slice(), *earlier);
             match lacked(old, own) {
-                Lacking::Nothing => put_each(near, old, *earlier)?,
+                Lacking::Nothing => push_each(near, old, *earlier)?,
                 Lacking::One(number) => near.push((number, *earlier))?,
                 Lacking::More => {}
             }
@@ -235,7 +235,7 @@ impl Numbers {
         let mut near = Vec::new(alloc);
         for number in list_at(self.conflicts.as_slice(), place) {
             let listed = list_at(self.listed.as_slice(), *number);
-            self.put_near(&mut near, listed, place)?;
+            self.push_near(&mut near, listed, place)?;
         }
         near.sort_unstable();
         Ok(near)

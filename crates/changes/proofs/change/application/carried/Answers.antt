@@ -3,8 +3,8 @@ use Rattle.changes.specs.Tied.Outcome.{with_outcome}
 use Rattle.changes.proofs.MovedFacts.{is-state}
 use Rattle.changes.proofs.change.application.carried.Goals as goal
 
-pub put-requires : goal.put-requires
-put-requires c =
+pub replace-requires : goal.replace-requires
+replace-requires c =
     let state = c.args.state.now in
     let after : After state c.args.change.now (with_outcome c.in-Some.made) = rw c.in-Some.is at c.in_ok-made.ensures in
     is-state c.args.change.now state (with_outcome c.in-Some.made) c.requires.0 after c.requires.1
@@ -13,4 +13,4 @@ pub returns-clause-led : goal.returns-clause-led
 returns-clause-led c =
     let state = c.args.state.now in
     let after : After state c.args.change.now (with_outcome c.in-Some.made) = rw c.in-Some.is at c.in_ok-made.ensures in
-    rw c.put.ensures (after, is-state c.args.change.now state (with_outcome c.in-Some.made) c.requires.0 after c.requires.1)
+    rw c.replace.ensures (after, is-state c.args.change.now state (with_outcome c.in-Some.made) c.requires.0 after c.requires.1)

@@ -6,9 +6,9 @@ names-init c = rw c.new-made.ensures.items (IsMadeTo-start c.args.target.now c.a
 
 pub names-preserved : goal.names-preserved
 names-preserved c =
-    let put = rw (c.cut.ensures.first, c.cut-in-Some.ensures.first) at c.in_ok-put.ensures in
+    let put = rw (c.cut.ensures.first, c.cut-in-Some.ensures.first) at c.in_ok-append_change.ensures in
     rw (c.cut.ensures.behind, c.cut-in-Some.ensures.behind)
-    (IsMadeTo-next c.args.target.now c.args.old.now c.args.new.now c.names.old_left.now c.names.new_left.now c.names.made.items c.put.new.made.items c.in-Some.name.now c.in-Some.ensures put c.names.invariant)
+    (IsMadeTo-next c.args.target.now c.args.old.now c.args.new.now c.names.old_left.now c.names.new_left.now c.names.made.items c.append_change.new.made.items c.in-Some.name.now c.in-Some.ensures put c.names.invariant)
 
 pub names-smaller : goal.names-smaller
 names-smaller c = rw (c.cut.ensures.behind, c.cut-in-Some.ensures.behind) (least-fewer c.in-Some.name.now c.names.old_left.now c.names.new_left.now c.in-Some.ensures)
