@@ -8,7 +8,7 @@ ghost use Rattle.calls.specs.Printed.{IsShown};
 
 use commands::batch::BatchFault;
 use std::io::{self, ErrorKind, Write};
-use texts::Style;
+use style::Style;
 
 /// What a subcommand is given beside its own words: the system, the folder of the files, and where its texts go.
 #[derive(Drop)]

@@ -22,7 +22,7 @@ use saves::{
 use std::alloc::Global;
 use std::io::{Read, Write};
 use std::rt::Files;
-use texts::Style;
+use style::Style;
 use views::{
     print_check, print_diff, print_export, print_history, print_outdated, print_shown,
     print_skipped,

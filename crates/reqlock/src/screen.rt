@@ -7,7 +7,7 @@ use saves::Manner;
 use std::alloc::{AllocError, Global};
 use std::env::VarError;
 use std::rt::Env;
-use texts::Style;
+use style::Style;
 
 /// The least width that lines are broken for.
 const LEAST_WIDTH: usize = 20;

@@ -6,11 +6,11 @@ use calls::{Stop, change_between};
 use edits::{Change, Edit, Pool, Refusal, Snapshot, State, edit};
 use files::SavedFiles;
 use journal::{Command, Session};
+use notes::{AppliedEdit, add_change_notes, add_lock_notes, add_moved, has_moved};
 use resolve::RESOLVER;
 use std::alloc::{AllocError, Global};
 use std::rt::Files;
 use texts::diff_text::diff_text;
-use texts::{AppliedEdit, add_change_notes, add_lock_notes, add_moved, has_moved};
 
 /// Where a history stood before a command, and how many steps it had.
 #[derive(Clone, Copy)]

@@ -2,10 +2,10 @@
 
 use crate::details::{CallFiles, Details};
 use files::InputFile;
+use notes::conflict_line;
 use phrases::add_word;
 use std::alloc::AllocError;
 use std::str;
-use texts::conflict_line;
 
 /// The rest of the command of git that brings all files of a history back.
 pub(crate) const CHECKOUT: &str =

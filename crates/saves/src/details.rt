@@ -3,10 +3,11 @@
 use crate::manner::Manner;
 use files::target_files::TargetFile;
 use files::{InputFile, path_of};
+use notes::IndexPlan;
 use phrases::add_word;
 use std::alloc::{AllocError, Global};
 use std::io::Write;
-use texts::{IndexPlan, Style};
+use style::Style;
 
 /// What is known beside a reply. Nothing is noted unless it is told.
 #[derive(Drop)]

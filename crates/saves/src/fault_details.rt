@@ -9,15 +9,15 @@ use calls::Stop;
 use edits::{Cause, Refusal, TargetName};
 use files::target_files::TargetFile;
 use files::{InputFault, InputFile, LinkOut, NO_REGULAR_FILE, path_of, read_file};
+use notes::{
+    BadEnvironment, ENVIRONMENT, INDEX, IndexPlan, add_bad_lines, add_environment_command,
+    add_environment_note, add_index_note, form_of,
+};
 use phrases::add_plain;
 use std::alloc::{AllocError, Global};
 use std::io::ErrorKind;
 use std::rt::Files;
 use std::{fs, str};
-use texts::{
-    BadEnvironment, ENVIRONMENT, INDEX, IndexPlan, add_bad_lines, add_environment_command,
-    add_environment_note, add_index_note, form_of,
-};
 
 impl Details {
     /// Notes why a call stops, and what to do, where that is known.

@@ -3,10 +3,10 @@
 use crate::details::Details;
 use crate::fault_details::is_there;
 use command_line::request::NeededOption;
+use notes::{ENVIRONMENT, INDEX, IndexPlan, add_environment_command};
 use phrases::add_word;
 use std::alloc::AllocError;
 use std::rt::Files;
-use texts::{ENVIRONMENT, INDEX, IndexPlan, add_environment_command};
 
 impl Details {
     /// Notes how the file is made that an option names, and the call with it.

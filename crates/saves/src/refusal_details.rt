@@ -10,11 +10,11 @@ use edits::{
 };
 use journal::Command;
 use lists::Seq;
-use resolve::RESOLVER;
-use std::alloc::{AllocError, Global};
-use texts::{
+use notes::{
     RefusedEdit, add_index_steps, add_lacking, add_question, add_refusal_details, add_refusal_steps,
 };
+use resolve::RESOLVER;
+use std::alloc::{AllocError, Global};
 
 /// How many lines of sentences are told at once. More are left to `why`.
 const MOST_LINES: usize = 40;

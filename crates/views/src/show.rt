@@ -12,7 +12,7 @@ use snapshot::Snapshot;
 use std::alloc::{AllocError, Global};
 use std::io::Write;
 use std::rt::Files;
-use texts::Style;
+use style::Style;
 use texts::entry_text::entry_text;
 use texts::lock_json::lock_json;
 use texts::lock_text::lock_text;

@@ -1,4 +1,6 @@
-// How what is printed looks where a person reads it.
+//! How what is printed looks where a person reads it: texts are made plain, and get colours and the terminal's width when they are
+//! printed.
+#![tactic(auto)]
 
 ghost use Rattle.std.specs.Prelude.{◌≡◌, false, IfOk, None};
 
