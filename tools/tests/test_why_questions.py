@@ -156,6 +156,13 @@ class Reasons(Program):
         self.assertIn(" 2a1 is a pre-release, which counts where a line names one", self.asked("e", b"d>=1\n"))
         self.assertIn("the new line (b>=9) allows no release of b; the newest in the index is 2.", self.asked("b>=9"))
 
+    def test_a_line_without_an_extra_does_not_need_it(self):
+        self.begin(b"n[x]\nn<2\n", ("n", "1", ["m>=2; extra == 'x'"]), ("n", "2", []), ("m", "1", []))
+        self.assertEqual(self.call("why", "--init", "--explain")[1].replace("\n   ", " ").splitlines()[1:], [
+            "1. n[x] 1 needs m>=2, and the index has no such release.",
+            "2. line 1 (n[x]) needs n[x], and no release of n[x] is left: 2 doesn't match <2 of line 2; 1 is ruled out by 1.",
+        ])
+
     def test_names_that_are_near_are_told(self):
         self.begin(b"", ("requests", "1", []), ("request", "1", []), ("flask", "1", []))
         told = self.call("why", "--init", "--explain", "reqeusts")[1].replace("\n   ", " ")
