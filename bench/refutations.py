@@ -23,7 +23,7 @@ COUNTS = [100, 300, 1_000]
 SEEDS = [1, 2, 3]
 ROUNDS = 3
 SHORT = 5
-STEPS = ["Problem::new", "Learning::resolve", "Learning::refute", "check", "Learning::refute_sets", "check_sets"]
+STEPS = ["Problem::new", "Learning::resolve", "refute_singly", "check", "refute_by_sets", "check_sets"]
 DEEP = {
     (100, 1): 90,
     (100, 2): 65,

@@ -8,9 +8,11 @@ ghost use Rattle.problems.specs.Rules.{rules_of, same_version};
 ghost use Rattle.problems.specs.Solutions.{HasSolution};
 ghost use Rattle.answers.specs.Answers.{IsFirstRefuted, IsSolvable, ShowsNone};
 
-use edits::{Learning, Problem, Refutation, TargetName, check};
+use edits::{Problem, TargetName};
 use expansion::refute;
 use explain::{Explanation, explained};
+use refutations::{Refutation, check};
+use refute::refute_by_sets;
 use std::alloc::{AllocError, Global};
 
 /// What shows that a problem has no solution.
@@ -90,10 +92,10 @@ pub fn refuted_by_sets(
         (λ found. MatchOption found (HasSolution problem.now)
         (IsSetRefutation (rules_of problem.now) same_version)) }
 {
-    match Learning.refute_sets(alloc, problem)? {
+    match refute_by_sets(alloc, problem)? {
         Some(refutation) => match explained(alloc, problem, refutation)? {
             Some(explanation) => Ok(Some(explanation)),
-            // `refute_sets` gives nothing but refutations
+            // `refute_by_sets` gives nothing but refutations
             None => Ok(None),
         },
         None => Ok(None),

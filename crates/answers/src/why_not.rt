@@ -2,9 +2,8 @@
 
 ghost use Rattle.std.specs.Prelude.{◌≡◌, ◌<◌, IfSome, length};
 ghost use Rattle.std.specs.List.{position};
-ghost use Rattle.std.specs.Option.{option_copied};
 ghost use Rattle.edits.specs.Refused.{is_locked_for};
-ghost use Rattle.answers.specs.WhyNot.{is_other, lacks};
+ghost use Rattle.answers.specs.WhyNot.{lacks};
 
 use crate::shown::refuted_by_sets;
 use crate::why::{ToldLines, explained_text};
@@ -15,8 +14,8 @@ use edits::{
     problem_after, problems_with,
 };
 use explain::{ChangedLine, ChangedLines, WantedRelease, add_difference, add_same, add_uncounted};
-use files::LockFile;
 use files::saved_history::session_over;
+use inputs::LockFile;
 use lists::Text;
 use pep440::Version;
 use phrases::add_target_line;
@@ -160,18 +159,7 @@ fn first_lacking(targets: &[Target], named: &NamedRelease) -> Option<usize>
 fn lacks(target: &Target, named: &NamedRelease) -> bool
     ensures { result ≡ lacks named.now target.now }
 {
-    is_other(&named.version, target.locked(&named.name))
-}
-
-/// Whether a version is locked that isn't the one that is asked about.
-fn is_other(asked: &Option<Version>, locked: Option<&Version>) -> bool
-    ensures { result ≡ is_other asked.now (option_copied locked.entry) }
-{
-    match (locked, asked) {
-        (Some(locked), Some(version)) => !version.cmp(locked).is_eq(),
-        (Some(_), None) => true,
-        (None, _) => false,
-    }
+    target.locks_another(&named.name, &named.version)
 }
 
 fn same_text(alloc: Global, named: &NamedRelease) -> Result<String, AllocError> {

@@ -1,11 +1,14 @@
 -- How a call stops at a fault of its files. All of it is reqlock's own rule.
-use Rattle.std.specs.Prelude.{◌≡◌, ◌⊎◌, ℕ, ◌<◌, ◌≤◌, length}
+use Rattle.std.specs.Prelude.{◌≡◌, ◌⊎◌, ℕ, ◌<◌, ◌≤◌, length, Result, Ok, Err}
 use Rattle.command_line.specs.declared.usage.RequestFault.{RequestFault}
 use Rattle.command_line.specs.declared.usage.RequestFault.TheVariants as requests
 use Rattle.commands.specs.declared.batch.BatchFault.TheVariants as batches
-use Rattle.files.specs.declared.fault.Fault.{Fault}
-use Rattle.files.specs.declared.fault.Fault.TheVariants as faults
+use Rattle.inputs.specs.Faults.{fault_of}
+use Rattle.inputs.specs.declared.fault.Fault.{Fault}
+use Rattle.inputs.specs.declared.fault.Fault.TheVariants as faults
 use Rattle.journal.specs.Past.{Past}
+use Rattle.journal.specs.declared.commands.Reply.{Reply}
+use Rattle.journal.specs.declared.commands.Reply.TheVariants.{Done, Same, Refused}
 use Rattle.calls.specs.declared.stop.Stop.{Stop}
 use Rattle.calls.specs.declared.stop.Stop.TheVariants as stops
 
@@ -16,6 +19,12 @@ stop_of (faults.Unwritten file) = stops.Unwritten file
 stop_of (faults.Refused refusal) = stops.Refused refusal
 stop_of (faults.NoTarget name) = stops.NoTarget name
 stop_of faults.OutOfMemory = stops.Fault batches.OutOfMemory
+
+-- how a call goes on from the reply to its command: with the reply, unless it is a refusal
+abbrev pub unless_refused : Reply → Result Reply Stop
+unless_refused (Refused refusal) = Err (stop_of (fault_of refusal))
+unless_refused Same = Ok Same
+unless_refused (Done cursor) = Ok (Done cursor)
 
 -- how a call stops at words that are no request
 abbrev pub stop_of_request : RequestFault → Stop

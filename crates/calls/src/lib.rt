@@ -14,4 +14,4 @@ pub use crate::call::{Call, print, show};
 pub use crate::difference::change_between;
 pub use crate::pool::pool_of;
 pub use crate::replacement::{ReplacedHistory, replaced, replaced_to_save};
-pub use crate::stop::Stop;
+pub use crate::stop::{Stop, unless_refused};

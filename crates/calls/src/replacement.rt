@@ -3,13 +3,12 @@
 use crate::stop::Stop;
 use command_line::request::{EditInputs, NewLines, Replacement};
 use edits::{Edit, ReqFile, Target, TargetPins, with_line_exchanged};
+use files::SavedFiles;
 use files::hand_changed::open_old_to_save;
-use files::handed_in::HandedIn;
-use files::pins_files::{PinsBytes, PinsTarget, pins_of, pins_paths, read_pins};
 use files::saved_history::{SavedHistory, saved_files};
-use files::{
-    Fault, InputFile, LockFile, SavedFiles, in_file, read_bytes, read_index, read_requirements,
-};
+use inputs::handed_in::HandedIn;
+use inputs::pins_files::{PinsBytes, PinsTarget, pins_of, pins_paths, read_pins};
+use inputs::{Fault, InputFile, LockFile, in_file, read_bytes, read_index, read_requirements};
 use journal::Session;
 use lists::{Seq, Text};
 use std::alloc::Global;

@@ -2,14 +2,15 @@
 
 ghost use Rattle.std.specs.Prelude.{◌≡◌};
 ghost use Rattle.commands.specs.declared.batch.BatchFault.TheVariants as batches;
-ghost use Rattle.files.specs.Faults.{fault_of};
-ghost use Rattle.calls.specs.Stops.{stop_of, stop_of_request};
+ghost use Rattle.inputs.specs.Faults.{fault_of};
+ghost use Rattle.calls.specs.Stops.{stop_of, stop_of_request, unless_refused};
 ghost use Rattle.calls.specs.declared.stop.Stop.TheVariants as stops;
 
 use command_line::request::{NeededOption, RequestFault};
 use commands::batch::BatchFault;
 use edits::Refusal;
-use files::{Fault, InputFault, InputFile};
+use inputs::{Fault, InputFault, InputFile};
+use journal::Reply;
 use lists::Text;
 use std::alloc::{AllocError, AllocFailed};
 
@@ -92,5 +93,16 @@ impl From<Fault> for Stop {
             Fault::NoTarget(name) => Stop::NoTarget(name),
             Fault::OutOfMemory => Stop::Fault(BatchFault::OutOfMemory),
         }
+    }
+}
+
+/// How a call goes on from the reply to its command: with the reply, unless it is a refusal.
+pub fn unless_refused(reply: Reply) -> Result<Reply, Stop>
+    ensures { result ≡ unless_refused reply }
+{
+    match reply {
+        Reply::Refused(refusal) => Err(Stop::from(refusal)),
+        Reply::Same => Ok(Reply::Same),
+        Reply::Done(cursor) => Ok(Reply::Done(cursor)),
     }
 }

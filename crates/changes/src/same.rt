@@ -105,11 +105,22 @@ impl Same for FileEntry {
     }
 }
 
+/// Whether two entries ask the same of Python.
+fn asks_same(one: &Entry, other: &Entry) -> bool
+    ensures { IsTrue result ↔ (one.now.requires_python ≡ other.now.requires_python) }
+{
+    match (one.requires_python(), other.requires_python()) {
+        (Some(python), Some(same)) => python.text() == same.text(),
+        (None, None) => true,
+        _ => false,
+    }
+}
+
 impl Same for Entry {
     fn is_same(&self, other: &Entry) -> bool {
         self.name().is_same(other.name())
             && self.version().is_same(other.version())
-            && self.requires_python().is_same(other.requires_python())
+            && asks_same(self, other)
             && are_same(self.dependencies(), other.dependencies())
             && self.sdist().is_same(other.sdist())
             && are_same(self.wheels(), other.wheels())

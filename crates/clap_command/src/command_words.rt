@@ -1,7 +1,7 @@
 // The words of the program's command line, for clap to read.
 
 ghost use Rattle.std.specs.Prelude.{◌≡◌, map, IfOk};
-ghost use Rattle.clap.specs.Words.{app_of, new_app, rule_of};
+ghost use Rattle.clap.specs.Words.{app_of, rule_of};
 ghost use Rattle.clap_command.specs.CommandWords.{option_rules, options_app, reqlock_app, with_subcommands};
 ghost use Rattle.clap_command.specs.Tables.{app_of_words, shape_of_words};
 

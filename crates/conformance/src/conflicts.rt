@@ -4,7 +4,7 @@ use crate::growing_text::GrowingText;
 use lists::Seq;
 use markers::Name;
 use pep440::Version;
-use resolve::{Choice, Refutation};
+use refutations::{Choice, Refutation};
 use std::alloc::Global;
 use std::cmp::Ordering;
 use std::collections::BTreeSet;

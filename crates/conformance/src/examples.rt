@@ -11,7 +11,9 @@ use markers::{Environment, Marker, Name};
 use pep440::{SpecifierSet, Version};
 use pep508::{ReqFile, Requirement};
 use pylock::{Lock, rises};
-use resolve::{Learning, Problem, Refutation, check};
+use refutations::{Refutation, check};
+use refute::refute_singly;
+use resolve::{Learning, Problem};
 use snapshot::Snapshot;
 use states::{Unlocked, locked};
 use std::alloc::{AllocError, Global};
@@ -40,10 +42,10 @@ fn over_index(alloc: Global, library: &str) -> Option<bool> {
     match library {
         "problems" => of_problems(alloc, state.lines(), &environment, &index.now).ok(),
         "refutations" => of_refutations(alloc, state.lines(), &environment, &index.now).ok(),
-        "resolve" => {
+        "refute" => {
             // `a` 2 needs `b-b<2`, and `c` needs `b-b>=2`.
             let lines = ReqFile::read(alloc, "a>=2\nc".as_bytes()).ok()?;
-            of_resolve(alloc, &lines, &environment, &index.now).ok()
+            of_refute(alloc, &lines, &environment, &index.now).ok()
         }
         "pylock" => of_first_lock(alloc, state.targets()),
         "states" => {
@@ -120,14 +122,14 @@ fn of_refutations(
     Ok(!check(&problem, &nothing))
 }
 
-fn of_resolve(
+fn of_refute(
     alloc: Global,
     lines: &ReqFile,
     environment: &Environment,
     index: &Snapshot,
 ) -> Result<bool, AllocError> {
     let problem = Problem::new(alloc, lines, environment, index, BTreeMap::new(alloc))?;
-    match Learning.refute(alloc, &problem)? {
+    match refute_singly(alloc, &problem)? {
         Some(refutation) => Ok(check(&problem, &refutation)),
         // There is a solution.
         None => Ok(true),

@@ -6,7 +6,9 @@ use crate::growing_text::GrowingText;
 use crate::notation::owned;
 use pep440::Version;
 use pep508::{Name, ReqFile};
-use resolve::{Answer, Learning, Problem, Resolver, check, check_sets};
+use refutations::{check, check_sets};
+use refute::{refute_by_sets, refute_singly};
+use resolve::{Answer, Learning, Problem, Resolver};
 use std::alloc::Global;
 use std::collections::BTreeMap;
 
@@ -40,7 +42,7 @@ pub fn solve(alloc: Global, background: &Background, lines: &str) -> Option<Stri
     if let Answer::Solution(versions) = Learning.resolve(alloc, &problem).ok()? {
         return solution_text(alloc, &problem, &versions);
     }
-    let refutation = Learning.refute_sets(alloc, &problem).ok()??;
+    let refutation = refute_by_sets(alloc, &problem).ok()??;
     let is_accepted = check_sets(&problem, &refutation);
     owned(alloc, if is_accepted { "none" } else { "refused" })
 }
@@ -48,7 +50,7 @@ pub fn solve(alloc: Global, background: &Background, lines: &str) -> Option<Stri
 /// The conflicts of the refutation that is found, or that there is a solution.
 pub fn refute(alloc: Global, background: &Background, lines: &str) -> Option<String> {
     let problem = problem_of(alloc, background, lines)?;
-    match Learning.refute(alloc, &problem).ok()? {
+    match refute_singly(alloc, &problem).ok()? {
         Some(refutation) => refutation_text(alloc, &refutation),
         None => owned(alloc, "solvable"),
     }

@@ -6,7 +6,8 @@ use std::alloc::Global;
 
 /// Pushes what is asked of Python, and each name that is needed.
 fn push_needs(text: &mut GrowingText, entry: &Entry) {
-    if let Some(python) = entry.requires_python().as_ref() {
+    if let Some(python) = entry.requires_python() {
+        let python = python.text();
         write!(text, "@{python}");
     }
     for name in entry.dependencies() {

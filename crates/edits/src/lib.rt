@@ -34,9 +34,6 @@ pub use crate::request::{Edit, Edited};
 pub use changes::{Change, DigestChange, EntryChange, Splice, difference};
 pub use pep508::{Cause, Environment, Fault, Line, Name, ReqFile, Requirement};
 pub use pylock::{Entry, FileEntry, Lock};
-pub use resolve::{
-    Choice, Ground, Learning, Need, Plain, Problem, Refutation, Resolver, SetRefutation, SetTerm,
-    check, check_sets, completed, ground_of,
-};
+pub use resolve::{Learning, Plain, Problem, Resolver};
 pub use snapshot::{Release, Snapshot};
 pub use states::{Pool, Refusal, SavedFile, State, Target, TargetName, Targets, first_unfit};

@@ -1,9 +1,9 @@
 // The way from the last conflict of a refutation by sets down to those that it rests on.
 
 use crate::frame::Frame;
+use crate::numbered_sets::{SetConflicts, Way};
 use crate::placed_choice::{PlacedChoice, is_among};
 use crate::placed_term::PlacedTerm;
-use crate::set_conflicts::{SetConflicts, Way};
 use crate::single_conflicts::SingleConflicts;
 use std::alloc::{AllocError, Global};
 

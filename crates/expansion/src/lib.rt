@@ -6,10 +6,10 @@
 mod containable;
 mod descent;
 mod frame;
+mod numbered_sets;
 mod placed_choice;
 mod placed_term;
 mod refutation;
-mod set_conflicts;
 mod single_conflicts;
 
 pub use crate::refutation::refute;

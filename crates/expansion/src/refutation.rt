@@ -6,13 +6,13 @@ ghost use Rattle.problems.specs.Rules.{rules_of, same_version};
 ghost use Rattle.problems.specs.Solutions.{HasSolution};
 
 use crate::descent::Descent;
+use crate::numbered_sets::SetConflicts;
 use crate::placed_choice::PlacedChoice;
-use crate::set_conflicts::SetConflicts;
 use lists::Seq;
 use problems::Problem;
 use problems::parts::copy_of;
 use refutations::{Choice, Refutation, SetRefutation, check, cut};
-use resolve::Learning;
+use refute::{refute_by_sets, refute_singly};
 use std::alloc::{AllocError, Global};
 
 /// The choice that one by numbers stands for; nothing where there is none.
@@ -98,16 +98,16 @@ fn accepted(
 }
 
 /// A refutation of the problem, which `check` accepts: one that is made of a refutation by sets; where that isn't
-/// accepted, or grows past a bound, what `Learning::refute` finds. Nothing where the problem has a solution.
+/// accepted, or grows past a bound, what `refute_singly` finds. Nothing where the problem has a solution.
 pub fn refute(alloc: Global, problem: &Problem<'_>) -> Result<Option<Refutation>, AllocError>
     ensures { IfOk result
         (λ found. MatchOption found (HasSolution problem.now)
         (IsRefutation (rules_of problem.now) same_version)) }
 {
-    match Learning.refute_sets(alloc, problem)? {
+    match refute_by_sets(alloc, problem)? {
         Some(sets) => match accepted(alloc, problem, &sets)? {
             Some(refutation) => Ok(Some(refutation)),
-            None => Learning.refute(alloc, problem),
+            None => refute_singly(alloc, problem),
         },
         None => Ok(None),
     }

@@ -1,4 +1,2 @@
-pub mod ErrorFacts
 pub mod Opened
 pub mod StateFacts
-pub mod TargetFacts

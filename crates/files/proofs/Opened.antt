@@ -4,8 +4,8 @@ use Rattle.std.specs.Prelude.{IfOk}
 use Rattle.journal.specs.Changes.{HistoryParts}
 use Rattle.journal.specs.Opens.{Opens}
 use Rattle.files.specs.Beside.{SomeStandFor}
-use Rattle.files.specs.Faults.{TellsFault}
-use Rattle.files.specs.declared.fault.Fault.{Fault}
+use Rattle.inputs.specs.Faults.{TellsFault}
+use Rattle.inputs.specs.declared.fault.Fault.{Fault}
 use Rattle.files.specs.declared.saved_files.SavedFiles.{SavedFiles}
 
 pub some-stand : (files : SavedFiles) (read : Result HistoryParts Fault) → TellsFault (Opens files.requirements.items files.locks.entries files.journal) read → IfOk read SomeStandFor

@@ -7,10 +7,10 @@ use Rattle.std.specs.Str.{bytes_eq}
 use Rattle.journal.specs.Values.{State}
 use Rattle.journal.specs.Changes.{HistoryParts}
 use Rattle.journal.specs.Opens.{Opens}
-use Rattle.files.specs.declared.fault.Fault.{Fault}
-use Rattle.files.specs.declared.fault.Fault.TheVariants.{Input}
-use Rattle.files.specs.declared.input_files.InputFile.{InputFile}
-use Rattle.files.specs.declared.input_files.InputFile.TheVariants.{Requirements, Lock, Journal, Index, Environment, NewRequirements, OldRequirements, Pins}
+use Rattle.inputs.specs.declared.fault.Fault.{Fault}
+use Rattle.inputs.specs.declared.fault.Fault.TheVariants.{Input}
+use Rattle.inputs.specs.declared.input_files.InputFile.{InputFile}
+use Rattle.inputs.specs.declared.input_files.InputFile.TheVariants.{Requirements, Lock, Journal, Index, Environment, NewRequirements, OldRequirements, Pins}
 use Rattle.files.specs.declared.saved_files.SavedFiles.{SavedFiles}
 use Rattle.files.specs.declared.stopped_save.Beside.{Beside}
 

@@ -1,9 +1,3 @@
 pub mod Beside
-pub mod Errors
-pub mod Faults
-pub mod FileNames
-pub mod Inputs
-pub mod PinsFiles
 pub mod Replaced
 pub mod Replacements
-pub mod TargetFiles

@@ -9,8 +9,8 @@ use Rattle.std.specs.Ordering.{nat_cmp}
 use Rattle.std.specs.Str.{bytes_eq}
 use Rattle.journal.specs.declared.saved.Saved.{Saved}
 use Rattle.files.specs.Replaced.{Replaced}
-use Rattle.files.specs.declared.input_files.InputFile.{InputFile}
-use Rattle.files.specs.declared.input_files.InputFile.TheVariants.{Requirements, Lock, Journal}
+use Rattle.inputs.specs.declared.input_files.InputFile.{InputFile}
+use Rattle.inputs.specs.declared.input_files.InputFile.TheVariants.{Requirements, Lock, Journal}
 use Rattle.files.specs.declared.saved_files.SavedFiles.{SavedFiles}
 
 -- a file with the bytes that are to stand in its place, unless it holds them

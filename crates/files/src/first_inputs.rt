@@ -1,12 +1,11 @@
 // What a history begins with.
 
-use crate::fault::{Fault, in_file};
-use crate::handed_in::HandedIn;
-use crate::input_files::{InputFile, read_bytes, read_index, read_requirements};
-use crate::pins_files::{PinsPath, PinsTarget, pins_of, read_pins};
 use crate::saved_files::SavedFiles;
-use crate::target_files::{TargetFile, read_all, targets_of};
 use edits::{FirstTargets, ReqFile, Targets};
+use inputs::handed_in::HandedIn;
+use inputs::pins_files::{PinsPath, PinsTarget, pins_of, read_pins};
+use inputs::target_files::{TargetFile, read_all, targets_of};
+use inputs::{Fault, InputFile, in_file, read_bytes, read_index, read_requirements};
 use snapshot::Snapshot;
 use std::alloc::{AllocError, Global};
 use std::io::Read;

@@ -1,8 +1,8 @@
 // A history whose requirements file was changed by somebody else.
 
-use crate::fault::Fault;
 use crate::saved_files::SavedFiles;
 use crate::stopped_save::{end_save, remove_left_of_opened};
+use inputs::Fault;
 use journal::Session;
 use std::rt::Files;
 

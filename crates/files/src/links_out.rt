@@ -1,9 +1,7 @@
 // Links in the places of the files that a first save writes.
 
-use crate::fault::{Fault, passed_over};
-use crate::input_files::{InputFile, read_bytes};
-use crate::saved_files::path_of;
 use edits::Refusal;
+use inputs::{Fault, InputFile, passed_over, path_of, read_bytes};
 use journal::{Journal, Session};
 use lists::Seq;
 use std::alloc::AllocError;

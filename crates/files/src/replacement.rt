@@ -1,10 +1,7 @@
 // Replacing files so that none is ever half written: each is written whole beside its place, under
 // its name and `.new`, and only when all of them stand are they renamed to their places.
 
-use crate::fault::{Fault, passed_over, unwritten};
-use crate::folder_lock::sync_folder;
-use crate::input_files::InputFile;
-use crate::saved_files::path_of;
+use inputs::{Fault, InputFile, passed_over, path_of, sync_folder, unwritten};
 use std::fs::{File, Metadata, OpenFile, OpenOptions};
 use std::io::{ErrorKind, Write};
 use std::marker::Model;

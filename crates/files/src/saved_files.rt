@@ -4,16 +4,14 @@ ghost use Rattle.std.specs.Prelude.{◌≡◌, ◌⊎◌, ◌++◌, [], IfErr, I
 ghost use Rattle.journal.specs.Opens.{NamesTargets, Opens};
 ghost use Rattle.states.specs.declared.refusal.Refusal.TheVariants.{JournalBroken};
 ghost use Rattle.files.specs.Beside.{StandFor};
-ghost use Rattle.files.specs.Faults.{TellsFault};
-ghost use Rattle.files.specs.FileNames.{path_of};
+ghost use Rattle.inputs.specs.Faults.{TellsFault};
 ghost use Rattle.files.specs.Replacements.{has_lock, lock_replacements, replacements_of, replacing};
-ghost use Rattle.files.specs.declared.fault.Fault.TheVariants.{OutOfMemory};
+ghost use Rattle.inputs.specs.declared.fault.Fault.TheVariants.{OutOfMemory};
 
-use crate::fault::Fault;
-use crate::input_files::{InputFault, InputFile, read_bytes};
 use crate::replacement::{Places, Replacement, places_at, replace_all};
 use crate::stopped_save::{Beside, end_save, remove_left_of_opened};
 use edits::{Refusal, TargetName};
+use inputs::{Fault, InputFault, InputFile, path_of, read_bytes};
 use journal::{Journal, Saved, Session};
 use lists::{Seq, Text};
 use std::alloc::{AllocError, Global};
@@ -243,13 +241,6 @@ pub fn places_in<R: Files + AllocGlobal>(
 ) -> Result<Option<Places>, Fault> {
     let path = path_of(rt.alloc(), dir, &file)?;
     places_at(rt, file, path.as_str())
-}
-
-/// The path of a file of the folder.
-pub fn path_of(alloc: Global, dir: &str, file: &InputFile) -> Result<String, AllocError>
-    ensures { IfOk result (λ path. string_bytes path ≡ path_of dir.now file.now) }
-{
-    format!(in alloc; "{dir}/{file}")
 }
 
 /// The bytes of a file, in its place or, where it is among these, beside it.

@@ -3,10 +3,8 @@
 ghost use Rattle.std.specs.Prelude.{IfOk};
 ghost use Rattle.files.specs.Beside.{SomeStandFor, StandFor};
 
-use crate::fault::{Fault, in_file};
-use crate::folder_lock::{LockFile, lock_to_read};
-use crate::input_files::{InputFile, read_bytes, read_index};
 use crate::saved_files::SavedFiles;
+use inputs::{Fault, InputFile, LockFile, in_file, lock_to_read, read_bytes, read_index};
 use journal::Session;
 use snapshot::Snapshot;
 use std::rt::Files;

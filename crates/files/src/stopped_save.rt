@@ -4,11 +4,10 @@ ghost use Rattle.std.specs.Prelude.{◌≡◌, ◌++◌, [], IfOk, IsSomeAnd, On
 ghost use Rattle.journal.specs.Past.{IsAtEnd, IsRedone, IsUndone, present};
 ghost use Rattle.files.specs.Beside.{completed_by, files_of, has, has_lines, has_requirements, one_where};
 
-use crate::fault::Fault;
-use crate::input_files::InputFile;
 use crate::replacement::{Places, rename_to_place};
 use crate::saved_files::{SavedFiles, journal_in, names_in, places_in, read_in};
 use edits::TargetName;
+use inputs::{Fault, InputFile};
 use journal::{Command, Journal, Reply, Session};
 use resolve::RESOLVER;
 use std::alloc::{AllocError, Global};
@@ -112,26 +111,18 @@ pub fn end_save<R: Files + AllocGlobal>(rt: &R, dir: &str) -> Result<bool, Fault
 }
 
 /// Ends a save that was stopped, for a call that doesn't open the files. What opens as it stands stays,
-/// and so does what nothing makes whole.
-pub fn end_left<R: Files + AllocGlobal>(rt: &R, dir: &str) -> Result<(), Fault> {
-    if is_any_left(rt, dir)? && does_not_open(rt, dir)? {
+/// and so does what nothing makes whole. It answers which files can be left beside their places: of the locks, those
+/// that the journal names, in its place and beside it.
+pub fn end_left<R: Files + AllocGlobal>(rt: &R, dir: &str) -> Result<Beside, Fault> {
+    let named = named_files(rt, dir)?;
+    if is_any_left(rt, dir, &named)? && does_not_open(rt, dir)? {
         end_save(rt, dir)?;
     }
-    Ok(())
+    Ok(named)
 }
 
-/// Removes what a save that was stopped has left beside the places of the files: of the locks, those of
-/// this history's targets, and those that the journal names, in its place and beside it.
-pub fn remove_left<R: Files + AllocGlobal>(
-    rt: &R,
-    dir: &str,
-    session: &Session,
-) -> Result<(), Fault> {
-    remove_named(rt, dir, named_files(rt, dir)?, session)
-}
-
-/// The same, where the journal in its place is that of the history: it names the history's targets, and
-/// isn't read for them again.
+/// Removes what a save that was stopped has left beside the places of the files of this history. The journal in its
+/// place is the history's: it names the history's targets, and isn't read for them again.
 pub fn remove_left_of_opened<R: Files + AllocGlobal>(
     rt: &R,
     dir: &str,
@@ -139,11 +130,11 @@ pub fn remove_left_of_opened<R: Files + AllocGlobal>(
 ) -> Result<(), Fault> {
     let mut left = Beside::of(rt.alloc(), true, true);
     add_named(rt, dir, &mut left, true)?;
-    remove_named(rt, dir, left, session)
+    remove_left(rt, dir, left, session)
 }
 
 /// Removes these files, and the locks of this history's targets, from beside their places.
-fn remove_named<R: Files + AllocGlobal>(
+pub fn remove_left<R: Files + AllocGlobal>(
     rt: &R,
     dir: &str,
     mut left: Beside,
@@ -158,8 +149,9 @@ fn remove_named<R: Files + AllocGlobal>(
     Ok(())
 }
 
-fn is_any_left<R: Files + AllocGlobal>(rt: &R, dir: &str) -> Result<bool, Fault> {
-    for places in all_places(rt, dir, &named_files(rt, dir)?)? {
+/// Whether one of these files stands beside its place.
+fn is_any_left<R: Files + AllocGlobal>(rt: &R, dir: &str, named: &Beside) -> Result<bool, Fault> {
+    for places in all_places(rt, dir, named)? {
         if fs::symlink_metadata(rt, places.beside.as_str()).is_ok() {
             return Ok(true);
         }

@@ -10,11 +10,11 @@ ghost use Rattle.std.specs.Result.{result_ok};
 ghost use Rattle.states.specs.Targets.{target_name_of};
 
 use crate::forms::{Read, at, check, json_of, only_keys, text_of};
-use edits::{Environment, Refusal, TargetName};
 use lists::{Named, Seq, rises};
-use markers::Cause;
+use markers::{Cause, Environment};
 use pylock::Flaw;
 use serde_json::Value;
+use states::{Refusal, TargetName};
 use std::alloc::Global;
 
 /// A version of the format.

@@ -13,10 +13,12 @@ use crate::forms::{
     Read, at, check, items_of, json_of, only_keys, pair_of, quadruple_of, triple_of, value_at,
 };
 use crate::header::{Header, JournalVersion};
-use edits::{Change, DigestChange, EntryChange, Name, Splice, TargetName};
+use changes::{Change, DigestChange, EntryChange, Splice};
 use lists::{Seq, Text};
+use markers::Name;
 use pylock::Flaw;
 use serde_json::Value;
+use states::TargetName;
 use std::alloc::Global;
 
 impl Read for Splice {

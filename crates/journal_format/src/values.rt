@@ -6,13 +6,15 @@ ghost use Rattle.serde_json.specs.Data.{Data, array, item, no_items, put, string
 ghost use Rattle.markers.specs.Environment.{text_of};
 ghost use Rattle.markers.specs.Variables.{variable_name};
 ghost use Rattle.serde_json.specs.View.{members_view, view};
+ghost use Rattle.pylock.specs.Python.{python_text};
 ghost use Rattle.journal_format.specs.Written.{array_of, digest_data, digests_data, entry_change_data, entry_data, environment_data, file_data, header_data, nullable, splice_data, step_data, target_data};
 
 use crate::header::{Header, HeaderTarget};
-use edits::{Change, DigestChange, Entry, EntryChange, Environment, FileEntry, Name, Splice};
+use changes::{Change, DigestChange, EntryChange, Splice};
 use lists::Text;
-use markers::Variable;
-use pep440::Version;
+use markers::{Environment, Name, Variable};
+use pep440::{RequiresPython, Version};
+use pylock::{Entry, FileEntry};
 use serde_json::{Map, Value, put};
 use std::alloc::{AllocError, Global};
 
@@ -103,6 +105,16 @@ fn version_value(alloc: Global, version: &Version) -> Result<Value, AllocError>
     }
 }
 
+/// The text of what is asked of Python, or null where nothing is.
+fn python_value(alloc: Global, python: &Option<RequiresPython>) -> Result<Value, AllocError>
+    ensures { IfOk result (λ v. view v ≡ nullable string (python_text python.now)) }
+{
+    match python {
+        Some(python) => text_value(alloc, python.text()),
+        None => Ok(Value::Null),
+    }
+}
+
 impl Written for Entry {
     ghost form = { entry_data };
 
@@ -111,7 +123,7 @@ impl Written for Entry {
         let mut members = Map::new(alloc);
         let dependencies = array_value(alloc, self.dependencies())?;
         put(&mut members, alloc, "dependencies", dependencies)?;
-        let python = nullable(alloc, self.requires_python())?;
+        let python = python_value(alloc, self.requires_python())?;
         put(&mut members, alloc, "requires_python", python)?;
         let sdist = nullable(alloc, self.sdist())?;
         put(&mut members, alloc, "sdist", sdist)?;

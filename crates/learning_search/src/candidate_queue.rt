@@ -1,6 +1,6 @@
 // The candidates of a node, tried in turn.
 
-ghost use Rattle.std.specs.Prelude.{◌≡◌, ◌<◌, [], IfOk, option_to_list};
+ghost use Rattle.std.specs.Prelude.{◌<◌, [], IfOk, option_to_list};
 ghost use Rattle.learning_search.specs.Tied.Gathering.{Gathers, decision};
 ghost use Rattle.learning_search.specs.Tied.Refusals.{RefusesOneMore};
 

@@ -1,6 +1,6 @@
 // A set of numbers, held as the bits of words.
 
-ghost use Rattle.std.specs.Prelude.{◌≡◌, ◌≤◌, ◌<◌, ◌+◌, ◌*◌, ℕ, [], ◌∷◌, ◌++◌, IfOk, IsTrue, IsFalse, MatchOption, length, slice_index};
+ghost use Rattle.std.specs.Prelude.{◌≡◌, ◌≤◌, ◌<◌, ◌+◌, ◌*◌, ℕ, [], ◌∷◌, IfOk, IsTrue, IsFalse, MatchOption, length, slice_index};
 ghost use Rattle.std.specs.List.{Contains, filter};
 ghost use Rattle.lists.specs.Bits.{has_bit, numbers_below, IsJoined, IsCommon, IsDifference, LiesWithin, NoneFrom, IsLeastFrom};
 

@@ -16,6 +16,7 @@ pub mod ReleaseReads
 pub mod SetAnswersOnce
 pub mod SetBytes
 pub mod SetFacts
+pub mod PythonFacts
 pub mod ReadIsSpelled
 pub mod SpansRead
 pub mod LocalsRead

@@ -7,4 +7,5 @@ pub mod Answers
 pub mod Hash
 pub mod Matching
 pub mod SetGrammar
+pub mod Python
 pub mod Tied

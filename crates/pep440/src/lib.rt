@@ -16,6 +16,7 @@ mod matching;
 mod order;
 mod parts;
 mod reading;
+mod requires_python;
 mod sets;
 mod spans;
 mod specifier;
@@ -25,5 +26,6 @@ mod words;
 
 pub use crate::fault::Fault;
 pub use crate::parts::{LocalPart, Pre};
+pub use crate::requires_python::RequiresPython;
 pub use crate::specifier::{Clause, Operator, SpecifierSet};
 pub use crate::version::Version;

@@ -2,7 +2,6 @@
 
 ghost use Rattle.std.specs.Prelude.{◌≡◌, refl, Some};
 ghost use Rattle.std.specs.Cmp.{eq_by_cmp_equiv, partial_equiv_from_equiv, partial_order_from_total};
-ghost use Rattle.std.specs.Hash as fed;
 ghost use Rattle.std.specs.Ordering.{as_partial_cmp, eq_by_cmp};
 ghost use Rattle.pep440.specs.Order.{dev_key, part_cmp, post_key, pre_key, public_cmp, rank_cmp, trimmed, version_cmp};
 ghost use Rattle.pep440.specs.Tied.OrderLaws.{part_total, part_fed, version_fed, version_total};

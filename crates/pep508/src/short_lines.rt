@@ -1,7 +1,6 @@
 // Short lines that are equal, kept once.
 
 ghost use Rattle.lists.specs.Answers.{Answers};
-ghost use Rattle.std.specs.Prelude.{◌≡◌};
 ghost use Rattle.pep508.specs.Requirement.{checked_line};
 ghost use Rattle.markers.specs.declared.fault.Cause.TheVariants.{OutOfMemory};
 

@@ -14,16 +14,16 @@ use Rattle.markers.specs.Comparisons.{version_read}
 use Rattle.markers.specs.Environment.{Texts, text_of}
 use Rattle.markers.specs.declared.variable.Variable.TheVariants.{PythonFullVersion}
 use Rattle.snapshot.specs.Release.{Release}
-use Rattle.snapshot.specs.declared.python.RequiresPython.{RequiresPython}
+use Rattle.pep440.specs.Python.{PythonParts}
 use Rattle.problems.specs.Problem.{ProblemParts, releases_on}
 
 -- whether a set of Pythons has the full version of the environment
-abbrev pub admits_python : RequiresPython → Option VersionParts → Bool
+abbrev pub admits_python : PythonParts → Option VersionParts → Bool
 admits_python python None = false
 admits_python python (Some version) = matches python.set version
 
 -- whether what a release asks of Python is met; where it asks for nothing, it is
-abbrev pub meets_python : Texts → Option RequiresPython → Bool
+abbrev pub meets_python : Texts → Option PythonParts → Bool
 meets_python environment None = true
 meets_python environment (Some python) = admits_python python (version_read (text_of environment PythonFullVersion))
 

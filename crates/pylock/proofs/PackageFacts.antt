@@ -1,18 +1,17 @@
 -- What holds of the parts of an entry.
-use Rattle.std.proofs.Common.{◌≡◌, ◌^◌, ◌&&◌, true, false, Bool, List, [], ◌∷◌, Option, Some, None, Result, Ok, Err, ℕ, option_to_list, nat_lt, refl, sym, codes, length, map, not, ◌==◌, ◌||◌, is_ok, is_some}
+use Rattle.std.proofs.Common.{◌≡◌, ◌^◌, ◌&&◌, true, false, Bool, List, [], ◌∷◌, Option, Some, None, ℕ, option_to_list, nat_lt, refl, sym, codes, length, map, not, ◌==◌, ◌||◌, is_some}
+use Rattle.std.specs.Prelude.{if◌then◌else◌}
 use Rattle.std.proofs.lemmas.Bool.{and_from, and_parts}
 use Rattle.std.specs.List.{list_all}
 use Rattle.std.specs.Option.{option_map_or}
 use Rattle.pylock.specs.declared.file.FileEntry.{FileEntry}
 use Rattle.pylock.specs.Files.{has_ending, is_digest, is_file, is_sdist, is_wheel}
 use Rattle.lists.specs.Rising.{rises}
-use Rattle.lists.specs.Spaces.{is_blank}
-use Rattle.pep440.specs.Tied.Sets.{set_of}
-use Rattle.pep440.specs.declared.fault.Fault.{Fault}
-use Rattle.pep440.specs.declared.specifier.Clause.{Clause}
+use Rattle.pep440.proofs.PythonFacts.{fits as fits-python}
+use Rattle.pep440.specs.Python.{PythonParts}
 use Rattle.markers.specs.Names.{is_normal}
 use Rattle.pylock.specs.Packages.{EntryParts, are_dependencies, are_wheels, entry_of, is_package, is_python}
-use Rattle.pylock.specs.Python.{present, python_of}
+use Rattle.pylock.specs.Python.{IsPython, python_text}
 
 pub all_pass : {X : Type 0} (xs : List X) → list_all (λ _. true) xs ≡ true
 all_pass [] = refl
@@ -67,28 +66,32 @@ sdist_fit p h = optional_fits p.sdist (parts p h).sdist
 
 -- ---- an entry that is made
 
-read-ok : (r : Result (List Clause) Fault) (python : Option (List Clause)) → present r ≡ Ok python → is_ok r ≡ true
-read-ok (Ok clauses) python read = refl
-read-ok (Err fault) python read = cc read
-
-python-fits : (asked : Option (List ℕ)) (python : Option (List Clause)) → python_of asked ≡ Ok python → true ≡ option_map_or (λ text. not (is_blank text)) asked true
-    → option_map_or is_python asked true ≡ true
-python-fits None python read filled = refl
-python-fits (Some text) python read filled = and_from (not (is_blank text)) (is_ok (set_of text)) (sym filled) (read-ok (set_of text) python read)
+-- what was read passes as what a package asks of Python
+pub python-fits : (python : Option PythonParts) → IsPython python → option_map_or is_python (python_text python) true ≡ true
+python-fits None is = refl
+python-fits (Some p) is = fits-python p is
 
 -- the tests of an entry's parts, as they were made
-pub record Passed (p : EntryParts) (python : Option (List Clause)) : Type 0 where
+pub record Passed (p : EntryParts) : Type 0 where
   pub name : is_normal p.name ≡ true
-  pub read : python_of p.requires_python ≡ Ok python
-  pub filled : true ≡ option_map_or (λ text. not (is_blank text)) p.requires_python true
+  pub python : option_map_or is_python p.requires_python true ≡ true
   pub dependencies : true ≡ are_dependencies p.name p.dependencies
   pub sdist : true ≡ option_map_or is_sdist p.sdist true
   pub wheels : true ≡ are_wheels p.wheels
   pub file : true ≡ (is_some p.sdist || not (length p.wheels == 0))
 
-pub package-from : (p : EntryParts) (python : Option (List Clause)) → Passed p python → is_package p ≡ true
-package-from p python h =
-    rw (h.name, python-fits p.requires_python python h.read h.filled, ← h.dependencies, ← h.sdist, ← h.wheels, ← h.file) refl
+pub package-from : (p : EntryParts) → Passed p → is_package p ≡ true
+package-from p h = rw (h.name, h.python, ← h.dependencies, ← h.sdist, ← h.wheels, ← h.file) refl
+
+none-by : (a b c d e f : Bool) (p : EntryParts) → b ≡ false → None ≡ (if a && b && c && d && e && f then Some p else None)
+none-by true b c d e f p is = rw is refl
+none-by false b c d e f p is = refl
+
+-- there is no entry of a text that is no set
+pub no-entry : (p : EntryParts) → option_map_or is_python p.requires_python true ≡ false → None ≡ entry_of p
+no-entry p is =
+    none-by (is_normal p.name) (option_map_or is_python p.requires_python true) (are_dependencies p.name p.dependencies) (option_map_or is_sdist p.sdist true)
+    (are_wheels p.wheels) (is_some p.sdist || not (length p.wheels == 0)) p is
 
 pub entry-from : (p : EntryParts) → is_package p ≡ true → Some p ≡ entry_of p
 entry-from p is = rw is refl

@@ -1,21 +1,12 @@
--- What a package asks of Python, as it is read (PEP 751, "packages.requires-python").
-use Rattle.std.specs.Prelude.{◌≡◌, ℕ, List, Option, Some, None, Result, Ok, Err}
-use Rattle.pep440.specs.Tied.Sets.{set_of}
-use Rattle.pep440.specs.declared.fault.Fault.{Fault}
-use Rattle.pep440.specs.declared.specifier.Clause.{Clause}
-use Rattle.pylock.specs.Packages.{EntryParts, IsPackage}
+-- What a package asks of Python (PEP 751, "packages.requires-python").
+use Rattle.std.specs.Prelude.{◌≡◌, ℕ, List, Option, Some, Ok, MatchOption}
+use Rattle.std.specs.Option.{option_map}
+use Rattle.pep440.specs.Python.{PythonParts, python_of}
 
--- a set that is there
-abbrev pub present : Result (List Clause) Fault → Result (Option (List Clause)) Fault
-present (Ok clauses) = Ok (Some clauses)
-present (Err fault) = Err fault
+-- the text of what is asked, where something is
+abbrev pub python_text : Option PythonParts → Option (List ℕ)
+python_text python = option_map (λ p. p.text) python
 
--- the set of specifiers that a text is, where there is a text
-abbrev pub python_of : Option (List ℕ) → Result (Option (List Clause)) Fault
-python_of None = Ok None
-python_of (Some text) = present (set_of text)
-
--- an entry with the set that was read of its text
-pub record IsRead (p : EntryParts) (python : Option (List Clause)) : Type 0 where
-  pub lawful : IsPackage p
-  pub read : python_of p.requires_python ≡ Ok python
+-- it is what its text reads as
+abbrev pub IsPython : Option PythonParts → Type 0
+IsPython python = MatchOption python Unit (λ p. python_of p.text ≡ Ok (Some p))

@@ -1,38 +1,43 @@
 // Whether the parts of an entry are lawful.
 
-ghost use Rattle.lists.specs.Answers.{Answers};
-ghost use Rattle.lists.specs.Spaces.{is_blank};
-ghost use Rattle.std.specs.Prelude.{◌≡◌, ◌==◌, ◌||◌, is_some, length, not, true};
+ghost use Rattle.std.specs.Prelude.{◌≡◌, ◌==◌, ◌||◌, IfOk, MatchOption, false, is_some, length, not, true};
 ghost use Rattle.std.specs.List.{list_all};
 ghost use Rattle.std.specs.Option.{option_map_or};
 ghost use Rattle.pylock.specs.Files.{is_sdist, is_wheel};
-ghost use Rattle.pep440.specs.declared.fault.Fault.TheVariants.{OutOfMemory};
-ghost use Rattle.pylock.specs.Packages.{are_dependencies, are_wheels, is_other};
-ghost use Rattle.pylock.specs.Python.{python_of};
+ghost use Rattle.pylock.specs.Packages.{are_dependencies, are_wheels, is_other, is_python};
+ghost use Rattle.pylock.specs.Python.{IsPython, python_text};
 
 use crate::file::{self, FileEntry};
-use lists::{Text, is_blank, rises};
-use pep440::{Fault, SpecifierSet};
+use lists::{Text, rises};
+use pep440::{Fault, RequiresPython};
 use pep508::Name;
-use std::alloc::Global;
+use std::alloc::{AllocError, Global};
 
-/// The set of specifiers that the text is, where there is a text.
-pub(crate) fn python_of(alloc: Global, text: &Option<Text>) -> Result<Option<SpecifierSet>, Fault>
-    ensures { Answers OutOfMemory (python_of text.now) result }
+/// What a text asks of Python, where there is a text; `None` where it is blank or no set of specifiers.
+pub(crate) fn read_python(
+    alloc: Global,
+    text: Option<Text>,
+) -> Result<Option<Option<RequiresPython>>, AllocError>
+    ensures { IfOk result (λ read. MatchOption read (option_map_or is_python text true ≡ false)
+        (λ python. python_text python ≡ text)) }
 {
-    match text {
-        Some(text) => Ok(Some(SpecifierSet::parse(alloc, text.as_str())?)),
-        None => Ok(None),
+    let Some(text) = text else {
+        return Ok(Some(None));
+    };
+    match RequiresPython::parse(alloc, text) {
+        Ok(Some(python)) => Ok(Some(Some(python))),
+        Ok(None) => Ok(None),
+        Err(Fault::OutOfMemory) => Err(AllocError),
+        Err(_) => Ok(None),
     }
 }
 
-/// Whether the text, where there is one, isn't blank.
-pub(crate) fn may_be_filled(text: &Option<Text>) -> bool
-    ensures { result ≡ option_map_or (λ text. not (is_blank text)) text.now true }
+/// What holds of what is asked of Python. It has no refusal.
+pub(crate) fn recall_python(python: &Option<RequiresPython>)
+    ensures { IsPython python.now }
 {
-    match text {
-        Some(text) => !is_blank(text.as_str()),
-        None => true,
+    if let Some(python) = python {
+        python.recall_invariant();
     }
 }
 

@@ -1,26 +1,24 @@
 // Entries of a lock.
 
-ghost use Rattle.std.specs.Prelude.{◌≡◌, IfOk, Ok, option_copied};
+ghost use Rattle.std.specs.Prelude.{◌≡◌, IfOk};
 ghost use Rattle.pylock.specs.Packages.{IsPackage, entry_of};
-ghost use Rattle.pylock.specs.Python.{python_of};
+ghost use Rattle.pylock.specs.Python.{python_text};
 
 use crate::checks;
 use crate::file::FileEntry;
 use lists::{Faithful, Named, Seq, Text};
-use pep440::{Fault, SpecifierSet, Version};
+use pep440::{RequiresPython, Version};
 use pep508::Name;
 use std::alloc::{AllocError, Global};
 use std::marker::Model;
 use std::rc::Rc;
 
-/// The parts of a locked package, and the set that was read of what it asks of Python.
+/// The parts of a locked package.
 #[derive_where(Debug)]
 struct Content {
     name: Name,
     version: Version,
-    requires_python: Option<Text>,
-    #[derive_where(skip)]
-    python: Option<SpecifierSet>,
+    requires_python: Option<RequiresPython>,
     dependencies: Seq<Name>,
     sdist: Option<FileEntry>,
     wheels: Seq<FileEntry>,
@@ -32,7 +30,6 @@ impl Drop for Content {
             name: _,
             version: _,
             requires_python: _,
-            python: _,
             dependencies: _,
             sdist: _,
             wheels: _,
@@ -54,28 +51,28 @@ impl Drop for Entry {
 }
 
 impl Model for Entry {
-    ghost use Rattle.pylock.specs.Packages.{EntryParts};
-    ghost use Rattle.pylock.specs.Python.{IsRead};
+    ghost use Rattle.pylock.specs.Packages.{EntryParts, IsPackage};
+    ghost use Rattle.pylock.specs.Python.{python_text};
 
     ghost Value = { EntryParts };
 
     ghost view = { λ e. record {
       name = e.shared.value.name;
       version = e.shared.value.version;
-      requires_python = e.shared.value.requires_python;
+      requires_python = python_text e.shared.value.requires_python;
       dependencies = e.shared.value.dependencies;
       sdist = e.shared.value.sdist;
       wheels = e.shared.value.wheels;
     } };
 
-    ghost invariant = { λ e. IsRead (record {
+    ghost invariant = { λ e. IsPackage (record {
       name = e.shared.value.name;
       version = e.shared.value.version;
-      requires_python = e.shared.value.requires_python;
+      requires_python = python_text e.shared.value.requires_python;
       dependencies = e.shared.value.dependencies;
       sdist = e.shared.value.sdist;
       wheels = e.shared.value.wheels;
-    }) e.shared.value.python };
+    }) };
 }
 
 impl Named for Entry {
@@ -110,24 +107,45 @@ impl Entry {
           wheels = wheels;
         })) }
     {
+        match checks::read_python(alloc, requires_python)? {
+            Some(python) => {
+                Entry::with_python(alloc, name, version, python, dependencies, sdist, wheels)
+            }
+            None => Ok(None),
+        }
+    }
+
+    /// The same of what is asked of Python, as it was read.
+    pub fn with_python(
+        alloc: Global,
+        name: Name,
+        version: Version,
+        requires_python: Option<RequiresPython>,
+        dependencies: Seq<Name>,
+        sdist: Option<FileEntry>,
+        wheels: Seq<FileEntry>,
+    ) -> Result<Option<Entry>, AllocError>
+        ensures { IfOk result (λ e. e ≡ entry_of (record {
+          name = name;
+          version = version;
+          requires_python = python_text requires_python;
+          dependencies = dependencies;
+          sdist = sdist;
+          wheels = wheels;
+        })) }
+    {
         name.recall_invariant();
         version.recall_invariant();
-        let python = match checks::python_of(alloc, &requires_python) {
-            Ok(python) => python,
-            Err(Fault::OutOfMemory) => return Err(AllocError),
-            Err(_) => return Ok(None),
-        };
-        let is_filled = checks::may_be_filled(&requires_python);
+        checks::recall_python(&requires_python);
         let are_dependencies = checks::are_dependencies(&name, dependencies.as_slice());
         let is_sdist = checks::may_be_sdist(&sdist);
         let are_wheels = checks::are_wheels(wheels.as_slice());
         let has_file = checks::has_file(&sdist, wheels.as_slice());
-        if is_filled && are_dependencies && is_sdist && are_wheels && has_file {
+        if are_dependencies && is_sdist && are_wheels && has_file {
             let content = Content {
                 name,
                 version,
                 requires_python,
-                python,
                 dependencies,
                 sdist,
                 wheels,
@@ -152,19 +170,11 @@ impl Entry {
         &self.shared.as_ref().version
     }
 
-    /// The Pythons that the package runs on, as the index tells them (PEP 440, "Version
-    /// specifiers").
-    pub fn requires_python(&self) -> &Option<Text>
-        ensures { result.now ≡ self.now.requires_python }
+    /// The Pythons that the package runs on, as the index tells them (core metadata, "Requires-Python").
+    pub fn requires_python(&self) -> &Option<RequiresPython>
+        ensures { python_text result.now ≡ self.now.requires_python }
     {
         &self.shared.as_ref().requires_python
-    }
-
-    /// The set of specifiers that `requires_python` reads as; none where it isn't there.
-    pub fn python(&self) -> Option<&SpecifierSet>
-        ensures { python_of self.now.requires_python ≡ Ok (option_copied result) }
-    {
-        self.shared.as_ref().python.as_ref()
     }
 
     /// The names of the packages that this one needs, in the order of their bytes.

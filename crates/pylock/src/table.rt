@@ -1,10 +1,12 @@
 // The TOML table of a lock.
 
 ghost use Rattle.std.specs.Prelude.{◌≡◌, ◌^◌, ◌∷◌, [], IfOk, Ok, nat_lt, string_bytes, true};
+ghost use Rattle.std.specs.Option.{option_map};
 ghost use Rattle.pep440.specs.Canonical.{canonical};
 ghost use Rattle.toml.specs.Data.{string};
 ghost use Rattle.toml.specs.View.{table_view, view};
 ghost use Rattle.pylock.specs.LockOfTable.{lock_in};
+ghost use Rattle.pylock.specs.Python.{python_text};
 ghost use Rattle.pylock.specs.Tables.{array_of, dependency_data, file_data, package_data, table_of, tool_data};
 
 use crate::entry::Entry;
@@ -14,8 +16,8 @@ use crate::values::{
     Written, array_value, insert, insert_some, only_key, some_array, some_value, text_value,
 };
 use lists::Text;
-use pep440::Version;
 use pep440::laws::a_canonical_text_is_read;
+use pep440::{RequiresPython, Version};
 use pep508::Name;
 use std::alloc::{AllocError, Global};
 use toml::{Table, Value};
@@ -74,6 +76,16 @@ impl Written for FileEntry {
     }
 }
 
+/// The text of what is asked of Python as a value, where something is asked.
+fn python_value(alloc: Global, python: &Option<RequiresPython>) -> Result<Option<Value>, AllocError>
+    ensures { IfOk result (λ v. option_map view v ≡ option_map string (python_text python.now)) }
+{
+    match python {
+        Some(python) => Ok(Some(text_value(alloc, python.text())?)),
+        None => Ok(None),
+    }
+}
+
 impl Written for Entry {
     ghost form = { package_data };
 
@@ -91,7 +103,7 @@ impl Written for Entry {
             "name",
             text_value(alloc, self.name().normal())?,
         )?;
-        let requires_python = some_value(alloc, self.requires_python())?;
+        let requires_python = python_value(alloc, self.requires_python())?;
         insert_some(alloc, &mut table, "requires-python", requires_python)?;
         insert_some(alloc, &mut table, "sdist", some_value(alloc, self.sdist())?)?;
         let version = canonical_text(alloc, self.version())?;

@@ -1,6 +1,6 @@
 // The text of why an input is refused.
 
-use files::InputFault;
+use inputs::InputFault;
 use pep508::{Cause, Fault as LineFault};
 use phrases::cause_word::cause_word;
 use pylock::Fault as LockFault;

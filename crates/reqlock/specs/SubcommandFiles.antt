@@ -9,8 +9,8 @@ use Rattle.command_line.specs.declared.invocation.Question.TheVariants as questi
 use Rattle.command_line.specs.declared.invocation.Shown.TheVariants as shown
 use Rattle.command_line.specs.declared.invocation.Subcommand.{Subcommand}
 use Rattle.command_line.specs.declared.invocation.Subcommand.TheVariants as subcommands
-use Rattle.files.specs.declared.input_files.InputFault.TheVariants as faults
-use Rattle.files.specs.declared.input_files.InputFile.TheVariants as files
+use Rattle.inputs.specs.declared.input_files.InputFault.TheVariants as faults
+use Rattle.inputs.specs.declared.input_files.InputFile.TheVariants as files
 
 -- the index of a subcommand, where it is given one
 abbrev pub index_of : Subcommand → Option (Bor (List ℕ))

@@ -11,8 +11,8 @@ use command_line::request::{
     ColorChoice, Inputs, Invocation, RequestFault, Saving, Subcommand, Verbosity, request,
 };
 use commands::batch::BatchFault;
-use files::LockFile;
-use files::target_files::{TargetFile, target_files};
+use inputs::LockFile;
+use inputs::target_files::{TargetFile, target_files};
 use journal::Command;
 use reports::report::{Status, report, report_fault};
 use saves::{

@@ -3,10 +3,10 @@
 use answers::{print_why, print_why_init, print_why_not, print_why_replace};
 use calls::{Call, Stop};
 use command_line::request::{Inputs, Question, Told};
-use files::LockFile;
 use files::first_inputs::FirstPaths;
-use files::pins_files::pins_paths;
-use files::target_files::TargetFile;
+use inputs::LockFile;
+use inputs::pins_files::pins_paths;
+use inputs::target_files::TargetFile;
 use std::alloc::Global;
 use std::io::{Read, Write};
 use std::rt::Files;

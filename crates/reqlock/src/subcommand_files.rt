@@ -5,7 +5,7 @@ ghost use Rattle.reqlock.specs.SubcommandFiles.{StopsForNoFolder, environments_o
 
 use calls::Stop;
 use command_line::request::{NewLines, Question, Saving, Shown, Subcommand};
-use files::{InputFault, InputFile, LockFile, lock_to_save};
+use inputs::{InputFault, InputFile, LockFile, lock_to_save};
 use lists::Text;
 use std::rt::Files;
 

@@ -4,7 +4,4 @@ pub use problems::laws::{
     admission_forgets_kept_versions, equal_versions_are_alike, the_best_solution_is_unique,
     the_rules_of_a_problem_are_lawful,
 };
-pub use refutations::laws::{
-    an_accepted_refutation_leaves_no_solution, what_follows_lies_in_no_solution,
-};
 pub use search::laws::a_picture_keeps_the_best_solution;

@@ -1,19 +1,13 @@
 // Resolvers.
 
-ghost use Rattle.std.specs.Prelude.{IfOk, MatchOption};
-ghost use Rattle.search.specs.Conflicts.{IsRefutation};
-ghost use Rattle.search.specs.SetConflicts.{IsSetRefutation};
-ghost use Rattle.problems.specs.Rules.{rules_of, same_version};
-ghost use Rattle.problems.specs.Solutions.{HasSolution};
+ghost use Rattle.std.specs.Prelude.{IfOk};
 ghost use Rattle.resolve.specs.Resolves.{Resolves};
 
 use crate::answer::Answer;
 use crate::method::Method;
-use crate::search_answer::{best, refuted};
-use crate::set_search_answer::refuted_by_sets;
+use crate::search_answer::best;
 use crate::walk::first_walk;
 use problems::Problem;
-use refutations::{Refutation, SetRefutation, cut};
 use std::alloc::{AllocError, Global};
 
 /// What finds the best solution of each problem, or tells that it has none.
@@ -54,38 +48,5 @@ pub const RESOLVER: Learning = Learning;
 impl Resolver for Learning {
     fn resolve(&self, alloc: Global, problem: &Problem<'_>) -> Result<Answer, AllocError> {
         walked_or_learned(alloc, problem)
-    }
-}
-
-impl Learning {
-    /// A refutation of the problem, which `check` accepts: of what the search has learned, the conflicts
-    /// that the last one rests on. Nothing where the problem has a solution.
-    pub fn refute(
-        &self,
-        alloc: Global,
-        problem: &Problem<'_>,
-    ) -> Result<Option<Refutation>, AllocError>
-        ensures { IfOk result
-            (λ found. MatchOption found (HasSolution problem.now)
-            (IsRefutation (rules_of problem.now) same_version)) }
-    {
-        match refuted(alloc, problem)? {
-            None => Ok(None),
-            Some(refutation) => Ok(Some(cut(alloc, problem, refutation)?)),
-        }
-    }
-
-    /// A refutation of the problem by conflicts of sets of versions, which `check_sets` accepts. Nothing
-    /// where the problem has a solution.
-    pub fn refute_sets(
-        &self,
-        alloc: Global,
-        problem: &Problem<'_>,
-    ) -> Result<Option<SetRefutation>, AllocError>
-        ensures { IfOk result
-            (λ found. MatchOption found (HasSolution problem.now)
-            (IsSetRefutation (rules_of problem.now) same_version)) }
-    {
-        refuted_by_sets(alloc, problem)
     }
 }

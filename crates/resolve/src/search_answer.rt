@@ -1,22 +1,16 @@
 // What a search of the table of a problem finds.
 
-ghost use Rattle.std.specs.Prelude.{IfOk, MatchOption};
-ghost use Rattle.search.specs.Conflicts.{IsRefutation};
-ghost use Rattle.problems.specs.Rules.{rules_of, same_version};
-ghost use Rattle.problems.specs.Solutions.{HasSolution};
+ghost use Rattle.std.specs.Prelude.{IfOk};
 ghost use Rattle.resolve.specs.Tied.Pictured.{IsPictured};
 ghost use Rattle.resolve.specs.Resolves.{Resolves};
 
 use crate::answer::Answer;
 use crate::method::Method;
-use crate::refutation::refutation_of;
 use crate::solution::versions_of;
 use crate::table::{Tabled, table_of};
-use learning_search::{Found, learned_or_refuted};
 use pep440::Version;
 use pep508::{Name, Requirement};
 use problems::{Node, Problem};
-use refutations::Refutation;
 use search::laws;
 use std::alloc::{AllocError, Global};
 
@@ -54,43 +48,4 @@ pub(crate) fn best(
 {
     let tabled = table_of(alloc, problem)?;
     best_in(alloc, problem, &tabled, method)
-}
-
-/// A refutation, or nothing where there is a solution, worked out on a table.
-pub(crate) fn refuted_in(
-    alloc: Global,
-    problem: &Problem<'_>,
-    tabled: &Tabled,
-) -> Result<Option<Refutation>, AllocError>
-    requires { IsPictured problem.now tabled.now.names tabled.now.nodes tabled.now.table }
-    ensures { IfOk result
-        (λ found. MatchOption found (HasSolution problem.now)
-        (IsRefutation (rules_of problem.now) same_version)) }
-{
-    laws::a_picture_keeps_the_best_solution::<Name, Node, Version, Requirement>();
-    laws::a_picture_keeps_refutations::<Name, Node, Version, Requirement>();
-    let table = &tabled.table;
-    // What is known of every table comes with its count.
-    let _count = table.name_count();
-    match learned_or_refuted(alloc, table)? {
-        Found::Best(_) => Ok(None),
-        Found::Refuted(conflicts) => {
-            let conflicts = conflicts.as_slice();
-            let refutation = refutation_of(alloc, problem, tabled, conflicts)?;
-            Ok(Some(refutation))
-        }
-    }
-}
-
-/// A refutation, or nothing where there is a solution, worked out on the table of the problem.
-pub(crate) fn refuted(
-    alloc: Global,
-    problem: &Problem<'_>,
-) -> Result<Option<Refutation>, AllocError>
-    ensures { IfOk result
-        (λ found. MatchOption found (HasSolution problem.now)
-        (IsRefutation (rules_of problem.now) same_version)) }
-{
-    let tabled = table_of(alloc, problem)?;
-    refuted_in(alloc, problem, &tabled)
 }

@@ -14,10 +14,10 @@ use std::alloc::{AllocError, Global};
 
 /// The table of a problem, and the names and nodes that its numbers stand for.
 #[derive(Drop)]
-pub(crate) struct Tabled {
-    pub(crate) names: Seq<Name>,
-    pub(crate) nodes: Seq<Node>,
-    pub(crate) table: Table,
+pub struct Tabled {
+    pub names: Seq<Name>,
+    pub nodes: Seq<Node>,
+    pub table: Table,
 }
 
 /// The candidates of a name, whose releases fall by version.
@@ -44,7 +44,7 @@ fn all_listed(
 }
 
 /// The table of a problem.
-pub(crate) fn table_of(alloc: Global, problem: &Problem<'_>) -> Result<Tabled, AllocError>
+pub fn table_of(alloc: Global, problem: &Problem<'_>) -> Result<Tabled, AllocError>
     ensures { IfOk result
         (λ tabled. IsPictured problem.now tabled.names tabled.nodes tabled.table) }
 {

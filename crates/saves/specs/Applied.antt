@@ -4,7 +4,7 @@ use Rattle.calls.specs.Stops.{stop_of}
 use Rattle.calls.specs.declared.stop.Stop.{Stop}
 use Rattle.calls.specs.declared.stop.Stop.TheVariants as stops
 use Rattle.commands.specs.declared.batch.BatchFault.TheVariants as batches
-use Rattle.files.specs.Faults.{fault_of}
+use Rattle.inputs.specs.Faults.{fault_of}
 use Rattle.journal.specs.Commands.{Asked}
 use Rattle.journal.specs.Past.{Past}
 use Rattle.journal.specs.Steps.{Step}

@@ -9,7 +9,7 @@ use commands::batch::accepted_in;
 use edits::Pool;
 use files::first_inputs::FirstPaths;
 use files::saved_history::{SavedHistory, history_to_save};
-use files::target_files::TargetFile;
+use inputs::target_files::TargetFile;
 use journal::Session;
 use std::alloc::Global;
 use std::io::{Read, Write};

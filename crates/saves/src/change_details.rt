@@ -5,6 +5,7 @@ use crate::details::Details;
 use calls::{Stop, change_between};
 use edits::{Change, Edit, Pool, Refusal, Snapshot, State, edit};
 use files::SavedFiles;
+use inputs::Fault;
 use journal::{Command, Session};
 use notes::{AppliedEdit, add_change_notes, add_lock_notes, add_moved, has_moved};
 use resolve::RESOLVER;
@@ -119,11 +120,13 @@ impl Details {
         if !self.manner.is_person {
             return Ok(0);
         }
-        let Ok(files) = SavedFiles::read(rt, dir) else {
-            return Ok(0);
+        let opened = match SavedFiles::read(rt, dir) {
+            Ok(files) => files.open(rt.alloc()),
+            Err(fault) => Err(fault),
         };
-        match files.open(rt.alloc()) {
+        match opened {
             Ok(session) => Ok(session.steps()),
+            Err(Fault::OutOfMemory) => Err(Stop::from(AllocError)),
             Err(_) => Ok(0),
         }
     }

@@ -1,7 +1,7 @@
 // What is told of a file of the folder that somebody else has changed: why it is refused, and what to type next.
 
 use crate::details::{CallFiles, Details};
-use files::InputFile;
+use inputs::InputFile;
 use notes::conflict_line;
 use phrases::add_word;
 use std::alloc::AllocError;

@@ -1,8 +1,8 @@
 // What is told on standard error beside a reply.
 
 use crate::manner::Manner;
-use files::target_files::TargetFile;
-use files::{InputFile, path_of};
+use inputs::target_files::TargetFile;
+use inputs::{InputFile, path_of};
 use notes::IndexPlan;
 use phrases::add_word;
 use std::alloc::{AllocError, Global};

@@ -6,7 +6,7 @@ ghost use Rattle.saves.specs.Applied.{GoesOn, StopsAt};
 
 use crate::change_details::Place;
 use crate::details::Details;
-use calls::{Call, Stop, pool_of, print};
+use calls::{Call, Stop, pool_of, print, unless_refused};
 use command_line::request::EditInputs;
 use commands::{ReplyText, is_accepted};
 use edits::Edit;
@@ -77,15 +77,13 @@ pub fn applied(
     ensures stopped { IfErr result
         (StopsAt session.old.past (asked_of command.now) session.new.past) }
 {
-    match session.apply(alloc, command, &RESOLVER) {
+    let reply = session.apply(alloc, command, &RESOLVER);
+    match &reply {
         Reply::Refused(refusal) => {
-            details.add_refusal(alloc, session.state(), command, &refusal)?;
-            Err(Stop::from(refusal))
+            details.add_refusal(alloc, session.state(), command, refusal)?;
         }
-        Reply::Same => {
-            details.add_same(command)?;
-            Ok(Reply::Same)
-        }
-        reply => Ok(reply),
+        Reply::Same => details.add_same(command)?,
+        Reply::Done(_) => {}
     }
+    unless_refused(reply)
 }

@@ -1,14 +1,11 @@
 // What is told of a file for which a call stops: why, and what to type next.
 
-ghost use Rattle.std.specs.Prelude.{◌≡◌, find};
-ghost use Rattle.std.specs.Option.{option_copied};
-ghost use Rattle.saves.specs.Environments.{has_name, path_named};
-
 use crate::details::{CallFiles, Details};
 use calls::Stop;
-use edits::{Cause, Refusal, TargetName};
-use files::target_files::TargetFile;
-use files::{InputFault, InputFile, LinkOut, NO_REGULAR_FILE, path_of, read_file};
+use edits::{Cause, Refusal};
+use files::LinkOut;
+use inputs::target_files::environment_path;
+use inputs::{InputFault, InputFile, NO_REGULAR_FILE, path_of, read_file};
 use notes::{
     BadEnvironment, ENVIRONMENT, INDEX, IndexPlan, add_bad_lines, add_environment_command,
     add_environment_note, add_index_note, form_of,
@@ -277,23 +274,6 @@ impl CallFiles<'_> {
             }
         }
     }
-}
-
-/// The path of the environment of a target; empty where no target has the name.
-fn environment_path<'a>(targets: &'a [TargetFile], name: &TargetName) -> &'a str
-    ensures { result.now ≡ path_named name.now targets.now }
-{
-    match target_named(targets, name.as_str()) {
-        Some(target) => target.path(),
-        None => "",
-    }
-}
-
-/// The target of a name.
-fn target_named<'a>(targets: &'a [TargetFile], name: &str) -> Option<&'a TargetFile>
-    ensures { option_copied result ≡ find (has_name name.now) targets.now }
-{
-    targets.iter().find(|target| target.name().as_str() == name)
 }
 
 /// The variable that an environment lacks or has wrong.

@@ -21,7 +21,7 @@ pub fn begin_history<R: Files + AllocGlobal, I: Read + Drop, O: Write>(
     input: I,
 ) -> Result<(), Stop> {
     let (rt, dir) = (call.rt, call.dir);
-    end_left(rt, dir)?;
+    let left = end_left(rt, dir)?;
     let steps_before = details.steps_before(rt, dir)?;
     let SavedHistory {
         files,
@@ -37,7 +37,7 @@ pub fn begin_history<R: Files + AllocGlobal, I: Read + Drop, O: Write>(
     text.set(&Reply::Done(session.cursor()));
     details.add_first_lock(rt.alloc(), &session, &snapshot)?;
     details.add_replaced(dir, steps_before)?;
-    remove_left(rt, dir, &session)?;
+    remove_left(rt, dir, left, &session)?;
     files.replace(rt, dir, &session)?;
     Ok(print(&mut call.output, text.as_bytes())?)
 }

@@ -1,2 +1,1 @@
 pub mod SetVerdict
-pub mod Tied

@@ -1,17 +1,17 @@
 // Conflict resolution: an incompatibility is derived from a conflict, until it says what to go back
 // to.
 
-use crate::derivation::DerivationCause;
 use crate::explanation::explain;
 use crate::instance::Instance;
-use crate::need::{NoneLeft, does_want};
 use crate::partial_assignment::PartialAssignment;
 use crate::propagation::Conflict;
-use crate::reason::Reason;
 use crate::search_state::{BUDGET, SearchState};
-use crate::table_term::TableTerm;
 use crate::terms::{copied, intersect, intersect_all, set_on, single, term_on};
 use lists::{Bits, Seq};
+use set_conflicts::derivation::DerivationCause;
+use set_conflicts::need::{NoneLeft, does_want};
+use set_conflicts::reason::Reason;
+use set_conflicts::table_term::TableTerm;
 use std::alloc::{AllocError, Global};
 
 /// An incompatibility that all derivations so far satisfy, and its place among those that were

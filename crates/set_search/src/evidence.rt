@@ -1,16 +1,16 @@
 // The search itself, and the evidence that it hands out.
 
 use crate::conflict_resolution::{Resolution, resolution_of};
-use crate::derivation::{Derivation, DerivationCause};
 use crate::instance::{Instance, TableSets};
 use crate::propagation::Conflict;
-use crate::refutation::Incompatibility;
-use crate::replay::Move;
 use crate::search_state::{BUDGET, SearchState};
 use crate::unit_propagation::{propagate, propagate_learned, propagate_table};
 use crate::walk::Walked;
 use lists::Seq;
 use search::Table;
+use set_conflicts::derivation::{Derivation, DerivationCause};
+use set_conflicts::refutation::Incompatibility;
+use set_conflicts::replay::Move;
 use std::alloc::{AllocError, Global};
 
 /// What a search hands out. Nothing is claimed of it.

@@ -1,16 +1,16 @@
 // The incompatibilities by which candidates were excluded, each recorded with its reason.
 
-use crate::clash::does_pair_clash;
-use crate::derivation::DerivationCause;
 use crate::instance::Instance;
-use crate::places::set_of;
-use crate::reason::Reason;
 use crate::search_state::SearchState;
-use crate::table_term::TableTerm;
 use crate::terms::single;
 use lists::Bits;
 use search::{Decision, Table};
-use std::alloc::{AllocError, Global};
+use set_conflicts::clash::does_pair_clash;
+use set_conflicts::derivation::DerivationCause;
+use set_conflicts::places::set_of;
+use set_conflicts::reason::Reason;
+use set_conflicts::table_term::TableTerm;
+use std::alloc::AllocError;
 
 /// The places of a term that a release at another node doesn't refuse.
 fn not_refused(

@@ -2,9 +2,9 @@
 
 ghost use Rattle.std.specs.Prelude.{◌<◌, length};
 
-use crate::places::set_of;
 use lists::Bits;
 use search::Table;
+use set_conflicts::places::set_of;
 use std::alloc::{AllocError, Global};
 
 /// What a table says of its names and nodes, as lists and sets.

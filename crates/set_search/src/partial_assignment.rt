@@ -1,11 +1,11 @@
 // The partial assignment of a search: what is left of each node, which nodes are needed, and how
 // that came about.
 
-use crate::derivation::{Derivation, DerivationCause};
-use crate::domains::Domains;
 use crate::instance::Instance;
-use crate::table_term::TableTerm;
 use lists::Bits;
+use set_conflicts::derivation::{Derivation, DerivationCause};
+use set_conflicts::domains::Domains;
+use set_conflicts::table_term::TableTerm;
 use std::alloc::{AllocError, Global};
 
 /// What was left of a node behind the derivation at a place of the trail.

@@ -1,6 +1,6 @@
 // What unit propagation has still to look at, and the conflict that it met.
 
-use crate::flags::{flag, set_flag};
+use set_conflicts::flags::{flag, set_flag};
 use std::alloc::{AllocError, Global};
 
 /// What can't be.

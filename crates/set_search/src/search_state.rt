@@ -1,14 +1,14 @@
 // What a search knows. None of it is trusted: whatever it hands out is tested.
 
-use crate::derivation::DerivationCause;
 use crate::instance::Instance;
 use crate::partial_assignment::PartialAssignment;
 use crate::propagation::{Conflict, Propagation};
-use crate::reason::Reason;
-use crate::refutation::Incompatibility;
-use crate::table_term::TableTerm;
 use crate::walk::Walk;
 use lists::{Bits, Seq};
+use set_conflicts::derivation::DerivationCause;
+use set_conflicts::reason::Reason;
+use set_conflicts::refutation::Incompatibility;
+use set_conflicts::table_term::TableTerm;
 use std::alloc::{AllocError, Global};
 
 /// How many rounds a search may take, and how many steps the resolution of one conflict.

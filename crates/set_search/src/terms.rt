@@ -1,7 +1,7 @@
 // Lists of terms, of which conflicts are made.
 
-use crate::table_term::TableTerm;
 use lists::Bits;
+use set_conflicts::table_term::TableTerm;
 use std::alloc::{AllocError, Global};
 
 /// Copies terms.

@@ -1,13 +1,13 @@
 // Unit propagation: what follows from what is left.
 
-use crate::derivation::DerivationCause;
-use crate::domains::Domains;
 use crate::instance::Instance;
 use crate::propagation::Conflict;
 use crate::search_state::SearchState;
-use crate::table_term::TableTerm;
 use crate::terms::term_on;
 use lists::{Bits, Seq};
+use set_conflicts::derivation::DerivationCause;
+use set_conflicts::domains::Domains;
+use set_conflicts::table_term::TableTerm;
 use std::alloc::{AllocError, Global};
 
 /// Excludes at each node of a requirement's name what it doesn't admit.

@@ -1,6 +1,6 @@
 // The best solution of a table, or a refutation, by the search over sets.
 
-ghost use Rattle.std.specs.Prelude.{◌≡◌, ℕ, List, [], IfOk, IfSome};
+ghost use Rattle.std.specs.Prelude.{[], IfOk, IfSome};
 ghost use Rattle.search.specs.Known.{AreKnownSets};
 ghost use Rattle.search.specs.SetConflicts.{IsSetRefutation};
 ghost use Rattle.search.specs.Solutions.{HasNoSolution, IsBest};
@@ -8,12 +8,12 @@ ghost use Rattle.search.specs.Table.{IsAscending, place_in, places_eq, rules_of}
 ghost use Rattle.set_search.specs.SetVerdict.{MatchSetVerdict};
 
 use crate::evidence::{Evidence, evidence_of};
-use crate::known_terms::are_known;
-use crate::refutation::{Incompatibility, list_of, refutation_of};
-use crate::replay::{Move, replayed};
-use crate::table_term::TableTerm;
 use lists::Seq;
 use search::{Table, TableChoice};
+use set_conflicts::known_terms::are_known;
+use set_conflicts::refutation::{Incompatibility, list_of, refutation_of};
+use set_conflicts::replay::{Move, replayed};
+use set_conflicts::table_term::TableTerm;
 use std::alloc::{AllocError, Global};
 
 /// What a search over sets finds.

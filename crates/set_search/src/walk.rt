@@ -1,9 +1,9 @@
 // The walk: the least name that is required and not walked is next, with the first candidate that
 // is left.
 
-use crate::flags::{flag, set_flag};
 use crate::instance::Instance;
 use lists::Bits;
+use set_conflicts::flags::{flag, set_flag};
 use std::alloc::{AllocError, Global};
 
 /// A name that was walked, by a node of it, and how long the trail was before.

@@ -12,16 +12,16 @@ use Rattle.std.specs.Option.{option_or}
 use Rattle.serde_json.specs.Data.{Data, no_items}
 use Rattle.serde_json.specs.Find.{as_array, as_bool, as_number, as_str, as_u64, get}
 use Rattle.pep440.specs.declared.fault.Fault.{Fault as VersionFault}
-use Rattle.pep440.specs.declared.specifier.Clause.{Clause}
-use Rattle.pep440.specs.Tied.Sets.{set_of}
 use Rattle.snapshot.specs.declared.file.ReleaseFile.{ReleaseFile}
 use Rattle.snapshot.specs.declared.form.Form.{Form}
 use Rattle.snapshot.specs.declared.form.Form.TheVariants.{Wheel, TarGz, Zip, Other}
-use Rattle.snapshot.specs.declared.python.RequiresPython.{RequiresPython}
 use Rattle.snapshot.specs.Files.{as_digest, as_filled, as_size, digest_in, file_of, fitting_size, form_of, has_file, is_digest, is_tar_gz, is_wheel, is_zip, name_cmp, sdist_of, wheels_of}
 use Rattle.snapshot.specs.Lawful.{IsFile, IsRelease, IsSdist, IsWheel}
 use Rattle.snapshot.specs.Tied.OrderLaws.{name_total}
-use Rattle.snapshot.specs.Python.{is_blank, python_of, python_with}
+use Rattle.pep440.proofs.PythonFacts.{read-again}
+use Rattle.pep440.specs.Python as python
+use Rattle.pep440.specs.Python.{PythonParts}
+use Rattle.snapshot.specs.Python.{or_skipped, python_of}
 use Rattle.snapshot.specs.Release.{Release}
 use Rattle.snapshot.specs.Releases.{listed_of}
 use Rattle.snapshot.specs.declared.listed.Listed.{Listed}
@@ -155,16 +155,13 @@ sdist-lawful files all = sdist-by _ _ (found-passes (λ f. is_tar_gz (form_of f.
 
 -- ---- the release
 
-text-by : (b : Bool) (text : List ℕ) (read : Result (List Clause) VersionFault) (p : RequiresPython) → cond b (Ok None) (python_with text read) ≡ Ok (Some p) → text ≡ p.text
-text-by true text read p e = absurd cc
-text-by false text (Ok clauses) p e = cc
-text-by false text (Err fault) p e = absurd cc
+not-skipped : (read : Result (Option PythonParts) VersionFault) (o : Option PythonParts) → or_skipped read ≡ Ok o → read ≡ Ok o
+not-skipped (Ok found) o e = cc e
+not-skipped (Err fault) o e = cc e
 
-python-lawful : (text : List ℕ) (o : Option RequiresPython) → python_of text ≡ Ok o → MatchOption o Unit (λ p. python_of p.text ≡ Ok (Some p))
+python-lawful : (text : List ℕ) (o : Option PythonParts) → python_of text ≡ Ok o → MatchOption o Unit (λ p. python.python_of p.text ≡ Ok (Some p))
 python-lawful text None e = tt
-python-lawful text (Some p) e =
-    let same : text ≡ p.text = text-by (is_blank text) text (set_of text) p e in
-    rw same at e
+python-lawful text (Some p) e = read-again text p (not-skipped (python.python_of text) (Some p) e)
 
 -- a release of lawful files that has a file
 pub release-lawful : (text : List ℕ) (files : List ReleaseFile) (r : Release) → AllByRecursion IsFile files → python_of text ≡ Ok r.requires_python → r.sdist ≡ sdist_of files → r.wheels ≡ wheels_of files → has_file r.sdist r.wheels ≡ true → IsRelease r

@@ -5,7 +5,7 @@ use Rattle.std.specs.List.Sorted.{IsStrictlySortedBy}
 use Rattle.snapshot.specs.declared.file.ReleaseFile.{ReleaseFile}
 use Rattle.snapshot.specs.declared.form.Form.TheVariants.{Wheel}
 use Rattle.snapshot.specs.Files.{digest_in, fitting_size, form_of, has_file, is_tar_gz, is_zip, name_cmp}
-use Rattle.snapshot.specs.Python.{python_of}
+use Rattle.pep440.specs.Python.{python_of}
 use Rattle.snapshot.specs.Release.{Release}
 
 -- a file's size fits, and its digest is in lower case

@@ -22,7 +22,6 @@ mod listed;
 mod members;
 mod package;
 mod pass;
-mod python;
 mod release;
 mod shape;
 mod skipped;
@@ -31,10 +30,10 @@ mod usable;
 
 pub use crate::fault::Fault;
 pub use crate::file::ReleaseFile;
-pub use crate::python::RequiresPython;
 pub use crate::release::Release;
 pub use crate::skipped::{SkipCause, Skipped};
 pub use crate::snapshot::Snapshot;
+pub use pep440::RequiresPython;
 pub use pep508::{
     Cause, Clause, Comparison, Environment, Fault as LineFault, Line, LocalPart, Marker, Name,
     Operator, Pre, ReqFile, ReqLine, Requirement, SpecifierSet, SpecifierText, Variable, Version,

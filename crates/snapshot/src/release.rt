@@ -10,9 +10,8 @@ pub(crate) mod reading;
 
 use crate::chosen::Chosen;
 use crate::file::ReleaseFile;
-use crate::python::RequiresPython;
 use lists::Seq;
-use pep440::Version;
+use pep440::{RequiresPython, Version};
 use pep508::Requirement;
 use std::cmp::Ordering;
 use std::marker::Model;

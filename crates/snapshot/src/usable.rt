@@ -14,11 +14,10 @@ use crate::chosen::{Chosen, choose};
 use crate::fault::Fault;
 use crate::known::Known;
 use crate::listed::Listed;
-use crate::python::RequiresPython;
 use crate::release::Release;
 use crate::skipped::SkipCause;
-use lists::{Seq, Text, is_blank};
-use pep440::{Fault as VersionFault, SpecifierSet, Version};
+use lists::{Seq, Text};
+use pep440::{Fault as VersionFault, RequiresPython, Version};
 use pep508::{Cause, Requirement};
 use std::alloc::Global;
 
@@ -56,11 +55,8 @@ fn version_of(alloc: Global, text: &str) -> Result<Result<Version, SkipCause>, F
 fn python_of(alloc: Global, text: Text) -> Result<Result<Option<RequiresPython>, SkipCause>, Fault>
     ensures { Gives (λ p. p) (Ok (python_of text)) result }
 {
-    if is_blank(text.as_str()) {
-        return Ok(Ok(None));
-    }
-    match SpecifierSet::parse(alloc, text.as_str()) {
-        Ok(set) => Ok(Ok(Some(RequiresPython::new(text, set)))),
+    match RequiresPython::parse(alloc, text) {
+        Ok(python) => Ok(Ok(python)),
         Err(VersionFault::OutOfMemory) => Err(Fault::OutOfMemory),
         Err(fault) => Ok(Err(SkipCause::RequiresPython(fault))),
     }

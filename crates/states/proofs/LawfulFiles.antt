@@ -8,20 +8,17 @@ use Rattle.std.specs.List.{AllByRecursion, list_all}
 use Rattle.std.specs.List.Sorted.{IsStrictlySortedBy}
 use Rattle.std.specs.Option.{MatchOption, option_map, option_map_or}
 use Rattle.std.specs.Ordering.{nat_cmp}
-use Rattle.std.specs.Prelude.{codes, is_ok, is_some, nat_le, nat_lt, if◌then◌else◌}
+use Rattle.std.specs.Prelude.{codes, is_some, nat_le, nat_lt, if◌then◌else◌}
 use Rattle.markers.specs.Names.{is_normal}
-use Rattle.pep440.specs.Tied.Sets.{set_of}
 use Rattle.pep440.specs.Version.{VersionParts}
-use Rattle.pep440.specs.declared.fault.Fault.{Fault}
-use Rattle.pep440.specs.declared.specifier.Clause.{Clause}
 use Rattle.pylock.specs.Files.{has_ending, is_digest, is_digest_byte, is_file, is_sdist, is_wheel}
 use Rattle.pylock.specs.Order.{rises}
 use Rattle.pylock.specs.Packages.{are_dependencies, are_wheels, entry_of, is_package, is_python}
 use Rattle.snapshot.specs.declared.file.ReleaseFile.{ReleaseFile}
-use Rattle.snapshot.specs.declared.python.RequiresPython.{RequiresPython}
+use Rattle.pep440.proofs.PythonFacts.{fits}
+use Rattle.pep440.specs.Python.{PythonParts, python_of}
 use Rattle.snapshot.specs.Files as index
 use Rattle.snapshot.specs.Lawful.{IsFile, IsRelease, IsSdist, IsWheel}
-use Rattle.snapshot.specs.Python.{is_blank, python_of, python_with}
 use Rattle.snapshot.specs.Release.{Release}
 use Rattle.states.specs.Entries.{entry_with}
 use Rattle.states.specs.Locks.{listed}
@@ -122,17 +119,9 @@ some_file None [] h = cc
 
 -- ---- Python
 
-read-by : (text : List ℕ) (p : RequiresPython) (blank : Bool) (r : Result (List Clause) Fault) → (if blank then Ok None else python_with text r) ≡ Ok (Some p) → (not blank && is_ok r) ≡ true
-read-by text p true r h = cc
-read-by text p false (Ok clauses) h = refl
-read-by text p false (Err fault) h = cc
-
-python-fits : (p : RequiresPython) → python_of p.text ≡ Ok (Some p) → is_python p.text ≡ true
-python-fits p h = read-by p.text p (is_blank p.text) (set_of p.text) h
-
-some_python-fits : (p : Option RequiresPython) → MatchOption p Unit (λ p. python_of p.text ≡ Ok (Some p)) → option_map_or is_python (option_map (λ p. p.text) p) true ≡ true
+some_python-fits : (p : Option PythonParts) → MatchOption p Unit (λ p. python_of p.text ≡ Ok (Some p)) → option_map_or is_python (option_map (λ p. p.text) p) true ≡ true
 some_python-fits None h = refl
-some_python-fits (Some p) h = python-fits p h
+some_python-fits (Some p) h = fits p h
 
 -- ---- entries
 

@@ -10,9 +10,7 @@ use Rattle.markers.specs.Environment.{Texts, text_of}
 use Rattle.markers.specs.declared.variable.Variable.TheVariants.{PythonFullVersion}
 use Rattle.pep440.specs.Matching.{matches}
 use Rattle.pep440.specs.Order.{version_cmp}
-use Rattle.pep440.specs.Tied.Sets.{set_of}
 use Rattle.pep440.specs.Version.{VersionParts}
-use Rattle.pep440.specs.declared.fault.Fault.{Fault}
 use Rattle.pep440.specs.declared.specifier.Clause.{Clause}
 use Rattle.pep508.specs.Requirement.{RequirementParts}
 use Rattle.pylock.specs.Locks.{IsLock, LockParts}
@@ -20,8 +18,8 @@ use Rattle.pylock.specs.Packages.{EntryParts}
 use Rattle.search.specs.Solutions.{Needed, Solution, by_dependency, by_line}
 use Rattle.snapshot.specs.Lawful.{IsRelease}
 use Rattle.snapshot.specs.Release.{Release}
-use Rattle.snapshot.specs.Python.{is_blank, python_of, python_with}
-use Rattle.snapshot.specs.declared.python.RequiresPython.{RequiresPython}
+use Rattle.pep440.proofs.PythonFacts.{set-read}
+use Rattle.pep440.specs.Python.{PythonParts, python_of}
 use Rattle.problems.specs.Admission.{admits, admits_release, fits, admits_python as runs_with, has_version, meets_python, release_at}
 use Rattle.problems.specs.Problem.{ProblemParts, releases_on, requirements}
 use Rattle.problems.specs.Rules.{bare, nodes_of, rules_of, wants, with_extra}
@@ -46,24 +44,12 @@ MatchAlike = (clauses : List Clause) (v w : VersionParts) → version_cmp v w �
 
 -- ---- what a release asks of Python
 
-set-with : (p : RequiresPython) (r : Result (List Clause) Fault) → python_with p.text r ≡ Ok (Some p) → r ≡ Ok p.set
-set-with p (Ok clauses) e = let same : record { text = p.text; set = clauses } ≡ p = cc in ap (λ (q : RequiresPython). Ok q.set) same
-set-with p (Err fault) e = absurd cc
-
-set-unless : (p : RequiresPython) (blank : Bool) (r : Result (List Clause) Fault) → (if blank then Ok None else python_with p.text r) ≡ Ok (Some p) → r ≡ Ok p.set
-set-unless p true r e = absurd cc
-set-unless p false r e = set-with p r e
-
--- a text that was read is one of its set
-set-read : (p : RequiresPython) → python_of p.text ≡ Ok (Some p) → set_of p.text ≡ Ok p.set
-set-read p e = set-unless p (is_blank p.text) (set_of p.text) e
-
-set-has : (p : RequiresPython) (version : Option VersionParts) → runs_with p version ≡ true → set_has (Ok p.set) version ≡ true
+set-has : (p : PythonParts) (version : Option VersionParts) → runs_with p version ≡ true → set_has (Ok p.set) version ≡ true
 set-has p None met = met
 set-has p (Some version) met = met
 
 -- an entry runs where its release does
-runs-from : (environment : Texts) (python : Option RequiresPython) → MatchOption python Unit (λ p. python_of p.text ≡ Ok (Some p)) → meets_python environment python ≡ true
+runs-from : (environment : Texts) (python : Option PythonParts) → MatchOption python Unit (λ p. python_of p.text ≡ Ok (Some p)) → meets_python environment python ≡ true
     → option_map_or (is_for_python environment) (option_map (λ p. p.text) python) true ≡ true
 runs-from environment None lawful met = refl
 runs-from environment (Some p) lawful met = rw (set-read p lawful) (set-has p (version_read (text_of environment PythonFullVersion)) met)

@@ -1,6 +1,6 @@
 -- The lock of a problem: its best solution, with what each package asks of Python, which packages it needs, and its files.
 -- All of it is reqlock's own rule.
-use Rattle.std.specs.Prelude.{◌≡◌, ◌≢◌, ◌↔◌, ℕ, List, [], map, Option, Some, None, option_map}
+use Rattle.std.specs.Prelude.{◌≡◌, ◌≢◌, ◌↔◌, ℕ, Bool, true, false, not, List, [], map, Option, Some, None, option_map}
 use Rattle.std.specs.Cmp.Lexicographic.{slice_cmp}
 use Rattle.std.specs.List.{AllZip, Contains}
 use Rattle.std.specs.List.Sorted.{IsStrictlySortedBy}
@@ -17,7 +17,7 @@ use Rattle.snapshot.specs.Release.{Release}
 use Rattle.snapshot.specs.declared.file.ReleaseFile.{ReleaseFile}
 use Rattle.problems.specs.Admission.{release_at}
 use Rattle.problems.specs.Problem.{ProblemParts, requirements}
-use Rattle.problems.specs.Rules.{rules_of, wants}
+use Rattle.problems.specs.Rules.{rules_of, same_version, wants}
 use Rattle.problems.specs.Solutions.{version_for}
 use Rattle.problems.specs.declared.node.Node.{Node}
 use Rattle.states.specs.Pool.{PoolParts}
@@ -28,6 +28,16 @@ use Rattle.states.specs.declared.target.Target.{Target}
 -- the names of a lock, each with its version: what a later lock keeps
 abbrev pub versions_of : List EntryParts → List (List ℕ × VersionParts)
 versions_of entries = map (λ e. (e.name, e.version)) entries
+
+-- a version is locked, and it isn't the one that is asked about, if there is one
+abbrev pub is_other : Option VersionParts → Option VersionParts → Bool
+is_other asked None = false
+is_other None (Some locked) = true
+is_other (Some version) (Some locked) = not (same_version version locked)
+
+-- a target locks a name, and not at this version, if one is given
+abbrev pub locks_another : Target → List ℕ → Option VersionParts → Bool
+locks_another target name version = is_other version (version_for (versions_of target.lock.entries) name)
 
 -- what a release asks of Python, as the index has it
 abbrev pub python_text : Option Release → Option (List ℕ)

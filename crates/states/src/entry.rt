@@ -1,6 +1,7 @@
 // Entries of a lock, each made of a release.
 
 ghost use Rattle.std.specs.Prelude.{◌≡◌, IfOk, IsSome, true};
+ghost use Rattle.std.specs.Option.{option_map};
 ghost use Rattle.problems.specs.Admission.{release_at};
 ghost use Rattle.pylock.specs.Packages.{are_dependencies};
 ghost use Rattle.snapshot.specs.Lawful.{IsRelease};
@@ -8,19 +9,19 @@ ghost use Rattle.states.specs.Entries.{HasRelease, entry_with};
 ghost use Rattle.states.specs.Locks.{listed, python_text, sdist_of, wheels_of};
 
 use lists::{Seq, Text};
-use pep440::Version;
+use pep440::{RequiresPython, Version};
 use pep508::Name;
 use pylock::{Entry, FileEntry};
 use resolve::Problem;
 use snapshot::{Release, ReleaseFile};
 use std::alloc::{AllocError, Global};
 
-/// The text of what the release asks of Python.
-fn python_text(alloc: Global, release: &Release) -> Result<Option<Text>, AllocError>
-    ensures { IfOk result (λ text. text ≡ python_text (Some release.now)) }
+/// What the release asks of Python.
+fn python_of(release: &Release) -> Result<Option<RequiresPython>, AllocError>
+    ensures { IfOk result (λ python. option_map (λ p. p.text) python ≡ python_text (Some release.now)) }
 {
     match release.requires_python() {
-        Some(python) => Ok(Some(Text::copy_of(alloc, python.text())?)),
+        Some(python) => Ok(Some(python.clone()?)),
         None => Ok(None),
     }
 }
@@ -77,10 +78,10 @@ fn entry_with(
 {
     name.recall_invariant();
     release.recall_invariant();
-    let python = python_text(alloc, release)?;
+    let python = python_of(release)?;
     let sdist = sdist_of(alloc, release)?;
     let wheels = wheels_of(alloc, release)?;
-    match Entry::new(alloc, name, version, python, dependencies, sdist, wheels)? {
+    match Entry::with_python(alloc, name, version, python, dependencies, sdist, wheels)? {
         Some(entry) => Ok(entry),
         None => unreachable!(),
     }

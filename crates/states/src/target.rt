@@ -6,7 +6,7 @@ ghost use Rattle.std.specs.Cmp.Lexicographic.{slice_cmp};
 ghost use Rattle.std.specs.Option.{option_copied};
 ghost use Rattle.std.specs.Ordering.{nat_cmp};
 ghost use Rattle.problems.specs.Solutions.{version_for};
-ghost use Rattle.states.specs.Locks.{versions_of};
+ghost use Rattle.states.specs.Locks.{is_other, locks_another, versions_of};
 
 use crate::state::lock_for_lines::entry_on;
 use crate::target_name::TargetName;
@@ -61,6 +61,17 @@ fn versions_of(alloc: Global, lock: &Lock) -> Result<BTreeMap<Name, Version>, Al
     Ok(versions)
 }
 
+/// Whether a version is locked that isn't the one that is asked about.
+fn is_other(asked: &Option<Version>, locked: Option<&Version>) -> bool
+    ensures { result ≡ is_other asked.now (option_copied locked.entry) }
+{
+    match (locked, asked) {
+        (Some(locked), Some(version)) => !version.cmp(locked).is_eq(),
+        (Some(_), None) => true,
+        (None, _) => false,
+    }
+}
+
 impl Target {
     /// The locked version of the name.
     pub fn locked(&self, name: &Name) -> Option<&Version>
@@ -71,6 +82,13 @@ impl Target {
             return None;
         };
         Some(entry.version())
+    }
+
+    /// Whether the name is locked, and not at this version, if one is given.
+    pub fn locks_another(&self, name: &Name, version: &Option<Version>) -> bool
+        ensures { result ≡ locks_another self.now name.now version.now }
+    {
+        is_other(version, self.locked(name))
     }
 
     /// The locked versions by their names, to be kept by a later lock.

@@ -135,31 +135,13 @@ impl Style {
         text.push_str("\n")
     }
 
-    /// Each line of the sentence but the first begins with the indent.
     fn add_sentence(
         self,
         text: &mut String,
         sentence: &str,
         indent: &str,
     ) -> Result<(), AllocError> {
-        let most = self.width.unwrap_or(usize::MAX);
-        let mut width: usize = 0;
-        for word in sentence.split(' ') {
-            let count = word.chars().count();
-            let behind = width.saturating_add(count).saturating_add(1);
-            if width == 0 {
-                width = count;
-            } else if behind > most {
-                text.push_str("\n")?;
-                text.push_str(indent)?;
-                width = indent.len().saturating_add(count);
-            } else {
-                text.push_str(" ")?;
-                width = behind;
-            }
-            text.push_str(word)?;
-        }
-        text.push_str("\n")
+        add_wrapped(text, sentence, indent, self.width.unwrap_or(usize::MAX))
     }
 
     /// A part of a text, as it looks where there are colours.
@@ -169,6 +151,33 @@ impl Style {
         }
         add_inked(text, ink, part)
     }
+}
+
+/// Puts a sentence behind the text, in lines that end between words. A line has so many characters at most, unless one
+/// word has more, and each but the first begins with the indent.
+pub fn add_wrapped(
+    text: &mut String,
+    sentence: &str,
+    indent: &str,
+    most: usize,
+) -> Result<(), AllocError> {
+    let mut width: usize = 0;
+    for word in sentence.split(' ') {
+        let count = word.chars().count();
+        let behind = width.saturating_add(count).saturating_add(1);
+        if width == 0 {
+            width = count;
+        } else if behind > most {
+            text.push_str("\n")?;
+            text.push_str(indent)?;
+            width = indent.len().saturating_add(count);
+        } else {
+            text.push_str(" ")?;
+            width = behind;
+        }
+        text.push_str(word)?;
+    }
+    text.push_str("\n")
 }
 
 fn add_inked(text: &mut String, ink: Ink, part: &str) -> Result<(), AllocError> {

@@ -13,7 +13,7 @@ pub(crate) fn entry_value(alloc: Global, entry: &Entry) -> Result<Value, AllocEr
     let version = version_value(alloc, entry.version())?;
     put(&mut members, alloc, "version", version)?;
     let python = match entry.requires_python() {
-        Some(python) => text_value(alloc, python.as_str())?,
+        Some(python) => text_value(alloc, python.text())?,
         None => Value::Null,
     };
     put(&mut members, alloc, "requires_python", python)?;

@@ -56,7 +56,7 @@ fn add_entry(
     text.push_str("\n")?;
     if let Some(python) = entry.requires_python() {
         text.push_str("  requires Python ")?;
-        add_plain(text, python.as_str().trim())?;
+        add_plain(text, python.text().trim())?;
         text.push_str("\n")?;
     }
     for by in requirers {

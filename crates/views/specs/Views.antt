@@ -11,7 +11,7 @@ use Rattle.changes.specs.Changes.{After, ChangeParts}
 use Rattle.edits.specs.Edits.{EditResult}
 use Rattle.edits.specs.declared.request.Edit.TheVariants.{Relock}
 use Rattle.commands.specs.declared.batch.BatchFault.TheVariants as batches
-use Rattle.files.specs.Faults.{fault_of}
+use Rattle.inputs.specs.Faults.{fault_of}
 use Rattle.calls.specs.Stops.{stop_of}
 use Rattle.calls.specs.declared.stop.Stop.{Stop}
 use Rattle.calls.specs.declared.stop.Stop.TheVariants as stops

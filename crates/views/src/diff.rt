@@ -5,8 +5,8 @@ ghost use Rattle.views.specs.Views.{places_in};
 
 use calls::{Call, Stop, change_between, show};
 use command_line::request::{DiffRange, Format};
-use files::LockFile;
 use files::saved_history::saved_session;
+use inputs::LockFile;
 use std::io::Write;
 use std::rt::Files;
 use texts::diff_json::diff_json;

@@ -8,8 +8,8 @@ use edits::{State, Target};
 use exports::{
     graph_text, marker_text_of, portable_text, requirements_text, target_named, unbound_text,
 };
-use files::LockFile;
 use files::saved_history::{saved_session, session_over};
+use inputs::LockFile;
 use questions::conditions_of;
 use std::alloc::{AllocError, Global};
 use std::io::Write;

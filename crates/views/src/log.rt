@@ -2,8 +2,8 @@
 
 use calls::{Call, Stop, show};
 use command_line::request::Format;
-use files::LockFile;
 use files::saved_history::saved_session;
+use inputs::LockFile;
 use std::io::Write;
 use std::rt::Files;
 use texts::history_text::history_text;

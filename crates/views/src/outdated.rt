@@ -2,8 +2,8 @@
 
 use calls::{Call, Stop, show};
 use command_line::request::Format;
-use files::LockFile;
 use files::saved_history::session_over;
+use inputs::LockFile;
 use std::io::Write;
 use std::rt::Files;
 use texts::outdated_text::{outdated_json, outdated_text};

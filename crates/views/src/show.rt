@@ -3,8 +3,8 @@
 use calls::{Call, Stop, show};
 use command_line::request::{Format, Shown};
 use edits::{Name, Refusal, State};
-use files::LockFile;
 use files::saved_history::{saved_session, session_over};
+use inputs::LockFile;
 use journal::Session;
 use lists::Text;
 use pep508::Cause;

@@ -1,7 +1,7 @@
 // What `skipped` prints.
 
 use calls::{Call, Stop, show};
-use files::{InputFile, in_file, read_bytes, read_index};
+use inputs::{InputFile, in_file, read_bytes, read_index};
 use phrases::skipped_text::skipped_text;
 use std::io::Write;
 use std::rt::Files;

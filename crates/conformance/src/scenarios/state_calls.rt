@@ -7,8 +7,9 @@ use crate::scenarios::told::Tell;
 use crate::scenarios::told_commands::edit_of;
 use crate::targets::{locks_of, targets_of};
 use edits::{Edit, Pool, Refusal, Snapshot, State, problem_after};
-use journal::Learning;
-use resolve::{Problem, check};
+use refutations::check;
+use refute::refute_singly;
+use resolve::Problem;
 use std::alloc::Global;
 use std::io::Write;
 
@@ -106,12 +107,12 @@ fn refuted<W: Write>(alloc: Global, out: &mut W, mut problem: Problem<'_>) -> Op
         alloc,
         out,
         &mut problem,
-        |problem| Learning.refute(alloc, problem),
+        |problem| refute_singly(alloc, problem),
     )
 }
 
 fn checked<W: Write>(alloc: Global, out: &mut W, mut problem: Problem<'_>) -> Option<()> {
-    let refutation = Learning.refute(alloc, &problem).ok()??;
+    let refutation = refute_singly(alloc, &problem).ok()??;
     play(
         alloc,
         out,

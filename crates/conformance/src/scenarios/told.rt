@@ -8,7 +8,8 @@ use journal::{History, Plain, Reply, Resolver, Saved, Session, WholeHistory};
 use lists::Seq;
 use pep440::{SpecifierSet, Version};
 use pep508::Name;
-use resolve::{Answer, Choice, Problem, Refutation};
+use refutations::{Choice, Refutation};
+use resolve::{Answer, Problem};
 use std::alloc::Global;
 
 /// A value that is told in a text, with ample memory.
@@ -142,7 +143,11 @@ fn tell_releases(snapshot: &Snapshot, name: &Name, text: &mut GrowingText) {
 impl Tell for Entry {
     fn tell(&self, _alloc: Global, text: &mut GrowingText) {
         let (name, version) = (self.name().normal(), self.version());
-        let (python, dependencies) = (self.requires_python(), self.dependencies());
+        let python = match self.requires_python() {
+            Some(python) => Some(python.text()),
+            None => None,
+        };
+        let dependencies = self.dependencies();
         let (sdist, wheels) = (self.sdist(), self.wheels());
         write!(
             text,

@@ -7,18 +7,14 @@ use Rattle.std.specs.List.{AllZip, Contains, slice_index_or}
 use Rattle.std.specs.List.Sorted.{IsStrictlySortedBy}
 use Rattle.pep440.specs.Version.{VersionParts as Version}
 use Rattle.pep508.specs.Requirement.{RequirementParts}
-use Rattle.search.specs.Known.{AreApart, choice_pictured, term_pictured}
+use Rattle.search.specs.Known.{AreApart}
 use Rattle.search.specs.Picture.{Picture, IsPicture, pictured}
 use Rattle.search.specs.Solutions.{version_pinned}
-use Rattle.search.specs.Table.{TableParts, candidates_of, name_of}
-use Rattle.search.specs.declared.conflict.NodeChoice.{NodeChoice}
+use Rattle.search.specs.Table.{TableParts, candidates_of}
 use Rattle.search.specs.declared.parts.TableChoice.{TableChoice}
-use Rattle.search.specs.declared.term.Term.{Term}
 use Rattle.snapshot.specs.Releases.{newer_cmp}
 use Rattle.problems.specs.Problem.{ProblemParts, releases_on}
-use Rattle.refutations.specs.Refutations.{ChoiceParts}
 use Rattle.problems.specs.Rules.{bare, rules_of, same_version}
-use Rattle.refutations.specs.SetRefutations.{TermParts}
 use Rattle.problems.specs.declared.node.Node.{Node}
 use Rattle.resolve.specs.Tied.Places.{AreCandidates, version_at}
 
@@ -42,18 +38,6 @@ pub record IsPictured (given : ProblemParts) (names : List (List ℕ)) (nodes : 
   pub counted : length t.candidates ≡ length names
   pub counted_nodes : length t.nodes ≡ length nodes
   pub within : (n place : ℕ) → Contains (candidates_of t n) place → place < length (releases_on given (name_at names n))
-
--- the choice that a decision of a search stands for
-abbrev pub choice_at : ProblemParts → List (List ℕ) → List Node → TableParts → NodeChoice ℕ ℕ → ChoiceParts
-choice_at given names nodes t decision = choice_pictured t (picture_of given names nodes []) decision
-
--- the versions that those of a term stand for
-abbrev pub versions_pictured : ProblemParts → List (List ℕ) → TableParts → Term ℕ ℕ → List Version
-versions_pictured given names t term = map (version_at (releases_on given (name_at names (name_of t term.node)))) term.versions
-
--- what the term stands for
-abbrev pub term_at : ProblemParts → List (List ℕ) → List Node → TableParts → Term ℕ ℕ → TermParts
-term_at given names nodes t term = term_pictured t (picture_of given names nodes []) term
 
 -- a choice of a name that is there, with the place of one of its releases
 abbrev pub IsKnown : ProblemParts → List (List ℕ) → TableChoice → Type 0

@@ -29,8 +29,11 @@ fn runs(environment: &Environment, entry: &Entry) -> bool
     ensures { result
         ≡ option_map_or (is_for_python environment.now) entry.now.requires_python true }
 {
-    match entry.python() {
-        Some(set) => set.matches(environment.full_version()),
+    match entry.requires_python() {
+        Some(python) => {
+            python.recall_invariant();
+            python.set().matches(environment.full_version())
+        }
         None => true,
     }
 }

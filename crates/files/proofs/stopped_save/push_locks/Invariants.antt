@@ -1,5 +1,5 @@
 use Rattle.std.proofs.Common.{◌≡◌, ◌++◌, map}
-use Rattle.files.specs.declared.input_files.InputFile.TheVariants.{Lock}
+use Rattle.inputs.specs.declared.input_files.InputFile.TheVariants.{Lock}
 use Rattle.files.proofs.stopped_save.push_locks.Given as goal
 
 -- the locks that are left go behind those so far

@@ -3,9 +3,9 @@ use Rattle.std.proofs.lemmas.Result.{err_from_is_err_and}
 use Rattle.journal.specs.Opens.{Opens}
 use Rattle.states.specs.declared.refusal.Refusal.{Refusal}
 use Rattle.states.specs.declared.refusal.Refusal.TheVariants as refusals
-use Rattle.files.specs.Faults.{fault_of}
-use Rattle.files.specs.declared.fault.Fault.{Fault}
-use Rattle.files.specs.declared.fault.Fault.TheVariants as faults
+use Rattle.inputs.specs.Faults.{fault_of}
+use Rattle.inputs.specs.declared.fault.Fault.{Fault}
+use Rattle.inputs.specs.declared.fault.Fault.TheVariants as faults
 use Rattle.files.proofs.saved_files.SavedFiles.open_with.Goals as goal
 
 -- what the refusal of a call that takes memory is told as

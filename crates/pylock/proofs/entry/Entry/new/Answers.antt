@@ -1,9 +1,9 @@
 use Rattle.pylock.specs.Packages.{EntryParts}
-use Rattle.pylock.proofs.PackageFacts.{Passed, entry-from, package-from}
+use Rattle.pylock.proofs.PackageFacts.{no-entry}
 use Rattle.pylock.proofs.entry.Entry.new.Goals as goal
 
-pub invariant_of-result : goal.invariant_of-result
-invariant_of-result c =
+pub returns-in-None : goal.returns-in-None
+returns-in-None c =
     let p : EntryParts = record {
       name = c.args.name;
       version = c.args.version;
@@ -12,37 +12,4 @@ invariant_of-result c =
       sdist = c.args.sdist;
       wheels = c.args.wheels;
     } in
-    let passed : Passed p c.in-Ok.python = record {
-      name = c.recall_invariant.ensures;
-      read = c.in-Ok.ensures;
-      filled = c.if-is_filled.ensures;
-      dependencies = rw c.as_slice.ensures at c.if-are_dependencies.ensures;
-      sdist = c.if-is_sdist.ensures;
-      wheels = rw c.as_slice-2.ensures at c.if-are_wheels.ensures;
-      file = rw c.as_slice-3.ensures at c.if-has_file.ensures;
-    } in
-    rw c.in_ok-shared.ensures.ok (record {
-      lawful = record { version = c.recall_invariant-2.ensures; parts = package-from p c.in-Ok.python passed };
-      read = c.in-Ok.ensures;
-    })
-
-pub returns-then-has_file : goal.returns-then-has_file
-returns-then-has_file c =
-    let p : EntryParts = record {
-      name = c.args.name;
-      version = c.args.version;
-      requires_python = c.args.requires_python;
-      dependencies = c.args.dependencies;
-      sdist = c.args.sdist;
-      wheels = c.args.wheels;
-    } in
-    let passed : Passed p c.in-Ok.python = record {
-      name = c.recall_invariant.ensures;
-      read = c.in-Ok.ensures;
-      filled = c.if-is_filled.ensures;
-      dependencies = rw c.as_slice.ensures at c.if-are_dependencies.ensures;
-      sdist = c.if-is_sdist.ensures;
-      wheels = rw c.as_slice-2.ensures at c.if-are_wheels.ensures;
-      file = rw c.as_slice-3.ensures at c.if-has_file.ensures;
-    } in
-    rw c.in_ok-shared.ensures.ok (entry-from p (package-from p c.in-Ok.python passed))
+    no-entry p (rw c.in-None.is at c.in_ok-python.ensures)

@@ -10,8 +10,8 @@ use Rattle.pylock.proofs.table.EntryWritten.to_value.Goals as goal
 pub some_array-requires : goal.some_array-requires
 some_array-requires c = all_pass c.dependencies.result.now
 
-pub some_value-requires-2 : goal.some_value-requires-2
-some_value-requires-2 c = rw c.sdist.ensures (sdist_fit c.args.self.now c.recall_invariant.ensures.parts)
+pub some_value-requires : goal.some_value-requires
+some_value-requires c = rw c.sdist.ensures (sdist_fit c.args.self.now c.recall_invariant.ensures.parts)
 
 pub some_array-requires-2 : goal.some_array-requires-2
 some_array-requires-2 c = rw c.wheels.ensures (wheels_fit c.args.self.now c.recall_invariant.ensures.parts)

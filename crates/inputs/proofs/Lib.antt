@@ -1,0 +1,2 @@
+pub mod ErrorFacts
+pub mod TargetFacts

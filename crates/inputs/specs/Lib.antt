@@ -1,0 +1,6 @@
+pub mod Errors
+pub mod Faults
+pub mod FileNames
+pub mod Inputs
+pub mod PinsFiles
+pub mod TargetFiles

@@ -1,0 +1,20 @@
+//! The inputs of a call: which files it reads, what their bytes stand for, and why one is refused.
+//!
+//! `input_files` names the files and reads them, each refused for its own fault, which `fault` tells. Calls lock one
+//! another out of a folder by `folder_lock`. The values of `--env` and of `--pins` name files in `target_files` and
+//! `pins_files`, and a call is handed files beside those of its folder by `handed_in`. No history is known here.
+#![tactic(auto)]
+
+mod fault;
+mod folder_lock;
+pub mod handed_in;
+mod input_files;
+pub mod pins_files;
+pub mod target_files;
+
+pub use crate::fault::{Fault, in_file, passed_over, unwritten};
+pub use crate::folder_lock::{LockFile, lock_to_read, lock_to_save, sync_folder};
+pub use crate::input_files::{
+    InputFault, InputFile, NO_REGULAR_FILE, path_of, read_bytes, read_environment, read_file,
+    read_index, read_requirements,
+};

@@ -1,0 +1,213 @@
+// The values of `--pins`: files of pins, and the targets that they are for.
+
+ghost use Rattle.lists.specs.Answers.{Answers};
+ghost use Rattle.std.specs.Prelude.{◌≡◌, ◌++◌, IfOk, OnOk};
+ghost use Rattle.pin_files.specs.Pins.{pins_in};
+ghost use Rattle.inputs.specs.PinsFiles as spec;
+ghost use Rattle.inputs.specs.declared.input_files.InputFault.TheVariants.{OutOfMemory};
+
+use crate::fault::{Fault, in_file};
+use crate::handed_in::HandedIn;
+use crate::input_files::{InputFault, InputFile};
+use crate::target_files::parts_of;
+use edits::{Environment, Name, Refusal, TargetName, TargetPins};
+use lists::{Seq, Text};
+use pep440::Version;
+use pin_files::{PinFault, PinFile};
+use std::alloc::{AllocError, Global};
+use std::io::Read;
+use std::rt::Files;
+
+/// The target that a file of pins is for, and where the file stands. Without a name it is for every target that no
+/// other file is for.
+#[derive(Drop)]
+pub struct PinsPath {
+    target: TargetName,
+    path: Text,
+}
+
+/// A file of pins as it was read, and the target that it is for.
+#[derive(Drop)]
+pub struct PinsFile {
+    pub target: TargetName,
+    pub file: PinFile,
+}
+
+/// What a file of pins holds.
+#[derive(Drop)]
+pub struct PinsBytes {
+    target: TargetName,
+    is_lock: bool,
+    bytes: Vec<u8>,
+}
+
+/// A target of a history, or of one that is to begin.
+#[derive(Clone, Copy)]
+pub struct PinsTarget<'a> {
+    pub name: &'a TargetName,
+    pub environment: &'a Environment,
+}
+
+/// The files that values of `--pins` name, in their order. No file has been read.
+pub fn pins_paths(alloc: Global, values: &[Text]) -> Result<Vec<PinsPath>, Fault> {
+    let mut paths = Vec::with_capacity(alloc, values.len())?;
+    for value in values {
+        paths.push(pins_path(alloc, value.as_str())?)?;
+    }
+    Ok(paths)
+}
+
+/// The target and the path of a value. No target has a bad name.
+fn pins_path(alloc: Global, value: &str) -> Result<PinsPath, Fault> {
+    let (name, path) = parts_of(value);
+    match TargetName::parse(alloc, name) {
+        Ok(target) => Ok(PinsPath {
+            target,
+            path: Text::copy_of(alloc, path)?,
+        }),
+        Err(Refusal::OutOfMemory) => Err(Fault::OutOfMemory),
+        Err(_) => Err(Fault::NoTarget(Text::copy_of(alloc, name)?)),
+    }
+}
+
+/// The bytes of the files, read in the order of the command line.
+pub fn read_pins<R: Files + AllocGlobal, I: Read + Drop>(
+    handed_in: &mut HandedIn<'_, R, I>,
+    paths: Vec<PinsPath>,
+) -> Result<Vec<PinsBytes>, Fault> {
+    let mut read = Vec::with_capacity(handed_in.alloc(), paths.len())?;
+    for PinsPath { target, path } in paths {
+        let bytes = handed_in.read(InputFile::Pins(target.clone()?), path.as_str())?;
+        let is_lock = path.as_str().ends_with(".toml");
+        read.push(PinsBytes {
+            target,
+            is_lock,
+            bytes,
+        })?;
+    }
+    Ok(read)
+}
+
+/// The file of pins that these bytes are: a lock or a requirements file.
+pub fn read_pin_file(alloc: Global, is_lock: bool, bytes: &[u8]) -> Result<PinFile, InputFault>
+    ensures { Answers OutOfMemory (spec.pin_file_in is_lock bytes.now) result }
+{
+    if is_lock {
+        as_input(PinFile::read_lock(alloc, bytes))
+    } else {
+        as_input(PinFile::read_lines(alloc, bytes))
+    }
+}
+
+/// A file of pins, or its fault as that of an input.
+fn as_input(read: Result<PinFile, PinFault>) -> Result<PinFile, InputFault>
+    ensures { result ≡ spec.as_pins read }
+{
+    match read {
+        Ok(file) => Ok(file),
+        Err(PinFault::Lock(fault)) => Err(InputFault::Lock(fault)),
+        Err(PinFault::Lines(fault)) => Err(InputFault::Requirements(fault)),
+        Err(PinFault::NoPin(line)) => Err(InputFault::NoPin(line)),
+        Err(PinFault::OutOfMemory) => Err(InputFault::OutOfMemory),
+    }
+}
+
+/// The files that the bytes are; faults are told in their order.
+fn pins_files(alloc: Global, read: Vec<PinsBytes>) -> Result<Vec<PinsFile>, Fault> {
+    let mut files = Vec::with_capacity(alloc, read.len())?;
+    for PinsBytes {
+        target,
+        is_lock,
+        bytes,
+    } in read {
+        let file = InputFile::Pins(target.clone()?);
+        let file = in_file(file, read_pin_file(alloc, is_lock, bytes.as_slice()))?;
+        files.push(PinsFile { target, file })?;
+    }
+    Ok(files)
+}
+
+/// What the files pin for each of the targets. The first file that is for none of them is told, behind the first that
+/// is no file of pins.
+pub fn pins_of(
+    alloc: Global,
+    read: Vec<PinsBytes>,
+    targets: &[PinsTarget<'_>],
+) -> Result<Seq<TargetPins>, Fault> {
+    let files = pins_files(alloc, read)?;
+    for file in files.as_slice() {
+        if !file.target.is_empty() && !targets.iter().any(|target| *target.name == file.target) {
+            return Err(Fault::NoTarget(Text::copy_of(alloc, file.target.as_str())?));
+        }
+    }
+    Ok(pins_for(alloc, files.as_slice(), targets)?)
+}
+
+/// Whether one of the files is for the target alone.
+fn has_own(files: &[PinsFile], target: &TargetName) -> bool
+    ensures { result ≡ spec.has_own files.now target.now }
+{
+    files.iter().any(|file| file.target == *target)
+}
+
+/// Whether a file is for the target: it names it, or none does and it names no target.
+fn is_for(file: &PinsFile, target: &TargetName, has_own: bool) -> bool
+    ensures { result ≡ spec.is_for has_own target.now file.now }
+{
+    if has_own {
+        file.target == *target
+    } else {
+        file.target.is_empty()
+    }
+}
+
+/// Puts what a file pins in an environment behind others.
+fn add_versions(
+    alloc: Global,
+    all: &mut Vec<(Name, Version)>,
+    file: &PinFile,
+    environment: &Environment,
+) -> Result<(), AllocError>
+    ensures { OnOk result (all.new.items ≡ all.old.items ++ pins_in environment.now file.now) }
+{
+    for pin in file.versions(alloc, environment)?.into_vec() {
+        all.push(pin)?;
+    }
+    Ok(())
+}
+
+/// What the files pin for the target.
+fn versions_for(
+    alloc: Global,
+    files: &[PinsFile],
+    target: PinsTarget<'_>,
+) -> Result<Seq<(Name, Version)>, AllocError>
+    ensures { IfOk result (λ versions.
+        versions ≡ spec.versions_for files.now target.entry.name.now target.entry.environment.now) }
+{
+    let has_own = has_own(files, target.name);
+    let mut all = Vec::new(alloc);
+    for file in files {
+        if is_for(file, target.name, has_own) {
+            add_versions(alloc, &mut all, &file.file, target.environment)?;
+        }
+    }
+    Ok(Seq::from_vec(all))
+}
+
+/// What the files pin for each of the targets.
+fn pins_for(
+    alloc: Global,
+    files: &[PinsFile],
+    targets: &[PinsTarget<'_>],
+) -> Result<Seq<TargetPins>, AllocError>
+    ensures { IfOk result (λ pins. pins ≡ spec.pins_for files.now targets.now) }
+{
+    let mut pins = Vec::with_capacity(alloc, targets.len())?;
+    for given in targets {
+        let versions = versions_for(alloc, files, *given)?;
+        let target = given.name.clone()?;
+        pins.push(TargetPins { target, versions })?;
+    }
+    Ok(Seq::from_vec(pins))
+}

@@ -1,0 +1,6 @@
+use Rattle.std.proofs.Common.{arith}
+use Rattle.std.proofs.lemmas.Grind.{common_steps}
+use Rattle.refute.proofs.set_refutation.set_term_of.Goals as goal
+
+pub returns : goal.returns
+returns c = grind (arith, common_steps)

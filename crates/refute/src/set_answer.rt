@@ -1,0 +1,77 @@
+// What a search over sets of the table of a problem finds.
+
+ghost use Rattle.std.specs.Prelude.{IfOk, MatchOption};
+ghost use Rattle.search.specs.SetConflicts.{IsSetRefutation};
+ghost use Rattle.problems.specs.Rules.{rules_of, same_version};
+ghost use Rattle.problems.specs.Solutions.{HasSolution};
+ghost use Rattle.resolve.specs.Tied.Pictured.{IsPictured};
+
+use crate::answer::refuted_in;
+use crate::set_refutation::{as_sets, set_refutation_of};
+use pep440::Version;
+use pep508::{Name, Requirement};
+use problems::{Node, Problem};
+use refutations::SetRefutation;
+use resolve::table::{Tabled, table_of};
+use search::laws;
+use set_search::{SetVerdict, solved};
+use std::alloc::{AllocError, Global};
+
+/// A refutation by conflicts of single versions as one of sets, or nothing where there is a solution.
+fn refuted_singly_in(
+    alloc: Global,
+    problem: &Problem<'_>,
+    tabled: &Tabled,
+) -> Result<Option<SetRefutation>, AllocError>
+    requires { IsPictured problem.now tabled.now.names tabled.now.nodes tabled.now.table }
+    ensures { IfOk result
+        (λ found. MatchOption found (HasSolution problem.now)
+        (IsSetRefutation (rules_of problem.now) same_version)) }
+{
+    laws::a_refutation_is_a_set_refutation::<Name, Node, Version, Requirement>();
+    match refuted_in(alloc, problem, tabled)? {
+        None => Ok(None),
+        Some(refutation) => Ok(Some(as_sets(alloc, &refutation)?)),
+    }
+}
+
+/// A set refutation, or nothing where there is a solution, worked out on a table.
+fn refuted_by_sets_in(
+    alloc: Global,
+    problem: &Problem<'_>,
+    tabled: &Tabled,
+) -> Result<Option<SetRefutation>, AllocError>
+    requires { IsPictured problem.now tabled.now.names tabled.now.nodes tabled.now.table }
+    ensures { IfOk result
+        (λ found. MatchOption found (HasSolution problem.now)
+        (IsSetRefutation (rules_of problem.now) same_version)) }
+{
+    laws::a_picture_keeps_the_best_solution::<Name, Node, Version, Requirement>();
+    laws::a_picture_keeps_set_refutations::<Name, Node, Version, Requirement>();
+    let table = &tabled.table;
+    // What is known of every table comes with its count.
+    let _count = table.name_count();
+    match solved(alloc, table)? {
+        SetVerdict::Best(_) => Ok(None),
+        SetVerdict::Refuted(conflicts) => {
+            let conflicts = conflicts.as_slice();
+            let refutation = set_refutation_of(alloc, problem, tabled, conflicts)?;
+            Ok(Some(refutation))
+        }
+        SetVerdict::GaveUp => refuted_singly_in(alloc, problem, tabled),
+    }
+}
+
+/// A refutation of the problem by conflicts of sets of versions, which `check_sets` accepts. Nothing where the problem
+/// has a solution.
+pub fn refute_by_sets(
+    alloc: Global,
+    problem: &Problem<'_>,
+) -> Result<Option<SetRefutation>, AllocError>
+    ensures { IfOk result
+        (λ found. MatchOption found (HasSolution problem.now)
+        (IsSetRefutation (rules_of problem.now) same_version)) }
+{
+    let tabled = table_of(alloc, problem)?;
+    refuted_by_sets_in(alloc, problem, &tabled)
+}
