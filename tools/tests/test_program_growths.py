@@ -3,13 +3,18 @@ last ones, which save or tell sentences. A run shows what a run with ample memor
 changed."""
 
 import functools
+import os
+import shutil
 import subprocess
 import sys
+import tempfile
 import unittest
+from pathlib import Path
 
 from checked_files import knows
 from made.environments import LINUX, WINDOWS
 from places import IS_LONG, PROGRAM, new_folder
+from terminals import shown_on_terminal
 
 import growths  # (these stand in tools/)
 from reqlock_tools.snapshot_output import compact
@@ -301,6 +306,37 @@ class Program(Growths):
         for number in numbers(ample):
             run = growths.run_once(command, self.library, number, folder=self.folder)
             self.assertTrue(any(is_lawful(run, ample, files) for files in (stopped, after)), (words, run))
+
+    def test_a_person_whose_history_is_replaced(self):
+        """At a terminal `init` opens the old history too, to tell how many steps are gone with it: want of memory isn't passed over there."""
+        self.prepare("init")
+        self.prepare("add", "d")
+        before, ample = growths.files_in(self.folder), self.run_before_person("init", AMPLE)
+        self.assertIn(b"is replaced, with its 1 step.", ample.errors)
+        for number in numbers(ample, TOLD):
+            run = self.run_before_person("init", number)
+            self.assertTrue(is_lawful(run, ample, before), run)
+
+    def run_before_person(self, subcommand, number):
+        """A run with one growth refused, whose standard error is a terminal."""
+        with tempfile.TemporaryDirectory() as scratch, tempfile.TemporaryFile() as report, tempfile.TemporaryFile() as output:
+            place = Path(scratch) / "run"
+            shutil.copytree(self.folder, place)
+            variables = {
+                "PATH": os.environ["PATH"], "TERM": "dumb", "LD_PRELOAD": str(self.library), "REFUSE_GROWTH": str(number),
+                "REFUSE_GROWTH_REPORT": str(report.fileno()),
+            }
+            status, shown = shown_on_terminal(
+                lambda terminal: subprocess.Popen(
+                    self.words(subcommand), cwd=place, env=variables, stdin=subprocess.DEVNULL, stdout=output, stderr=terminal,
+                    pass_fds=[report.fileno()],
+                )
+            )
+            for file in report, output:
+                file.seek(0)
+            errors = shown.replace("\r\n", "\n").encode()
+            told = growths.read_report(report.read().decode())
+            return growths.Run(number, *told, status, output.read(), errors, growths.files_in(place))
 
     def test_several_commands(self):
         self.prepare("init")
