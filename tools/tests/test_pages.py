@@ -1,0 +1,43 @@
+"""Each relative link of a page leads to a file, and its part behind `#` to a heading of that file. Each page that is named in words stands
+there too."""
+
+import re
+import unittest
+from pathlib import Path
+
+from places import TOP
+
+FOLDERS = ".", "bench", "crates/*", "docs", "docs/makers", "tools/tests/*"
+LINK = re.compile(r"\]\((?!https?:)([^()#\s]*)(?:#([^()\s]*))?\)")
+NAMED = re.compile(r"(?<![\w/])docs/[\w/]+\.md\b")
+
+
+def pages() -> list[Path]:
+    return sorted(path for folder in FOLDERS for path in TOP.glob(f"{folder}/*.md"))
+
+
+def headings(page: Path) -> set[str]:
+    """The headings of a page, as a link names them: in lower case, without punctuation, with `-` for each space."""
+    lines = re.findall(r"^#+ (.*)$", page.read_text(encoding="utf-8"), re.MULTILINE)
+    return {re.sub(r"[^\w\- ]", "", line.lower()).replace(" ", "-") for line in lines}
+
+
+class Pages(unittest.TestCase):
+    def test_each_link_leads_somewhere(self) -> None:
+        for page in pages():
+            for path, heading in LINK.findall(page.read_text(encoding="utf-8")):
+                with self.subTest(page=page.relative_to(TOP), link=path, heading=heading):
+                    target = page.parent / path if path else page
+                    self.assertTrue(target.exists())
+                    if heading:
+                        self.assertIn(heading, headings(target))
+
+    def test_each_page_that_is_named_stands_there(self) -> None:
+        for page in pages():
+            for name in NAMED.findall(page.read_text(encoding="utf-8")):
+                with self.subTest(page=page.relative_to(TOP), name=name):
+                    self.assertTrue((TOP / name).exists())
+
+
+if __name__ == "__main__":
+    unittest.main()
