@@ -17,6 +17,9 @@ import sys
 import threading
 import time
 from collections.abc import Iterator
+from pathlib import Path
+
+from wrong_bodies import Unappliable, edited_files, edits_of
 
 # A crate and a kind of work, or an edit of it; the number of a process and its start.
 Work = tuple[str, str]
@@ -28,34 +31,15 @@ PACE_EVERY = 30
 PACE_KEYS = 400_009
 
 
-def replacements(edit: str) -> tuple[str, list[list[str]]]:
-    """The file that a must-fail edit is for, and each text that it takes away, with what comes in its place."""
-    file, pairs = "", list[list[str]]()
-    with open(edit, encoding="utf-8") as lines:
-        for line in lines:
-            word, _, text = line.rstrip("\n").partition(":")
-            text = text.removeprefix(" ")
-            if word == "file":
-                file = text
-            elif word == "old":
-                pairs.append([text, ""])
-            elif word == "new" and pairs:
-                pairs[-1][1] = text
-    return file, pairs
-
-
 def edit_in(crate: str, folder: str) -> str | None:
     """The name of the edit that a copy of a crate in a folder has; None where it has none."""
-    home = os.path.join("crates", crate)
-    for name in sorted(os.listdir(os.path.join(home, "must-fail"))):
-        file, pairs = replacements(os.path.join(home, "must-fail", name))
-        with open(os.path.join(home, file), encoding="utf-8") as source:
-            wanted = source.read()
-        for old, new in pairs:
-            wanted = wanted.replace(old, new)
-        with open(os.path.join(folder, file), encoding="utf-8") as source:
-            if source.read() == wanted:
-                return name.removesuffix(".edit")
+    for edit in edits_of(Path(), crate):
+        try:
+            files = edited_files(edit, Path("crates", crate))
+        except Unappliable:
+            continue
+        if all(Path(folder, path).read_text(encoding="utf-8") == text for path, text in files.items()):
+            return edit.stem
     return None
 
 

@@ -70,13 +70,13 @@ class Times(unittest.TestCase):
             prover = Path(folder) / "rattle"
             os.symlink(sys.executable, prover)
             (Path(folder) / "check").write_text(WORKS, encoding="utf-8")
-            command = [prover, "check", "--crate-name", "lists"]
+            command = [prover, "check", "--crate-name", "stand_in"]
             done = subprocess.run(
                 [TOOLS / "gate_times.py", "bash", "-c", f"cd {folder} && {' '.join(map(str, command))}; echo done; exit 3"],
                 capture_output=True, encoding="utf-8", check=False,
             )
         self.assertEqual((done.returncode, done.stdout), (3, "done\n"))
-        self.assertRegex(done.stderr, r"\| lists \| 0\.0 \| 0\.0 \| 0\.0 \| 0\.0 \| 0\.0 \|")
+        self.assertRegex(done.stderr, r"\| stand_in \| 0\.0 \| 0\.0 \| 0\.0 \| 0\.0 \| 0\.0 \|")
         self.assertRegex(done.stderr, r"the same piece of work took \d\.\d\d s on average")
 
 
