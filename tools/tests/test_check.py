@@ -17,11 +17,12 @@ class Check(unittest.TestCase):
             os.symlink(shutil.which(name), self.folder / name)
 
     def check(self, **programs):
-        """The status, the lines of standard output and the standard error of ./check with these programs on the PATH:
-        each has the text that it prints and its status."""
+        """The status, the lines of standard output and the standard error of ./check with these programs on the PATH: each has the text
+        that it prints and its status. The count of crate_paths.py isn't printed."""
         for name, (text, status) in programs.items():
             path = self.folder / name
-            path.write_text(f"#!{self.folder}/bash\nprintf '%b' '{text}'\nexit {status}\n", encoding="utf-8")
+            script = f"[[ $2 != tools/crate_paths.py ]] || exit 0\nprintf '%b' '{text}'\nexit {status}\n"
+            path.write_text(f"#!{self.folder}/bash\n{script}", encoding="utf-8")
             path.chmod(0o755)
         variables = {"PATH": str(self.folder)}
         done = subprocess.run([CHECK], env=variables, capture_output=True, encoding="utf-8", check=False)
