@@ -7,8 +7,8 @@ ghost use Rattle.commands.specs.declared.batch.BatchFault.TheVariants as batches
 ghost use Rattle.calls.specs.Printed.{IsShown};
 
 use commands::batch::BatchFault;
+use phrases::Style;
 use std::io::{self, ErrorKind, Write};
-use style::Style;
 
 /// What a subcommand is given beside its own words: the system, the folder of the files, and where its texts go.
 #[derive(Drop)]

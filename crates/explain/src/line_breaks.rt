@@ -8,5 +8,5 @@ const WIDTH: usize = 100;
 /// Puts a sentence behind the text, in lines that end between words. Each line but the first begins with
 /// the indent.
 pub fn add_wrapped(text: &mut String, sentence: &str, indent: &str) -> Result<(), AllocError> {
-    style::add_wrapped(text, sentence, indent, WIDTH)
+    phrases::add_wrapped(text, sentence, indent, WIDTH)
 }

@@ -14,6 +14,7 @@ use commands::batch::BatchFault;
 use inputs::LockFile;
 use inputs::target_files::{TargetFile, target_files};
 use journal::Command;
+use phrases::Style;
 use reports::report::{Status, report, report_fault};
 use saves::{
     CallFiles, Details, begin_history, edit_once, rehearse_edit, rehearse_replace, rehearse_step,
@@ -22,7 +23,6 @@ use saves::{
 use std::alloc::Global;
 use std::io::{Read, Write};
 use std::rt::Files;
-use style::Style;
 use views::{
     print_check, print_diff, print_export, print_history, print_outdated, print_shown,
     print_skipped,

@@ -3,11 +3,11 @@
 use crate::given_words::NoWords;
 use calls::Stop;
 use command_line::request::{ColorChoice, Verbosity};
+use phrases::Style;
 use saves::Manner;
 use std::alloc::{AllocError, Global};
 use std::env::VarError;
 use std::rt::Env;
-use style::Style;
 
 /// The least width that lines are broken for.
 const LEAST_WIDTH: usize = 20;

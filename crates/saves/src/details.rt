@@ -4,10 +4,9 @@ use crate::manner::Manner;
 use inputs::target_files::TargetFile;
 use inputs::{InputFile, path_of};
 use notes::IndexPlan;
-use phrases::add_word;
+use phrases::{Style, add_word};
 use std::alloc::{AllocError, Global};
 use std::io::Write;
-use style::Style;
 
 /// What is known beside a reply. Nothing is noted unless it is told.
 #[derive(Drop)]

@@ -1,6 +1,6 @@
 // How a call tells what is known beside its reply.
 
-use style::Style;
+use phrases::Style;
 
 /// How a call tells what is known beside its reply.
 #[derive(Clone, Copy, Debug, PartialEq, Eq)]

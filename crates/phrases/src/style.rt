@@ -1,6 +1,5 @@
-//! How what is printed looks where a person reads it: texts are made plain, and get colours and the terminal's width when they are
-//! printed.
-#![tactic(auto)]
+// How what is printed looks where a person reads it: texts are made plain, and get colours and the terminal's width when they are
+// printed.
 
 ghost use Rattle.std.specs.Prelude.{◌≡◌, false, IfOk, None};
 
