@@ -10,7 +10,7 @@ import unittest
 from places import PROGRAM, TOP, new_folder
 
 COPIED = "pyproject.toml", "package", "README.md", "LICENSE", "share", "tools/reqlock_tools", "tools/wheel_hook.py"
-VERSION_FILE = "crates/clap_command/src/command_words.rt"
+VERSION_FILE = "crates/command_line/src/command_words.rt"
 OTHER = shutil.which("true")
 PAGES = (
     "man/man1/reqlock.1", "bash-completion/completions/reqlock", "zsh/site-functions/_reqlock", "fish/vendor_completions.d/reqlock.fish",

@@ -1,5 +1,10 @@
+pub mod AddedArguments
 pub mod Lacking
 pub mod MarksInTurn
 pub mod Misused
+pub mod NoGlobals
+pub mod OneMore
 pub mod Requests
+pub mod SimpleRules
+pub mod Somes
 pub mod SubcommandNames

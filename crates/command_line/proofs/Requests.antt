@@ -10,7 +10,7 @@ use Rattle.std.specs.Box.{box_value}
 use Rattle.std.specs.Option.{option_or}
 use Rattle.command_line.specs.declared.usage.RequestFault.{RequestFault}
 use Rattle.command_line.specs.declared.usage.RequestFault.TheVariants.{Usage, Needed, OutOfMemory}
-use Rattle.clap_command.specs.CommandWords.{reqlock_app}
+use Rattle.command_line.specs.CommandWords.{reqlock_app}
 use Rattle.edits.specs.declared.request.Edit.{Edit}
 use Rattle.edits.specs.declared.request.Edit.TheVariants.{Add, Constrain, Remove}
 use Rattle.command_line.specs.Options.{text_of}

@@ -5,7 +5,7 @@ use Rattle.std.specs.List.{list_any}
 use Rattle.std.specs.Str.{bytes_eq}
 use Rattle.clap.specs.Simple.{Shape}
 use Rattle.clap.specs.Words.{Rule, Text}
-use Rattle.clap_command.specs.CommandWords.{reqlock_app}
+use Rattle.command_line.specs.CommandWords.{reqlock_app}
 use Rattle.command_line.specs.Options.{dry_run_takers, is_among, json_takers, keep_locked_takers}
 use Rattle.command_line.specs.Questions.{edit_names}
 use Rattle.command_line.specs.UsageFaults.{other_names}

@@ -1,7 +1,9 @@
+pub mod CommandWords
 pub mod Marks
 pub mod Misuses
 pub mod Options
 pub mod Questions
 pub mod Requests
 pub mod Subcommands
+pub mod Tables
 pub mod UsageFaults

@@ -7,7 +7,7 @@ use Rattle.command_line.specs.declared.misuse.ReadFault.{ReadFault}
 use Rattle.command_line.specs.declared.misuse.ReadFault.TheVariants as reads
 use Rattle.command_line.specs.declared.usage.RequestFault.{RequestFault}
 use Rattle.command_line.specs.declared.usage.RequestFault.TheVariants.{Usage, Needed, OutOfMemory}
-use Rattle.clap_command.specs.CommandWords.{reqlock_app}
+use Rattle.command_line.specs.CommandWords.{reqlock_app}
 use Rattle.command_line.specs.Misuses.{IsMisused, IsWellUsed}
 use Rattle.command_line.specs.Options.{chosen}
 use Rattle.command_line.specs.Subcommands.{IsSubcommand, color_of, verbosity_of}

@@ -1,6 +1,7 @@
-//! The command line: what its words mean.
+//! The command line: as `clap` is given it, and what its words mean.
 //!
-//! `request` reads them, by `clap`, into a subcommand with its texts and the files that it needs:
+//! `command` has the subcommands, their texts and options, and their help. `request` reads words by it, into a subcommand
+//! with its texts and the files that it needs:
 //!
 //! ```rust
 //! let words = ["reqlock", "--dir", "web", "undo"];
@@ -9,6 +10,9 @@
 //! ```
 #![tactic(auto)]
 
+mod arguments;
+mod command_words;
+mod descriptions;
 mod edit_words;
 mod exclusion;
 mod invocation;
@@ -20,4 +24,8 @@ mod question;
 mod replacement;
 pub mod request;
 mod subcommand;
+mod subcommand_help;
+mod subcommand_words;
 mod usage;
+
+pub use crate::command_words::command;

@@ -2,10 +2,11 @@
 
 ghost use Rattle.std.specs.Prelude.{◌≡◌, [], map, IfOk, IfErr, MatchOption, None};
 ghost use Rattle.clap.specs.Words.{fault_of, found_of, matches_of, rows_of, subcommand_of, subcommand_rows_of};
-ghost use Rattle.clap_command.specs.CommandWords.{reqlock_app};
+ghost use Rattle.command_line.specs.CommandWords.{reqlock_app};
 ghost use Rattle.command_line.specs.Misuses.{IsMisused, IsUnknownValue, IsWellUsed, unknown_color, unknown_format};
 ghost use Rattle.command_line.specs.Requests.{IsFault, IsReadAs, IsRequest, IsUnread};
 
+use crate::command_words::command;
 use crate::exclusion::{excluded, missing};
 pub use crate::invocation::{
     ColorChoice, DiffRange, EditInputs, Export, ExportFormat, Format, Inputs, Invocation, NewLines,
@@ -18,7 +19,6 @@ use crate::subcommand::read_subcommand;
 use crate::usage::fault_of_clap;
 pub use crate::usage::{NeededOption, RequestFault};
 use clap::ArgMatches;
-use clap_command::command;
 use std::alloc::Global;
 use std::convert::AsStr;
 

@@ -5,9 +5,9 @@ ghost use Rattle.clap.specs.Words.{kind_of};
 ghost use Rattle.command_line.specs.UsageFaults.{FaultOf, FaultWith};
 ghost use Rattle.command_line.specs.declared.usage.RequestFault.TheVariants.{OutOfMemory};
 
+use crate::command_words::command;
 use clap::Error;
 use clap::error::ErrorKind;
-use clap_command::command;
 use std::alloc::{AllocError, Global};
 
 /// An option that a subcommand needs.

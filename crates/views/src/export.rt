@@ -2,7 +2,7 @@
 
 use calls::{Call, Stop, print};
 use clap::error::ErrorKind;
-use clap_command::command;
+use command_line::command;
 use command_line::request::{Export, ExportFormat};
 use edits::{State, Target};
 use exports::{

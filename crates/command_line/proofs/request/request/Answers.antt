@@ -1,7 +1,7 @@
 use Rattle.std.proofs.Common.{◌∙◌, List, Option, map, subst, sym}
 use Rattle.std.specs.Prelude.{IsSomeAnd}
 use Rattle.clap.specs.Words.{Row, Text, found_of, matches_of, rows_of}
-use Rattle.clap_command.specs.CommandWords.{reqlock_app}
+use Rattle.command_line.specs.CommandWords.{reqlock_app}
 use Rattle.command_line.specs.Requests.{IsReadAs}
 use Rattle.command_line.proofs.Requests.{both_of, fault_in, name_in}
 use Rattle.command_line.proofs.request.request.Goals as goal

@@ -1,8 +1,8 @@
 use Rattle.std.proofs.Common.{◌∙◌, ap}
 use Rattle.clap.specs.Words.{App, app_of, with_subcommand}
-use Rattle.clap_command.proofs.NoGlobals.{no_globals}
-use Rattle.clap_command.proofs.OneMore.{one_more}
-use Rattle.clap_command.proofs.command_words.with_subcommands.Goals as goal
+use Rattle.command_line.proofs.NoGlobals.{no_globals}
+use Rattle.command_line.proofs.OneMore.{one_more}
+use Rattle.command_line.proofs.command_words.with_subcommands.Goals as goal
 
 pub loop-words-preserved : goal.loop-words-preserved
 loop-words-preserved c =

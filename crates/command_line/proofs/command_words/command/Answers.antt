@@ -1,8 +1,8 @@
 use Rattle.std.proofs.Common.{◌∙◌, ◌++◌, ap}
 use Rattle.std.proofs.lemmas.Result.{IfOk-weaker}
 use Rattle.clap.specs.Words.{App}
-use Rattle.clap_command.specs.CommandWords.{edit_shapes, reqlock_app, step_shapes, view_shapes, why_shapes, with_subcommands}
-use Rattle.clap_command.proofs.command_words.command.Goals as goal
+use Rattle.command_line.specs.CommandWords.{edit_shapes, reqlock_app, step_shapes, view_shapes, why_shapes, with_subcommands}
+use Rattle.command_line.proofs.command_words.command.Goals as goal
 
 pub returns : goal.returns
 unfolding reqlock_app

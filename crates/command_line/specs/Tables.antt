@@ -3,10 +3,10 @@ use Rattle.std.specs.Prelude.{[], length, map, max, ◌-◌}
 use Rattle.clap.specs.Lexer.{usize_max}
 use Rattle.clap.specs.Simple.{Shape}
 use Rattle.clap.specs.Words.{App, Rule}
-use Rattle.clap_command.specs.declared.words.ArgWords.{ArgWords}
-use Rattle.clap_command.specs.declared.words.ArgWords.TheVariants as words
-use Rattle.clap_command.specs.declared.words.SubcommandWords.{SubcommandWords}
-use Rattle.clap_command.specs.CommandWords.{flag_rule, lettered_rule, needed_rule, option_rule, ranged_rule, repeated_rule, shape_with, text_rule, texts_rule}
+use Rattle.command_line.specs.declared.descriptions.ArgWords.{ArgWords}
+use Rattle.command_line.specs.declared.descriptions.ArgWords.TheVariants as words
+use Rattle.command_line.specs.declared.descriptions.SubcommandWords.{SubcommandWords}
+use Rattle.command_line.specs.CommandWords.{flag_rule, lettered_rule, needed_rule, option_rule, ranged_rule, repeated_rule, shape_with, text_rule, texts_rule}
 
 abbrev pub rule_of_words : ArgWords → Rule
 rule_of_words (words.Flag name help) = flag_rule name.now

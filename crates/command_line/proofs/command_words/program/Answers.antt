@@ -2,10 +2,10 @@ use Rattle.std.proofs.Common.{◌≡◌, ◌∙◌, ◌++◌, List, [], ap, code
 use Rattle.std.proofs.lemmas.Result.{IfOk-weaker}
 use Rattle.clap.specs.Simple.{Shape, app_of_fields, new_shape, on_top}
 use Rattle.clap.specs.Words.{App, Rule, app_of, new_app, rule_of}
-use Rattle.clap_command.specs.CommandWords.{edit_rules, json_rules, option_rules, telling_rules}
-use Rattle.clap_command.proofs.AddedArguments.{adds_are}
-use Rattle.clap_command.proofs.SimpleRules.{are_simple, locals}
-use Rattle.clap_command.proofs.command_words.program.Goals as goal
+use Rattle.command_line.specs.CommandWords.{edit_rules, json_rules, option_rules, telling_rules}
+use Rattle.command_line.proofs.AddedArguments.{adds_are}
+use Rattle.command_line.proofs.SimpleRules.{are_simple, locals}
+use Rattle.command_line.proofs.command_words.program.Goals as goal
 
 pub returns : goal.returns
 returns c =

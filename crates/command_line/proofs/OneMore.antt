@@ -2,9 +2,9 @@
 use Rattle.std.proofs.Common.{◌≡◌, ◌∙◌, ◌+◌, ◌<◌, ℕ, List, ap, drop, get_or, length, map, sym}
 use Rattle.std.proofs.lemmas.List.{at_drop_more}
 use Rattle.clap.specs.Words.{App, with_subcommand}
-use Rattle.clap_command.specs.CommandWords.{with_subcommands}
-use Rattle.clap_command.specs.Tables.{shape_of_words}
-use Rattle.clap_command.specs.declared.words.SubcommandWords.{SubcommandWords}
+use Rattle.command_line.specs.CommandWords.{with_subcommands}
+use Rattle.command_line.specs.Tables.{shape_of_words}
+use Rattle.command_line.specs.declared.descriptions.SubcommandWords.{SubcommandWords}
 
 pub one_more : (old new whole : App) (all : List SubcommandWords) (i : ℕ) (other : SubcommandWords) → i < length all → new ≡ with_subcommand old (shape_of_words (get_or all i other))
     → with_subcommands old (map shape_of_words (drop i all)) ≡ whole → with_subcommands new (map shape_of_words (drop (i + 1) all)) ≡ whole

@@ -2,11 +2,11 @@ use Rattle.std.proofs.Common.{◌≡◌, ◌∙◌, ◌++◌, List, [], ap, appe
 use Rattle.std.proofs.lemmas.Result.{IfOk-weaker}
 use Rattle.clap.specs.Simple.{app_of_fields, new_shape, on_top}
 use Rattle.clap.specs.Words.{Rule, app_of, new_app, rule_of}
-use Rattle.clap_command.specs.CommandWords.{option_rules, telling_rules}
-use Rattle.clap_command.specs.Tables.{rule_of_words}
-use Rattle.clap_command.proofs.AddedArguments.{adds_are}
-use Rattle.clap_command.proofs.SimpleRules.{locals, simple_behind_options}
-use Rattle.clap_command.proofs.command_words.subcommand.Goals as goal
+use Rattle.command_line.specs.CommandWords.{option_rules, telling_rules}
+use Rattle.command_line.specs.Tables.{rule_of_words}
+use Rattle.command_line.proofs.AddedArguments.{adds_are}
+use Rattle.command_line.proofs.SimpleRules.{locals, simple_behind_options}
+use Rattle.command_line.proofs.command_words.subcommand.Goals as goal
 
 pub returns : goal.returns
 returns c =

@@ -5,10 +5,10 @@ use Rattle.std.specs.List.{AllByRecursion, list_all}
 use Rattle.clap.specs.Walk.{is_empty, is_simple_arg}
 use Rattle.clap.specs.Words.{Rule, rule_of}
 use Rattle.clap.specs.declared.builder.arg.Arg.{Arg}
-use Rattle.clap_command.specs.CommandWords.{option_rules, telling_rules}
-use Rattle.clap_command.specs.Tables.{rule_of_words}
-use Rattle.clap_command.specs.declared.words.ArgWords.{ArgWords}
-use Rattle.clap_command.specs.declared.words.ArgWords.TheVariants.{Flag, Lettered, Needed, Ranged, Repeated, Several, Text, Texts, Valued}
+use Rattle.command_line.specs.CommandWords.{option_rules, telling_rules}
+use Rattle.command_line.specs.Tables.{rule_of_words}
+use Rattle.command_line.specs.declared.descriptions.ArgWords.{ArgWords}
+use Rattle.command_line.specs.declared.descriptions.ArgWords.TheVariants.{Flag, Lettered, Needed, Ranged, Repeated, Several, Text, Texts, Valued}
 
 first : (one other : Bool) → (one && other) ≡ true → one ≡ true
 first true other is = refl

@@ -1,13 +1,13 @@
 // The subcommands with their arguments.
 
+use crate::descriptions::ArgWords::{
+    Flag, Lettered, Needed, Ranged, Repeated, Several, Text, Texts, Valued,
+};
+use crate::descriptions::{ArgWords, SubcommandWords};
 use crate::subcommand_help::{
     ADD, BATCH, CHECK, CONSTRAIN, DIFF, EXPORT, INIT, LOG, OUTDATED, REDO, RELOCK, REMOVE, REPLACE,
     SHOW, SKIPPED, TRY, UNDO, UPGRADE, WHY,
 };
-use crate::words::ArgWords::{
-    Flag, Lettered, Needed, Ranged, Repeated, Several, Text, Texts, Valued,
-};
-use crate::words::{ArgWords, SubcommandWords};
 
 // Of an edit, or of its question.
 const KEEP_LOCKED: ArgWords<'static> = Flag(

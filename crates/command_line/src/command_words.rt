@@ -2,13 +2,13 @@
 
 ghost use Rattle.std.specs.Prelude.{◌≡◌, map, IfOk};
 ghost use Rattle.clap.specs.Words.{app_of, rule_of};
-ghost use Rattle.clap_command.specs.CommandWords.{option_rules, options_app, reqlock_app, with_subcommands};
-ghost use Rattle.clap_command.specs.Tables.{app_of_words, shape_of_words};
+ghost use Rattle.command_line.specs.CommandWords.{option_rules, options_app, reqlock_app, with_subcommands};
+ghost use Rattle.command_line.specs.Tables.{app_of_words, shape_of_words};
 
 use crate::arguments::{argument, with_arguments};
+use crate::descriptions::{ArgWords, SubcommandWords};
 use crate::subcommand_help::Help;
 use crate::subcommand_words::{FLAGS, SUBCOMMANDS, TELLING};
-use crate::words::{ArgWords, SubcommandWords};
 use clap::{Arg, Command};
 use std::alloc::{AllocError, Global};
 

@@ -1,2 +1,0 @@
-pub mod CommandWords
-pub mod Tables
