@@ -6,6 +6,7 @@ use crate::screen::{Screen, shown_stop};
 use crate::subcommand_files::{
     environments_of, has_old_lines, index_of, lines_of, locked, refuse_no_folder,
 };
+use calls::report::{Status, report, report_fault};
 use calls::{Call, Stop};
 use command_line::request::{
     ColorChoice, Inputs, Invocation, RequestFault, Saving, Subcommand, Verbosity, request,
@@ -15,7 +16,6 @@ use inputs::LockFile;
 use inputs::target_files::{TargetFile, target_files};
 use journal::Command;
 use phrases::Style;
-use reports::report::{Status, report, report_fault};
 use saves::{
     CallFiles, Details, begin_history, edit_once, rehearse_edit, rehearse_replace, rehearse_step,
     replace_once, run_batch, step_once, try_commands,

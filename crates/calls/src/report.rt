@@ -5,11 +5,12 @@ ghost use Rattle.std.specs.Prelude.{◌≡◌, ◌⊎◌, OnErr, OnOk};
 ghost use Rattle.calls.specs.declared.stop.Stop.TheVariants as stops;
 ghost use Rattle.clap.specs.Words.{kind_of};
 ghost use Rattle.commands.specs.Runs.{IsCutOff};
-ghost use Rattle.reports.specs.Statuses.{HasStatus, HasUsageStatus, IsPrinted, refusal_line};
-ghost use Rattle.reports.specs.declared.report.Status.TheVariants as statuses;
+ghost use Rattle.calls.specs.Statuses.{HasStatus, HasUsageStatus, IsPrinted, refusal_line};
+ghost use Rattle.calls.specs.declared.report.Status.TheVariants as statuses;
 
+use crate::call::{print, show};
 use crate::input_fault_text::InputFaultText;
-use calls::{Stop, print, show};
+use crate::stop::Stop;
 use clap::error::ErrorKind;
 use command_line::request::NeededOption;
 use commands::batch::BatchFault;

@@ -1,8 +1,8 @@
 use Rattle.std.proofs.Common.{◌∙◌, ◌++◌, codes}
 use Rattle.commands.specs.Replies.{word_of}
 use Rattle.commands.proofs.Batches.{appends_append}
-use Rattle.reports.proofs.Printed.{cut-off-before, cut-off-behind, on-err}
-use Rattle.reports.proofs.report.print_refusal.Goals as goal
+use Rattle.calls.proofs.Printed.{cut-off-before, cut-off-behind, on-err}
+use Rattle.calls.proofs.report.print_refusal.Goals as goal
 
 pub returns-in_err-print-clause-cut_off : goal.returns-in_err-print-clause-cut_off
 returns-in_err-print-clause-cut_off g c =

@@ -1,5 +1,5 @@
-use Rattle.reports.proofs.Refusals.{IsByWord, either, told-by-word}
-use Rattle.reports.proofs.report.report_refusal.Goals as goal
+use Rattle.calls.proofs.Refusals.{IsByWord, either, told-by-word}
+use Rattle.calls.proofs.report.report_refusal.Goals as goal
 
 pub returns-in-NoSolution : goal.returns-in-NoSolution
 returns-in-NoSolution g c = rw c.in-NoSolution.is (rw c.in-NoSolution.is at c.report_word.ensures)

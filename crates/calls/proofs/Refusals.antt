@@ -4,9 +4,9 @@ use Rattle.std.specs.Prelude.{Option}
 use Rattle.calls.specs.declared.stop.Stop.TheVariants as stops
 use Rattle.states.specs.declared.refusal.Refusal.{Refusal}
 use Rattle.states.specs.declared.refusal.Refusal.TheVariants as refusals
-use Rattle.reports.specs.Statuses.{HasStatus, IsPrinted, refusal_line}
-use Rattle.reports.specs.declared.report.Status.{Status}
-use Rattle.reports.specs.declared.report.Status.TheVariants as statuses
+use Rattle.calls.specs.Statuses.{HasStatus, IsPrinted, refusal_line}
+use Rattle.calls.specs.declared.report.Status.{Status}
+use Rattle.calls.specs.declared.report.Status.TheVariants as statuses
 
 -- neither the words of the call are refused nor a solution is missing
 abbrev pub IsByWord : Refusal → Type 0

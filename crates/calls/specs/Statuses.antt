@@ -9,8 +9,8 @@ use Rattle.calls.specs.declared.stop.Stop.TheVariants as stops
 use Rattle.commands.specs.Replies.{text_of_reply}
 use Rattle.commands.specs.Runs.{IsCutOff}
 use Rattle.journal.specs.declared.commands.Reply.TheVariants as replies
-use Rattle.reports.specs.declared.report.Status.{Status}
-use Rattle.reports.specs.declared.report.Status.TheVariants as statuses
+use Rattle.calls.specs.declared.report.Status.{Status}
+use Rattle.calls.specs.declared.report.Status.TheVariants as statuses
 use Rattle.states.specs.declared.refusal.Refusal.{Refusal}
 use Rattle.states.specs.declared.refusal.Refusal.TheVariants as refusals
 
