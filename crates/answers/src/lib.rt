@@ -1,11 +1,12 @@
-//! What `why` answers: why lines have no solution over an index, and why a lock hasn't a release.
+//! Why targets have no solution: the first that has none, what shows it, and what is told of it.
 //!
-//! Each answer is read off a refutation that a proved checker has accepted, or off a solution.
+//! What shows it is a refutation that a proved checker has accepted, or one by sets with the ground of each conflict.
 #![tactic(auto)]
 
+mod changed_lines;
 mod shown;
-mod why;
-mod why_not;
+mod told;
 
-pub use crate::why::{lines_of, print_why, print_why_init, print_why_replace, told_refutation};
-pub use crate::why_not::print_why_not;
+pub use crate::changed_lines::{changed_by, lines_of};
+pub use crate::shown::{Shown, first_refuted, refuted_by_sets};
+pub use crate::told::{explained_text, listed_text, told_refutation};

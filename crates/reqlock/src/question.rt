@@ -1,6 +1,5 @@
 // What `why` answers.
 
-use answers::{print_why, print_why_init, print_why_not, print_why_replace};
 use calls::{Call, Stop};
 use command_line::request::{Inputs, Question, Told};
 use files::first_inputs::FirstPaths;
@@ -10,6 +9,7 @@ use inputs::target_files::TargetFile;
 use std::alloc::Global;
 use std::io::{Read, Write};
 use std::rt::Files;
+use views::{print_why, print_why_init, print_why_not, print_why_replace};
 
 /// Answers a question, of which these are the targets where it is about a first lock. A question about a release is
 /// always answered in sentences.

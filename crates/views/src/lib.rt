@@ -1,5 +1,6 @@
 //! What the subcommands print that only read: a lock, also as other tools read it, a history, what changed, which releases are
-//! newer or left out, and whether the files belong together.
+//! newer or left out, and whether the files belong together. `why` prints why lines have no solution over an index, and why
+//! a lock hasn't a release.
 #![tactic(auto)]
 
 mod check;
@@ -9,6 +10,8 @@ mod log;
 mod outdated;
 mod show;
 mod skipped;
+mod why;
+mod why_not;
 
 pub use crate::check::print_check;
 pub use crate::diff::print_diff;
@@ -17,3 +20,5 @@ pub use crate::log::print_history;
 pub use crate::outdated::print_outdated;
 pub use crate::show::print_shown;
 pub use crate::skipped::print_skipped;
+pub use crate::why::{print_why, print_why_init, print_why_replace};
+pub use crate::why_not::print_why_not;

@@ -3,17 +3,19 @@
 ghost use Rattle.std.specs.Prelude.{◌≡◌, ◌<◌, IfSome, length};
 ghost use Rattle.std.specs.List.{position};
 ghost use Rattle.edits.specs.Refused.{is_locked_for};
-ghost use Rattle.answers.specs.WhyNot.{lacks};
+ghost use Rattle.views.specs.WhyNot.{lacks};
 
-use crate::shown::refuted_by_sets;
-use crate::why::{ToldLines, explained_text};
+use crate::why::wording_of;
+use answers::{explained_text, refuted_by_sets};
 use calls::{Call, Stop, show};
 use command_line::request::Told;
 use edits::{
     Cause, Edit, Learning, Line, Name, Pool, Problem, Refusal, Resolver, State, Target,
     problem_after, problems_with,
 };
-use explain::{ChangedLine, ChangedLines, WantedRelease, add_difference, add_same, add_uncounted};
+use explain::{
+    ChangedLine, ChangedLines, WantedRelease, Wording, add_difference, add_same, add_uncounted,
+};
 use files::saved_history::session_over;
 use inputs::LockFile;
 use lists::Text;
@@ -137,7 +139,7 @@ fn why_not(
     if is_told(alloc, &mut text, named, before, problem)? {
         return Ok(text);
     }
-    refuted_text(alloc, text, target, problem, ToldLines { changed, told })
+    refuted_text(alloc, text, target, problem, wording_of(changed, told))
 }
 
 /// Whether the lock of some target has the name.
@@ -211,11 +213,11 @@ fn refuted_text(
     text: String,
     target: &Target,
     problem: &Problem<'_>,
-    lines: ToldLines<'_>,
+    wording: Wording<'_>,
 ) -> Result<String, Stop> {
     match refuted_by_sets(alloc, problem)? {
         Some(explanation) => {
-            let text = explained_text(alloc, &target.name, problem, &explanation, lines)?;
+            let text = explained_text(alloc, &target.name, problem, &explanation, wording)?;
             Err(Stop::Explained(text))
         }
         None => Ok(text),

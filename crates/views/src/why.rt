@@ -1,30 +1,21 @@
 // What `why` prints: why lines have no solution over an index.
 
-ghost use Rattle.std.specs.Prelude.{◌≡◌, IfOk, None};
+ghost use Rattle.std.specs.Prelude.{IfOk};
 ghost use Rattle.std.specs.List.{All};
 ghost use Rattle.answers.specs.Answers.{IsSolvable};
 
-use crate::shown::{Shown, first_refuted};
+use answers::{Shown, changed_by, explained_text, first_refuted, lines_of, listed_text};
 use calls::{Call, ReplacedHistory, Stop, pool_of, print, replaced};
 use command_line::request::{EditInputs, Replacement, Told};
-use edits::{Edit, Line, Problem, State, TargetName, problem_after, problems_of_init};
-use explain::{ChangedLine, ChangedLines, Explanation, Extent, Wording, add_refutation};
+use edits::{Edit, Problem, TargetName, problem_after, problems_of_init};
+use explain::{ChangedLines, Extent, Wording};
 use files::first_inputs::{FirstInputs, FirstPaths, first_inputs};
 use files::saved_history::session_over;
 use inputs::LockFile;
 use lists::Text;
-use phrases::add_target_line;
-use refutations::Refutation;
-use std::alloc::{AllocError, Global};
+use std::alloc::Global;
 use std::io::{Read, Write};
 use std::rt::Files;
-
-/// Changed lines, and how it is told why they have no solution.
-#[derive(Clone, Copy)]
-pub struct ToldLines<'a> {
-    pub changed: ChangedLines<'a>,
-    pub told: Told,
-}
 
 /// Prints why an edit of the saved state has no solution over an index: a refutation that `check`
 /// accepts, of the first target that has none. Where each one has a solution, that is printed.
@@ -46,12 +37,7 @@ where
         lines: session.state().lines().lines(),
         changed: changed_by(edit),
     };
-    answer(
-        alloc,
-        ToldLines { changed, told },
-        problems.as_slice(),
-        &mut call.output,
-    )
+    answer(alloc, changed, told, problems.as_slice(), &mut call.output)
 }
 
 /// The same of other lines in the place of all lines. The lines that are told are the new ones.
@@ -79,25 +65,7 @@ where
         lines: lines_of(&edit, history.session.state()),
         changed: changed_by(&edit),
     };
-    answer(
-        alloc,
-        ToldLines { changed, told },
-        problems.as_slice(),
-        &mut call.output,
-    )
-}
-
-/// The lines that an edit leaves of all lines, but for one that it changes.
-pub fn lines_of<'e>(edit: &'e Edit, state: &'e State) -> &'e [Line] {
-    match edit {
-        Edit::Replace(lines, _) => lines.lines(),
-        Edit::Add(_)
-        | Edit::Remove(_)
-        | Edit::Constrain(_, _)
-        | Edit::Upgrade(_)
-        | Edit::UpgradeAll
-        | Edit::Relock => state.lines().lines(),
-    }
+    answer(alloc, changed, told, problems.as_slice(), &mut call.output)
 }
 
 /// The same of the lock that `init` would make of the requirements file, with this line behind the others
@@ -125,45 +93,30 @@ pub fn print_why_init<R: Files + AllocGlobal, I: Read + Drop, O: Write>(
         lines: lines.lines(),
         changed: changed_by(&edit),
     };
-    answer(
-        alloc,
-        ToldLines { changed, told },
-        problems.as_slice(),
-        &mut call.output,
-    )
-}
-
-/// The line that an edit changes.
-fn changed_by(edit: &Edit) -> ChangedLine<'_> {
-    match edit {
-        Edit::Add(text) => ChangedLine::Added(text),
-        Edit::Remove(name) => ChangedLine::Removed(name),
-        Edit::Constrain(name, _) => ChangedLine::Constrained(name),
-        Edit::Upgrade(_) | Edit::UpgradeAll | Edit::Relock | Edit::Replace(_, _) => {
-            ChangedLine::Same
-        }
-    }
+    answer(alloc, changed, told, problems.as_slice(), &mut call.output)
 }
 
 /// Tells of the first target without a solution why it has none, or that each has one.
 fn answer<O: Write>(
     alloc: Global,
-    lines: ToldLines<'_>,
+    changed: ChangedLines<'_>,
+    told: Told,
     problems: &[(TargetName, Problem<'_>)],
     output: &mut O,
 ) -> Result<(), Stop>
     ensures { IfOk result (λ _. All IsSolvable problems.now) }
 {
-    let explains = lines.told != Told::Conflicts;
+    let explains = told != Told::Conflicts;
     match first_refuted(alloc, problems, explains)? {
         Some((place, shown)) => {
             let (name, problem) = &problems[place];
             Err(match shown {
                 Shown::Listed(refutation) => {
-                    Stop::Refuted(plain_text(alloc, name, &refutation)?)
+                    Stop::Refuted(listed_text(alloc, name, &refutation)?)
                 }
                 Shown::Explained(explanation) => {
-                    Stop::Explained(explained_text(alloc, name, problem, &explanation, lines)?)
+                    let wording = wording_of(changed, told);
+                    Stop::Explained(explained_text(alloc, name, problem, &explanation, wording)?)
                 }
             })
         }
@@ -171,60 +124,13 @@ fn answer<O: Write>(
     }
 }
 
-/// The sentences that tell why the first target without a solution has none after the edit of these lines; nothing where each
-/// one has a solution.
-pub fn told_refutation(
-    alloc: Global,
-    lines: &[Line],
-    edit: &Edit,
-    problems: &[(TargetName, Problem<'_>)],
-) -> Result<Option<String>, AllocError>
-    ensures { IfOk result (λ text. text ≡ None → All IsSolvable problems.now) }
-{
-    let changed = changed_by(edit);
-    match first_refuted(alloc, problems, true)? {
-        Some((place, Shown::Explained(explanation))) => {
-            let (name, problem) = &problems[place];
-            let lines = ToldLines {
-                changed: ChangedLines { lines, changed },
-                told: Told::Sentences,
-            };
-            Ok(Some(explained_text(alloc, name, problem, &explanation, lines)?))
-        }
-        Some((_, Shown::Listed(_))) => Ok(Some(String::new(alloc))),
-        None => Ok(None),
-    }
-}
-
-/// A refutation, below the target's name.
-fn plain_text(
-    alloc: Global,
-    name: &TargetName,
-    refutation: &Refutation,
-) -> Result<String, AllocError> {
-    let mut text = String::new(alloc);
-    add_target_line(&mut text, name.as_str())?;
-    add_refutation(alloc, &mut text, refutation)?;
-    Ok(text)
-}
-
-/// The sentences of an explanation, below the target's name.
-pub fn explained_text(
-    alloc: Global,
-    name: &TargetName,
-    problem: &Problem<'_>,
-    explanation: &Explanation,
-    lines: ToldLines<'_>,
-) -> Result<String, AllocError> {
-    let wording = Wording {
-        lines: lines.changed,
-        extent: match lines.told {
+/// How sentences on changed lines are worded.
+pub(crate) fn wording_of(lines: ChangedLines<'_>, told: Told) -> Wording<'_> {
+    Wording {
+        lines,
+        extent: match told {
             Told::LongSentences => Extent::Long,
             Told::Sentences | Told::Conflicts => Extent::Short,
         },
-    };
-    let mut text = String::new(alloc);
-    add_target_line(&mut text, name.as_str())?;
-    explanation.add_sentences(alloc, &mut text, problem, wording)?;
-    Ok(text)
+    }
 }

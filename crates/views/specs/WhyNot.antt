@@ -2,7 +2,7 @@
 use Rattle.std.specs.Prelude.{Bool}
 use Rattle.states.specs.Locks.{locks_another}
 use Rattle.states.specs.declared.target.Target.{Target}
-use Rattle.answers.specs.declared.why_not.NamedRelease.{NamedRelease}
+use Rattle.views.specs.declared.why_not.NamedRelease.{NamedRelease}
 
 -- the lock of a target has the name, and not the release
 abbrev pub lacks : NamedRelease → Target → Bool
