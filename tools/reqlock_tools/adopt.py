@@ -25,6 +25,7 @@ from typing import Any, NamedTuple
 
 from reqlock_tools.names import called, tool
 from reqlock_tools.refusal import Refusal, speaker
+from reqlock_tools.regular_file import read_bytes
 from reqlock_tools.toml import read_toml
 from reqlock_tools.versions import normal, read_version, version_of
 
@@ -51,7 +52,7 @@ class Pin(NamedTuple):
 
 def read_text(path: str) -> str:
     try:
-        return Path(path).read_bytes().decode()
+        return read_bytes(path).decode()
     except OSError as error:
         raise Refusal(f"{path}: {error.strerror}") from None
     except UnicodeDecodeError:

@@ -23,6 +23,7 @@ from typing import Any, NamedTuple
 
 from reqlock_tools.names import called, tool
 from reqlock_tools.refusal import Refusal, speaker
+from reqlock_tools.regular_file import open_regular
 from reqlock_tools.toml import read_toml
 
 say = speaker("check_refutation")
@@ -239,11 +240,12 @@ def at(place: str, read: Callable[..., Any], *values: Any) -> Any:
     except (TypeError, LookupError, AttributeError):
         raise Refusal(f"{place}: it isn't of the form that docs/RULES.md tells") from None
     except (OSError, ValueError, RecursionError, Refusal) as fault:
-        raise Refusal(f"{place}: {getattr(fault, 'strerror', None) or fault}") from None
+        told = getattr(fault, "strerror", None) or str(fault)
+        raise Refusal(f"{place}: {told.removeprefix(f'{place}: ')}") from None
 
 
 def of_file(path: str | int, read: Callable[[str], Any], is_by_line: bool = False) -> Any:
-    with open(path, "rb") as file:
+    with open(path, "rb") if isinstance(path, int) else open_regular(path) as file:
         text = file.read().decode()
     lines = re.findall(r"[^\n]*\n|[^\n]+\Z", text)
     return [at(f"line {number}", read, line) for number, line in enumerate(lines, 1)] if is_by_line else read(text)

@@ -10,6 +10,7 @@ from collections.abc import Callable
 from typing import Any, TypeVar
 
 from reqlock_tools.refusal import Refusal
+from reqlock_tools.regular_file import read_bytes
 from reqlock_tools.versions import is_name
 
 LARGEST_SIZE = 2**63 - 1
@@ -90,8 +91,7 @@ def decoded(path: str, data: bytes) -> str:
 
 
 def read_text(path: str) -> str:
-    with open(path, "rb") as file:
-        return decoded(path, file.read())
+    return decoded(path, read_bytes(path))
 
 
 def read_json(path: str) -> Node:

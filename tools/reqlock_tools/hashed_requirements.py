@@ -22,6 +22,7 @@ from typing import Any, NamedTuple
 
 from reqlock_tools.names import called, tool
 from reqlock_tools.refusal import Refusal, fault_text, speaker
+from reqlock_tools.regular_file import read_bytes
 from reqlock_tools.toml import read_toml
 from reqlock_tools.versions import read_version
 
@@ -118,13 +119,14 @@ def main(words: list[str]) -> int:
     parser.add_argument("lock", metavar="LOCK", help="the lock")
     options = parser.parse_args(words)
     try:
-        with open(options.lock, "rb") as file:
-            text = requirements_text(*read_lock(file.read().decode()))
+        data = read_bytes(options.lock)
+    except (Refusal, OSError) as fault:
+        say(fault_text(fault))
+        return 1
+    try:
+        text = requirements_text(*read_lock(data.decode()))
     except (Refusal, UnicodeDecodeError) as fault:
         say(f"{options.lock}: {fault}")
-        return 1
-    except OSError as fault:
-        say(fault_text(fault))
         return 1
     if isinstance(sys.stdout, io.TextIOWrapper):
         sys.stdout.reconfigure(newline="\n")

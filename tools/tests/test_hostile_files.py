@@ -273,6 +273,40 @@ class Locks(Hostile):
             self.assertEqual((status, errors.count("\n")), (2, 1))
 
 
+class Pipes(Hostile):
+    """A named pipe, or a link to a device without an end, in the place of a file that is read. Nobody writes to the pipe."""
+
+    def check(self, name, status, *words):
+        for make in os.mkfifo, lambda path: path.symlink_to("/dev/zero"):
+            (self.folder / name).unlink(missing_ok=True)
+            make(self.folder / name)
+            with self.subTest(name=name, words=words):
+                self.assertEqual(self.run_tool(*words), (status, f"{words[0]}.py: {name}: it is no file\n"))
+        (self.folder / name).unlink()
+
+    def test_are_not_waited_for(self):
+        (self.folder / "index.json").write_text('{"snapshot": 1, "packages": []}', encoding="utf-8")
+        (self.folder / "in").write_bytes(b"a\n")
+        begun = "--index", "index.json", "--env", "environment.json"
+        self.check("pylock.toml", 1, "hashed_requirements", "pylock.toml")
+        self.check("pylock.toml", 1, "portable_lock", "pylock.toml", "--index", "index.json")
+        self.check("source", 1, "adopt", "source", "in", *begun)
+        self.check("compiled", 1, "adopt", "in", "compiled", *begun)
+        self.check("index", 2, "check_refutation", "index", "in", "in")
+        simple = "snapshot", "simple", "http://127.0.0.1:9/", "--cache", "c"
+        self.check("lines", 1, *simple, "--for", "lines")
+        self.check("pylock.toml", 1, *simple, "a", "--keep", "pylock.toml")
+        self.check("environment.json", 1, *simple, "a", "--env", "environment.json")
+
+    def test_what_the_shell_hands_over_is_read(self):
+        lock = self.folder / "pylock.toml"
+        lock.write_text('lock-version = "1.0"\npackages = []\n', encoding="utf-8")
+        for words in '<(cat "$1")', '/dev/stdin <"$1"':
+            script = f'"{sys.executable}" -B "{TOOLS}/hashed_requirements.py" {words}'
+            done = subprocess.run(["bash", "-c", script, "bash", lock], capture_output=True, check=False, timeout=SECONDS)
+            self.assertEqual((done.returncode, done.stdout, done.stderr), (0, b"", b""))
+
+
 class Links(Hostile):
     """Nothing is written through a link, or by a name that others can guess."""
 
