@@ -1,13 +1,27 @@
 # bash completion for reqlock
 
-# The names that are locked in a folder.
-_reqlock_names() {
-    reqlock --dir "$1" show 2>/dev/null | tail -n +2 | while read -r name _; do echo "$name"; done
+# The names that are locked in a folder. With several targets each table has its name in front.
+_reqlock_locked_names() {
+    reqlock --dir "$1" show 2>/dev/null | LC_ALL=C awk '
+        BEGIN { is_head = 1 } /^$/ { is_head = 1; next } is_head { is_head = $1 == "target"; next } { print $1 }'
 }
 
 # The names of its lines.
 _reqlock_line_names() {
-    sed -n 's/^[[:space:]]*\([A-Za-z0-9][A-Za-z0-9._-]*\).*/\1/p' "$1/requirements.txt" 2>/dev/null
+    [ ! -f "$1/requirements.txt" ] ||
+        LC_ALL=C sed -n 's/^[[:space:]]*\([A-Za-z0-9][A-Za-z0-9._-]*\).*/\1/p' <"$1/requirements.txt"
+}
+
+# Offers those words of standard input that are names, where they begin with a text. They come from files, so the shell must
+# not expand them, as compgen -W would.
+_reqlock_offer_names() {
+    local LC_ALL=C name
+    while read -r name; do
+        case $name in
+        *[!A-Za-z0-9._-]*) ;;
+        "$1"*) COMPREPLY+=("$name") ;;
+        esac
+    done
 }
 
 # Files, also behind NAME=.
@@ -24,7 +38,7 @@ _reqlock() {
     local common="--help --verbose --quiet --color"
     local options="$common --dir --index --env --keep-locked --dry-run --json --version"
     local word=${COMP_WORDS[COMP_CWORD]} before=${COMP_WORDS[COMP_CWORD - 1]}
-    local place subcommand="" folder=. words=""
+    local place subcommand="" folder=. words="" names=""
     COMPREPLY=()
     for ((place = 1; place < COMP_CWORD; place++)); do
         case ${COMP_WORDS[place]} in
@@ -85,12 +99,13 @@ _reqlock() {
     why) words="$common --dir --index --env --explain --long --keep-locked --init --constrain --upgrade --remove --not --replace --was --line --pins" ;;
     esac
     case $subcommand,$before in
-    upgrade,* | show,show) words+=" $(_reqlock_names "$folder")" ;;
-    remove,remove | constrain,constrain) words+=" $(_reqlock_line_names "$folder")" ;;
-    why,--upgrade | why,--not) words=$(_reqlock_names "$folder") ;;
-    why,--constrain | why,--remove | why,--line | replace,--line) words=$(_reqlock_line_names "$folder") ;;
+    upgrade,* | show,show) names=locked ;;
+    remove,remove | constrain,constrain) names=line ;;
+    why,--upgrade | why,--not) words="" names=locked ;;
+    why,--constrain | why,--remove | why,--line | replace,--line) words="" names=line ;;
     esac
     mapfile -t COMPREPLY < <(compgen -W "$words" -- "$word")
+    [ -z "$names" ] || _reqlock_offer_names "$word" < <("_reqlock_${names}_names" "$folder")
 }
 
 complete -F _reqlock reqlock

@@ -26,14 +26,18 @@ function __reqlock_in
     contains -- (__reqlock_subcommand) $argv
 end
 
-# The names that are locked.
+# The names that are locked. With several targets each table has its name in front. What files say may be no name.
 function __reqlock_names
-    reqlock show 2>/dev/null | tail -n +2 | string replace -r ' .*' ''
+    reqlock show 2>/dev/null | env LC_ALL=C awk '
+        BEGIN { is_head = 1 } /^$/ { is_head = 1; next } is_head { is_head = $1 == "target"; next } { print $1 }' |
+        string match -r '^[A-Za-z0-9._-]+$'
 end
 
 # The names of the lines.
 function __reqlock_line_names
-    string replace -rf '^\s*([A-Za-z0-9][A-Za-z0-9._-]*).*' '$1' <requirements.txt 2>/dev/null
+    test -f requirements.txt
+    and env LC_ALL=C sed -n 's/^[[:space:]]*\([A-Za-z0-9][A-Za-z0-9._-]*\).*/\1/p' <requirements.txt |
+        string match -r '^[A-Za-z0-9._-]+$'
 end
 
 complete -c reqlock -f
