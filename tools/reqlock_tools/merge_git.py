@@ -9,6 +9,13 @@ from reqlock_tools.refusal import Refusal
 
 # Of a file that others changed, as many commits are looked through for the version that reqlock saved.
 MOST_COMMITS = 100
+# A version that has more bytes isn't looked at, nor are all versions that have more.
+LARGEST_VERSION = 128 * 2**20
+MOST_BYTES = 1024 * 2**20
+# A folder of a checkout can look like a git directory, whose settings would name programs to run; so may the checkout's own name
+# one. Of things that have one name git takes its own first, and then tells no more of the others.
+SETTINGS = "safe.bareRepository=explicit", "core.fsmonitor=false", "core.warnAmbiguousRefs=false"
+GIT = "git", *(word for setting in SETTINGS for word in ("-c", setting))
 # Git's names for the commit whose changes are being brought in. A rebase has the third one too.
 INCOMING = "MERGE_HEAD", "REVERT_HEAD", "CHERRY_PICK_HEAD", "REBASE_HEAD"
 
@@ -20,11 +27,19 @@ class Sides(NamedTuple):
     theirs: str
 
 
+class Blob(NamedTuple):
+    """A version of a file: git's name of what it holds, and its bytes."""
+
+    name: str
+    size: int
+
+
 class Checkout:
     """A folder of a git checkout, at its top or below."""
 
     def __init__(self, folder: str) -> None:
         self.folder = folder
+        self.bytes_left = MOST_BYTES
         if not os.path.isdir(folder):
             raise Refusal(f"{folder}: there is no such folder")
         if self.ended("rev-parse", "--is-inside-work-tree")[1] != b"true\n":
@@ -33,7 +48,7 @@ class Checkout:
     def ended(self, *words: str, data: bytes = b"") -> tuple[int, bytes, bytes]:
         """The status of git, and what it wrote."""
         try:
-            done = subprocess.run(["git", *words], cwd=self.folder, input=data, capture_output=True, check=False)
+            done = subprocess.run([*GIT, *words], cwd=self.folder, input=data, capture_output=True, check=False)
         except OSError as fault:
             raise Refusal(f"git: {fault.strerror}") from None
         if done.returncode < 0:
@@ -54,22 +69,25 @@ class Checkout:
         """Where git keeps a file of its own."""
         return Path(self.folder, os.fsdecode(self.call("rev-parse", "--git-path", name).removesuffix(b"\n")))
 
-    def contents(self, names: list[str]) -> list[bytes | None]:
-        """What git's objects of these names hold; None where one isn't there."""
-        output = self.call("cat-file", "--batch", data="".join(f"{name}\n" for name in names).encode())
-        found: list[bytes | None] = []
-        place = 0
-        while len(found) < len(names):
-            end = output.index(b"\n", place)
-            words = output[place:end].rsplit(b" ", 2)
-            if words[-2:-1] == [b"blob"]:
-                size = int(words[-1])
-                found.append(output[end + 1 : end + 1 + size])
-                end += 1 + size
-            else:
-                found.append(None)
-            place = end + 1
-        return found
+    def has_head(self, name: str) -> bool:
+        """Whether git keeps a commit under a name of its own. A tag or a branch of that name is another's."""
+        return self.has_commit(name) and not self.call("rev-parse", "--symbolic-full-name", name).startswith(b"refs/")
+
+    def blobs(self, names: list[str]) -> list[Blob | None]:
+        """The versions of these names; None where one isn't there."""
+        form = "--batch-check=%(objecttype) %(objectname) %(objectsize)"
+        rows = self.call("cat-file", form, data="".join(f"{name}\n" for name in names).encode()).splitlines()
+        found = [row.split(b" ") for row in rows]
+        return [Blob(words[1].decode(), int(words[2])) if words[0] == b"blob" else None for words in found]
+
+    def content(self, place: str, blob: Blob) -> bytes:
+        """What a version holds, which git has at this place."""
+        if blob.size > LARGEST_VERSION:
+            raise Refusal(f"{place}: it has over {LARGEST_VERSION} bytes")
+        self.bytes_left -= blob.size
+        if self.bytes_left < 0:
+            raise Refusal(f"{place}: the versions up to this one have over {MOST_BYTES} bytes")
+        return self.call("cat-file", "blob", blob.name)
 
     def unmerged(self, names: list[str]) -> set[str]:
         """Those of the folder's files that git couldn't merge."""
@@ -80,7 +98,7 @@ class Checkout:
         """Both sides of what is in progress; None where nothing is."""
         is_rebasing = any(self.path_of(name).is_dir() for name in ("rebase-merge", "rebase-apply"))
         for name in INCOMING if is_rebasing else INCOMING[:-1]:
-            if self.has_commit(name):
+            if self.has_head(name):
                 self.refuse_many(name)
                 return Sides("HEAD", f"{name}^" if name == "REVERT_HEAD" else name)
         return Sides("HEAD", "") if self.unmerged(names) else None

@@ -5,11 +5,13 @@ import json
 import re
 from typing import Any, NamedTuple
 
-from reqlock_tools.merge_git import Checkout
+from reqlock_tools.merge_git import Blob, Checkout
 from reqlock_tools.refusal import Refusal
 
 REQUIREMENTS, JOURNAL = "requirements.txt", "reqlock.journal"
 TARGET = re.compile("[a-z][a-z0-9-]{0,31}|")
+# The steps of a history that is compared with another one move no more lines than these.
+MOST_MOVED = 10**9
 
 
 def lock_name(target: str) -> str:
@@ -32,23 +34,25 @@ class Journal(NamedTuple):
     def first_lines(self, requirements: bytes) -> list[bytes]:
         """The lines with which the history began, given those of its present state."""
         lines = re.findall(rb"[^\n]*\n|[^\n]+", requirements)
+        moved = 0
         for step in reversed(self.data.split(b"\n")[1 : self.cursor + 1]):
-            lines = before(lines, json.loads(step)["lines"])
+            moved += take_back(lines, json.loads(step)["lines"])
+            if moved > MOST_MOVED:
+                raise Refusal(f"{JOURNAL}: its steps move over {MOST_MOVED} lines: --ours or --theirs tells whose history goes on")
         return lines
 
     def first_step(self) -> bytes:
         return self.data.split(b"\n", 2)[1]
 
 
-def before(lines: list[bytes], splices: list[Any]) -> list[bytes]:
-    """The lines before a step, given those behind it."""
-    found: list[bytes] = []
-    taken = moved = 0
+def take_back(lines: list[bytes], splices: list[Any]) -> int:
+    """Makes of the lines behind a step those before it. How many lines were moved to other places is answered."""
+    moved = 0
     for place, old, new in splices:
-        found += lines[taken : place + moved] + [line.encode() for line in old]
-        taken = place + moved + len(new)
-        moved += len(new) - len(old)
-    return found + lines[taken:]
+        if len(old) != len(new):
+            moved += len(lines) - place
+        lines[place : place + len(new)] = [line.encode() for line in old]
+    return moved
 
 
 def read_journal(place: str, data: bytes) -> Journal:
@@ -98,25 +102,33 @@ class Side(NamedTuple):
 def saved(checkout: Checkout, name: str, digest: str, places: list[str]) -> Found | None:
     """The version of a file with a digest: it is sought in these places, in the index, and in the last commits."""
     near = [f"{place}:./{name}" for place in [*places, ":0"]]
-    return version_with(checkout, digest, near) or version_with(checkout, digest, checkout.versions_of(name))
+    seen: set[Blob] = set()
+    return version_with(checkout, digest, near, seen) or version_with(checkout, digest, checkout.versions_of(name), seen)
 
 
-def version_with(checkout: Checkout, digest: str, names: list[str]) -> Found | None:
-    """The first of these versions with a digest."""
-    found = zip(checkout.contents(names), names)
-    return next((Found(data, name) for data, name in found if data is not None and digest_of(data) == digest), None)
+def version_with(checkout: Checkout, digest: str, places: list[str], seen: set[Blob]) -> Found | None:
+    """The first of these versions with a digest. They are looked at one by one, and none that was seen already."""
+    for place, blob in zip(places, checkout.blobs(places)):
+        if blob is None or blob in seen:
+            continue
+        seen.add(blob)
+        data = checkout.content(place, blob)
+        if digest_of(data) == digest:
+            return Found(data, place)
+    return None
 
 
 def read_side(checkout: Checkout, name: str, places: list[str]) -> Side | None:
     """A side as git has it; None where it has no journal. Of its places in git the first one counts that has a file: what git
     couldn't merge is in the index."""
-    data = next((it for it in checkout.contents([f"{place}:./{JOURNAL}" for place in places]) if it is not None), None)
-    if data is None:
+    names = [f"{place}:./{JOURNAL}" for place in places]
+    found = next(((it, blob) for it, blob in zip(names, checkout.blobs(names)) if blob is not None), None)
+    if found is None:
         return None
-    journal = read_journal(f"{JOURNAL} of {name}", data)
+    journal = read_journal(f"{JOURNAL} of {name}", checkout.content(*found))
     locks = {target: saved(checkout, lock_name(target), digest, places) for target, digest in sorted(journal.locks.items())}
     old = saved(checkout, REQUIREMENTS, journal.requirements, places)
-    return Side(name, journal, old, {target: found and found.data for target, found in locks.items()})
+    return Side(name, journal, old, {target: it and it.data for target, it in locks.items()})
 
 
 def are_of_one_history(one: Side, other: Side) -> bool:
