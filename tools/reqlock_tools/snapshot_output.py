@@ -7,10 +7,14 @@ from typing import Any
 
 from reqlock_tools.files import is_own, usual_mode, write_whole
 from reqlock_tools.refusal import Refusal, speaker
+from reqlock_tools.simple.addresses import hidden
 
 Packages = dict[str, dict[str, Any]]
 
-say = speaker("snapshot")
+
+def say(text: str) -> None:
+    """Tells a line in which no URL has a password."""
+    speaker("snapshot")(hidden(text))
 
 
 def plural(count: int, noun: str) -> str:

@@ -1,6 +1,7 @@
 """Tests of `tools/snapshot.py simple` with an index that wants to learn something, or to show something on the terminal, and with other
 users of the machine."""
 
+import hashlib
 import json
 import os
 import socket
@@ -52,6 +53,23 @@ class Secrets(Hostile):
             self.assertEqual(status, 2)
             self.assertNotIn("cret", "\n".join(lines))
             self.assertIn("i.example", lines[-1])
+
+    def test_a_password_with_a_slash_in_it_is_not_shown(self):
+        """Behind `user:12/` a URL reads as one of a host and a port, and the rest of the password as a path."""
+        for url in "http://user:12/s3cr3tPW@127.0.0.1:9/simple/", "http://user/s3cr3tPW@127.0.0.1:9/simple/":
+            status, lines = self.call(url, "a")
+            self.assertEqual(status, 2)
+            self.assertNotIn("s3cr3t", "\n".join(lines))
+            self.assertRegex(lines[-1], "URL: an `@` is in its path, .* a password are written %2F, %3A and %40")
+        self.index.instead[PATH] = [lambda to: to.give(302, Location="http://user:12/s3cr3tPW@127.0.0.1:9/x")]
+        self.assertRegex(self.call(self.index.url, "a")[1][-1], "^http://127.0.0.1:9/x: .*; is the address right")
+
+    def test_the_password_of_an_odd_proxy_is_not_shown(self):
+        for user in "me:s3c/r3tPW", "me:12/s3cr3tPW", "me:s3cr3tPW@x:y":
+            with mock.patch.dict(os.environ, {"http_proxy": f"http://{user}@127.0.0.1:9", "no_proxy": "", "NO_PROXY": ""}):
+                status, lines = self.call("http://index.example/simple/", "a", "--retries", "0")
+            self.assertEqual(status, 1)
+            self.assertNotRegex("\n".join(lines), "s3c|r3t")
 
     def test_passwords_that_are_written_otherwise(self):
         for slash in b"/", b"\\/", b"\\u002f", b"&#47;", b"&#x2F;", b"&sol;":
@@ -107,6 +125,27 @@ class Secrets(Hostile):
             thread.join(SECONDS)
         self.assertEqual((status, found[0][:1]), (1, b"\x16"))
         self.assertNotIn(b"Proxy-Authorization", found[0])
+
+    def test_entries_of_a_cache_that_are_no_files_are_not_waited_for(self):
+        self.taken()
+        for path in [path for path in (self.folder / "cache").rglob("*") if path.is_file()]:
+            for make in os.mkfifo, lambda path: path.symlink_to("/dev/zero"):
+                path.unlink()
+                make(path)
+                self.taken()
+                self.assertTrue(path.is_file() and not path.is_symlink())
+
+    def test_entries_of_a_cache_that_lack_something_count_for_nothing(self):
+        self.taken()
+        [path] = (self.folder / "cache" / "2" / "page").rglob("*/*")
+        line, _, body = path.read_bytes().partition(b"\n")[2].partition(b"\n")
+        for lacking in "etag", "modified", "url", "type", "is_absent", "key":
+            told = json.loads(line)
+            del told[lacking]
+            for beside in json.dumps(told).encode(), b"[]", b"1", b"{":
+                data = beside + b"\n" + body
+                path.write_bytes(hashlib.sha256(data).hexdigest().encode() + b"\n" + data)
+                self.taken()
 
     @unittest.skipUnless(os.geteuid() == 0, "only root can give a folder to another user")
     def test_a_cache_of_another_user_is_refused(self):

@@ -19,10 +19,16 @@ PLAIN = re.compile(r"https?://[A-Za-z0-9.-]+(?::[1-9][0-9]{0,3})?/[A-Za-z0-9/%:!
 SLASH = rb"(?:\\?/|\\u002[Ff]|&#0*47;|&#[Xx]0*2[Ff];|&sol;)"
 AT = rb"(?:@|\\u0040|&#0*64;|&#[Xx]0*40;|&commat;)"
 CREDENTIALS = re.compile(rb"(%b{2})(?:(?!%b)(?:[^/?\\\s\"'<>]|\\u[0-9A-Fa-f]{4})){0,999}%b" % (SLASH, SLASH, AT))
+# What reads as a host, a port and a part of a path, and may be a user and a password with a `/` in it.
+ODD = re.compile(r"(?<=://)[^/\s@]*:[0-9]*/\S{0,999}@")
 
 
 class Unfetched(Refusal):
     """Why something can't be had of the index, which ends the run. It begins with the URL."""
+
+
+class Unreachable(Unfetched):
+    """Nobody is there: the host is unknown, or its port refuses."""
 
 
 class Address(NamedTuple):
@@ -41,10 +47,12 @@ class Address(NamedTuple):
 def parts_of(url: str) -> urllib.parse.SplitResult:
     try:
         parts = urllib.parse.urlsplit(url)
-        if parts.port == 0:
-            raise ValueError("port 0")
-    except ValueError as error:
-        raise Unfetched(f"{without_password(url)}: no URL: {error}") from None
+        is_port = parts.port != 0
+    except ValueError:
+        is_port = False
+    if not is_port:
+        # (what Python says of it could be a part of a password)
+        raise Unfetched(f"{without_password(url)}: no URL: its host and port can't be read")
     return parts
 
 
@@ -78,6 +86,16 @@ def without_password(text: str) -> str:
     """A text with a URL as it may be shown. The URL need not be a lawful one: all before the last `@` may be a password."""
     beginning, slashes, rest = text.partition("//")
     return beginning + slashes + rest.rpartition("@")[2]
+
+
+def is_odd(url: str) -> bool:
+    """Whether a URL may have a password with a `/` in it, as http://USER:12/34@HOST/ has, so that it leads to a host named USER."""
+    return "@" in parts_of(url).path
+
+
+def hidden(text: str) -> str:
+    """A text as it may be told: what may be a password is cut out of its URLs."""
+    return ODD.sub("", text)
 
 
 def without_passwords(data: bytes) -> bytes:

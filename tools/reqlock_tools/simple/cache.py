@@ -4,22 +4,37 @@ body."""
 import hashlib
 import json
 import os
+import stat
 import threading
 from typing import Any
 
 from reqlock_tools.files import OWN, is_own, write_whole
 from reqlock_tools.libraries import library
 from reqlock_tools.refusal import Refusal, Say
+from reqlock_tools.regular_file import open_at_once
 from reqlock_tools.simple.addresses import Unfetched
 
 VERSION = "2"
 Beside = dict[str, Any]
+# What stands beside the bodies of each kind.
+KEYS: dict[str, set[str]] = {
+    "page": {"url", "type", "etag", "modified", "is_absent"}, "metadata": set(), "absent": set(), "archive": set(), "size": {"size"},
+}
 
 
 def default_folder() -> str | None:
     """The user's folder for caches, and in it one for these; None where it can't be told."""
     platformdirs = library("platformdirs")
     return None if platformdirs is None else str(platformdirs.user_cache_dir("reqlock", appauthor=False))
+
+
+def beside_of(line: bytes) -> Beside:
+    """What a line of JSON tells; nothing where it is no object."""
+    try:
+        found = json.loads(line)
+    except (ValueError, RecursionError):
+        return {}
+    return found if isinstance(found, dict) else {}
 
 
 class Cache:
@@ -41,8 +56,9 @@ class Cache:
     def get(self, kind: str, key: str) -> tuple[Beside, bytes] | None:
         """What stood beside a body, and the body; None where it isn't kept, or not as it was put there."""
         try:
-            with open(self.path(kind, key), "rb") as file:
-                if not is_own(os.fstat(file.fileno())):
+            with open(self.path(kind, key), "rb", opener=open_at_once) as file:
+                status = os.fstat(file.fileno())
+                if not (is_own(status) and stat.S_ISREG(status.st_mode)):
                     return None
                 digest, _, data = file.read().partition(b"\n")
         except OSError:
@@ -50,8 +66,9 @@ class Cache:
         if digest != hashlib.sha256(data).hexdigest().encode():
             return None
         line, _, body = data.partition(b"\n")
-        beside: Beside = json.loads(line)
-        return (beside, body) if beside["key"] == key else None
+        beside = beside_of(line)
+        is_whole = beside.get("key") == key and KEYS[kind] <= beside.keys()
+        return (beside, body) if is_whole else None
 
     def put(self, kind: str, key: str, beside: Beside, body: bytes) -> None:
         path = self.path(kind, key)

@@ -133,6 +133,10 @@ class Choices:
             releases = without_releases(releases, lambda it: id(it) not in kept and not is_of(it, locked), why, left)
         return releases, left
 
+    def is_locked(self, name: str, release: Release) -> bool:
+        """Whether a lock has a release of a package of this normal name."""
+        return is_of(release, self.locked.get(name, set()))
+
     def tests(self, url: str) -> Iterator[FileTest]:
         """What leaves single files out, in turn."""
         yield FileTest(DIGEST, lambda link: link.file.sha256 is None, True)

@@ -14,10 +14,13 @@ from typing import IO, Any, NamedTuple
 from reqlock_tools.libraries import needed
 from reqlock_tools.limits import Limits
 from reqlock_tools.refusal import Say
-from reqlock_tools.simple.addresses import Address, Unfetched, address_of, credentials_of, is_loopback, joined
+from reqlock_tools.simple.addresses import (
+    Address, Unfetched, Unreachable, address_of, credentials_of, is_loopback, is_odd, joined, without_password,
+)
 from reqlock_tools.simple.watch import TooLong, Watch, pools_of
 from reqlock_tools.snapshot_output import plural
 
+Origin = tuple[str, str, int]
 REDIRECTS = 301, 302, 303, 307, 308
 MOST_REDIRECTS = 10
 TRY_AGAIN = 429, 500, 502, 503, 504
@@ -125,7 +128,9 @@ class Client:
         self.retry = needed("urllib3.util.retry").Retry()
         self.pools: dict[object, tuple[Any, Any]] = {}
         self.proxies = urllib.request.getproxies()
-        self.reached: set[tuple[str, str, int]] = set()
+        self.reached: set[Origin] = set()
+        # Where nobody was, with what was told of it: asked once, so that all files of one host have one answer.
+        self.nobody: dict[Origin, str] = {}
         self.told_plain = False
         self.requests = self.bytes = 0
         self.lock = threading.Lock()
@@ -169,6 +174,8 @@ class Client:
         """The answer of one URL, tried again after pauses that grow."""
         url, address = request.url, address_of(request.url)
         self.tell_plain(address)
+        if address.origin in self.nobody:
+            raise Unreachable(f"{url}: {self.nobody[address.origin]}; is the address right?")
         for count in range(self.retries + 1):
             asked = None
             try:
@@ -207,8 +214,13 @@ class Client:
             raise Unfetched(f"{url}: its certificate isn't trusted: {fault}; SSL_CERT_FILE can name other authorities") from None
         is_unknown = isinstance(cause, socket.gaierror) and cause.errno != socket.EAI_AGAIN
         is_no_tls = isinstance(cause, ssl.SSLError) and not isinstance(cause, ssl.SSLEOFError)
-        if address.origin not in self.reached and (is_unknown or is_no_tls or isinstance(cause, ConnectionRefusedError)):
-            raise Unfetched(f"{url}: {getattr(cause, 'strerror', None) or cause}; is the address right?") from None
+        is_nobody = is_unknown or isinstance(cause, ConnectionRefusedError)
+        if address.origin not in self.reached and (is_nobody or is_no_tls):
+            kind = Unreachable if is_nobody and self.proxy_of(address) is None else Unfetched
+            fault = getattr(cause, "strerror", None) or str(cause)
+            if kind is Unreachable:
+                self.nobody[address.origin] = fault
+            raise kind(f"{url}: {fault}; is the address right?") from None
 
     def exchanged(self, address: Address, request: Request) -> tuple[Answer, float | None]:
         """The answer to one request, and the pause that it asks for."""
@@ -270,15 +282,18 @@ class Client:
 
     def pool(self, address: Address) -> tuple[Any, bool]:
         """What keeps the connections to an address, and whether it is a proxy that wants whole URLs."""
-        proxy = self.proxies.get(address.scheme) or self.proxies.get("all")
-        if proxy is not None and urllib.request.proxy_bypass(address.host):
-            proxy = None
+        proxy = self.proxy_of(address)
         with self.lock:
             key = address.origin, proxy
             if key not in self.pools:
                 manager = self.opened(proxy)
                 self.pools[key] = manager, manager.connection_from_host(address.host, address.port, address.scheme)
             return self.pools[key][1], proxy is not None and address.scheme == "http"
+
+    def proxy_of(self, address: Address) -> str | None:
+        """The proxy that the surroundings name for an address."""
+        proxy = self.proxies.get(address.scheme) or self.proxies.get("all")
+        return None if proxy is not None and urllib.request.proxy_bypass(address.host) else proxy
 
     def opened(self, proxy: str | None) -> Any:
         """What opens connections, through a proxy where the surroundings name one."""
@@ -290,6 +305,8 @@ class Client:
             found = self.urllib3.PoolManager(maxsize=self.jobs, timeout=timeout, ssl_context=trust)
         else:
             url = proxy if "//" in proxy else f"http://{proxy}"
+            if is_odd(url):
+                raise Unfetched(f"{without_password(url)}: no URL of a proxy: `/` in a password is written %2F")
             address, value = address_of(url), credentials_of(url)
             headers = {} if value is None else {"Proxy-Authorization": value}
             host = f"[{address.host}]" if ":" in address.host else address.host

@@ -80,7 +80,7 @@ class MetadataReader:
         told, data = kept or self.within(link)
         if "fault" in told:
             raise Refusal(f"{link.file.url}: {told['fault']}")
-        return told["inner"], data
+        return told.get("inner"), data
 
     # The file beside a wheel
 

@@ -5,7 +5,7 @@ import threading
 import urllib.parse
 from dataclasses import dataclass, field
 
-from reqlock_tools.archives import LONGEST_NAME, plain, release_of_archives
+from reqlock_tools.archives import LONGEST_NAME, ArchivedRelease, plain, release_of_archives
 from reqlock_tools.limits import Limits
 from reqlock_tools.refusal import Refusal
 from reqlock_tools.releases import Release, release_of
@@ -15,6 +15,7 @@ from reqlock_tools.simple.choices import Choices, Left
 from reqlock_tools.simple.client import Client
 from reqlock_tools.simple.metadata import ABSENT, MetadataReader
 from reqlock_tools.simple.pages import ACCEPT, Link, read_page
+from reqlock_tools.simple.served import Served
 
 # Longer pages are read one at a time, as each takes much memory meanwhile.
 LONG_PAGE = 2**20
@@ -37,11 +38,24 @@ class ReadRelease:
     release: Release | None
     notes: list[str]
     untold: str | None = None
+    left: Left = field(default_factory=Left)
 
 
 def stamp(text: str | None) -> str | None:
     """A text by which a page is known again; None for one that no header can have."""
     return text if text is not None and re.fullmatch("[ -~]{1,1000}", text) else None
+
+
+def put_release(read: ReadRelease, told: ArchivedRelease, links: list[Link]) -> None:
+    """Puts what the archives of a release tell, and its files, where one of them can be locked."""
+    for link in links:
+        asked = link.file.requires_python
+        if plain(asked or "") == plain(told.requires_python or ""):
+            link.file.requires_python = None
+    told.yanked = all(link.file.yanked for link in links)
+    files = [link.file for link in links]
+    release = release_of(told.version, told, files, lambda text: read.notes.append(f"{told.version}: {text}"))
+    read.release = release if release["files"] else None
 
 
 class Index:
@@ -94,26 +108,26 @@ class Index:
         self.cache.put("page", url, told, body)
         return told, body
 
-    def release(self, links: list[Link]) -> ReadRelease:
+    def release(self, name: str, links: list[Link]) -> ReadRelease:
         """A release of its files. The wheels tell of it, or where there is none, its sdists."""
-        version, notes = links[0].version, list[str]()
-        telling = [link for link in links if link.is_wheel] or links
+        served = Served(links, self.choices.is_locked(name, links), self.base)
+        read = ReadRelease(None, [], left=served.left)
         try:
-            told = release_of_archives([self.reader.archive(link) for link in telling], notes.append)
+            archives = served.archives(self.reader.archive)
+            if not archives:
+                return read
+            told = release_of_archives(archives, read.notes.append)
         except Unfetched:
             raise
         except Refusal as fault:
-            return ReadRelease(None, [f"{version}: left out: {fault}"])
+            read.notes.append(f"{links[0].version}: left out: {fault}")
+            return read
         if told.requires_dist is None and self.choices.options.assume_no_dependencies:
             told.requires_dist = told.assumed
         if told.is_left_out or told.requires_dist is None:
-            return ReadRelease(None, notes, None if told.is_left_out else told.version)
-        for link in links:
-            self.reader.find_size(link)
-            asked = link.file.requires_python
-            if plain(asked or "") == plain(told.requires_python or ""):
-                link.file.requires_python = None
-        told.yanked = all(link.file.yanked for link in links)
-        files = [link.file for link in links]
-        release = release_of(told.version, told, files, lambda text: notes.append(f"{told.version}: {text}"))
-        return ReadRelease(release if release["files"] else None, notes)
+            read.untold = None if told.is_left_out else told.version
+            return read
+        served.each(self.reader.find_size)
+        if served.links:
+            put_release(read, told, served.links)
+        return read

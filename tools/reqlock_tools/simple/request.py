@@ -15,6 +15,7 @@ from reqlock_tools.simple.cache import default_folder
 from reqlock_tools.simple.choices import moment_of
 
 MOST_JOBS = 256
+WRITTEN = "`/`, `:` and `@` in a password are written %2F, %3A and %40, and so is an `@` in a path"
 LIBRARIES = "packaging", "urllib3"
 DESCRIPTION = """Make a snapshot, the index that reqlock locks from, of a package index that has the Simple API.
 
@@ -114,7 +115,9 @@ def refuse_faults(parser: argparse.ArgumentParser, options: argparse.Namespace) 
         parts = urllib.parse.urlsplit(options.url)
         port = parts.port
     except ValueError:
-        parser.error("URL: its host and port can't be read; `/`, `:` and `@` in a password are written %2F, %3A and %40")
+        parser.error(f"URL: its host and port can't be read; {WRITTEN}")
+    if "@" in parts.path:
+        parser.error(f"URL: an `@` is in its path, so what stands before may be a password; {WRITTEN}")
     if parts.scheme not in ("http", "https") or not parts.hostname or port == 0 or parts.query or parts.fragment:
         parser.error("URL is the address of an index, as https://HOST/simple/; a folder named simple is given as ./simple")
     for text in options.names:

@@ -141,7 +141,7 @@ class Run:
         self.under_way[name] = len(releases)
         self.whole_packages += not releases
         for place, links in enumerate(releases):
-            self.crew.start(RELEASES, partial(self.index.release, links), partial(self.take_release, name, place))
+            self.crew.start(RELEASES, partial(self.index.release, name, links), partial(self.take_release, name, place))
 
     def take_release(self, name: str, place: int, read: ReadRelease) -> None:
         project = self.projects[name]
@@ -149,6 +149,7 @@ class Run:
         self.whole_packages += self.under_way[name] == 0
         project.releases[place] = read.release
         project.notes += read.notes
+        self.choices.left.add(read.left)
         if read.untold is not None:
             project.untold.append(read.untold)
         if read.release is not None:

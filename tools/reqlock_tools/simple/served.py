@@ -1,0 +1,45 @@
+"""The files of a release that somebody serves."""
+
+from collections.abc import Callable
+from typing import TypeVar
+
+from reqlock_tools.simple.addresses import Unfetched, Unreachable, address_of
+from reqlock_tools.simple.choices import Left
+from reqlock_tools.simple.pages import Link
+
+Found = TypeVar("Found")
+
+
+class Served:
+    """A release's files without those where nobody is. What is locked is never left out by that, and neither is what the index
+    serves at its own address: that is an outage, which ends the run."""
+
+    def __init__(self, links: list[Link], is_locked: bool, index: str) -> None:
+        self.links, self.is_locked, self.origin = list(links), is_locked, address_of(index).origin
+        self.left = Left()
+
+    def archives(self, read: Callable[[Link], Found]) -> list[Found]:
+        """What is read of the wheels, or where there is none any more, of the sdists."""
+        found: list[Found] = []
+        while self.links and not found:
+            telling = [link for link in self.links if link.is_wheel] or self.links
+            found = self.each(read, telling)
+        return found
+
+    def each(self, read: Callable[[Link], Found], links: list[Link] | None = None) -> list[Found]:
+        """What is read of each of these files, or of all. Those where nobody is are left out."""
+        found = []
+        for link in list(self.links if links is None else links):
+            try:
+                found.append(read(link))
+            except Unreachable as fault:
+                self.leave(link, fault)
+        return found
+
+    def leave(self, link: Link, fault: Unreachable) -> None:
+        address = address_of(link.file.url)
+        if self.is_locked or address.origin == self.origin:
+            more = ", and it is a file of a locked release" if self.is_locked else ""
+            raise Unfetched(f"{fault}{more}") from None
+        self.links.remove(link)
+        self.left.count(f"as nobody answers at {address.host}:{address.port}", 1, int(not self.links))
