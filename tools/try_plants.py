@@ -36,6 +36,7 @@ def unappliable(top: Path, edits: list[Path], crate: str) -> dict[Path, str]:
 
 
 def tell_unappliable(top: Path, reasons: dict[Path, str]) -> None:
+    """Prints the reason why each of these can't be applied."""
     for edit, reason in reasons.items():
         print(f"{edit.relative_to(top)}: can't be applied: {reason}")
 
