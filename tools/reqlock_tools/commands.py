@@ -5,13 +5,18 @@ import os
 import sys
 from functools import partial
 
-from reqlock_tools.refusal import speaker
+from reqlock_tools.names import tool
 
 FAILED = 1
+# What the tools are written for. This module and `names` are read by older ones too, from 3.6 on, so that they can tell it.
+OLDEST = 3, 11
 
 
 def call(module: str) -> int:
     """The status of a tool. An output that nobody reads any more ends it without a word, one that can't be written is told."""
+    if sys.version_info < OLDEST:
+        print(f"{tool(module)}: Python {OLDEST[0]}.{OLDEST[1]} or later is needed, and this is {sys.version.split()[0]}", file=sys.stderr)
+        return FAILED
     try:
         status: int = importlib.import_module(f"reqlock_tools.{module}").main(sys.argv[1:])
         sys.stdout.flush()
@@ -22,7 +27,7 @@ def call(module: str) -> int:
         if fault.filename is not None:
             raise
         forget_output()
-        speaker(module)(f"standard output: {fault.strerror}")
+        importlib.import_module("reqlock_tools.refusal").speaker(module)(f"standard output: {fault.strerror}")
         return FAILED
     return status
 

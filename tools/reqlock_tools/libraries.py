@@ -3,7 +3,7 @@
 import importlib
 import sys
 from functools import cache
-from typing import Any
+from typing import TYPE_CHECKING, Any
 
 from reqlock_tools.names import is_installed
 from reqlock_tools.refusal import Refusal
@@ -26,6 +26,28 @@ def needed(name: str) -> Any:
     if found is None:
         raise Refusal(absent_text(name.partition(".")[0]))
     return found
+
+
+class Late:
+    """A module of a library that is looked for where something of it is used first."""
+
+    def __init__(self, name: str) -> None:
+        self.name = name
+
+    def __getattr__(self, attribute: str) -> object:
+        found: object = getattr(needed(self.name), attribute)
+        setattr(self, attribute, found)
+        return found
+
+
+if TYPE_CHECKING:
+    from packaging import requirements as packaging_requirements
+    from packaging import tags as packaging_tags
+    from packaging import utils as packaging_utils
+    from packaging import version as packaging_version
+else:
+    packaging_requirements, packaging_tags = Late("packaging.requirements"), Late("packaging.tags")
+    packaging_utils, packaging_version = Late("packaging.utils"), Late("packaging.version")
 
 
 def absent_text(package: str) -> str:
