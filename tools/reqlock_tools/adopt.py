@@ -35,6 +35,8 @@ BUILT = Path(__file__).resolve().parent.parent.parent / "crates" / "reqlock" / "
 PIN = re.compile(r"([A-Za-z0-9._-]+)\s*(?:\[[^]]*\]\s*)?==\s*([^\s;,*=]+)\s*(;.*)?", re.DOTALL)
 DONE, SOME = 0, 3
 MOST_FAULTS = 20
+# Of as many pins reqlock is asked why they aren't locked.
+MOST_ASKED = 20
 
 
 say = speaker("adopt")
@@ -122,6 +124,12 @@ def release_of(pin: Pin, packages: Packages) -> dict[str, Any] | None:
     return None
 
 
+def must_be_named(pin: Pin, packages: Packages) -> bool:
+    """Whether the release that is pinned may count only where a line names it."""
+    release = release_of(pin, packages)
+    return release is not None and (release.get("yanked") or version_of(pin.version).is_prerelease)
+
+
 def fits(pin: Pin, packages: Packages) -> bool:
     """Whether the index has the release that is pinned; else it is said why the pin isn't taken over."""
     release = release_of(pin, packages)
@@ -145,7 +153,7 @@ class Folder:
     """A temporary folder in which reqlock works."""
 
     def __init__(self, path: Path, options: argparse.Namespace) -> None:
-        self.path, self.options = path, options
+        self.path, self.options, self.asked = path, options, 0
 
     def run(self, *words: str) -> tuple[int, str]:
         """The status and the output. Where reqlock refuses an input or fails, so does this."""
@@ -169,11 +177,14 @@ class Folder:
         return self.run("--env", self.options.env, "init", "--pins", str(path))[0] == 0
 
     def why_not(self, pin: Pin) -> str:
-        """Why the lock hasn't a pin that the index has."""
+        """Why the lock hasn't a pin that the index has; empty where the release itself is no reason."""
+        self.asked += 1
+        if self.asked > MOST_ASKED:
+            return f"; reqlock why --not {pin.name}=={pin.version} tells why"
         told = self.run("why", "--not", f"{pin.name}=={pin.version}")[1].partition("\n")[0]
         for word, why in ("is yanked", "is yanked, and no line pins it"), ("is a pre-release", "is admitted by its pin alone"):
             if told.startswith(f"{pin.name} ") and word in told:
-                return why
+                return f", since the pinned release {why}"
         return ""
 
 
@@ -201,7 +212,7 @@ def adopt(folder: Folder, source: str, pins: Pins, path: str) -> None:
         raise Refusal(f"{path}: no choice of versions of this index meets it")
 
 
-def say_differences(folder: Folder, pins: Pins) -> int:
+def say_differences(folder: Folder, pins: Pins, packages: Packages) -> int:
     """Says which pins the lock hasn't, and which of its names have no pin; answers how many pins it has."""
     lock = read_toml((folder.path / FILES[1]).read_text(encoding="utf-8"))
     locked = {entry["name"]: entry["version"] for entry in lock["packages"]}
@@ -212,8 +223,8 @@ def say_differences(folder: Folder, pins: Pins) -> int:
             say(f"{pin.told()}: it isn't taken over: in this environment nothing needs it")
         elif version_of(version) == version_of(pin.version):
             taken += 1
-        elif why := folder.why_not(pin):
-            say(f"{pin.told()}: it isn't taken over: {version} is locked, since the pinned release {why}")
+        elif must_be_named(pin, packages) and (why := folder.why_not(pin)):
+            say(f"{pin.told()}: it isn't taken over: {version} is locked{why}")
         else:
             say(f"{pin.told()}: it isn't taken over: over this index it doesn't go with the lines and the other pins")
             unpinned |= {name}
@@ -254,7 +265,7 @@ def run(options: argparse.Namespace) -> int:
         packages, total = releases_by_name(options.index), len(pins)
         pins = {name: pin for name, pin in pins.items() if fits(pin, packages)}
         adopt(folder, source, pins, options.source)
-        taken = say_differences(folder, pins)
+        taken = say_differences(folder, pins, packages)
         os.makedirs(options.dir, exist_ok=True)
         kept = FILES[:1] if is_same(Path(options.dir) / FILES[0], source) else ()
         for name in FILES:

@@ -43,7 +43,7 @@ class Adopt(Program):
         (self.outside / "in").write_bytes(source)
         (self.outside / "txt").write_bytes(pins)
         command = [sys.executable, "-B", SCRIPT, *(words or ("in", "txt", "--index", "index.json", "--env", "environment.json"))]
-        command += ["--dir", place, "--program", PROGRAM]
+        command += ["--dir", place, *([] if "--program" in words else ["--program", PROGRAM])]
         done = subprocess.run(command, cwd=self.outside, capture_output=True, encoding="utf-8", check=False)
         self.assertNotIn("Traceback", done.stderr)
         return done.returncode, done.stdout, done.stderr.replace("adopt.py: ", "")
@@ -109,6 +109,28 @@ class Adopt(Program):
         said = "flask 2.3: it isn't taken over: over this index it doesn't go with the lines and the other pins\n"
         locked = "flask 3.0: it is locked, and no pin was taken over for it\n"
         self.check_adopts(b"flask (>=3)\n", b"flask==2.3\nwerkzeug==3.0\n", {"flask": "3.0", "werkzeug": "3.0"}, said + locked, 3)
+
+    def test_asks_why_of_few_pins(self):
+        """Of two hundred that don't go together, and fifty that are yanked, twenty are asked about."""
+        others = [(f"n{number:03}", version, ["end==2"] if version == "1" else []) for number in range(200) for version in "12"]
+        yanked = [(f"y{number:03}", version, [], {"yanked": version == "2"}) for number in range(50) for version in "12"]
+        self.begin(b"", *others, *yanked, ("end", "1", []))
+        (self.folder / "requirements.txt").unlink()
+        names = sorted({name for name, *_ in others})
+        counting = self.outside / "counting"
+        counting.write_text(f'#!/bin/sh\necho >>"{self.outside}/calls"\nexec "{PROGRAM}" "$@"\n', encoding="utf-8")
+        counting.chmod(0o755)
+        source = "".join(f"{name}\n" for name in [*names, *sorted({name for name, *_ in yanked})]).encode()
+        pins = "".join([f"{name}==1\n" for name in names] + [f"y{number:03}==2\n" for number in range(50)]).encode()
+        words = "in", "txt", "--index", "index.json", "--env", "environment.json"
+        (self.outside / "in").write_bytes(source)
+        status, _, said = self.adopt(source, pins, *words, "--program", counting)
+        self.assertEqual(status, 3)
+        self.assertEqual((self.outside / "calls").read_bytes().count(b"\n"), 2 + 20)
+        self.assertEqual(said.count(": it isn't taken over: over this index it doesn't go with the lines and the other pins\n"), 200)
+        self.assertEqual(said.count(": it isn't taken over: 1 is locked, since the pinned release is yanked, and no line pins it\n"), 20)
+        self.assertIn("y020 2: it isn't taken over: 1 is locked; reqlock why --not y020==2 tells why\n", said)
+        self.assertEqual(said.count(" tells why\n"), 30)
 
     def test_names_files_with_other_digests(self):
         said = (
