@@ -91,14 +91,30 @@ def read_words(words: list[str]) -> Words:
     return Words(subcommand, flags, rest)
 
 
+def is_below(path: str, folder: str) -> bool:
+    """Whether a path is that of a folder or of what is below it. Both are whole."""
+    return os.path.commonpath([path, folder]) == folder
+
+
+def leads_out(folder: str, place: str) -> bool:
+    """Whether a link in the path of a folder leads to a place out of the present folder, or out of its parent where it is elsewhere
+    by its words."""
+    path, here = os.path.abspath(folder), os.path.abspath("")
+    base = here if is_below(path, here) else os.path.dirname(path)
+    return not is_below(place, os.path.realpath(base))
+
+
 def folders_of(given: list[str], say: Say) -> list[str]:
     """The folders in their order, each once."""
     found: dict[str, str] = {}
     for folder in given:
         if not folder:
             raise Usage("an empty text is no folder")
-        if found.setdefault(os.path.realpath(folder), folder) is not folder:
+        place = os.path.realpath(folder)
+        if found.setdefault(place, folder) is not folder:
             say(f"{folder}: this folder is named twice; it is asked once")
+        elif leads_out(folder, place):
+            say(f"{folder}: a link leads out to {place}, which is asked")
     return list(found.values())
 
 

@@ -47,9 +47,8 @@ class Fleet(unittest.TestCase):
 
     def start(self, *words, **options):
         command = [self.python, "-B", SCRIPT, "--program", self.program, *words]
-        return subprocess.Popen(
-            command, cwd=self.folder, **{"stdout": subprocess.PIPE, "stderr": subprocess.PIPE, "encoding": "utf-8"} | options
-        )
+        usual = {"cwd": self.folder, "stdout": subprocess.PIPE, "stderr": subprocess.PIPE, "encoding": "utf-8"}
+        return subprocess.Popen(command, **usual | options)
 
     def fleet(self, *words):
         """The status, standard output, and what is said, without the script's name."""

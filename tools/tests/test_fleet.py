@@ -154,6 +154,27 @@ class Tables(Fleet):
         self.assertEqual(status, 4)
         self.assertEqual(json.loads(output), {"folders": rows, "counts": counts, "reasons": [{"folders": ["b"], "text": "no"}]})
 
+    def test_a_link_out_is_told(self):
+        """Of a folder that comes from others: what is asked may be another project."""
+        self.answers(a="echo ok 1", b="echo ok 2")
+        (self.folder / "checkout" / "inner").mkdir(parents=True)
+        os.rename(self.folder / "a", self.folder / "checkout" / "a")
+        for name, place in ("out", "../b"), ("within", "a"), ("way", ".."):
+            (self.folder / "checkout" / name).symlink_to(place)
+        there = self.folder / "checkout"
+        for words, said in (
+            (["out", "within"], f"out: a link leads out to {self.folder}/b, which is asked\n"),
+            (["way/b", "a"], f"way/b: a link leads out to {self.folder}/b, which is asked\n"),
+            ([f"{there}/a/", "../b", "."][:2], ""),
+            (["../checkout/out", "a"], f"../checkout/out: a link leads out to {self.folder}/b, which is asked\n"),
+        ):
+            with self.subTest(words=words):
+                status, output, errors = self.end_of(self.start(*words, *ASKED, cwd=there))
+                self.assertEqual((status, errors), (0, said))
+                self.assertIn("2 folders: 2 ok", output)
+        status, _, errors = self.end_of(self.start("../out", "../../b", *ASKED, cwd=there / "inner"))
+        self.assertIn("out: a link leads out to ", errors)
+
     def test_nothing_acts_on_a_terminal(self):
         name = "x\x1b[2J\n\u202ey"
         self.answers(**{name: "printf 'refused \\033[2J\\n'; printf '\\033[2J' >&2; exit 1"})
