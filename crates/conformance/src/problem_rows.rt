@@ -6,9 +6,10 @@ use crate::growing_text::GrowingText;
 use crate::notation::owned;
 use pep440::Version;
 use pep508::{Name, ReqFile};
-use refutations::{check, check_sets};
+use refutations::check;
 use refute::{refute_by_sets, refute_singly};
 use resolve::{Answer, Learning, Problem, Resolver};
+use set_refutations::check_sets;
 use std::alloc::Global;
 use std::collections::BTreeMap;
 

@@ -3,7 +3,7 @@
 use crate::placed_term::PlacedTerm;
 use lists::Seq;
 use problems::parts::copy_of;
-use refutations::SetTerm;
+use set_refutations::SetTerm;
 use std::alloc::{AllocError, Global};
 
 /// Some of the conflicts of a list, with their places in it, which rise.

@@ -6,7 +6,7 @@ use crate::placed_term::{PlacedTerm, place_of, placed_conflicts};
 use lists::Seq;
 use problems::parts::Nodes;
 use problems::{Node, Problem};
-use refutations::{SetGround, SetNeed, SetTerm, set_completed, set_ground_of};
+use set_refutations::{SetGround, SetNeed, SetTerm, set_completed, set_ground_of};
 use std::alloc::{AllocError, Global};
 use std::collections::BTreeMap;
 

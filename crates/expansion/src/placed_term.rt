@@ -5,7 +5,7 @@ use lists::{Bits, Seq};
 use pep440::Version;
 use problems::Problem;
 use problems::parts::Nodes;
-use refutations::SetTerm;
+use set_refutations::SetTerm;
 use snapshot::Release;
 use std::alloc::{AllocError, Global};
 

@@ -11,8 +11,9 @@ use crate::placed_choice::PlacedChoice;
 use lists::Seq;
 use problems::Problem;
 use problems::parts::copy_of;
-use refutations::{Choice, Refutation, SetRefutation, check, cut};
+use refutations::{Choice, Refutation, check, cut};
 use refute::{refute_by_sets, refute_singly};
+use set_refutations::SetRefutation;
 use std::alloc::{AllocError, Global};
 
 /// The choice that one by numbers stands for; nothing where there is none.

@@ -8,7 +8,7 @@ use crate::sides::{Side, party_of};
 use crate::wording::Extent;
 use lists::Bits;
 use problems::Problem;
-use refutations::SetNeed;
+use set_refutations::SetNeed;
 use std::alloc::{AllocError, Global};
 
 /// The conflicts of a refutation of a problem, each with why it follows; and how much of them is told.

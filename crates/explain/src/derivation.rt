@@ -5,7 +5,7 @@ use crate::exclusion::{Earlier, Exclusion};
 use crate::placed_term::{PlacedTerm, are_one, candidate_places};
 use problems::parts::copy_of;
 use problems::{Node, Problem};
-use refutations::{SetGround, SetNeed};
+use set_refutations::{SetGround, SetNeed};
 use std::alloc::{AllocError, Global};
 
 /// Why a conflict follows from those before it.

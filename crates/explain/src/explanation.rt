@@ -14,7 +14,7 @@ use crate::sentences::Sentences;
 use crate::sentences::steps::{cited_lines, told_steps};
 use crate::wording::Wording;
 use problems::Problem;
-use refutations::SetRefutation;
+use set_refutations::SetRefutation;
 use std::alloc::{AllocError, Global};
 use std::marker::Model;
 
@@ -50,7 +50,7 @@ impl Drop for Explanation {
 
 impl Model for Explanation {
     ghost use Rattle.std.specs.Prelude.{List};
-    ghost use Rattle.refutations.specs.SetRefutations.{TermParts};
+    ghost use Rattle.set_refutations.specs.SetRefutations.{TermParts};
 
     ghost Value = { List (List TermParts) };
 

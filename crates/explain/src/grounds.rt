@@ -3,11 +3,11 @@
 ghost use Rattle.std.specs.Prelude.{◌≡◌, ◌↔◌, ◌++◌, ◌∷◌, [], IfOk, IsTrue, List, MatchOption};
 ghost use Rattle.search.specs.SetConflicts.{EachSetFollows, IsSetRefutation};
 ghost use Rattle.problems.specs.Rules.{rules_of, same_version};
-ghost use Rattle.refutations.specs.SetRefutations.{TermParts};
+ghost use Rattle.set_refutations.specs.SetRefutations.{TermParts};
 
 use lists::Seq;
 use problems::Problem;
-use refutations::{SetGround, SetRefutation, SetTerm, set_ground_of};
+use set_refutations::{SetGround, SetRefutation, SetTerm, set_ground_of};
 use std::alloc::{AllocError, Global};
 
 /// A ground for each conflict, by which it follows from those before it; nothing where one doesn't follow.

@@ -3,7 +3,7 @@
 use crate::derivation::Derivation;
 use crate::exclusion::{Exclusion, binds};
 use crate::placed_term::PlacedTerm;
-use refutations::SetNeed;
+use set_refutations::SetNeed;
 use std::alloc::{AllocError, Global};
 
 /// The conflicts with those of their terms alone on which their own derivations rest, up to the first one that has

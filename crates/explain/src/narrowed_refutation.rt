@@ -6,7 +6,7 @@ use crate::idle_terms::without_idle_terms;
 use crate::placed_term::{PlacedTerm, candidate_places, set_conflict};
 use lists::{Bits, Seq};
 use problems::Problem;
-use refutations::SetRefutation;
+use set_refutations::SetRefutation;
 use std::alloc::{AllocError, Global};
 
 /// What of a conflict the later ones rest on: of each of its terms these releases. Nothing rests on it

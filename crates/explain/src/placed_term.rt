@@ -5,7 +5,7 @@ use pep440::Version;
 use pep508::Name;
 use problems::parts::{copy_of, is_asked};
 use problems::{Node, Problem};
-use refutations::SetTerm;
+use set_refutations::SetTerm;
 use snapshot::Release;
 use std::alloc::{AllocError, Global};
 

@@ -9,7 +9,7 @@ use crate::placed_term::{PlacedTerm, candidate_places};
 use lists::Bits;
 use pep508::Name;
 use problems::Node;
-use refutations::SetNeed;
+use set_refutations::SetNeed;
 use std::alloc::{AllocError, Global};
 
 /// Who asks for releases of a name: a term of the conflict or an active line, by its place; or the lock, which keeps one.

@@ -1,5 +1,5 @@
 -- Tests that decide facts, put together.
-use Rattle.std.proofs.Common.{◌≡◌, ◌⊎◌, inl, inr, ◌&&◌, ◌||◌, not, Bool, true, false, List, [], ◌∷◌, Some, Contains, find, map, filter, refl, sym, ap, subst}
+use Rattle.std.proofs.Common.{◌≡◌, ◌⊎◌, inl, inr, ◌&&◌, ◌||◌, not, Bool, true, false, List, [], ◌∷◌, Some, None, Contains, find, map, filter, refl, sym, ap, subst}
 use Rattle.std.specs.Bool.{Decides}
 use Rattle.std.specs.List.{list_all, list_any}
 use Rattle.std.proofs.lemmas.Bool.{cases_Bool}
@@ -19,6 +19,10 @@ decides-onto b d f g = ((λ h. f (d.0 h)), (λ q. d.1 (g q)))
 
 pub decides-itself : (b : Bool) → Decides b (b ≡ true)
 decides-itself b = ((λ h. h), (λ h. h))
+
+-- what a test denies isn't so
+pub never : {P : Type 0} (b : Bool) → Decides b P → b ≡ false → P → ⊥
+never b d e p = let t = d.1 p in absurd cc
 
 pub decides-not : (b : Bool) → Decides (not b) (b ≡ false)
 decides-not true = ((λ h. sym h), (λ h. sym h))
@@ -68,4 +72,11 @@ found-is p (y ∷ ys) x e = elim (cases_Bool (p y)) [
       let same : y ≡ x = cc in
       (subst (λ z. Contains (y ∷ ys) z) same (Contains-here y ys), subst (λ z. p z ≡ true) same passes)
   | inr fails ↦ let k = found-is p ys x (rw fails at e) in (Contains-there y ys x k.0, k.1)
+]
+
+pub found-none : {X : Type 0} (p : X → Bool) (xs : List X) → find p xs ≡ None → list_any p xs ≡ false
+found-none p [] e = refl
+found-none p (y ∷ ys) e = elim (cases_Bool (p y)) [
+  | inl passes ↦ (let k = rw passes at e in absurd cc)
+  | inr fails ↦ rw fails (found-none p ys (rw fails at e))
 ]

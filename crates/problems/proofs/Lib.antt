@@ -1,4 +1,6 @@
 pub mod Admitting
+pub mod Candidates
+pub mod ChoiceTests
 pub mod Growing
 pub mod Closing
 pub mod Deciding
@@ -8,6 +10,8 @@ pub mod Equals
 pub mod KeepingAll
 pub mod NumbersFound
 pub mod NodesMet
+pub mod WalkedLists
+pub mod Wants
 mod Places
 mod Merging
 mod ListedPlaces

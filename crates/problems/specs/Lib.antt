@@ -1,6 +1,7 @@
 pub mod Problem
 pub mod Nodes
 pub mod Admission
+pub mod Choices
 pub mod Reasons
 pub mod Rules
 pub mod Solutions

@@ -1,5 +1,6 @@
 -- What serves proofs alone.
 pub mod ByExtra
+pub mod ChoiceTests
 pub mod Eligible
 pub mod GroupedReleases
 pub mod Growing

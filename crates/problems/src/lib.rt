@@ -14,6 +14,7 @@ mod admission;
 mod by_extra;
 mod inadmissible;
 pub mod laws;
+mod lent_choice;
 mod needed;
 mod node;
 mod node_wants;

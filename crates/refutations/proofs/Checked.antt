@@ -1,30 +1,24 @@
 -- The tests of the checker decide the four cases by which a conflict follows.
-use Rattle.std.proofs.Common.{◌≡◌, ◌⊎◌, inl, inr, ◌<◌, not, ℕ, zero, suc, Bool, true, false, List, [], ◌∷◌, ◌++◌, Option, Some, None, Contains, find, filter, get_or, length, option_map, take, arith, refl, sym, ap, subst, append_assoc, append-nil}
+use Rattle.std.proofs.Common.{◌≡◌, ◌⊎◌, inl, inr, ◌<◌, ℕ, zero, suc, true, List, [], ◌∷◌, ◌++◌, Contains, get_or, length, take, arith, sym, subst, append_assoc, append-nil}
 use Rattle.std.specs.Bool.{Decides}
 use Rattle.std.specs.List.{list_all, list_any}
-use Rattle.std.specs.Map.{lookup}
-use Rattle.std.specs.Option.{option_and_then, option_to_list}
-use Rattle.std.specs.Ordering.{is_eq}
-use Rattle.std.specs.Str.{bytes_eq}
-use Rattle.std.proofs.lemmas.Bool.{cases_Bool}
-use Rattle.std.proofs.lemmas.Slice.Eq.{bytes_eq-Decides}
-use Rattle.pep440.specs.Order.{version_cmp}
 use Rattle.pep440.specs.Version.{VersionParts}
 use Rattle.pep508.specs.Requirement.{RequirementParts}
 use Rattle.search.specs.Conflicts.{ChoicesClash, Completes, EachFollows, Follows, IsSameChoice, LineRefuses, NoneLeft, VersionsDiffer}
 use Rattle.snapshot.specs.Release.{Release}
-use Rattle.problems.specs.Admission.{admits, has_version}
-use Rattle.refutations.specs.Tied.Cases.{completes, differ, is_same, is_within, none_left, refuses}
+use Rattle.refutations.specs.Tied.Cases.{completes, is_same, is_within, none_left}
+use Rattle.problems.specs.Tied.ChoiceTests.{differ, refuses}
 use Rattle.problems.specs.Tied.Eligible.{eligible}
 use Rattle.problems.specs.Tied.NodeEquality.{is_node}
-use Rattle.problems.specs.Problem.{ProblemParts, releases_on}
-use Rattle.refutations.specs.Refutations.{ChoiceParts}
-use Rattle.problems.specs.Rules.{candidates, is_held, kept_version, nodes_of, preferring, rules_of, same_version, versions_of, wants}
+use Rattle.problems.specs.Problem.{ProblemParts}
+use Rattle.problems.specs.Choices.{ChoiceParts}
+use Rattle.problems.specs.Rules.{candidates, nodes_of, rules_of, same_version, wants}
 use Rattle.problems.specs.declared.node.Node.{Node}
-use Rattle.problems.proofs.Deciding.{IsThere, decides-all, decides-any, decides-both, decides-either, decides-itself, decides-not, decides-onto, there-more}
+use Rattle.problems.proofs.Deciding.{IsThere, decides-all, decides-any, decides-both, decides-either, decides-itself, decides-onto}
+use Rattle.problems.proofs.Candidates.{IsReleased, candidate-eligible, eligible-all}
+use Rattle.problems.proofs.ChoiceTests.{AreApart, IsRefused, differ-decides, refuses-decides}
 use Rattle.problems.proofs.EqualNodes.{node-decides}
 use Rattle.problems.proofs.Equals.{same-onward}
-use Rattle.lists.proofs.Members.{Contains-cons_cases, Contains-filter, Contains-filter_of, Contains-here, Contains-map, Contains-map_of, Contains-nil, Contains-there}
 
 -- ---- two choices
 
@@ -33,20 +27,6 @@ same-decides one other = decides-onto (is_same one other)
     (decides-both (is_node one.node other.node.name other.node.extra) (same_version one.version other.version) (node-decides one.node other.node) (decides-itself (same_version one.version other.version)))
     (λ k. record { nodes = k.0; versions = k.1 })
     (λ s. (s.nodes, s.versions))
-
-abbrev IsRefused : ProblemParts → RequirementParts → ChoiceParts → Type 0
-IsRefused given wanted choice = (wanted.name ≡ choice.node.name) × (admits given wanted choice.version ≡ false)
-
-pub refuses-decides : (given : ProblemParts) (wanted : RequirementParts) (choice : ChoiceParts) → Decides (refuses given wanted choice) (IsRefused given wanted choice)
-refuses-decides given wanted choice =
-    decides-both (bytes_eq wanted.name choice.node.name) (not (admits given wanted choice.version)) (bytes_eq-Decides wanted.name choice.node.name) (decides-not (admits given wanted choice.version))
-
-abbrev AreApart : ChoiceParts → ChoiceParts → Type 0
-AreApart one other = (one.node.name ≡ other.node.name) × (same_version one.version other.version ≡ false)
-
-pub differ-decides : (one other : ChoiceParts) → Decides (differ one other) (AreApart one other)
-differ-decides one other =
-    decides-both (bytes_eq one.node.name other.node.name) (not (same_version one.version other.version)) (bytes_eq-Decides one.node.name other.node.name) (decides-not (same_version one.version other.version))
 
 -- ---- the first three cases
 
@@ -100,90 +80,6 @@ completes-alike earlier conflict node v w h k = (
     | inr b ↦ inr (record { nodes = b.nodes; versions = same-onward member.version v w b.versions h })
   ],
 )
-
--- some release has the version
-abbrev pub IsReleased : List Release → VersionParts → Type 0
-IsReleased releases version = IsThere (λ (release : Release). release.version ≡ version) releases
-
-found-released : (test : Release → Bool) (releases : List Release) (version : VersionParts) → option_map (λ (release : Release). release.version) (find test releases) ≡ Some version → IsReleased releases version
-found-released test [] version e = absurd cc
-found-released test (r ∷ rs) version e = elim (cases_Bool (test r)) [
-  | inl passes ↦ let k = rw passes at e in record { item = r; there = Contains-here r rs; is = cc }
-  | inr fails ↦ there-more (λ (release : Release). release.version ≡ version) r rs (found-released test rs version (rw fails at e))
-]
-
-kept-released : (releases : List Release) (kept : Option VersionParts) (version : VersionParts)
-    → option_and_then (λ v. option_map (λ (release : Release). release.version) (find (has_version v) releases)) kept ≡ Some version → IsReleased releases version
-kept-released releases None version e = absurd cc
-kept-released releases (Some v) version e = found-released (has_version v) releases version e
-
-mapped-released : (releases : List Release) (version : VersionParts) → Contains (versions_of releases) version → IsReleased releases version
-mapped-released releases version there = let k = Contains-map (λ (release : Release). release.version) releases version there in record { item = k.0; there = k.1; is = k.2 }
-
-preferring-released : (releases : List Release) (kept : Option VersionParts) (version : VersionParts) → ((v : VersionParts) → kept ≡ Some v → IsReleased releases v)
-    → Contains (preferring kept (versions_of releases)) version → IsReleased releases version
-preferring-released releases None version known there = mapped-released releases version there
-preferring-released releases (Some v) version known there =
-    let others : VersionParts → Bool = λ w. not (is_eq (version_cmp v w)) in
-    elim (Contains-cons_cases v (filter others (versions_of releases)) version there) [
-      | inl e ↦ subst (λ w. IsReleased releases w) e (known v refl)
-      | inr more ↦ mapped-released releases version (Contains-filter others (versions_of releases) version more).0
-    ]
-
--- what holds with each candidate holds with each release, where it doesn't tell equal versions apart
-preferring-all : (releases : List Release) (kept : Option VersionParts) (P : VersionParts → Type 0) → ((v w : VersionParts) → same_version v w ≡ true → P v → P w)
-    → ((v : VersionParts) → Contains (preferring kept (versions_of releases)) v → P v) → (release : Release) → Contains releases release → P release.version
-preferring-all releases None P alike each release there = each release.version (Contains-map_of (λ (r : Release). r.version) releases release there)
-preferring-all releases (Some v) P alike each release there =
-    let others : VersionParts → Bool = λ w. not (is_eq (version_cmp v w)) in
-    let listed : Contains (versions_of releases) release.version = Contains-map_of (λ (r : Release). r.version) releases release there in
-    elim (cases_Bool (same_version v release.version)) [
-      | inl same ↦ alike v release.version same (each v (Contains-here v (filter others (versions_of releases))))
-      | inr apart ↦ each release.version (Contains-there v (filter others (versions_of releases)) release.version (Contains-filter_of others (versions_of releases) release.version listed (ap not apart)))
-    ]
-
--- the release that is kept, alone
-alone-released : (found : Option Release) (version : VersionParts) → Contains (option_to_list (option_map (λ (release : Release). release.version) found)) version → IsReleased (option_to_list found) version
-alone-released None version there = absurd (Contains-nil version there)
-alone-released (Some release) version there = mapped-released (release ∷ []) version there
-
-held-released : (releases : List Release) (kept : Option VersionParts) (version : VersionParts)
-    → Contains (option_to_list (option_and_then (λ v. option_map (λ (release : Release). release.version) (find (has_version v) releases)) kept)) version
-    → IsReleased (option_to_list (option_and_then (λ v. find (has_version v) releases) kept)) version
-held-released releases None version there = absurd (Contains-nil version there)
-held-released releases (Some v) version there = alone-released (find (has_version v) releases) version there
-
-alone-all : (found : Option Release) (P : VersionParts → Type 0) → ((v : VersionParts) → Contains (option_to_list (option_map (λ (release : Release). release.version) found)) v → P v)
-    → (release : Release) → Contains (option_to_list found) release → P release.version
-alone-all None P each release there = absurd (Contains-nil release there)
-alone-all (Some one) P each release there = each release.version (Contains-map_of (λ (r : Release). r.version) (one ∷ []) release there)
-
-held-all : (releases : List Release) (kept : Option VersionParts) (P : VersionParts → Type 0)
-    → ((v : VersionParts) → Contains (option_to_list (option_and_then (λ w. option_map (λ (release : Release). release.version) (find (has_version w) releases)) kept)) v → P v)
-    → (release : Release) → Contains (option_to_list (option_and_then (λ w. find (has_version w) releases) kept)) release → P release.version
-held-all releases None P each release there = absurd (Contains-nil release there)
-held-all releases (Some v) P each release there = alone-all (find (has_version v) releases) P each release there
-
--- a candidate is the version of an eligible release
-pub candidate-eligible : (given : ProblemParts) (name : List ℕ) (version : VersionParts) → Contains (candidates given name) version → IsReleased (eligible given name) version
-candidate-eligible given name version there =
-    let releases : List Release = releases_on given name in
-    let kept : Option VersionParts = lookup (bytes_eq name) given.kept in
-    elim (cases_Bool (is_held given name)) [
-      | inl held ↦ rw held (held-released releases kept version (rw held at there))
-      | inr free ↦ rw free (preferring-released releases (kept_version given name) version (kept-released releases kept) (rw free at there))
-    ]
-
--- what holds with each candidate holds with each eligible release, where it doesn't tell equal versions apart
-pub eligible-all : (given : ProblemParts) (name : List ℕ) (P : VersionParts → Type 0) → ((v w : VersionParts) → same_version v w ≡ true → P v → P w)
-    → ((v : VersionParts) → Contains (candidates given name) v → P v) → (release : Release) → Contains (eligible given name) release → P release.version
-eligible-all given name P alike each release there =
-    let releases : List Release = releases_on given name in
-    let kept : Option VersionParts = lookup (bytes_eq name) given.kept in
-    elim (cases_Bool (is_held given name)) [
-      | inl held ↦ held-all releases kept P (rw held at each) release (rw held at there)
-      | inr free ↦ preferring-all releases (kept_version given name) P alike (rw free at each) release (rw free at there)
-    ]
 
 -- with each candidate the conflict contains an earlier one
 abbrev IsExhausted : ProblemParts → List (List ChoiceParts) → List ChoiceParts → Node → Type 0

@@ -6,7 +6,7 @@ use Rattle.pep440.specs.Order.{version_cmp}
 use Rattle.refutations.specs.Tied.Cases.{is_same}
 use Rattle.refutations.specs.Choices.{choice_cmp}
 use Rattle.problems.specs.Nodes.{node_cmp}
-use Rattle.refutations.specs.Refutations.{ChoiceParts}
+use Rattle.problems.specs.Choices.{ChoiceParts}
 use Rattle.problems.specs.Rules.{same_version}
 use Rattle.problems.proofs.EqualNodes.{nodes-tied}
 

@@ -1,44 +1,27 @@
 -- What is found in a list passes its test, and where nothing is found nothing passes.
-use Rattle.std.proofs.Common.{◌≡◌, ◌∙◌, ◌↔◌, inl, inr, IsTrue, is_some, ◌<◌, ◌+◌, ◌&&◌, ◌||◌, ℕ, zero, suc, Bool, true, false, List, [], ◌∷◌, Option, Some, None, IfSome, MatchOption, Contains, drop, find, filter, get_or, length, map, refl, sym, ap, subst}
-use Rattle.std.specs.Bool.{Decides}
+use Rattle.std.proofs.Common.{◌≡◌, ◌∙◌, ◌↔◌, inl, inr, IsTrue, is_some, ◌&&◌, ℕ, zero, suc, Bool, true, false, List, [], ◌∷◌, Option, Some, None, IfSome, MatchOption, Contains, find, filter, refl, sym, ap, subst}
 use Rattle.std.specs.List.{list_all, list_any, slice_get}
 use Rattle.std.specs.Option.{option_map_or}
 use Rattle.std.proofs.lemmas.Bool.{cases_Bool}
-use Rattle.std.proofs.lemmas.List.{at_drop_more}
-use Rattle.std.proofs.lemmas.Option.{slice_get_read}
 use Rattle.pep440.specs.Version.{VersionParts}
 use Rattle.pep508.specs.Requirement.{RequirementParts}
 use Rattle.problems.specs.Admission.{dependencies_at, release_at}
 use Rattle.search.specs.Conflicts.{ChoicesClash, Completes, Follows, LineRefuses, NoneLeft, VersionsDiffer}
-use Rattle.refutations.specs.Tied.Cases.{IsLeftOut, completes, differ, is_within, none_left, refuses}
+use Rattle.refutations.specs.Tied.Cases.{IsLeftOut, completes, is_within, none_left}
+use Rattle.problems.specs.Tied.ChoiceTests.{differ, refuses}
 use Rattle.refutations.specs.Grounds.{IsGround}
 use Rattle.problems.specs.Problem.{ProblemParts}
-use Rattle.refutations.specs.Refutations.{ChoiceParts}
-use Rattle.problems.specs.Rules.{bare, counts, nodes_of, rules_of, same_version, wants, with_extra}
+use Rattle.problems.specs.Choices.{ChoiceParts}
+use Rattle.problems.specs.Rules.{counts, nodes_of, rules_of, same_version, wants}
 use Rattle.refutations.specs.declared.ground.Ground.{Ground}
 use Rattle.refutations.specs.declared.ground.Ground.TheVariants.{ChoicesClash as Clash, LineRefuses as Refused, NoneLeft as Exhausted, VersionsDiffer as Differ}
 use Rattle.problems.specs.declared.node.Node.{Node}
-use Rattle.refutations.proofs.Checked.{by_choice-decides, by_line-decides, clash-decides, completes-decides, differ-decides, exhausted-decides, line-decides, none-cases, refuses-decides, versions-decide}
-use Rattle.refutations.proofs.Wants.{counted}
-use Rattle.problems.proofs.Deciding.{any-mapped, found-is}
-use Rattle.lists.proofs.Members.{Contains-filter_of, Contains-here, Contains-map_of, Contains-there}
-
--- ---- a loop over places
-
-pub any-past : {X : Type 0} (p : X → Bool) (xs : List X) (k : ℕ) (x : X) → k < length xs → x ≡ get_or xs k x → p x ≡ false
-    → list_any p xs ≡ list_any p (drop k xs) → list_any p xs ≡ list_any p (drop (k + 1) xs)
-any-past p xs k x within is fails so_far = so_far ∙ at_drop_more (list_any p) xs k x within ∙ ap (λ b. b || list_any p (drop (k + 1) xs)) (ap p (sym is) ∙ fails)
-
-pub placed : {X : Type 0} (xs : List X) (k : ℕ) (x : X) → k < length xs → x ≡ get_or xs k x → slice_get xs k ≡ Some x
-placed xs k x within is = slice_get_read xs (length xs) k x refl within is
-
-pub all-past : {X : Type 0} (p : X → Bool) (xs : List X) (k : ℕ) (x : X) → k < length xs → x ≡ get_or xs k x → p x ≡ true
-    → list_all p xs ≡ list_all p (drop k xs) → list_all p xs ≡ list_all p (drop (k + 1) xs)
-all-past p xs k x within is passes so_far = so_far ∙ at_drop_more (list_all p) xs k x within ∙ ap (λ b. b && list_all p (drop (k + 1) xs)) (ap p (sym is) ∙ passes)
-
-pub all-stopped : {X : Type 0} (p : X → Bool) (xs : List X) (k : ℕ) (x : X) → k < length xs → x ≡ get_or xs k x → p x ≡ false
-    → list_all p xs ≡ list_all p (drop k xs) → list_all p xs ≡ false
-all-stopped p xs k x within is fails so_far = so_far ∙ at_drop_more (list_all p) xs k x within ∙ ap (λ b. b && list_all p (drop (k + 1) xs)) (ap p (sym is) ∙ fails)
+use Rattle.refutations.proofs.Checked.{by_choice-decides, by_line-decides, clash-decides, completes-decides, exhausted-decides, line-decides, none-cases, versions-decide}
+use Rattle.problems.proofs.ChoiceTests.{differ-decides, refuses-decides}
+use Rattle.problems.proofs.Wants.{counted}
+use Rattle.problems.proofs.Deciding.{found-is, found-none, never}
+use Rattle.problems.proofs.WalkedLists.{slice_get-there}
+use Rattle.lists.proofs.Members.{Contains-filter_of}
 
 any-at : {X : Type 0} (p : X → Bool) (xs : List X) (k : ℕ) (x : X) → slice_get xs k ≡ Some x → p x ≡ true → list_any p xs ≡ true
 any-at p [] k x e h = absurd cc
@@ -46,13 +29,6 @@ any-at p (y ∷ ys) zero x e h = let same : y ≡ x = cc in rw (ap p same ∙ h)
 any-at p (y ∷ ys) (suc k) x e h = elim (cases_Bool (p y)) [ inl passes ↦ rw passes refl | inr fails ↦ rw fails (any-at p ys k x e h) ]
 
 -- ---- what is found
-
-pub found-none : {X : Type 0} (p : X → Bool) (xs : List X) → find p xs ≡ None → list_any p xs ≡ false
-found-none p [] e = refl
-found-none p (y ∷ ys) e = elim (cases_Bool (p y)) [
-  | inl passes ↦ (let k = rw passes at e in absurd cc)
-  | inr fails ↦ rw fails (found-none p ys (rw fails at e))
-]
 
 find-filtered : {X : Type 0} (p q : X → Bool) (xs : List X) → find (λ x. q x && p x) xs ≡ find p (filter q xs)
 find-filtered p q [] = refl
@@ -68,16 +44,8 @@ find-wanted p given node version =
 
 -- ---- deciding
 
-pub never : {P : Type 0} (b : Bool) → Decides b P → b ≡ false → P → ⊥
-never b d e p = let t = d.1 p in absurd cc
-
 pub found-fails : {X : Type 0} (p : X → Bool) (xs : List X) (x : X) → find p xs ≡ Some x → p x ≡ false → ⊥
 found-fails p xs x e f = let t = (found-is p xs x e).1 in absurd cc
-
-pub slice_get-there : {X : Type 0} (xs : List X) (k : ℕ) (x : X) → slice_get xs k ≡ Some x → Contains xs x
-slice_get-there [] k x e = absurd cc
-slice_get-there (y ∷ ys) zero x e = let same : y ≡ x = cc in subst (λ z. Contains (y ∷ ys) z) same (Contains-here y ys)
-slice_get-there (y ∷ ys) (suc k) x e = Contains-there y ys x (slice_get-there ys k x e)
 
 -- ---- a line refuses a choice
 
@@ -166,18 +134,6 @@ unexhausted given earlier conflict by_choice by_line none = elim (none-cases giv
   | inl line ↦ never _ (by_line-decides given earlier conflict) by_line line
   | inr choice ↦ never _ (by_choice-decides given earlier conflict) by_choice choice
 ]
-
--- of the nodes that a requirement needs, the name alone comes first
-pub none-left_out : (test : Node → Bool) (wanted : RequirementParts) → test (bare wanted.name) ≡ false → list_any (λ extra. test (with_extra wanted.name extra)) wanted.extras ≡ false
-    → list_any test (nodes_of wanted) ≡ false
-none-left_out test wanted bare_left none =
-    let rest : list_any test (map (with_extra wanted.name) wanted.extras) ≡ false = sym (any-mapped test (with_extra wanted.name) wanted.extras) ∙ none in
-    rw (bare_left, rest) refl
-
-pub extra-found : (test : Node → Bool) (wanted : RequirementParts) (extra : List ℕ) → Contains wanted.extras extra × (test (with_extra wanted.name extra) ≡ true)
-    → Contains (nodes_of wanted) (with_extra wanted.name extra) × (test (with_extra wanted.name extra) ≡ true)
-extra-found test wanted extra k =
-    (Contains-there (bare wanted.name) (map (with_extra wanted.name) wanted.extras) (with_extra wanted.name extra) (Contains-map_of (with_extra wanted.name) wanted.extras extra k.0), k.1)
 
 -- a dependency that counts is wanted
 pub wanted-counts : (given : ProblemParts) (node : Node) (version : VersionParts) (wanted : RequirementParts) → Contains (dependencies_at given node.name version) wanted

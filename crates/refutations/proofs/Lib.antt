@@ -1,9 +1,4 @@
 pub mod EqualChoices
 pub mod Checked
-pub mod WalkedLists
 pub mod Within
-pub mod Wants
 pub mod Grounded
-pub mod SetsCompleted
-pub mod SetsChecked
-pub mod SetsGrounded

@@ -1,9 +1,9 @@
 -- What is found in a conflict is within it.
 use Rattle.std.proofs.Common.{◌≡◌, ◌||◌, ℕ, Bool, true, false, IfSome, List, Option, Some, None, refl}
 use Rattle.std.specs.List.{list_any}
-use Rattle.refutations.specs.Refutations.{ChoiceParts}
+use Rattle.problems.specs.Choices.{ChoiceParts}
 use Rattle.refutations.specs.Tied.Cases.{is_same, is_within}
-use Rattle.refutations.proofs.WalkedLists.{either-more}
+use Rattle.problems.proofs.WalkedLists.{either-more}
 
 either-first : (a b : Bool) → a ≡ true → (a || b) ≡ true
 either-first true b e = refl

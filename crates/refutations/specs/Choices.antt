@@ -5,7 +5,7 @@ use Rattle.std.specs.declared.cmp.Ordering.{Ordering}
 use Rattle.pep440.specs.Canonical.{canonical}
 use Rattle.pep440.specs.Order.{version_cmp}
 use Rattle.problems.specs.Nodes.{node_cmp}
-use Rattle.refutations.specs.Refutations.{ChoiceParts}
+use Rattle.problems.specs.Choices.{ChoiceParts}
 
 -- nodes first, and then versions by their order: `1.0` equals `1.0.0`
 abbrev pub choice_cmp : ChoiceParts → ChoiceParts → Ordering

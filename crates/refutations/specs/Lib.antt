@@ -1,5 +1,3 @@
-pub mod Refutations
-pub mod SetRefutations
 pub mod Choices
 pub mod Grounds
 pub mod Tied

@@ -1,4 +1,3 @@
 -- What serves proofs alone.
 pub mod Cases
 pub mod ChoiceLaws
-pub mod SetCases

@@ -3,12 +3,9 @@
 ghost use Rattle.std.specs.Prelude.{◌≡◌, ◌↔◌, ◌++◌, ◌∷◌, [], IsTrue, List};
 ghost use Rattle.search.specs.Conflicts.{EachFollows, Follows, IsRefutation};
 ghost use Rattle.search.specs.Solutions.{HasNoSolution};
-ghost use Rattle.refutations.specs.Refutations.{ChoiceParts};
+ghost use Rattle.problems.specs.Choices.{ChoiceParts};
 ghost use Rattle.problems.specs.Rules.{rules_of, same_version};
 
-mod sets;
-
-pub use crate::checker::sets::check_sets;
 use crate::choice::Choice;
 use crate::grounds::ground_by;
 use crate::grounds::hints::{Places, places_of};

@@ -10,11 +10,10 @@ ghost use Rattle.problems.specs.Rules.{same_version};
 mod order;
 mod text;
 
-use crate::lent_choice::{LentChoice, LentNode};
 use lists::Faithful;
 use pep440::Version;
 use pep508::Name;
-use problems::parts::copy_of;
+use problems::parts::{LentChoice, LentNode, copy_of};
 use std::alloc::AllocError;
 use std::marker::Model;
 
@@ -37,7 +36,7 @@ impl Drop for Choice {
 }
 
 impl Model for Choice {
-    ghost use Rattle.refutations.specs.Refutations.{ChoiceParts};
+    ghost use Rattle.problems.specs.Choices.{ChoiceParts};
 
     ghost Value = { ChoiceParts };
 

@@ -5,7 +5,7 @@ ghost use Rattle.std.specs.List.{slice_get};
 ghost use Rattle.std.specs.Option.{option_copied};
 ghost use Rattle.search.specs.Conflicts.{Completes, Follows};
 ghost use Rattle.refutations.specs.Grounds.{IsGround};
-ghost use Rattle.refutations.specs.Refutations.{ChoiceParts};
+ghost use Rattle.problems.specs.Choices.{ChoiceParts};
 ghost use Rattle.problems.specs.Rules.{rules_of, same_version};
 
 pub(crate) mod clash;
@@ -26,11 +26,11 @@ use crate::grounds::earlier::Earlier;
 use crate::grounds::exhaustion::exhausted;
 use crate::grounds::hints::Places;
 use crate::grounds::refusal::refused;
-use crate::lent_choice::{LentChoice, LentNode};
 use lists::Seq;
 use pep440::Version;
 use pep508::Name;
 use problems::Problem;
+use problems::parts::{LentChoice, LentNode};
 
 /// A ground by which a conflict follows from earlier ones that are found.
 pub(crate) fn found_ground<'a>(

@@ -1,4 +1,5 @@
-//! What shows that a problem has no solution: refutations, their checker, and what each conflict rests on.
+//! What shows that a problem has no solution, by conflicts of single versions: refutations, their checker, and what each
+//! conflict rests on. `set_refutations`, beside it, has the same of conflicts of sets of versions.
 //!
 //! Whether a list of conflicts, whoever made it, shows that a problem has no solution:
 //!
@@ -15,19 +16,12 @@ mod choice;
 mod ground;
 mod grounds;
 pub mod laws;
-mod lent_choice;
 mod needed_conflicts;
 mod refutation;
-mod set_ground;
-mod set_grounds;
-mod set_refutation;
 
-pub use crate::checker::{check, check_sets};
+pub use crate::checker::check;
 pub use crate::choice::Choice;
 pub use crate::ground::{Ground, Need};
 pub use crate::grounds::{completed, ground_of};
 pub use crate::needed_conflicts::cut;
 pub use crate::refutation::Refutation;
-pub use crate::set_ground::{SetGround, SetNeed};
-pub use crate::set_grounds::{set_completed, set_ground_of};
-pub use crate::set_refutation::{SetRefutation, SetTerm};

@@ -11,10 +11,10 @@ use crate::grounds::completion::completed_at;
 use crate::grounds::earlier::Earlier;
 use crate::grounds::found_ground;
 use crate::grounds::hints::places_of;
-use crate::lent_choice::{LentChoice, LentNode};
 use crate::refutation::Refutation;
 use lists::Seq;
 use problems::Problem;
+use problems::parts::{LentChoice, LentNode};
 use std::alloc::{AllocError, Global};
 
 /// Whether a place is marked.

@@ -20,7 +20,7 @@ impl Drop for Refutation {
 
 impl Model for Refutation {
     ghost use Rattle.std.specs.Prelude.{List};
-    ghost use Rattle.refutations.specs.Refutations.{ChoiceParts};
+    ghost use Rattle.problems.specs.Choices.{ChoiceParts};
 
     ghost Value = { List (List ChoiceParts) };
 

@@ -11,9 +11,9 @@ use crate::set_refutation::{as_sets, set_refutation_of};
 use pep440::Version;
 use pep508::{Name, Requirement};
 use problems::{Node, Problem};
-use refutations::SetRefutation;
 use resolve::table::{Tabled, table_of};
 use search::laws;
+use set_refutations::SetRefutation;
 use set_search::{SetVerdict, solved};
 use std::alloc::{AllocError, Global};
 

@@ -17,9 +17,10 @@ use pep440::Version;
 use pep508::Name;
 use problems::Problem;
 use problems::parts::copy_of;
-use refutations::{Choice, Refutation, SetRefutation, SetTerm};
+use refutations::{Choice, Refutation};
 use resolve::table::Tabled;
 use set_conflicts::table_term::TableTerm;
+use set_refutations::{SetRefutation, SetTerm};
 use std::alloc::{AllocError, Global};
 
 /// The versions of the releases of a name at these places.

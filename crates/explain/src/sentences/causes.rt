@@ -11,7 +11,7 @@ use crate::sentences::steps::number_of;
 use crate::sentences::{Sentences, add_node};
 use lists::Bits;
 use problems::Node;
-use refutations::SetNeed;
+use set_refutations::SetNeed;
 use std::alloc::{AllocError, Global};
 
 /// Releases of a node that don't go with a term.

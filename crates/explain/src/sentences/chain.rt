@@ -7,7 +7,7 @@ use crate::placed_term::PlacedTerm;
 use crate::sentences::steps::Step;
 use crate::sentences::{Sentences, add_node};
 use crate::wording::Extent;
-use refutations::SetNeed;
+use set_refutations::SetNeed;
 use std::alloc::AllocError;
 use std::collections::BTreeMap;
 

@@ -11,7 +11,7 @@ use crate::sentences::steps::{Step, number_of};
 use crate::sentences::{Sentences, add_node};
 use phrases::{add_near_names, has_package};
 use problems::Node;
-use refutations::SetNeed;
+use set_refutations::SetNeed;
 use std::alloc::AllocError;
 
 impl Sentences<'_> {

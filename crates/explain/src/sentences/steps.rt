@@ -4,7 +4,7 @@ use crate::account::{Account, Derived};
 use crate::derivation::Derivation;
 use crate::exclusion::Exclusion;
 use crate::sides::Party;
-use refutations::SetNeed;
+use set_refutations::SetNeed;
 use std::alloc::{AllocError, Global};
 use std::collections::BTreeSet;
 

@@ -1,5 +1,5 @@
 -- The releases whose versions are the candidates of a name.
--- Tied to `candidates` by the contracts of `check` and `check_sets` in `refutations`; need not be read.
+-- Tied to `candidates` by the contracts of `check` in `refutations` and `check_sets` in `set_refutations`; need not be read.
 use Rattle.std.specs.Prelude.{ℕ, List, Option, if◌then◌else◌}
 use Rattle.std.specs.Map.{lookup}
 use Rattle.std.specs.Option.{option_and_then, option_to_list}

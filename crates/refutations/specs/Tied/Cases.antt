@@ -1,28 +1,18 @@
 -- The cases of `Follows` as tests.
 -- Tied to `IsRefutation` by the contract of `check`; need not be read.
-use Rattle.std.specs.Prelude.{◌≡◌, ◌&&◌, ◌||◌, not, ℕ, Bool, true, List, Option}
+use Rattle.std.specs.Prelude.{◌≡◌, ◌&&◌, ◌||◌, ℕ, Bool, true, List, Option}
 use Rattle.std.specs.List.{Contains, list_all, list_any}
-use Rattle.std.specs.Str.{bytes_eq}
 use Rattle.pep508.specs.Requirement.{RequirementParts}
-use Rattle.problems.specs.Admission.{admits}
 use Rattle.problems.specs.Tied.Eligible.{eligible}
 use Rattle.problems.specs.Tied.NodeEquality.{is_node}
 use Rattle.problems.specs.Problem.{ProblemParts}
-use Rattle.refutations.specs.Refutations.{ChoiceParts}
+use Rattle.problems.specs.Choices.{ChoiceParts}
 use Rattle.problems.specs.Rules.{nodes_of, same_version}
 use Rattle.problems.specs.declared.node.Node.{Node}
 
 -- whether two choices are one
 abbrev pub is_same : ChoiceParts → ChoiceParts → Bool
 is_same one other = is_node one.node other.node.name other.node.extra && same_version one.version other.version
-
--- whether a requirement is on the name of a choice and doesn't admit its version
-abbrev pub refuses : ProblemParts → RequirementParts → ChoiceParts → Bool
-refuses given wanted choice = bytes_eq wanted.name choice.node.name && not (admits given wanted choice.version)
-
--- whether two choices are two versions for one name
-abbrev pub differ : ChoiceParts → ChoiceParts → Bool
-differ one other = bytes_eq one.node.name other.node.name && not (same_version one.version other.version)
 
 -- whether a choice is in the conflict, or is the one that is put to it
 abbrev pub is_within : List ChoiceParts → ChoiceParts → ChoiceParts → Bool

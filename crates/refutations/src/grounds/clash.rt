@@ -4,9 +4,9 @@ ghost use Rattle.std.specs.Prelude.{◌≡◌, ◌&&◌, List, MatchOption, find
 ghost use Rattle.std.specs.List.{list_any};
 ghost use Rattle.std.specs.Option.{option_copied};
 ghost use Rattle.search.specs.Conflicts.{ChoicesClash};
-ghost use Rattle.refutations.specs.Tied.Cases as spec;
+ghost use Rattle.problems.specs.Tied.ChoiceTests as spec;
 ghost use Rattle.refutations.specs.Grounds.{IsGround};
-ghost use Rattle.refutations.specs.Refutations.{ChoiceParts};
+ghost use Rattle.problems.specs.Choices.{ChoiceParts};
 ghost use Rattle.problems.specs.Rules.{counts, rules_of, wants};
 
 use crate::choice::Choice;

@@ -4,15 +4,15 @@ ghost use Rattle.std.specs.Prelude.{◌≡◌, IfSome, List, MatchOption, None, 
 ghost use Rattle.std.specs.List.{list_all, list_any, slice_get};
 ghost use Rattle.std.specs.Option.{option_map_or};
 ghost use Rattle.refutations.specs.Tied.Cases as spec;
-ghost use Rattle.refutations.specs.Refutations.{ChoiceParts};
+ghost use Rattle.problems.specs.Choices.{ChoiceParts};
 
 use crate::choice::{Choice, are_one, is_at};
 use crate::grounds::earlier::Earlier;
 use crate::grounds::hints::Hints;
 use crate::grounds::turns::is_within_by_turns;
-use crate::lent_choice::{LentChoice, LentNode};
 use lists::Seq;
 use problems::Problem;
+use problems::parts::{LentChoice, LentNode};
 use snapshot::Release;
 
 /// Whether a choice is one of the conflict.

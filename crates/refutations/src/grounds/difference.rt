@@ -4,10 +4,10 @@ ghost use Rattle.std.specs.Prelude.{◌≡◌, List, MatchOption, find};
 ghost use Rattle.std.specs.List.{list_any};
 ghost use Rattle.std.specs.Option.{option_copied};
 ghost use Rattle.search.specs.Conflicts.{VersionsDiffer};
-ghost use Rattle.refutations.specs.Tied.Cases as spec;
+ghost use Rattle.problems.specs.Tied.ChoiceTests as spec;
 ghost use Rattle.refutations.specs.Grounds.{IsGround};
 ghost use Rattle.problems.specs.Problem.{ProblemParts};
-ghost use Rattle.refutations.specs.Refutations.{ChoiceParts};
+ghost use Rattle.problems.specs.Choices.{ChoiceParts};
 ghost use Rattle.problems.specs.Rules.{rules_of, same_version};
 
 use crate::choice::Choice;

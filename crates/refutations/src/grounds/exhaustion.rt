@@ -13,10 +13,9 @@ use crate::choice::Choice;
 use crate::ground::{Ground, Need};
 use crate::grounds::completion::none_left_at;
 use crate::grounds::earlier::Earlier;
-use crate::lent_choice::LentNode;
 use pep508::{Name, Requirement};
 use problems::Problem;
-use problems::parts::counts;
+use problems::parts::{LentNode, counts};
 
 /// The first of the extras with which no release is left for the name.
 fn extra_without<'a>(

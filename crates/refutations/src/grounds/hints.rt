@@ -7,9 +7,9 @@ mod rows;
 use crate::choice::{Choice, is_at};
 use crate::grounds::hints::numbers::{Numbers, numbered};
 use crate::grounds::hints::rows::{Row, row_at, rows_of};
-use crate::lent_choice::{LentChoice, LentNode};
 use lists::Seq;
 use problems::Problem;
+use problems::parts::{LentChoice, LentNode};
 use snapshot::Release;
 use std::alloc::{AllocError, Global};
 

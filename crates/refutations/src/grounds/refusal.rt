@@ -5,9 +5,9 @@ ghost use Rattle.std.specs.List.{list_any, slice_get};
 ghost use Rattle.std.specs.Option.{option_copied};
 ghost use Rattle.search.specs.Conflicts.{LineRefuses};
 ghost use Rattle.pep508.specs.Requirement.{RequirementParts};
-ghost use Rattle.refutations.specs.Tied.Cases as spec;
+ghost use Rattle.problems.specs.Tied.ChoiceTests as spec;
 ghost use Rattle.refutations.specs.Grounds.{IsGround};
-ghost use Rattle.refutations.specs.Refutations.{ChoiceParts};
+ghost use Rattle.problems.specs.Choices.{ChoiceParts};
 ghost use Rattle.problems.specs.Rules.{rules_of};
 
 use crate::choice::Choice;

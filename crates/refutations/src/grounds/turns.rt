@@ -7,7 +7,7 @@ ghost use Rattle.refutations.specs.Tied.Cases as spec;
 
 use crate::choice::{Choice, are_one, is_at};
 use crate::grounds::completion::is_within;
-use crate::lent_choice::LentChoice;
+use problems::parts::LentChoice;
 
 /// The place behind the first choice of the conflict, from a place on, that is this one.
 fn place_behind(conflict: &[Choice], member: &Choice, from: usize) -> Option<usize>

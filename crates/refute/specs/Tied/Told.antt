@@ -8,8 +8,8 @@ use Rattle.search.specs.declared.conflict.NodeChoice.{NodeChoice}
 use Rattle.search.specs.declared.term.Term.{Term}
 use Rattle.problems.specs.Problem.{ProblemParts, releases_on}
 use Rattle.problems.specs.declared.node.Node.{Node}
-use Rattle.refutations.specs.Refutations.{ChoiceParts}
-use Rattle.refutations.specs.SetRefutations.{TermParts}
+use Rattle.problems.specs.Choices.{ChoiceParts}
+use Rattle.set_refutations.specs.SetRefutations.{TermParts}
 use Rattle.resolve.specs.Tied.Pictured.{name_at, picture_of}
 use Rattle.resolve.specs.Tied.Places.{version_at}
 

@@ -2,9 +2,9 @@ use Rattle.std.proofs.Common.{◌∙◌, ◌++◌, ◌∷◌, [], List, ap, refl
 use Rattle.std.proofs.lemmas.List.{take_more}
 use Rattle.search.specs.SetConflicts.{EachSetFollows, SetFollows}
 use Rattle.problems.specs.Rules.{rules_of, same_version}
-use Rattle.refutations.specs.SetRefutations.{TermParts}
-use Rattle.refutations.proofs.SetsChecked.{each-at, each-push}
-use Rattle.refutations.proofs.SetsGrounded.{ground-decides}
+use Rattle.set_refutations.specs.SetRefutations.{TermParts}
+use Rattle.set_refutations.proofs.SetsChecked.{each-at, each-push}
+use Rattle.set_refutations.proofs.SetsGrounded.{ground-decides}
 use Rattle.explain.proofs.grounds.each_ground.Goals as goal
 
 pub returns-in-None : goal.returns-in-None

@@ -1,7 +1,7 @@
 use Rattle.std.proofs.Common.{◌∙◌, ◌++◌, ◌∷◌, [], List, ap, sym, subst, take}
 use Rattle.std.proofs.lemmas.List.{take_more}
 use Rattle.search.specs.Conflicts.{EachFollows, Follows}
-use Rattle.refutations.specs.Refutations.{ChoiceParts}
+use Rattle.problems.specs.Choices.{ChoiceParts}
 use Rattle.problems.specs.Rules.{rules_of, same_version}
 use Rattle.refutations.proofs.Checked.{each-at, each-push}
 use Rattle.refutations.proofs.checker.each_follows.Goals as goal

@@ -1,9 +1,9 @@
 // The numbers of the candidates of nodes.
 
 use crate::choice::Choice;
-use crate::lent_choice::LentNode;
 use pep440::Version;
 use problems::Problem;
+use problems::parts::LentNode;
 use std::alloc::{AllocError, Global};
 use std::cmp::Ordering;
 

@@ -4,7 +4,7 @@ use Rattle.search.specs.Known.{AreKnown}
 use Rattle.search.specs.Solutions.{IsBest}
 use Rattle.search.specs.Table.{place_in, rules_of as rules_of_table, places_eq}
 use Rattle.search.specs.declared.conflict.NodeChoice.{NodeChoice}
-use Rattle.refutations.specs.Refutations.{ChoiceParts}
+use Rattle.problems.specs.Choices.{ChoiceParts}
 use Rattle.problems.specs.Rules.{rules_of, same_version}
 use Rattle.resolve.specs.Tied.Pictured.{picture_of}
 use Rattle.refute.specs.Tied.Told.{choice_at}

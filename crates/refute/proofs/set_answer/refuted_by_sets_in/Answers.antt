@@ -5,7 +5,7 @@ use Rattle.search.specs.Solutions.{IsBest}
 use Rattle.search.specs.Table.{place_in, rules_of as rules_of_table, places_eq}
 use Rattle.search.specs.declared.term.Term.{Term}
 use Rattle.problems.specs.Rules.{rules_of, same_version}
-use Rattle.refutations.specs.SetRefutations.{TermParts}
+use Rattle.set_refutations.specs.SetRefutations.{TermParts}
 use Rattle.resolve.specs.Tied.Pictured.{picture_of}
 use Rattle.refute.specs.Tied.Told.{term_at}
 use Rattle.resolve.proofs.PictureOf.{bytes-order}

@@ -1,10 +1,10 @@
 use Rattle.std.proofs.Common.{◌≡◌, ◌∙◌, Bool, subst}
 use Rattle.std.specs.List.{list_any}
 use Rattle.pep508.specs.Requirement.{RequirementParts}
-use Rattle.refutations.specs.Tied.Cases.{refuses}
-use Rattle.refutations.specs.Refutations.{ChoiceParts}
+use Rattle.problems.specs.Tied.ChoiceTests.{refuses}
+use Rattle.problems.specs.Choices.{ChoiceParts}
 use Rattle.problems.specs.Rules.{wants}
-use Rattle.refutations.proofs.Wants.{any-wanted}
+use Rattle.problems.proofs.Wants.{any-wanted}
 use Rattle.refutations.proofs.grounds.clash.clashes.Goals as goal
 
 pub returns : goal.returns

@@ -1,6 +1,7 @@
 use Rattle.std.proofs.Common.{sym}
 use Rattle.problems.specs.Rules.{wants}
-use Rattle.refutations.proofs.Grounded.{clash-ground, found-fails, found-none, unclashed}
+use Rattle.refutations.proofs.Grounded.{clash-ground, found-fails, unclashed}
+use Rattle.problems.proofs.Deciding.{found-none}
 use Rattle.refutations.proofs.grounds.clash.clashing.Goals as goal
 
 pub returns-in_err-one : goal.returns-in_err-one

@@ -2,8 +2,8 @@ use Rattle.std.proofs.Common.{◌≡◌, ◌∙◌, Bool, find, subst}
 use Rattle.std.specs.List.{list_any}
 use Rattle.std.specs.Option.{option_copied}
 use Rattle.pep508.specs.Requirement.{RequirementParts}
-use Rattle.refutations.specs.Tied.Cases.{refuses}
-use Rattle.refutations.specs.Refutations.{ChoiceParts}
+use Rattle.problems.specs.Tied.ChoiceTests.{refuses}
+use Rattle.problems.specs.Choices.{ChoiceParts}
 use Rattle.problems.specs.Rules.{wants}
 use Rattle.refutations.proofs.Grounded.{find-wanted}
 use Rattle.refutations.proofs.grounds.clash.wanted_refusing.Goals as goal

@@ -1,5 +1,6 @@
 use Rattle.std.proofs.Common.{sym}
-use Rattle.refutations.proofs.Grounded.{differ-ground, found-fails, found-none, undiffering}
+use Rattle.refutations.proofs.Grounded.{differ-ground, found-fails, undiffering}
+use Rattle.problems.proofs.Deciding.{found-none}
 use Rattle.refutations.proofs.grounds.difference.differing.Goals as goal
 
 pub returns-in_err-one : goal.returns-in_err-one

@@ -3,10 +3,10 @@ use Rattle.std.specs.List.{list_any}
 use Rattle.std.specs.Option.{option_copied}
 use Rattle.pep508.specs.Requirement.{RequirementParts}
 use Rattle.refutations.specs.Tied.Cases.{none_left}
-use Rattle.refutations.specs.Refutations.{ChoiceParts}
+use Rattle.problems.specs.Choices.{ChoiceParts}
 use Rattle.problems.specs.Rules.{nodes_of, wants}
 use Rattle.problems.specs.declared.node.Node.{Node}
-use Rattle.refutations.proofs.Wants.{any-wanted}
+use Rattle.problems.proofs.Wants.{any-wanted}
 use Rattle.refutations.proofs.Grounded.{choice-ground, wanted-counts}
 use Rattle.refutations.proofs.grounds.exhaustion.exhausted_behind.Goals as goal
 

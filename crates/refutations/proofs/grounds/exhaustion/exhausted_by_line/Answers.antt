@@ -4,7 +4,8 @@ use Rattle.std.specs.Option.{option_copied}
 use Rattle.pep508.specs.Requirement.{RequirementParts}
 use Rattle.problems.specs.Problem.{ProblemParts}
 use Rattle.problems.specs.declared.node.Node.{Node}
-use Rattle.refutations.proofs.Grounded.{needy-ground, placed}
+use Rattle.refutations.proofs.Grounded.{needy-ground}
+use Rattle.problems.proofs.WalkedLists.{placed}
 use Rattle.refutations.proofs.grounds.exhaustion.exhausted_by_line.Goals as goal
 
 pub returns-in-Some : goal.returns-in-Some

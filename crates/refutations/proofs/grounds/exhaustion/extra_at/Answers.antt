@@ -1,7 +1,7 @@
 use Rattle.std.proofs.Common.{◌≡◌, ◌∙◌, sym, false}
 use Rattle.refutations.specs.Tied.Cases.{none_left}
 use Rattle.problems.specs.Rules.{bare}
-use Rattle.refutations.proofs.Grounded.{extra-found, none-left_out}
+use Rattle.problems.proofs.Wants.{extra-found, none-left_out}
 use Rattle.refutations.proofs.grounds.exhaustion.extra_at.Goals as goal
 
 pub returns-in-Some : goal.returns-in-Some

@@ -1,6 +1,6 @@
 use Rattle.std.proofs.Common.{◌≡◌, drop}
 use Rattle.std.specs.List.{list_any}
-use Rattle.refutations.specs.Tied.Cases.{refuses}
+use Rattle.problems.specs.Tied.ChoiceTests.{refuses}
 use Rattle.refutations.proofs.grounds.refusal.place_refusing.Given as goal
 
 abbrev pub invariant-loop-place : goal.invariant-loop-place

@@ -1,5 +1,5 @@
 use Rattle.refutations.specs.Tied.Cases.{is_same}
-use Rattle.refutations.proofs.WalkedLists.{some-behind}
+use Rattle.problems.proofs.WalkedLists.{some-behind}
 use Rattle.refutations.proofs.grounds.turns.found_behind.Goals as goal
 
 pub returns : goal.returns

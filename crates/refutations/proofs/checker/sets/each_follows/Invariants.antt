@@ -1,7 +1,0 @@
-use Rattle.std.proofs.Common.{[], take}
-use Rattle.search.specs.SetConflicts.{EachSetFollows}
-use Rattle.problems.specs.Rules.{rules_of, same_version}
-use Rattle.refutations.proofs.checker.sets.each_follows.Given as goal
-
-abbrev pub invariant-loop-place : goal.invariant-loop-place
-invariant-loop-place l = EachSetFollows (rules_of l.problem) same_version [] (take l.place l.conflicts)

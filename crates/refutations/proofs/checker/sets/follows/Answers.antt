@@ -1,5 +1,0 @@
-use Rattle.refutations.proofs.SetsGrounded.{ground-decides}
-use Rattle.refutations.proofs.checker.sets.follows.Goals as goal
-
-pub returns : goal.returns
-returns c = rw c.is_some.ensures (ground-decides c.args.problem.now c.args.earlier.now c.args.conflict.now c.set_ground_of.result c.set_ground_of.ensures)

@@ -1,7 +1,0 @@
-use Rattle.std.proofs.Common.{◌≡◌, drop}
-use Rattle.std.specs.List.{list_any}
-use Rattle.refutations.specs.Tied.SetCases.{each_completes}
-use Rattle.refutations.proofs.set_grounds.completion.each_version_completes.Given as goal
-
-abbrev pub invariant-loop-place : goal.invariant-loop-place
-invariant-loop-place l = list_any (each_completes l.earlier l.conflict) l.conflict ≡ list_any (each_completes l.earlier l.conflict) (drop l.place l.conflict)

@@ -1,5 +1,0 @@
-use Rattle.refutations.proofs.SetsGrounded.{exhausted-last}
-use Rattle.refutations.proofs.set_grounds.exhaustion.exhausted.Goals as goal
-
-pub returns : goal.returns
-returns c = exhausted-last c.args.problem.now c.args.earlier.now c.args.conflict.now c.exhausted_by_term.result c.in_default.ensures c.exhausted_by_term.ensures

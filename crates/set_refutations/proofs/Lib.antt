@@ -1,0 +1,3 @@
+pub mod SetsCompleted
+pub mod SetsChecked
+pub mod SetsGrounded

@@ -1,0 +1,7 @@
+use Rattle.std.proofs.Common.{[], take}
+use Rattle.search.specs.SetConflicts.{EachSetFollows}
+use Rattle.problems.specs.Rules.{rules_of, same_version}
+use Rattle.set_refutations.proofs.checker.each_follows.Given as goal
+
+abbrev pub invariant-loop-place : goal.invariant-loop-place
+invariant-loop-place l = EachSetFollows (rules_of l.problem) same_version [] (take l.place l.conflicts)

@@ -1,0 +1,3 @@
+pub mod SetRefutations
+pub mod Grounds
+pub mod Tied
