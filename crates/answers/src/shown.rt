@@ -9,10 +9,9 @@ ghost use Rattle.problems.specs.Solutions.{HasSolution};
 ghost use Rattle.answers.specs.Answers.{IsFirstRefuted, IsSolvable, ShowsNone};
 
 use edits::{Problem, TargetName};
-use expansion::refute;
 use explain::{Explanation, explained};
 use refutations::{Refutation, check};
-use refute::refute_by_sets;
+use refute::{refute_by_choices, refute_by_sets};
 use std::alloc::{AllocError, Global};
 
 /// What shows that a problem has no solution.
@@ -70,12 +69,12 @@ fn refuted(alloc: Global, problem: &Problem<'_>) -> Result<Option<Refutation>, A
         (λ found. MatchOption found (HasSolution problem.now)
         (IsRefutation (rules_of problem.now) same_version)) }
 {
-    match refute(alloc, problem)? {
+    match refute_by_choices(alloc, problem)? {
         Some(refutation) => {
             if check(problem, &refutation) {
                 return Ok(Some(refutation));
             }
-            // `refute` gives nothing that `check` doesn't accept
+            // `refute_by_choices` gives nothing that `check` doesn't accept
             Ok(None)
         }
         None => Ok(None),

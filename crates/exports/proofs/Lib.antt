@@ -1,1 +1,5 @@
+mod EachOf
+mod SameRules
+mod SaidConditions
+mod KeptConditions
 mod RemovedMember

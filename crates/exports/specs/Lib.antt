@@ -1,1 +1,5 @@
+pub mod Alike
+pub mod Conditions
+pub mod Laws
+pub mod Tied
 pub mod WithoutMember

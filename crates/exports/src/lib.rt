@@ -1,14 +1,27 @@
-//! The lock as other tools read it: pinned requirements with hashes for pip, a graph for Graphviz, and a lock for the
-//! environments of a marker.
+//! The lock as other tools read it, and in which other environments it is the best lock too.
+//!
+//! Pinned requirements with hashes for pip, a graph for Graphviz, and a lock for the environments of a marker. How many
+//! conditions another environment has to meet, so that the best solution is the same there:
+//!
+//! ```rust
+//! Ok(conditions_of(alloc, lines, index, environment)?.len())
+//! ```
 #![tactic(auto)]
 
+mod condition;
+mod conditions;
 mod graph;
 mod hashed_requirements;
+mod implication;
+mod kept_conditions;
+pub mod laws;
 mod marker_text;
 mod named_target;
 mod portable_lock;
 mod quoted_text;
 
+pub use crate::condition::Condition;
+pub use crate::conditions::conditions_of;
 pub use crate::graph::graph_text;
 pub use crate::hashed_requirements::requirements_text;
 pub use crate::marker_text::marker_text_of;

@@ -1,9 +1,9 @@
 // Conditions as a marker.
 
+use crate::condition::Condition;
 use pep440::Operator;
 use pep508::{Environment, VARIABLES, Variable};
 use phrases::signs_of;
-use questions::Condition;
 use std::alloc::{AllocError, Global};
 
 /// How many ranks conditions have.

@@ -2,5 +2,6 @@ pub mod Errors
 pub mod Faults
 pub mod FileNames
 pub mod Inputs
+pub mod Pins
 pub mod PinsFiles
 pub mod TargetFiles

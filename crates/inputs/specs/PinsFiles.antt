@@ -5,10 +5,10 @@ use Rattle.std.specs.Str.{bytes_eq}
 use Rattle.markers.specs.Environment.{Texts}
 use Rattle.pep440.specs.Version.{VersionParts}
 use Rattle.edits.specs.declared.pins.TargetPins.{TargetPins}
-use Rattle.pin_files.specs.Pins.{locked_pins, pins_in, written_pins}
-use Rattle.pin_files.specs.declared.pin_fault.PinFault.{PinFault}
-use Rattle.pin_files.specs.declared.pin_fault.PinFault.TheVariants as pins
-use Rattle.pin_files.specs.declared.pin_file.PinFile.{PinFile}
+use Rattle.inputs.specs.Pins.{locked_pins, pins_in, written_pins}
+use Rattle.inputs.specs.declared.pin_fault.PinFault.{PinFault}
+use Rattle.inputs.specs.declared.pin_fault.PinFault.TheVariants as pins
+use Rattle.inputs.specs.declared.pin_file.PinFile.{PinFile}
 use Rattle.inputs.specs.declared.input_files.InputFault.{InputFault}
 use Rattle.inputs.specs.declared.input_files.InputFault.TheVariants as inputs
 use Rattle.inputs.specs.declared.pins_files.PinsFile.{PinsFile}

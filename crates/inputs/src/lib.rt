@@ -3,12 +3,23 @@
 //! `input_files` names the files and reads them, each refused for its own fault, which `fault` tells. Calls lock one
 //! another out of a folder by `folder_lock`. The values of `--env` and of `--pins` name files in `target_files` and
 //! `pins_files`, and a call is handed files beside those of its folder by `handed_in`. No history is known here.
+//!
+//! A file of pins has versions that somebody hands in, to be kept beside those of a lock: a lock of reqlock (PEP 751), or
+//! a requirements file whose lines have one `==` each, such as `pip freeze` prints.
+//!
+//! ```rust
+//! let file = PinFile::read_lines(alloc, b"flask==3.0.3\ncolorama==0.4.6 ; sys_platform == 'win32'\n")?;
+//! Ok(file.versions(alloc, &linux)?.len() == 1)
+//! ```
 #![tactic(auto)]
 
 mod fault;
 mod folder_lock;
 pub mod handed_in;
 mod input_files;
+mod pin_fault;
+mod pin_file;
+mod pinned_version;
 pub mod pins_files;
 pub mod target_files;
 
@@ -18,3 +29,5 @@ pub use crate::input_files::{
     InputFault, InputFile, NO_REGULAR_FILE, path_of, read_bytes, read_environment, read_file,
     read_index, read_requirements,
 };
+pub use crate::pin_fault::PinFault;
+pub use crate::pin_file::PinFile;

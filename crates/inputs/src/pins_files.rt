@@ -2,18 +2,19 @@
 
 ghost use Rattle.lists.specs.Answers.{Answers};
 ghost use Rattle.std.specs.Prelude.{◌≡◌, ◌++◌, IfOk, OnOk};
-ghost use Rattle.pin_files.specs.Pins.{pins_in};
+ghost use Rattle.inputs.specs.Pins.{pins_in};
 ghost use Rattle.inputs.specs.PinsFiles as spec;
 ghost use Rattle.inputs.specs.declared.input_files.InputFault.TheVariants.{OutOfMemory};
 
 use crate::fault::{Fault, in_file};
 use crate::handed_in::HandedIn;
 use crate::input_files::{InputFault, InputFile};
+use crate::pin_fault::PinFault;
+use crate::pin_file::PinFile;
 use crate::target_files::parts_of;
 use edits::{Environment, Name, Refusal, TargetName, TargetPins};
 use lists::{Seq, Text};
 use pep440::Version;
-use pin_files::{PinFault, PinFile};
 use std::alloc::{AllocError, Global};
 use std::io::Read;
 use std::rt::Files;

@@ -4,7 +4,7 @@
 //!
 //! ```rust
 //! let problem = Problem::new(alloc, lines, environment, index, BTreeMap::new(alloc))?;
-//! match refute_singly(alloc, &problem)? {
+//! match refute_by_choices(alloc, &problem)? {
 //!     Some(refutation) => Ok(check(&problem, &refutation)),
 //!     // There is a solution.
 //!     None => Ok(true),
@@ -13,9 +13,11 @@
 #![tactic(auto)]
 
 mod answer;
+mod expansion;
 mod refutation;
 mod set_answer;
 mod set_refutation;
 
 pub use crate::answer::refute_singly;
+pub use crate::expansion::refute_by_choices;
 pub use crate::set_answer::refute_by_sets;

@@ -6,11 +6,11 @@ use command_line::command;
 use command_line::request::{Export, ExportFormat};
 use edits::{State, Target};
 use exports::{
-    graph_text, marker_text_of, portable_text, requirements_text, target_named, unbound_text,
+    conditions_of, graph_text, marker_text_of, portable_text, requirements_text, target_named,
+    unbound_text,
 };
 use files::saved_history::{saved_session, session_over};
 use inputs::LockFile;
-use questions::conditions_of;
 use std::alloc::{AllocError, Global};
 use std::io::Write;
 use std::rt::Files;

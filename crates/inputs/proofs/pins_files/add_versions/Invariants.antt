@@ -1,5 +1,5 @@
 use Rattle.std.proofs.Common.{◌≡◌, ◌++◌}
-use Rattle.pin_files.specs.Pins.{pins_in}
+use Rattle.inputs.specs.Pins.{pins_in}
 use Rattle.inputs.proofs.pins_files.add_versions.Given as goal
 
 abbrev pub invariant-loop-pin : goal.invariant-loop-pin

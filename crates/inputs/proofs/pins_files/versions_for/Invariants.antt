@@ -1,5 +1,5 @@
 use Rattle.std.proofs.Common.{◌≡◌, ◌++◌, drop, filter, flat_map}
-use Rattle.pin_files.specs.Pins.{pins_in}
+use Rattle.inputs.specs.Pins.{pins_in}
 use Rattle.inputs.specs.PinsFiles.{is_for, versions_for}
 use Rattle.inputs.proofs.pins_files.versions_for.Given as goal
 

@@ -1,0 +1,208 @@
+-- Conditions that grow, question by question.
+use Rattle.std.proofs.Common.{◌≡◌, ◌∙◌, ◌&&◌, ◌⊎◌, inl, inr, ℕ, ◌+◌, ◌<◌, ◌≤◌, true, List, [], ◌∷◌, ◌++◌, Option, Some, None, get_or, length, map, take, arith, refl, ap, subst, sym}
+use Rattle.std.specs.List.{AllByRecursion, slice_get}
+use Rattle.std.specs.Option.{option_map}
+use Rattle.std.specs.Prelude.{IfSome}
+use Rattle.std.proofs.lemmas.Option.{slice_get_cases}
+use Rattle.markers.specs.Comparisons.{version_read}
+use Rattle.markers.specs.Environment.{Texts, text_of}
+use Rattle.markers.specs.MarkerAtoms.{Relation, operand_text, relates}
+use Rattle.markers.specs.MarkerRelations.{RelationAlike, RelationsDecide, relations_in}
+use Rattle.markers.specs.Marker.{Tree}
+use Rattle.markers.specs.declared.variable.Variable.{Variable}
+use Rattle.pep440.specs.Matching.{clause_matches, matches, operator_matches}
+use Rattle.pep440.specs.Version.{VersionParts}
+use Rattle.pep440.specs.declared.specifier.Clause.{Clause}
+use Rattle.pep440.specs.declared.specifier.Operator.{Operator}
+use Rattle.snapshot.specs.Packages.{Index, releases_of}
+use Rattle.snapshot.specs.Release.{Release}
+use Rattle.snapshot.specs.declared.package.Package.{Package}
+use Rattle.exports.specs.Alike.{AnswersAlike, LineAlike, MarkerAlike, ReleaseAlike}
+use Rattle.exports.specs.Conditions.{Meets, MeetsAll, is_matched}
+use Rattle.exports.specs.Laws.{HasSameBest}
+use Rattle.exports.specs.Tied.Implication.{opposite_of}
+use Rattle.exports.specs.Tied.Kept.{ClauseAlike, ClausesAlike, Keeps, OperandAlike, SaysAmong, Settles, VersionsAlike, both_read, same_text}
+use Rattle.exports.specs.declared.condition.Condition.{Condition}
+use Rattle.exports.specs.declared.condition.Condition.TheVariants as conditions
+use Rattle.exports.proofs.SaidConditions.{opposite-turns}
+use Rattle.exports.proofs.SameRules.{best-same}
+use Rattle.exports.proofs.EachOf.{each-front, each-last, each-more, each-push, each-whole}
+
+-- ---- any question
+
+-- nothing has to be asked
+pub kept-none : (environment : Texts) (old : List Condition) (Settled : Texts → Type 0) → ((other : Texts) → Settled other) → Keeps environment old old Settled
+kept-none environment old Settled f = record { stronger = λ other h. h; settled = λ other h. f other; own = λ h. h }
+
+-- what settles one question settles another
+pub kept-as : (environment : Texts) (old new : List Condition) (P Q : Texts → Type 0) → Keeps environment old new P → ((other : Texts) → P other → Q other) → Keeps environment old new Q
+kept-as environment old new P Q k f = record { stronger = k.stronger; settled = λ other h. f other (k.settled other h); own = k.own }
+
+-- two questions, one after the other
+pub kept-both : (environment : Texts) (old between new : List Condition) (P Q R : Texts → Type 0) → Keeps environment old between P → Keeps environment between new Q
+    → ((other : Texts) → P other → Q other → R other) → Keeps environment old new R
+kept-both environment old between new P Q R k l f = record {
+  stronger = λ other h. k.stronger other (l.stronger other h);
+  settled = λ other h. f other (k.settled other (l.stronger other h)) (l.settled other h);
+  own = λ h. l.own (k.own h);
+}
+
+-- one question more of a list
+pub kept-more : {A : Type 0} (P : Texts → A → Type 0) (environment : Texts) (old between new : List Condition) (xs : List A) (i : ℕ) (x : A) → i < length xs → x ≡ get_or xs i x
+    → Keeps environment old between (λ other. AllByRecursion (P other) (take i xs)) → Keeps environment between new (λ other. P other x)
+    → Keeps environment old new (λ other. AllByRecursion (P other) (take (i + 1) xs))
+kept-more P environment old between new xs i x within is k l =
+    kept-both environment old between new (λ other. AllByRecursion (P other) (take i xs)) (λ other. P other x) (λ other. AllByRecursion (P other) (take (i + 1) xs))
+    k l (λ other h j. each-more (P other) xs i x within h (subst (P other) is j))
+
+-- one question more, about the item at a place
+pub kept-placed : {A : Type 0} (P : Texts → A → Type 0) (environment : Texts) (old between new : List Condition) (xs : List A) (i : ℕ) → i < length xs
+    → Keeps environment old between (λ other. AllByRecursion (P other) (take i xs)) → Keeps environment between new (λ other. IfSome (slice_get xs i) (P other))
+    → Keeps environment old new (λ other. AllByRecursion (P other) (take (i + 1) xs))
+kept-placed P environment old between new xs i within k l = elim (slice_get_cases xs i).1 [
+  | inl found ↦
+      kept-more P environment old between new xs i found.0 within (sym found.3) k
+      (kept-as environment between new (λ other. IfSome (slice_get xs i) (P other)) (λ other. P other found.0) l (λ other h. rw found.2 at h))
+  | inr past ↦ absurd (omega arith)
+]
+
+-- none yet
+pub kept-start : {A : Type 0} (P : Texts → A → Type 0) (environment : Texts) (old : List Condition) (xs : List A) → Keeps environment old old (λ other. AllByRecursion (P other) (take 0 xs))
+kept-start P environment old xs = kept-none environment old (λ other. AllByRecursion (P other) (take 0 xs)) (λ other. tt)
+
+-- all questions of a list
+pub kept-whole : {A : Type 0} (P : Texts → A → Type 0) (environment : Texts) (old new : List Condition) (xs : List A) (i : ℕ) → length xs ≤ i
+    → Keeps environment old new (λ other. AllByRecursion (P other) (take i xs)) → Keeps environment old new (λ other. AllByRecursion (P other) xs)
+kept-whole P environment old new xs i past k =
+    kept-as environment old new (λ other. AllByRecursion (P other) (take i xs)) (λ other. AllByRecursion (P other) xs) k (λ other h. each-whole (P other) xs i past h)
+
+-- ---- a condition
+
+-- the others say it
+pub kept-said : (environment : Texts) (old : List Condition) (condition : Condition) → Meets environment environment condition
+    → SaysAmong old condition → Keeps environment old old (λ other. Meets environment other condition)
+kept-said environment old condition meets said = record { stronger = λ other h. h; settled = λ other h. said environment other meets h; own = λ h. h }
+
+-- it stands behind the others
+pub kept-pushed : (environment : Texts) (old new : List Condition) (condition : Condition) → Meets environment environment condition → new ≡ old ++ condition ∷ []
+    → Keeps environment old new (λ other. Meets environment other condition)
+kept-pushed environment old new condition meets e = record {
+  stronger = λ other h. each-front (Meets environment other) old (condition ∷ []) (subst (MeetsAll environment other) e h);
+  settled = λ other h. each-last (Meets environment other) old condition (subst (MeetsAll environment other) e h);
+  own = λ h. subst (MeetsAll environment environment) (sym e) (each-push (Meets environment environment) old condition h meets);
+}
+
+-- ---- versions
+
+read-some : (clause : Clause) (read : Option VersionParts) → is_matched clause read ≡ true → (version : VersionParts) × (read ≡ Some version) × (clause_matches clause version ≡ true)
+read-some clause None h = absurd cc
+read-some clause (Some version) h = (version, refl, h)
+
+-- a clause that matches settles itself, and else its opposite settles it
+pub settles-itself : (environment : Texts) (variable : Variable) (clause : Clause) (version : VersionParts) → version_read (text_of environment variable) ≡ Some version → clause_matches clause version ≡ true
+    → Settles environment variable clause clause
+settles-itself environment variable clause version read h = record {
+  own = rw read h;
+  alike = λ one other a b. a ∙ sym b;
+}
+
+pub settles-opposite : (environment : Texts) (variable : Variable) (clause : Clause) (operator : Operator) (version : VersionParts) → version_read (text_of environment variable) ≡ Some version
+    → opposite_of clause.operator ≡ Some operator → operator_matches operator clause.version version ≡ true → Settles environment variable clause (record { operator = operator; version = clause.version })
+settles-opposite environment variable clause operator version read turned h = record {
+  own = rw read h;
+  alike = λ one other a b.
+      opposite-turns clause.operator operator clause.version one turned a ∙ sym (opposite-turns clause.operator operator clause.version other turned b);
+}
+
+pub settled-clause : (environment other : Texts) (variable : Variable) (clause settling : Clause) → Settles environment variable clause settling → Meets environment other (conditions.Matches variable settling)
+    → VersionsAlike environment other variable (ClauseAlike clause)
+settled-clause environment other variable clause settling s h =
+    let own : (version : VersionParts) × (version_read (text_of environment variable) ≡ Some version) × (clause_matches settling version ≡ true) = read-some settling _ s.own in
+    let its : (version : VersionParts) × (version_read (text_of other variable) ≡ Some version) × (clause_matches settling version ≡ true) = read-some settling _ h in
+    both_read own.0 its.0 own.1 its.1 (s.alike own.0 its.0 own.2 its.2)
+
+-- of clauses that each match both or neither
+many : (environment other : Texts) (variable : Variable) (own its : VersionParts) (clauses : List Clause) → version_read (text_of environment variable) ≡ Some own → version_read (text_of other variable) ≡ Some its
+    → AllByRecursion (λ clause. VersionsAlike environment other variable (ClauseAlike clause)) clauses → (text_of other variable ≡ text_of environment variable) ⊎ (matches clauses own ≡ matches clauses its)
+many environment other variable own its [] p q h = inr refl
+many environment other variable own its (clause ∷ clauses) p q h = elim h.0 [
+  | same_text s ↦ inl s
+  | both_read one two a b m ↦ elim (many environment other variable own its clauses p q h.1) [
+    | inl s ↦ inl s
+    | inr k ↦
+        let e : own ≡ one = cc in
+        let f : two ≡ its = cc in
+        let n : clause_matches clause own ≡ clause_matches clause its = ap (clause_matches clause) e ∙ m ∙ ap (clause_matches clause) f in
+        inr (λ i. n i && k i)
+  ]
+]
+
+pub settled-clauses : (environment other : Texts) (variable : Variable) (clauses : List Clause) → (clauses ≡ [] → ⊥)
+    → AllByRecursion (λ clause. VersionsAlike environment other variable (ClauseAlike clause)) clauses → VersionsAlike environment other variable (ClausesAlike clauses)
+settled-clauses environment other variable [] some h = absurd (some refl)
+settled-clauses environment other variable (clause ∷ clauses) some h = elim h.0 [
+  | same_text s ↦ same_text s
+  | both_read own its p q m ↦ elim (many environment other variable own its (clause ∷ clauses) p q h) [
+    | inl s ↦ same_text s
+    | inr k ↦ both_read own its p q k
+  ]
+]
+
+-- ---- relations and markers
+
+pub settled-operands : (environment other : Texts) (relation : Relation) → OperandAlike environment relation.left other → OperandAlike environment relation.right other → RelationAlike environment other relation
+settled-operands environment other relation left right =
+    let lefts : operand_text environment relation.left ≡ operand_text other relation.left = sym left in
+    let rights : operand_text environment relation.right ≡ operand_text other relation.right = sym right in
+    λ i. relates relation.operator (lefts i) (rights i)
+
+each-mapped : {A B : Type 0} (P : B → Type 0) (f : A → B) (xs : List A) → AllByRecursion (λ x. P (f x)) xs → AllByRecursion P (map f xs)
+each-mapped P f [] h = tt
+each-mapped P f (x ∷ xs) h = (h.0, each-mapped P f xs h.1)
+
+pub settled-marker : {A : Type 0} (decide : RelationsDecide) (environment other : Texts) (tree : Tree) (f : A → Relation) (found : List A) → map f found ≡ relations_in tree
+    → AllByRecursion (λ x. RelationAlike environment other (f x)) found → MarkerAlike environment other (Some tree)
+settled-marker decide environment other tree f found e h extra =
+    decide tree environment other extra (subst (AllByRecursion (RelationAlike environment other)) e (each-mapped (RelationAlike environment other) f found h))
+
+-- ---- packages
+
+-- what holds of the releases of a name holds of those of the package that has it
+pub kept-package : (P : Release → Type 0) (packages : List Package) (found : Option Package) (name : List ℕ) → option_map (λ p. p.name) found ≡ Some name → AllByRecursion P (releases_of name packages)
+    → IfSome found (λ p. AllByRecursion P (releases_of p.name packages))
+kept-package P packages None name e h = tt
+kept-package P packages (Some p) name e h = let same : name ≡ p.name = cc in subst (λ (n : List ℕ). AllByRecursion P (releases_of n packages)) same h
+
+-- ---- conditions none of which another says
+
+pub record IsLeft (environment : Texts) (whole left least : List Condition) : Type 0 where
+  pub left_own : MeetsAll environment environment left
+  pub least_own : MeetsAll environment environment least
+  pub settled : (other : Texts) → MeetsAll environment other least → MeetsAll environment other left → MeetsAll environment other whole
+
+pub left-step : (environment : Texts) (whole left next least more : List Condition) (condition : Condition) → IsLeft environment whole left least → left ≡ next ++ condition ∷ []
+    → Keeps environment least more (λ other. Meets environment other condition) → IsLeft environment whole next more
+left-step environment whole left next least more condition k e kept = record {
+  left_own = each-front (Meets environment environment) next (condition ∷ []) (subst (MeetsAll environment environment) e k.left_own);
+  least_own = kept.own k.least_own;
+  settled = λ other h j. k.settled other (kept.stronger other h) (subst (MeetsAll environment other) (sym e) (each-push (Meets environment other) next condition j (kept.settled other h)));
+}
+
+-- ---- all questions
+
+pub answers-alike : (lines : List (List ℕ)) (index : Index) (environment : Texts) (some all least : List Condition)
+    → Keeps environment [] some (λ other. AllByRecursion (LineAlike environment other) lines)
+    → Keeps environment some all (λ other. (name : List ℕ) → AllByRecursion (ReleaseAlike environment other) (releases_of name index.packages))
+    → ((other : Texts) → MeetsAll environment other least → MeetsAll environment other all)
+    → (other : Texts) → MeetsAll environment other least → AnswersAlike lines index environment other
+answers-alike lines index environment some all least k l m other h = record {
+  of_lines = k.settled other (l.stronger other (m other h));
+  of_releases = l.settled other (m other h);
+}
+
+pub has-same-best : (lines : List (List ℕ)) (index : Index) (environment : Texts) (some all least : List Condition)
+    → Keeps environment [] some (λ other. AllByRecursion (LineAlike environment other) lines)
+    → Keeps environment some all (λ other. (name : List ℕ) → AllByRecursion (ReleaseAlike environment other) (releases_of name index.packages))
+    → ((other : Texts) → MeetsAll environment other least → MeetsAll environment other all)
+    → (other : Texts) → MeetsAll environment other least → HasSameBest lines index environment other
+has-same-best lines index environment some all least k l m other h = best-same lines index environment other (answers-alike lines index environment some all least k l m other h)

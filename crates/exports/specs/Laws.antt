@@ -1,0 +1,41 @@
+-- What is the same wherever the answers are. All of it is reqlock's own rule.
+use Rattle.std.specs.Prelude.{◌≡◌, ◌↔◌, ℕ, Bool, List, Option}
+use Rattle.markers.specs.Environment.{Texts}
+use Rattle.pep440.specs.Version.{VersionParts}
+use Rattle.problems.specs.Problem.{ProblemParts, requirements}
+use Rattle.problems.specs.Rules.{rules_of}
+use Rattle.search.specs.Solutions.{IsBest}
+use Rattle.snapshot.specs.Packages.{Index}
+use Rattle.exports.specs.Alike.{AnswersAlike}
+
+-- what a lock is made of beside its environment: lines, an index, the versions that are kept, and whether none counts beside them
+pub record Asking : Type 0 where
+  pub lines : List (List ℕ)
+  pub index : Index
+  pub kept : List (List ℕ × VersionParts)
+  pub only_kept : Bool
+
+-- the problem in an environment
+abbrev pub problem_in : Asking → Texts → ProblemParts
+problem_in asking environment = record {
+  active = requirements environment asking.lines;
+  environment = environment;
+  index = asking.index;
+  kept = asking.kept;
+  only_kept = asking.only_kept;
+}
+
+-- environments that answer alike have the same rules
+abbrev pub RulesAreTheSame : Type 0
+RulesAreTheSame = (asking : Asking) (environment other : Texts)
+    → AnswersAlike asking.lines asking.index environment other → rules_of (problem_in asking environment) ≡ rules_of (problem_in asking other)
+
+-- the best solution of lines over an index is the same in both environments, whatever versions are kept, alone or before others
+abbrev pub HasSameBest : List (List ℕ) → Index → Texts → Texts → Type 0
+HasSameBest lines index environment other = (kept : List (List ℕ × VersionParts)) (only : Bool) (s : List ℕ → Option VersionParts)
+    → IsBest (rules_of (problem_in (record { lines = lines; index = index; kept = kept; only_kept = only }) environment)) s
+    ↔ IsBest (rules_of (problem_in (record { lines = lines; index = index; kept = kept; only_kept = only }) other)) s
+
+-- environments that answer alike have the same best solution
+abbrev pub BestIsTheSame : Type 0
+BestIsTheSame = (lines : List (List ℕ)) (index : Index) (environment other : Texts) → AnswersAlike lines index environment other → HasSameBest lines index environment other

@@ -1,0 +1,76 @@
+-- Which conditions others are known to say.
+-- Tied to `Says` by the contract of `says`; need not be read.
+use Rattle.std.specs.Prelude.{ℕ, ◌==◌, ◌&&◌, ◌||◌, not, nat_eq, Bool, false, length, Option, Some, None}
+use Rattle.std.specs.Cmp.Lexicographic.{pointwise}
+use Rattle.std.specs.Ordering.{is_ge, is_le}
+use Rattle.markers.specs.Environment.{place_of}
+use Rattle.pep440.specs.Order.{public_cmp}
+use Rattle.pep440.specs.Version.{VersionParts, is_post, is_pre}
+use Rattle.pep440.specs.declared.specifier.Clause.{Clause}
+use Rattle.pep440.specs.declared.specifier.Operator.{Operator}
+use Rattle.pep440.specs.declared.specifier.Operator.TheVariants as operators
+use Rattle.exports.specs.declared.condition.Condition.{Condition}
+use Rattle.exports.specs.declared.condition.Condition.TheVariants.{Same, Matches}
+
+-- the operator that matches nothing which this one matches with the same version
+abbrev pub opposite_of : Operator → Option Operator
+opposite_of operators.Compatible = None
+opposite_of operators.Equal = Some operators.NotEqual
+opposite_of operators.NotEqual = Some operators.Equal
+opposite_of operators.EqualPrefix = Some operators.NotEqualPrefix
+opposite_of operators.NotEqualPrefix = Some operators.EqualPrefix
+opposite_of operators.AtMost = Some operators.Above
+opposite_of operators.AtLeast = Some operators.Below
+opposite_of operators.Below = Some operators.AtLeast
+opposite_of operators.Above = Some operators.AtMost
+
+-- the number of an operator
+abbrev pub number_of : Operator → ℕ
+number_of operators.Compatible = 0
+number_of operators.Equal = 1
+number_of operators.NotEqual = 2
+number_of operators.EqualPrefix = 3
+number_of operators.NotEqualPrefix = 4
+number_of operators.AtMost = 5
+number_of operators.AtLeast = 6
+number_of operators.Below = 7
+number_of operators.Above = 8
+
+-- no part but the epoch and the release
+abbrev pub is_plain : VersionParts → Bool
+is_plain version = not (is_pre version) && (not (is_post version) && (length version.local == 0))
+
+-- the same epoch and the same release, to the number
+abbrev pub has_release_of : VersionParts → VersionParts → Bool
+has_release_of one other = (one.epoch == other.epoch) && pointwise nat_eq one.release other.release
+
+abbrev pub is_same_plain : VersionParts → VersionParts → Bool
+is_same_plain one other = is_plain one && (is_plain other && has_release_of one other)
+
+-- the clauses are the same, with plain versions
+abbrev pub is_same_clause : Clause → Clause → Bool
+is_same_clause clause wanted = (number_of clause.operator == number_of wanted.operator) && is_same_plain clause.version wanted.version
+
+-- the lower bound is no less
+abbrev pub is_from : VersionParts → VersionParts → Bool
+is_from bound wanted = is_ge (public_cmp bound wanted)
+
+-- the upper bound is no greater, and no pre-release where the other isn't
+abbrev pub is_up_to : VersionParts → VersionParts → Bool
+is_up_to bound wanted = is_le (public_cmp bound wanted) && (is_pre wanted || not (is_pre bound))
+
+-- whether two numbers of operators are those of lower bounds, or of upper bounds
+abbrev pub are_both : ℕ → Clause → Clause → Bool
+are_both number clause wanted = (number_of clause.operator == number) && (number_of wanted.operator == number)
+
+abbrev pub does_follow : Clause → Clause → Bool
+does_follow clause wanted =
+    (are_both 6 clause wanted && is_from clause.version wanted.version)
+    || ((are_both 7 clause wanted && is_up_to clause.version wanted.version)
+    || is_same_clause clause wanted)
+
+abbrev pub says : Condition → Condition → Bool
+says (Same own) (Same variable) = place_of own == place_of variable
+says (Same own) (Matches variable wanted) = place_of own == place_of variable
+says (Matches own clause) (Matches variable wanted) = (place_of own == place_of variable) && does_follow clause wanted
+says (Matches own clause) (Same variable) = false

@@ -1,0 +1,53 @@
+-- Conditions that grow, question by question.
+-- Tied to `AnswersAlike` by the contract of `conditions_of`; need not be read.
+use Rattle.std.specs.Prelude.{◌≡◌, true, List, Some}
+use Rattle.markers.specs.Comparisons.{version_read}
+use Rattle.markers.specs.Environment.{Texts, text_of}
+use Rattle.markers.specs.MarkerAtoms.{operand_text}
+use Rattle.markers.specs.declared.marker_atom.Operand.{Operand}
+use Rattle.markers.specs.declared.variable.Variable.{Variable}
+use Rattle.pep440.specs.Matching.{clause_matches, matches}
+use Rattle.pep440.specs.Version.{VersionParts}
+use Rattle.pep440.specs.declared.specifier.Clause.{Clause}
+use Rattle.exports.specs.Conditions.{Meets, MeetsAll, is_matched}
+use Rattle.exports.specs.declared.condition.Condition.{Condition}
+
+-- the new conditions are no weaker than the old ones, settle a question, and are met by their own environment where the old ones are
+pub record Keeps (environment : Texts) (old new : List Condition) (Settled : Texts → Type 0) : Type 0 where
+  pub stronger : (other : Texts) → MeetsAll environment other new → MeetsAll environment other old
+  pub settled : (other : Texts) → MeetsAll environment other new → Settled other
+  pub own : MeetsAll environment environment old → MeetsAll environment environment new
+
+-- the texts of a variable are the same, or read as versions of which a test says the same
+pub data VersionsAlike (environment other : Texts) (variable : Variable) (Test : VersionParts → VersionParts → Type 0) : Type 0 where
+  same_text : text_of other variable ≡ text_of environment variable → VersionsAlike environment other variable Test
+  both_read : (own its : VersionParts) → version_read (text_of environment variable) ≡ Some own → version_read (text_of other variable) ≡ Some its → Test own its → VersionsAlike environment other variable Test
+
+-- a clause matches both or neither
+abbrev pub ClauseAlike : Clause → VersionParts → VersionParts → Type 0
+ClauseAlike clause own its = clause_matches clause own ≡ clause_matches clause its
+
+-- all clauses match both, or some doesn't match the one and some doesn't match the other
+abbrev pub ClausesAlike : List Clause → VersionParts → VersionParts → Type 0
+ClausesAlike clauses own its = matches clauses own ≡ matches clauses its
+
+-- each version that the first clause matches is matched by the second
+abbrev pub ClauseFollows : Clause → Clause → Type 0
+ClauseFollows clause wanted = (version : VersionParts) → clause_matches clause version ≡ true → clause_matches wanted version ≡ true
+
+-- an operand has the same text in both environments
+abbrev pub OperandAlike : Texts → Operand → Texts → Type 0
+OperandAlike environment operand other = operand_text other operand ≡ operand_text environment operand
+
+-- the environment's own version matches the clause, and where two versions match it, the other clause matches both or neither
+pub record Settles (environment : Texts) (variable : Variable) (clause settling : Clause) : Type 0 where
+  pub own : is_matched settling (version_read (text_of environment variable)) ≡ true
+  pub alike : (one other : VersionParts) → clause_matches settling one ≡ true → clause_matches settling other ≡ true → ClauseAlike clause one other
+
+-- who meets the first condition meets the second, where its own environment does
+abbrev pub Says : Condition → Condition → Type 0
+Says condition wanted = (environment other : Texts) → Meets environment environment wanted → Meets environment other condition → Meets environment other wanted
+
+-- and so who meets all of them
+abbrev pub SaysAmong : List Condition → Condition → Type 0
+SaysAmong conditions wanted = (environment other : Texts) → Meets environment environment wanted → MeetsAll environment other conditions → Meets environment other wanted

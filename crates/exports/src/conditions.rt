@@ -1,0 +1,125 @@
+// The conditions under which all answers stay the same.
+
+ghost use Rattle.std.specs.Prelude.{◌≡◌, IfOk, IfSome, ℕ, List};
+ghost use Rattle.std.specs.List.{AllByRecursion, slice_get};
+ghost use Rattle.std.specs.Option.{option_copied};
+ghost use Rattle.markers.specs.Environment.{Texts};
+ghost use Rattle.pep508.specs.Requirement.{requirement_of};
+ghost use Rattle.snapshot.specs.Packages.{releases_of};
+ghost use Rattle.exports.specs.Alike.{AnswersAlike, LineAlike, ReleaseAlike, marker_in};
+ghost use Rattle.exports.specs.Conditions.{MeetsAll};
+ghost use Rattle.exports.specs.Laws.{HasSameBest};
+ghost use Rattle.exports.specs.Tied.Kept.{Keeps};
+
+use crate::condition::Condition;
+use crate::kept_conditions::{keep, keep_marker, keep_releases};
+use lists::Seq;
+use pep508::{Environment, Line, Marker, ReqFile};
+use snapshot::Snapshot;
+use std::alloc::{AllocError, Global};
+
+/// The marker of what a line asks for.
+fn marker_of(line: &Line) -> Option<&Marker>
+    ensures { option_copied result ≡ marker_in (requirement_of line.now) }
+{
+    match line.requirement() {
+        Some(requirement) => requirement.marker(),
+        None => None,
+    }
+}
+
+/// Asks for the same answers of lines.
+fn keep_lines(
+    alloc: Global,
+    environment: &Environment,
+    conditions: &mut Seq<Condition>,
+    lines: &[Line],
+) -> Result<(), AllocError>
+    ensures { IfOk result (λ _. Keeps environment.now conditions.old conditions.new
+        (λ other. AllByRecursion (LineAlike environment.now other) lines.now)) }
+{
+    for line in lines {
+        keep_marker(alloc, environment, conditions, marker_of(line))?;
+    }
+    Ok(())
+}
+
+/// Asks for the same answers of the releases of the package at a place of the index.
+fn keep_package(
+    alloc: Global,
+    environment: &Environment,
+    conditions: &mut Seq<Condition>,
+    snapshot: &Snapshot,
+    place: usize,
+) -> Result<(), AllocError>
+    ensures { IfOk result (λ _. Keeps environment.now conditions.old conditions.new
+        (λ other. IfSome (slice_get snapshot.now.packages place)
+        (λ p. AllByRecursion (ReleaseAlike environment.now other)
+        (releases_of p.name snapshot.now.packages)))) }
+{
+    let Some(name) = snapshot.name_at(place) else {
+        return Ok(());
+    };
+    keep_releases(alloc, environment, conditions, snapshot.releases(name))?;
+    Ok(())
+}
+
+/// Asks for the same answers of each release of an index.
+fn keep_packages(
+    alloc: Global,
+    environment: &Environment,
+    conditions: &mut Seq<Condition>,
+    snapshot: &Snapshot,
+) -> Result<(), AllocError>
+    ensures { IfOk result (λ _. Keeps environment.now conditions.old conditions.new
+        (λ other. (name : List ℕ) → AllByRecursion (ReleaseAlike environment.now other)
+        (releases_of name snapshot.now.packages))) }
+{
+    for place in 0..snapshot.package_count() {
+        keep_package(alloc, environment, conditions, snapshot, place)?;
+    }
+    Ok(())
+}
+
+/// Conditions none of which another one says: a condition is left out where one behind it says it.
+fn least(
+    alloc: Global,
+    environment: &Environment,
+    conditions: Seq<Condition>,
+) -> Result<Seq<Condition>, AllocError>
+    requires { MeetsAll environment.now environment.now conditions }
+    ensures own { IfOk result (λ least. MeetsAll environment.now environment.now least) }
+    ensures said { IfOk result (λ least. (other : Texts)
+        → MeetsAll environment.now other least → MeetsAll environment.now other conditions) }
+{
+    let mut left = conditions.into_vec();
+    let mut least = Seq::new(alloc);
+    while let Some(condition) = left.pop() {
+        keep(environment, &mut least, condition)?;
+    }
+    Ok(least)
+}
+
+/// The conditions under which another environment answers all questions of the lines and the index as this one does, which
+/// meets them itself; so the best solution is the same there, whatever versions are kept. Each release of the index is asked,
+/// also one that no lock has.
+pub fn conditions_of(
+    alloc: Global,
+    lines: &ReqFile,
+    snapshot: &Snapshot,
+    environment: &Environment,
+) -> Result<Seq<Condition>, AllocError>
+    ensures own { IfOk result (λ conditions. MeetsAll environment.now environment.now conditions) }
+    ensures alike { IfOk result (λ conditions. (other : Texts)
+        → MeetsAll environment.now other conditions
+        → AnswersAlike lines.now snapshot.now environment.now other) }
+    ensures best { IfOk result (λ conditions. (other : Texts)
+        → MeetsAll environment.now other conditions
+        → HasSameBest lines.now snapshot.now environment.now other) }
+{
+    let mut all = Seq::new(alloc);
+    keep_lines(alloc, environment, &mut all, lines.lines())?;
+    keep_packages(alloc, environment, &mut all, snapshot)?;
+    let conditions = least(alloc, environment, all)?;
+    Ok(conditions)
+}

@@ -1,0 +1,287 @@
+// Conditions that grow, question by question.
+
+ghost use Rattle.std.specs.Prelude.{◌≡◌, IfOk, IfSome};
+ghost use Rattle.std.specs.List.{AllByRecursion};
+ghost use Rattle.std.specs.Option.{option_copied};
+ghost use Rattle.markers.specs.MarkerRelations.{RelationAlike};
+ghost use Rattle.problems.specs.Admission.{meets_python};
+ghost use Rattle.exports.specs.Alike.{MarkerAlike, ReleaseAlike, WantedAlike};
+ghost use Rattle.exports.specs.Conditions.{Meets};
+ghost use Rattle.exports.specs.Tied.Kept.{ClauseAlike, ClausesAlike, Keeps, OperandAlike, Settles, VersionsAlike};
+
+use crate::condition::Condition;
+use crate::implication::{is_said, opposite};
+use lists::Seq;
+use markers::marker_relations::{CachedRelation, Operand, the_relations_decide};
+use pep440::Clause;
+use pep508::{Environment, Marker, Requirement, Variable};
+use snapshot::{Release, RequiresPython};
+use std::alloc::{AllocError, Global};
+
+/// Puts a condition to the others, unless one of them says it.
+pub(crate) fn keep(
+    environment: &Environment,
+    conditions: &mut Seq<Condition>,
+    condition: Condition,
+) -> Result<(), AllocError>
+    requires { Meets environment.now environment.now condition }
+    ensures { IfOk result (λ _. Keeps environment.now conditions.old conditions.new
+        (λ other. Meets environment.now other condition)) }
+{
+    if is_said(conditions.as_slice(), &condition) {
+        return Ok(());
+    }
+    conditions.push(condition)?;
+    Ok(())
+}
+
+/// The clause, or else its opposite, where it matches the version of the variable.
+fn settling_clause(
+    environment: &Environment,
+    variable: Variable,
+    clause: &Clause,
+) -> Result<Option<Clause>, AllocError>
+    ensures { IfOk result (λ found. IfSome found (Settles environment.now variable clause.now)) }
+{
+    let Some(version) = environment.version(variable) else {
+        return Ok(None);
+    };
+    if clause.matches(version) {
+        return Ok(Some(clause.clone()?));
+    }
+    let Some(operator) = opposite(clause.operator) else {
+        return Ok(None);
+    };
+    let version_asked = clause.version.clone()?;
+    let other = Clause {
+        operator,
+        version: version_asked,
+    };
+    if other.matches(version) {
+        return Ok(Some(other));
+    }
+    Ok(None)
+}
+
+/// Asks for the same answer of a clause about a variable: for the clause or its opposite, where one of them matches,
+/// else for the same text.
+fn keep_clause(
+    environment: &Environment,
+    conditions: &mut Seq<Condition>,
+    variable: Variable,
+    clause: &Clause,
+) -> Result<(), AllocError>
+    ensures { IfOk result (λ _. Keeps environment.now conditions.old conditions.new
+        (λ other. VersionsAlike environment.now other variable (ClauseAlike clause.now))) }
+{
+    match settling_clause(environment, variable, clause)? {
+        Some(clause) => {
+            keep(
+                environment,
+                conditions,
+                Condition::Matches(variable, clause),
+            )?;
+            Ok(())
+        }
+        None => {
+            keep(environment, conditions, Condition::Same(variable))?;
+            Ok(())
+        }
+    }
+}
+
+/// Asks for the same answers of clauses about a variable.
+fn keep_each(
+    environment: &Environment,
+    conditions: &mut Seq<Condition>,
+    variable: Variable,
+    clauses: &[Clause],
+) -> Result<(), AllocError>
+    ensures { IfOk result (λ _. Keeps environment.now conditions.old conditions.new
+        (λ other. AllByRecursion
+        (λ clause. VersionsAlike environment.now other variable (ClauseAlike clause))
+        clauses.now)) }
+{
+    for clause in clauses {
+        keep_clause(environment, conditions, variable, clause)?;
+    }
+    Ok(())
+}
+
+/// Asks for the same answer of all the clauses about a variable. Where there is none, its text has to be the same: whether
+/// it reads as a version is asked then.
+fn keep_clauses(
+    environment: &Environment,
+    conditions: &mut Seq<Condition>,
+    variable: Variable,
+    clauses: &[Clause],
+) -> Result<(), AllocError>
+    ensures { IfOk result (λ _. Keeps environment.now conditions.old conditions.new
+        (λ other. VersionsAlike environment.now other variable (ClausesAlike clauses.now))) }
+{
+    if clauses.is_empty() {
+        keep(environment, conditions, Condition::Same(variable))?;
+        return Ok(());
+    }
+    keep_each(environment, conditions, variable, clauses)?;
+    Ok(())
+}
+
+/// Asks for the same text of an operand.
+fn keep_operand(
+    environment: &Environment,
+    conditions: &mut Seq<Condition>,
+    operand: &Operand,
+) -> Result<(), AllocError>
+    ensures { IfOk result (λ _. Keeps environment.now conditions.old conditions.new
+        (OperandAlike environment.now operand.now)) }
+{
+    match operand {
+        Operand::Variable(variable) => {
+            keep(environment, conditions, Condition::Same(*variable))?;
+            Ok(())
+        }
+        Operand::Quoted(_) => Ok(()),
+    }
+}
+
+/// Asks for the same texts of both operands.
+fn keep_operands(
+    environment: &Environment,
+    conditions: &mut Seq<Condition>,
+    relation: &CachedRelation,
+) -> Result<(), AllocError>
+    ensures { IfOk result (λ _. Keeps environment.now conditions.old conditions.new
+        (λ other. RelationAlike environment.now other relation.now)) }
+{
+    keep_operand(environment, conditions, relation.left())?;
+    keep_operand(environment, conditions, relation.right())?;
+    Ok(())
+}
+
+/// Asks for the same answer of a relation: by its clauses where a variable is compared with a text that reads as such, else
+/// for the same texts.
+fn keep_relation(
+    environment: &Environment,
+    conditions: &mut Seq<Condition>,
+    relation: &CachedRelation,
+) -> Result<(), AllocError>
+    ensures { IfOk result (λ _. Keeps environment.now conditions.old conditions.new
+        (λ other. RelationAlike environment.now other relation.now)) }
+{
+    match (relation.left(), relation.quoted_clauses()) {
+        (Operand::Variable(variable), Some(clauses)) => {
+            keep_clauses(environment, conditions, *variable, clauses.clauses())?;
+            Ok(())
+        }
+        _ => {
+            keep_operands(environment, conditions, relation)?;
+            Ok(())
+        }
+    }
+}
+
+/// Asks for the same answers of relations.
+fn keep_relations(
+    environment: &Environment,
+    conditions: &mut Seq<Condition>,
+    relations: &[&CachedRelation],
+) -> Result<(), AllocError>
+    ensures { IfOk result (λ _. Keeps environment.now conditions.old conditions.new
+        (λ other. AllByRecursion (λ relation. RelationAlike environment.now other relation.now)
+        relations.now)) }
+{
+    for relation in relations {
+        keep_relation(environment, conditions, relation)?;
+    }
+    Ok(())
+}
+
+/// Asks for the same answer of a marker that may be there, whatever extra is asked.
+pub(crate) fn keep_marker(
+    alloc: Global,
+    environment: &Environment,
+    conditions: &mut Seq<Condition>,
+    marker: Option<&Marker>,
+) -> Result<(), AllocError>
+    ensures { IfOk result (λ _. Keeps environment.now conditions.old conditions.new
+        (λ other. MarkerAlike environment.now other (option_copied marker.entry))) }
+{
+    the_relations_decide();
+    let Some(marker) = marker else {
+        return Ok(());
+    };
+    let relations = marker.relations(alloc)?;
+    keep_relations(environment, conditions, relations.as_slice())?;
+    Ok(())
+}
+
+/// Asks for the same answers of the markers of dependencies.
+fn keep_dependencies(
+    alloc: Global,
+    environment: &Environment,
+    conditions: &mut Seq<Condition>,
+    dependencies: &[Requirement],
+) -> Result<(), AllocError>
+    ensures { IfOk result (λ _. Keeps environment.now conditions.old conditions.new
+        (λ other. AllByRecursion (WantedAlike environment.now other) dependencies.now)) }
+{
+    for dependency in dependencies {
+        keep_marker(alloc, environment, conditions, dependency.marker())?;
+    }
+    Ok(())
+}
+
+/// Asks for the same answer of what a release asks of Python.
+fn keep_python(
+    environment: &Environment,
+    conditions: &mut Seq<Condition>,
+    python: Option<&RequiresPython>,
+) -> Result<(), AllocError>
+    ensures { IfOk result (λ _. Keeps environment.now conditions.old conditions.new
+        (λ other. meets_python environment.now (option_copied python.entry)
+        ≡ meets_python other (option_copied python.entry))) }
+{
+    let Some(python) = python else {
+        return Ok(());
+    };
+    let clauses = python.set().clauses();
+    keep_clauses(
+        environment,
+        conditions,
+        Variable::PythonFullVersion,
+        clauses,
+    )?;
+    Ok(())
+}
+
+/// Asks for the same answers of a release.
+fn keep_release(
+    alloc: Global,
+    environment: &Environment,
+    conditions: &mut Seq<Condition>,
+    release: &Release,
+) -> Result<(), AllocError>
+    ensures { IfOk result (λ _. Keeps environment.now conditions.old conditions.new
+        (λ other. ReleaseAlike environment.now other release.now)) }
+{
+    keep_python(environment, conditions, release.requires_python())?;
+    keep_dependencies(alloc, environment, conditions, release.dependencies())?;
+    Ok(())
+}
+
+/// Asks for the same answers of releases.
+pub(crate) fn keep_releases(
+    alloc: Global,
+    environment: &Environment,
+    conditions: &mut Seq<Condition>,
+    releases: &[Release],
+) -> Result<(), AllocError>
+    ensures { IfOk result (λ _. Keeps environment.now conditions.old conditions.new
+        (λ other. AllByRecursion (ReleaseAlike environment.now other) releases.now)) }
+{
+    for release in releases {
+        keep_release(alloc, environment, conditions, release)?;
+    }
+    Ok(())
+}

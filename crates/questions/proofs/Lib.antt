@@ -1,4 +1,0 @@
-mod EachOf
-mod SameRules
-mod SaidConditions
-mod KeptConditions

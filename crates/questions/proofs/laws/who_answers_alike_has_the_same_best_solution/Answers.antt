@@ -1,5 +1,0 @@
-use Rattle.questions.proofs.SameRules.{best-same}
-use Rattle.questions.proofs.laws.who_answers_alike_has_the_same_best_solution.Goals as goal
-
-pub returns : goal.returns
-returns c = best-same

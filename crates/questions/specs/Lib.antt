@@ -1,4 +1,0 @@
-pub mod Alike
-pub mod Conditions
-pub mod Laws
-pub mod Tied
