@@ -25,6 +25,8 @@ def drawn_file(chance, name, version):
     file = file_of(name, version or "0", chance.one(ENDINGS))
     if chance.happens(20):
         file["sha256"] = "AbCd" * 16
+    if chance.happens(5):
+        file["name"] = chance.one(["../", "é", " ", "C:"]) + file["name"]
     if chance.happens(20):
         file["url"] = "https://files.example/ü \"\\/\n"
     return file

@@ -3,6 +3,7 @@
 import unittest
 
 from made.journals import entry
+from made.releases import file_of
 from program import HEAD, Program
 from rules.journals import opens_in
 from rules.lock_tables import read_lock
@@ -36,6 +37,8 @@ class Printed(Program):
     # What makes a release be left out of the index, and the cause that is told.
     CAUSES = (
         ("x", [], {}, "version bad-version"), ("1.0.0", [], {}, "duplicate"), ("3", [], {"files": []}, "no-file"),
+        ("6", [], {"files": [file_of("x", "6") | {"name": "../x-6.whl"}]}, "file-name"),
+        ("7", [], {"files": [file_of("x", "7") | {"url": "https://files.example/\u202ex"}]}, "file-url"),
         ("4", ["b", "c>>1"], {}, "requirement 1 bad-clause"), ("5", [], {"requires_python": "3"}, "requires-python bad-clause"),
     )
 

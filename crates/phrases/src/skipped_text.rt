@@ -57,6 +57,8 @@ fn add_cause(text: &mut String, cause: SkipCause) -> Result<(), AllocError> {
             write!(text, "requirement {place} {word}")
         }
         SkipCause::NoFile => text.push_str("no-file"),
+        SkipCause::FileName => text.push_str("file-name"),
+        SkipCause::FileUrl => text.push_str("file-url"),
         SkipCause::Duplicate => text.push_str("duplicate"),
     }
 }

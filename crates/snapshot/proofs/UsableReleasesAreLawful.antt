@@ -1,6 +1,6 @@
 -- What holds of every release that can be used.
 use Rattle.std.proofs.Common.{◌≡◌, ℕ, ◌==◌, ◌&&◌, Bool, true, false, cond, List, [], ◌∷◌, length, map, Option, Some, None, Result, Ok, Err, find, refl, ap, arith}
-use Rattle.std.specs.Prelude.{codes, filter, option_and_then, MatchOption}
+use Rattle.std.specs.Prelude.{codes, filter, not, option_and_then, MatchOption}
 use Rattle.std.proofs.lemmas.List.{length-map}
 use Rattle.std.proofs.lemmas.Str.Ascii.{lowercase-lowercase}
 use Rattle.std.proofs.lemmas.Bool.Decides.{nat_tests}
@@ -15,7 +15,7 @@ use Rattle.pep440.specs.declared.fault.Fault.{Fault as VersionFault}
 use Rattle.snapshot.specs.declared.file.ReleaseFile.{ReleaseFile}
 use Rattle.snapshot.specs.declared.form.Form.{Form}
 use Rattle.snapshot.specs.declared.form.Form.TheVariants.{Wheel, TarGz, Zip, Other}
-use Rattle.snapshot.specs.Files.{as_digest, as_filled, as_size, digest_in, file_of, fitting_size, form_of, has_file, is_digest, is_tar_gz, is_wheel, is_zip, name_cmp, sdist_of, wheels_of}
+use Rattle.snapshot.specs.Files.{as_digest, as_filled, as_size, digest_in, each_file, file_of, fitting_size, form_of, has_file, has_file_name, has_url, is_digest, is_tar_gz, is_wheel, is_zip, name_cmp, sdist_of, wheels_of}
 use Rattle.snapshot.specs.Lawful.{IsFile, IsRelease, IsSdist, IsWheel}
 use Rattle.snapshot.specs.Tied.OrderLaws.{name_total}
 use Rattle.pep440.proofs.PythonFacts.{read-again}
@@ -23,7 +23,8 @@ use Rattle.pep440.specs.Python as python
 use Rattle.pep440.specs.Python.{PythonParts}
 use Rattle.snapshot.specs.Python.{or_skipped, python_of}
 use Rattle.snapshot.specs.Release.{Release}
-use Rattle.snapshot.specs.Releases.{listed_of}
+use Rattle.snapshot.specs.Releases.{fault_of_files, listed_of}
+use Rattle.snapshot.specs.declared.skipped.SkipCause.TheVariants.{FileName, FileUrl, NoFile}
 use Rattle.snapshot.specs.declared.listed.Listed.{Listed}
 use Rattle.snapshot.specs.Shape.{each_at, each_from, field, key_path, object_of, optional, or_absent, required, text_of}
 use Rattle.lists.proofs.SortedInserts.{all-inserted, sorted-inserted}
@@ -163,12 +164,31 @@ python-lawful : (text : List ℕ) (o : Option PythonParts) → python_of text �
 python-lawful text None e = tt
 python-lawful text (Some p) e = read-again text p (not-skipped (python.python_of text) (Some p) e)
 
--- a release of lawful files that has a file
-pub release-lawful : (text : List ℕ) (files : List ReleaseFile) (r : Release) → AllByRecursion IsFile files → python_of text ≡ Ok r.requires_python → r.sdist ≡ sdist_of files → r.wheels ≡ wheels_of files → has_file r.sdist r.wheels ≡ true → IsRelease r
-release-lawful text files r all python sdist wheels file = record {
+-- files for which a release can be used
+record AreFit (sdist : Option ReleaseFile) (wheels : List ReleaseFile) : Type 0 where
+  pub some : has_file sdist wheels ≡ true
+  pub names : each_file has_file_name sdist wheels ≡ true
+  pub urls : each_file has_url sdist wheels ≡ true
+
+fit-by : (some names urls : Bool) → cond (not some) (Some NoFile) (cond (not names) (Some FileName) (cond (not urls) (Some FileUrl) None)) ≡ None → (some ≡ true) × (names ≡ true) × (urls ≡ true)
+fit-by true true true e = (refl, refl, refl)
+fit-by false names urls e = absurd cc
+fit-by true false urls e = absurd cc
+fit-by true true false e = absurd cc
+
+fit-files : (sdist : Option ReleaseFile) (wheels : List ReleaseFile) → fault_of_files sdist wheels ≡ None → AreFit sdist wheels
+fit-files sdist wheels e =
+    let all = fit-by (has_file sdist wheels) (each_file has_file_name sdist wheels) (each_file has_url sdist wheels) e in
+    record { some = all.0; names = all.1; urls = all.2 }
+
+-- a release of lawful files without a fault
+pub release-lawful : (text : List ℕ) (files : List ReleaseFile) (r : Release) → AllByRecursion IsFile files → python_of text ≡ Ok r.requires_python → r.sdist ≡ sdist_of files → r.wheels ≡ wheels_of files → fault_of_files r.sdist r.wheels ≡ None → IsRelease r
+release-lawful text files r all python sdist wheels fit = record {
   python = python-lawful text r.requires_python python;
   sdist = rw sdist (sdist-lawful files all);
   wheels = rw wheels (wheels-lawful files all);
   order = rw wheels (wheels-rise files);
-  files = file;
+  files = (fit-files r.sdist r.wheels fit).some;
+  names = (fit-files r.sdist r.wheels fit).names;
+  urls = (fit-files r.sdist r.wheels fit).urls;
 }

@@ -1,7 +1,7 @@
 -- The files of a release (reqlock's own format of an index).
-use Rattle.std.specs.Prelude.{ℕ, ◌==◌, ◌&&◌, Bool, true, false, List, [], ◌∷◌, length, codes, map, fold, filter, find, nat_eq, nat_le, Option, Some, None, option_and_then, Result, Ok, if◌then◌else◌}
+use Rattle.std.specs.Prelude.{ℕ, ◌==◌, ◌&&◌, ◌||◌, not, Bool, true, false, List, [], ◌∷◌, length, codes, map, fold, filter, find, nat_eq, nat_le, Option, Some, None, option_and_then, Result, Ok, if◌then◌else◌}
 use Rattle.std.specs.BTreeSet.{insert_key}
-use Rattle.std.specs.Char.{is_ascii_hexdigit, to_ascii_lowercase}
+use Rattle.std.specs.Char.{is_ascii_graphic, is_ascii_hexdigit, to_ascii_lowercase}
 use Rattle.std.specs.Cmp.Lexicographic.{slice_cmp}
 use Rattle.std.specs.List.{ends_with, list_all}
 use Rattle.std.specs.Option.{option_or}
@@ -101,3 +101,24 @@ abbrev pub has_file : Option ReleaseFile → List ReleaseFile → Bool
 has_file (Some sdist) wheels = true
 has_file None (wheel ∷ wheels) = true
 has_file None [] = false
+
+-- the signs that part a path on some system: a slash, a backslash, and the colon behind a drive
+abbrev pub parts_a_path : ℕ → Bool
+parts_a_path b = (b == 47 || b == 92) || b == 58
+
+-- whether a byte may stand in a file's name
+abbrev pub is_name_byte : ℕ → Bool
+is_name_byte b = is_ascii_graphic b && not (parts_a_path b)
+
+-- whether a file's name is one, and no path: visible ASCII without space
+abbrev pub has_file_name : ReleaseFile → Bool
+has_file_name f = list_all is_name_byte f.name
+
+-- whether a file's URL may be one: visible ASCII, as all else is percent-encoded (RFC 3986, "Characters")
+abbrev pub has_url : ReleaseFile → Bool
+has_url f = list_all is_ascii_graphic f.url
+
+-- whether a test holds of each file to install from
+abbrev pub each_file : (ReleaseFile → Bool) → Option ReleaseFile → List ReleaseFile → Bool
+each_file test None wheels = list_all test wheels
+each_file test (Some sdist) wheels = test sdist && list_all test wheels

@@ -1,5 +1,5 @@
 -- The releases of a package (reqlock's own format of an index).
-use Rattle.std.specs.Prelude.{ℕ, suc, Bool, false, List, [], ◌∷◌, codes, fold, take, Option, Some, None, Result, Ok, Err, if◌then◌else◌}
+use Rattle.std.specs.Prelude.{ℕ, suc, Bool, false, not, List, [], ◌∷◌, codes, fold, take, Option, Some, None, Result, Ok, Err, if◌then◌else◌}
 use Rattle.std.specs.BTreeSet.{insert_key}
 use Rattle.std.specs.List.{enumerate_from, filter_map, list_any}
 use Rattle.std.specs.Option.{option_map}
@@ -15,13 +15,14 @@ use Rattle.pep440.specs.Version.{VersionParts}
 use Rattle.pep440.specs.declared.fault.Fault.{Fault as VersionFault}
 use Rattle.pep508.specs.Requirement.{RequirementParts, requirement_text}
 use Rattle.snapshot.specs.declared.fault.Fault.{Fault}
+use Rattle.snapshot.specs.declared.file.ReleaseFile.{ReleaseFile}
 use Rattle.snapshot.specs.declared.listed.Listed.{Listed}
 use Rattle.snapshot.specs.declared.release.reading.ReadReleases.{ReadReleases}
 use Rattle.snapshot.specs.declared.skipped.SkipCause.{SkipCause}
 use Rattle.snapshot.specs.declared.skipped.SkipCause.TheVariants as causes
 use Rattle.snapshot.specs.declared.skipped.Skipped.{Skipped}
 use Rattle.snapshot.specs.declared.usable.ReleaseOutcome.{ReleaseOutcome}
-use Rattle.snapshot.specs.Files.{file_of, has_file, sdist_of, wheels_of}
+use Rattle.snapshot.specs.Files.{each_file, file_of, has_file, has_file_name, has_url, sdist_of, wheels_of}
 use Rattle.snapshot.specs.Python.{python_of}
 use Rattle.snapshot.specs.Release.{Release}
 use Rattle.snapshot.specs.Shape.{◌>>=◌, each_at, each_from, field, object_of, optional, or_absent, required, text_of}
@@ -57,9 +58,22 @@ requirements_from place (text ∷ texts) = do
   others ← requirements_from (suc place) texts
   Ok (first ∷ others)
 
--- a release that has a file
-abbrev pub with_file : Release → Result Release SkipCause
-with_file r = if has_file r.sdist r.wheels then Ok r else Err causes.NoFile
+-- why a release with these files to install from can't be used
+abbrev pub fault_of_files : Option ReleaseFile → List ReleaseFile → Option SkipCause
+fault_of_files sdist wheels =
+    if not (has_file sdist wheels) then Some causes.NoFile
+    else if not (each_file has_file_name sdist wheels) then Some causes.FileName
+    else if not (each_file has_url sdist wheels) then Some causes.FileUrl
+    else None
+
+-- the release, unless there is a cause against it
+abbrev pub unless_refused : Release → Option SkipCause → Result Release SkipCause
+unless_refused r None = Ok r
+unless_refused r (Some cause) = Err cause
+
+-- the release, unless it can't be used for its files
+abbrev pub with_files : Release → Result Release SkipCause
+with_files r = unless_refused r (fault_of_files r.sdist r.wheels)
 
 -- the release, or the first cause for which it can't be used
 unfoldable pub usable : Listed → Result Release SkipCause
@@ -67,7 +81,7 @@ usable r = do
   version ← versioned (version_of r.version)
   requires_python ← python_of r.requires_python
   dependencies ← requirements_from 0 r.requires_dist
-  with_file (record { version = version; requires_python = requires_python; dependencies = dependencies; yanked = r.yanked; sdist = sdist_of r.files; wheels = wheels_of r.files })
+  with_files (record { version = version; requires_python = requires_python; dependencies = dependencies; yanked = r.yanked; sdist = sdist_of r.files; wheels = wheels_of r.files })
 
 -- what comes of a listed release: its version as the index writes it, and the release, or why it can't be used
 abbrev pub outcome_of : Listed → ReleaseOutcome

@@ -15,6 +15,7 @@
 mod chosen;
 mod fault;
 mod file;
+mod fit;
 mod form;
 mod known;
 pub mod laws;

@@ -17,6 +17,10 @@ pub enum SkipCause {
     Requirement(usize, Cause),
     /// It has neither a wheel nor a source distribution.
     NoFile,
+    /// The name of one of its files, wheel or source distribution, is no plain name.
+    FileName,
+    /// The URL of one of its files has what no URL has.
+    FileUrl,
     /// An earlier release of the package has an equal version, and is not left out.
     Duplicate,
 }

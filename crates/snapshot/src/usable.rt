@@ -4,7 +4,6 @@ ghost use Rattle.std.specs.Prelude.{◌≡◌, Err, Ok};
 ghost use Rattle.std.specs.List.{AllByRecursion};
 ghost use Rattle.pep440.specs.Tied.Reading.{version_of};
 ghost use Rattle.pep508.specs.Requirement.{requirement_text};
-ghost use Rattle.snapshot.specs.Files.{has_file};
 ghost use Rattle.snapshot.specs.Lawful.{IsFile};
 ghost use Rattle.snapshot.specs.Python.{python_of};
 ghost use Rattle.snapshot.specs.Releases.{outcome_of, required_at, requirements_from, versioned};
@@ -12,6 +11,7 @@ ghost use Rattle.snapshot.specs.Shape.{Gives};
 
 use crate::chosen::{Chosen, choose};
 use crate::fault::Fault;
+use crate::fit::fault_of_files;
 use crate::known::Known;
 use crate::listed::Listed;
 use crate::release::Release;
@@ -99,13 +99,6 @@ fn requirements_of(
     Ok(Ok(Seq::from_vec(requirements)))
 }
 
-/// Whether there is a file to install from.
-fn has_file(files: &Chosen) -> bool
-    ensures { result ≡ has_file files.now.sdist files.now.wheels }
-{
-    files.sdist.is_some() || !files.wheels.is_empty()
-}
-
 /// What comes of a listed release. The text of its version goes along, and is never copied. What it depends on is
 /// known from then on.
 #[tactic(auto, unfolding(crate::specs::Releases::usable))]
@@ -138,8 +131,8 @@ pub(crate) fn outcome_of(
     };
     known.keep(requires_dist, &dependencies)?;
     let files = choose(alloc, files)?;
-    if !has_file(&files) {
-        return Ok(ReleaseOutcome::refused(version, SkipCause::NoFile));
+    if let Some(cause) = fault_of_files(&files) {
+        return Ok(ReleaseOutcome::refused(version, cause));
     }
     let release = Release::new(parsed, requires_python, dependencies, yanked, files);
     Ok(ReleaseOutcome {

@@ -16,6 +16,9 @@ from rules.versions import Version, canonical
 
 Node = tuple[str, str | None]
 
+# what parts a path on some system
+PARTS = {"/", "\\", ":"}
+
 
 class Release(NamedTuple):
     """A release of an index. `python` is the text of what it asks of Python; files are in the form that a journal gives them."""
@@ -62,6 +65,11 @@ def read_files(files):
     return sdists[0] if sdists else None, [wheels[name] for name in sorted(wheels)]
 
 
+def is_visible(text):
+    """Whether a text has only characters of ASCII that one sees, so no space."""
+    return all("!" <= letter <= "~" for letter in text)
+
+
 def read_release(release):
     """A release, or a Fault where it is left out of the index for its own sake."""
     version, python = read_version(release["version"]), release.get("requires_python") or ""
@@ -69,7 +77,10 @@ def read_release(release):
     read_set(python)
     dependencies = list(map(read_requirement, release.get("requires_dist") or []))
     sdist, wheels = read_files(release["files"])
-    want(sdist or wheels, "a file")
+    files = [*([sdist] if sdist else []), *wheels]
+    want(files, "a file")
+    want(all(is_visible(file["name"]) and not PARTS & set(file["name"]) for file in files), "names that are no paths")
+    want(all(is_visible(file["url"]) for file in files), "URLs")
     return Release(version, python if python.strip(BLANK) else None, dependencies, release.get("yanked", False), sdist, wheels)
 
 

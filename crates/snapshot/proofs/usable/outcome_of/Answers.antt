@@ -1,12 +1,9 @@
-use Rattle.std.proofs.Common.{◌≡◌, ◌∙◌, true, arith}
-use Rattle.snapshot.specs.Files.{has_file}
+use Rattle.std.proofs.Common.{◌∙◌}
 use Rattle.snapshot.proofs.UsableReleasesAreLawful.{release-lawful}
 use Rattle.snapshot.proofs.SeveralSteps.{ok-inside}
 use Rattle.snapshot.proofs.usable.outcome_of.Goals as goal
 
 pub new-release-requires : goal.new-release-requires
 new-release-requires c =
-    let files = c.in_ok-files.files in
     let python = ok-inside _ _ c.in_ok-python.ensures ∙ c.in-Ok-2.is in
-    let file : has_file files.sdist files.wheels ≡ true = grind arith in
-    release-lawful c.args.listed.requires_python c.args.listed.files _ c.requires python c.in_ok-files.ensures.sdist c.in_ok-files.ensures.wheels file
+    release-lawful c.args.listed.requires_python c.args.listed.files _ c.requires python c.in_ok-files.ensures.sdist c.in_ok-files.ensures.wheels c.is-None
