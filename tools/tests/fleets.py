@@ -1,5 +1,6 @@
 """The base class of tests of tools/fleet.py: folders in which a stand-in for the program, a script, does what their files `answer` say."""
 
+import os
 import subprocess
 import sys
 import time
@@ -32,6 +33,7 @@ class Fleet(unittest.TestCase):
     """A test with folders in which the stand-in does what their answers say."""
 
     python = sys.executable
+    variables: dict[str, str] = {}
 
     def setUp(self):
         self.folder = new_folder(self.addCleanup)
@@ -48,7 +50,7 @@ class Fleet(unittest.TestCase):
     def start(self, *words, **options):
         command = [self.python, "-B", SCRIPT, "--program", self.program, *words]
         usual = {"cwd": self.folder, "stdout": subprocess.PIPE, "stderr": subprocess.PIPE, "encoding": "utf-8"}
-        return subprocess.Popen(command, **usual | options)
+        return subprocess.Popen(command, env={**os.environ, **self.variables}, **usual | options)
 
     def fleet(self, *words):
         """The status, standard output, and what is said, without the script's name."""

@@ -1,4 +1,4 @@
-"""Where things stand, whether long tests are asked for, and a folder for a test. With this imported, the modules of tools/ are found by
+"""Where things stand, which tests are asked for, and a folder for a test. With this imported, the modules of tools/ are found by
 their names."""
 
 import os
@@ -9,10 +9,18 @@ from pathlib import Path
 TESTS = Path(__file__).resolve().parent
 TOOLS = TESTS.parent
 TOP = TOOLS.parent
-PROGRAM = TOP / "crates" / "reqlock" / "out" / "reqlock"
 IS_LONG = os.environ.get("LONG_TESTS") == "1"
+IS_WITHOUT_PROGRAM = os.environ.get("WITHOUT_PROGRAM") == "1"
 
 sys.path.insert(0, str(TOOLS))
+
+
+def built(crate):
+    """The program of a crate. Where tests without a program are asked for, it isn't there."""
+    return TOP / "crates" / crate / ("none" if IS_WITHOUT_PROGRAM else "out") / crate
+
+
+PROGRAM = built("reqlock")
 
 
 def new_folder(add_cleanup):

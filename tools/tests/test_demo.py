@@ -1,6 +1,6 @@
-"""Tests of ./demo in a copy of what git lists, with an rt that proves nothing: it tells of each crate as the real one does, makes the
-program only where that would, and fails where a file `fail` names the crate. Where a file `wait` names one, it waits in it until that
-file is gone."""
+"""Tests of ./demo in a copy of what it reads, with an rt that proves nothing: it tells of each crate as the real one does, makes the
+program only where that would, tells of each case by its words, and fails where a file `fail` names the crate. Where a file `wait` names
+one, it waits in it until that file is gone."""
 
 import os
 import shutil
@@ -64,39 +64,45 @@ try)
         fault
         exit 1
     fi
-    echo "tried: $*"
-    cat ;;
+    answer=ended
+    if [ "$fail" = "$name answer" ]; then answer=fault; fi
+    for case in "$3"/??; do
+        words=$(cat "$case.args")
+        printf '== %s\ntried: %s\n' "${case##*/}" "${words//$'\n'/ }"
+        echo "case=${case##*/} run=$answer status=$(cat "$STATUS" 2>/dev/null || echo 0) runners=1 proved=no" >&2
+    done ;;
 esac
 """
 
 
-def cone(top):
-    """The crates that one is made of, each behind those below it and itself last, as crates.txt names them."""
-    below = dict(line.split(":") for line in (TOP / "crates.txt").read_text(encoding="utf-8").splitlines())
-    found = []
+# The crates of the copy, and those of which the program is made, each behind those below it.
+CRATES = """# lowest first
+lists: std
+search: lists
+conformance: states search
+states: search std
 
-    def add(name):
-        for other in below[name].split():
-            if other in below and other not in found:
-                add(other)
-        found.append(name)
-
-    add(top)
-    return found
+reqlock: edits states
+edits: states lists
+"""
+ORDER = ["lists", "search", "states", "edits", "reqlock"]
+READ = "demo", "tools/lanes.bash", "tools/read_lines.bash", "tools/proof_progress.bash"
 
 
 class Demo(unittest.TestCase):
     def setUp(self):
         self.folder = new_folder(self.addCleanup)
         self.copy = self.folder / "copy"
-        listed = subprocess.run(["git", "ls-files", "-z"], cwd=TOP, capture_output=True, check=True).stdout
-        for name in filter(None, listed.decode().split("\0")):
-            if (TOP / name).is_file():
-                (self.copy / name).parent.mkdir(parents=True, exist_ok=True)
-                shutil.copy(TOP / name, self.copy / name)
+        for name in READ:
+            (self.copy / name).parent.mkdir(parents=True, exist_ok=True)
+            shutil.copy(TOP / name, self.copy / name)
+        shutil.copytree(TOP / "examples" / "web", self.copy / "examples" / "web")
+        (self.copy / "crates.txt").write_text(CRATES, encoding="utf-8")
+        for name in ORDER:
+            (self.copy / "crates" / name / "src").mkdir(parents=True)
         self.programs = self.folder / "programs"
         self.programs.mkdir()
-        for name in "bash", "basename", "cat", "chmod", "dirname", "env", "mkdir", "sed", "sleep", "tail":
+        for name in "bash", "basename", "cat", "chmod", "dirname", "du", "env", "mkdir", "sed", "sleep", "tail":
             os.symlink(shutil.which(name), self.programs / name)
         self.calls = self.folder / "calls"
         self.calls.touch()
@@ -108,7 +114,7 @@ class Demo(unittest.TestCase):
     def variables(self):
         return {
             "PATH": str(self.programs), "CALLS": str(self.calls), "FAIL": str(self.folder / "fail"), "WAIT": str(self.folder / "wait"),
-            "ORDER": " ".join(cone("reqlock")), "RT_JOBS": "3",
+            "STATUS": str(self.folder / "status"), "ORDER": " ".join(ORDER), "RT_JOBS": "3",
         }
 
     def demo(self, *words):
@@ -123,34 +129,49 @@ class Demo(unittest.TestCase):
         """./demo, with an rt that waits in the proof of `states` until the file `wait` is gone."""
         self.give_rt()
         (self.folder / "wait").write_text("states")
-        return subprocess.Popen([self.copy / "demo"], env=self.variables(), stdout=subprocess.PIPE, encoding="utf-8", cwd="/")
+        return subprocess.Popen([self.copy / "demo", "--proved"], env=self.variables(), stdout=subprocess.PIPE, encoding="utf-8", cwd="/")
 
-    def commands(self):
-        return (TOP / "examples" / "web" / "commands.txt").read_text(encoding="utf-8")
+    def build(self, text):
+        """Puts a program where the built one stands."""
+        program = self.copy / "crates" / "reqlock" / "out" / "reqlock"
+        program.parent.mkdir(parents=True, exist_ok=True)
+        program.write_text(f"#!/bin/bash\n{text}\n", encoding="utf-8")
+        program.chmod(0o755)
 
     def test_builds_once_and_shows_the_example(self):
         self.give_rt()
-        status, output, errors, calls = self.demo()
+        status, output, errors, calls = self.demo("--proved")
         self.assertEqual((status, errors), (0, ""))
-        self.assertEqual(calls, ["reqlock: all check --jobs 3", *(f"{name}: prove" for name in cone("reqlock")), "reqlock: run"])
-        self.assertNotIn("conformance", cone("reqlock"))
-        for name in cone("reqlock"):
+        self.assertEqual(calls, ["reqlock: all check --jobs 3", *(f"{name}: prove" for name in ORDER), "reqlock: run"])
+        for name in ORDER:
             self.assertIn(f"  {name:15}    2 functions proved, 0 min 0", output)
-        self.check_session(output)
-        status, again, errors, calls = self.demo()
-        self.assertEqual((status, errors, calls), (0, "", []))
-        self.check_session(again)
+        self.check_session(output, "built: --dir crates/reqlock/out/demo", "")
+        for words in (), ("--proved",):
+            status, again, errors, calls = self.demo(*words)
+            self.assertEqual((status, errors, calls), (0, "", []))
+            self.check_session(again, "built: --dir crates/reqlock/out/demo", "")
+
+    def test_shows_the_same_without_a_proof(self):
+        self.give_rt()
+        status, output, errors, calls = self.demo()
+        self.assertEqual((status, errors, calls), (0, "", ["reqlock: try"]))
+        self.assertTrue(output.startswith("The same sources with checks at run time, not yet proved;"))
+        self.check_session(output, f"tried: --dir {self.copy}/crates/reqlock/out/demo", f"{self.copy}/")
+        self.build('echo "built: $*"')
+        _, proved, _, _ = self.demo()
+        typed = [[line for line in text.splitlines() if line.startswith("$ ")] for text in (output, proved)]
+        self.assertEqual(*typed)
+        self.assertEqual(len(typed[0]), 12)
 
     def test_what_was_proved_stays(self):
         self.give_rt()
         (self.folder / "fail").write_text("states prove")
-        self.assertEqual(self.demo()[0], 1)
+        self.assertEqual(self.demo("--proved")[0], 1)
         (self.folder / "fail").unlink()
-        status, output, errors, calls = self.demo()
+        status, output, errors, calls = self.demo("--proved")
         self.assertEqual((status, errors), (0, ""))
-        order = cone("reqlock")
-        self.assertNotIn("lists: prove", calls)
-        self.assertEqual([call for call in calls if call.endswith(": prove")], [f"{name}: prove" for name in order[order.index("states"):]])
+        proved = [call for call in calls if call.endswith(": prove")]
+        self.assertEqual(proved, ["states: prove", "edits: prove", "reqlock: prove"])
         self.assertIn(f"  {'lists':15} was proved before\n", output)
 
     def test_what_is_being_proved_is_told(self):
@@ -172,13 +193,16 @@ class Demo(unittest.TestCase):
         self.assertEqual(process.returncode, -15)
         self.assertNotIn("edits: prove", self.calls.read_text())
 
-    def check_session(self, output):
-        files = "--index examples/web/index.json --env examples/web/environment.json"
-        self.assertIn(f"built: --dir crates/reqlock/out/demo {files} init\n", output)
+    def check_session(self, output, called, place):
+        """The session is shown: each line begins so, and names the example's files behind this."""
+        example = f"{place}examples/web"
+        self.assertIn(f"{called} --index {example}/index.json --env {example}/environment.json init\n", output)
         self.assertIn("$ reqlock --dir crates/reqlock/out/demo --index examples/web/index.json add 'werkzeug<2'\n", output)
-        self.assertIn("built: --dir crates/reqlock/out/demo log\n", output)
-        files = "--index examples/web/index.json --env linux=examples/web/environment.json --env windows=examples/web/windows.json"
-        self.assertIn(f"built: --dir crates/reqlock/out/demo {files} init\n", output)
+        self.assertIn(f"{called} --index {example}/index.json why --explain werkzeug<2\n", output)
+        self.assertIn(f"{called} log\n", output)
+        files = f"--env linux={example}/environment.json --env windows={example}/windows.json"
+        self.assertIn(f"{called} --index {example}/index.json {files} init\n", output)
+        self.assertEqual(output.count("    requests  # the client\n"), 2)
         copied = (self.copy / "crates" / "reqlock" / "out" / "demo" / "requirements.txt").read_text(encoding="utf-8")
         self.assertEqual(copied, (TOP / "examples" / "web" / "requirements.txt").read_text(encoding="utf-8"))
 
@@ -186,7 +210,7 @@ class Demo(unittest.TestCase):
         self.give_rt()
         for step, told in ("search prove", "the proof of search failed"), ("reqlock run", "the build failed"):
             (self.folder / "fail").write_text(step)
-            status, output, errors, calls = self.demo()
+            status, output, errors, calls = self.demo("--proved")
             self.assertEqual(status, 1)
             self.assertIn(step.replace(" ", ": "), calls)
             self.assertIn("src/lib.rt:1:1: error: it is not proved\n", errors)
@@ -194,43 +218,47 @@ class Demo(unittest.TestCase):
             self.assertNotIn("built:", output)
 
     def test_a_call_that_is_no_answer_ends_the_session(self):
-        program = self.copy / "crates" / "reqlock" / "out" / "reqlock"
-        program.parent.mkdir(parents=True)
         for status in 1, 2, 3, 4, 5, 101:
-            program.write_text(f"#!/bin/bash\necho replied\nexit {status}\n", encoding="utf-8")
-            program.chmod(0o755)
+            self.build(f"echo replied\nexit {status}")
             with self.subTest(status=status):
                 is_refusal = status in (1, 3)
                 found, output, errors, _ = self.demo()
-                self.assertEqual((found, output.count("replied")), (0, 11) if is_refusal else (1, 1))
+                self.assertEqual((found, output.count("replied")), (0, 12) if is_refusal else (1, 1))
                 self.assertEqual(errors, "" if is_refusal else f"demo: reqlock ended with status {status}\n")
 
+    def test_a_try_that_is_no_answer_is_told(self):
+        self.give_rt()
+        for status in 1, 3, 4, 101:
+            (self.folder / "status").write_text(str(status))
+            found, _, errors, _ = self.demo()
+            self.assertEqual((found, errors), (0, "") if status in (1, 3) else (1, f"demo: reqlock ended with status {status}\n"))
+        for step in "reqlock try", "reqlock answer":
+            (self.folder / "fail").write_text(step)
+            status, _, errors, calls = self.demo()
+            self.assertEqual((status, calls), (1, ["reqlock: try"]))
+            self.assertIn(f"demo: rt try failed; the whole log is {self.copy}/crates/reqlock/out/demo.log\n", errors)
+
     def test_a_missing_rt_is_told(self):
-        for words in (), ("--quick",):
+        for words in (), ("--proved",):
             status, output, errors, _ = self.demo(*words)
             self.assertEqual((status, errors.count("\n")), (1, 1))
             self.assertIn("rt, the command of the Rattle toolchain, is not on the PATH", errors)
             self.assertNotIn("$ reqlock", output)
 
-    def test_quick_proves_nothing(self):
+    def test_tells_where_quick_went(self):
         self.give_rt()
-        status, output, errors, calls = self.demo("--quick")
-        self.assertEqual((status, errors, calls), (0, "", ["reqlock: try"]))
-        self.assertTrue(output.startswith("Without any proof"))
-        self.assertIn(f"--data index.json={self.copy}/examples/web/index.json", output)
-        self.assertTrue(output.endswith(self.commands()))
-        (self.folder / "fail").write_text("reqlock try")
-        self.assertEqual(self.demo("--quick")[0], 1)
+        told = "demo: --quick is gone: ./demo alone is the quick one, and ./demo --proved proves first\n"
+        self.assertEqual(self.demo("--quick"), (2, "", told, []))
 
     def test_no_link_is_followed(self):
         self.give_rt()
         outside = self.folder / "outside"
         outside.mkdir()
         out = Path("crates", "reqlock", "out")
-        for place in out / "demo", out / "demo.log", out / "demo" / "requirements.txt", out / "demo" / "pylock.toml":
+        for place in out / "demo", out / "demo.log", out / "demo.cases", out / "demo.cases" / "00", out / "demo" / "requirements.txt", out / "demo" / "pylock.toml":
             (self.copy / place).parent.mkdir(parents=True, exist_ok=True)
             (self.copy / place).symlink_to(outside / place.name)
-            for words in (), ("--quick",):
+            for words in (), ("--proved",):
                 status, _, errors, calls = self.demo(*words)
                 self.assertEqual((status, calls), (1, []))
                 self.assertTrue(errors.endswith(f"{place}: a link stands there; remove it first\n"), errors)
@@ -242,14 +270,14 @@ class Demo(unittest.TestCase):
         other = self.folder / "other" / "copy"
         other.mkdir(parents=True)
         done = subprocess.run(
-            ["bash", "copy/demo", "--quick"], env={**self.variables(), "CDPATH": str(other.parent)}, capture_output=True,
+            ["bash", "copy/demo"], env={**self.variables(), "CDPATH": str(other.parent)}, capture_output=True,
             encoding="utf-8", check=False, cwd=self.folder,
         )
         self.assertEqual((done.returncode, done.stderr), (0, ""))
-        self.assertTrue(done.stdout.startswith("Without any proof"))
+        self.assertTrue(done.stdout.startswith("The same sources"))
 
     def test_other_words_are_refused(self):
-        self.assertEqual(self.demo("--fast")[:3], (2, "", "usage: ./demo [--quick]\n"))
+        self.assertEqual(self.demo("--fast")[:3], (2, "", "usage: ./demo [--proved]\n"))
 
 
 if __name__ == "__main__":

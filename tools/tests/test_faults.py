@@ -188,7 +188,7 @@ class Faults(Program):
     def test_a_disk_that_is_full(self):
         # each file takes one page: three stand there, and so many more have room beside their places
         if not self.is_mounted(self.folder):
-            self.skipTest("a file system can't be mounted")
+            self.skipTest("optional: a file system can't be mounted")
         self.begin(b"a\n", ("a", "1", []), ("c", "1", []))
         self.assertEqual(self.call("init"), (0, "ok 0\n"))
         files = self.files()

@@ -185,9 +185,12 @@ class Workers(Fleet):
         self.assertEqual(self.fleet("--dask", "nonsense://x", "a", *ASKED), (4, "", told))
 
 
-@unittest.skipIf(dask_python() == sys.executable, "this python3 has the library distributed")
 class WithoutDask(Fleet):
     def test_what_is_missing_is_told(self):
+        # (a module of that name stands before the library, where python3 has it, and is none that can be imported)
+        (self.folder / "modules").mkdir()
+        (self.folder / "modules" / "distributed.py").write_text("raise ImportError\n", encoding="utf-8")
+        self.variables = {"PYTHONPATH": str(self.folder / "modules")}
         status, output, errors = self.fleet("--dask", "tcp://127.0.0.1:1", "a", *ASKED)
         told = f"--dask needs the library distributed, which python3 hasn't: {INSTALL}\n"
         self.assertEqual((status, output, errors), (4, "", told))

@@ -156,7 +156,7 @@ class Archives(Hostile):
         whole = tarred({"a-1/PKG-INFO": "x"})
         self.assertEqual(metadata_of("a", io.BytesIO(whole), False, in_tar, Limits()), ("a-1", b"x"))
 
-    @unittest.skipUnless(IS_LONG, "LONG_TESTS=1 asks for it")
+    @unittest.skipUnless(IS_LONG, "optional: LONG_TESTS=1 asks for it")
     def test_what_unpacks_to_much_takes_little_memory(self):
         piece = tar_header(tarfile.REGTYPE, GIGABYTE, "b")
         with gzip.open(self.folder / "a-1.tar.gz", "wb", compresslevel=1) as file:
@@ -329,7 +329,7 @@ class Links(Hostile):
         self.assertEqual(place.stat().st_mode & 0o777, OWN)
         self.assertEqual([path.name for path in self.folder.iterdir()], ["index.json"])
 
-    @unittest.skipUnless(os.geteuid() == 0, "only root can give a link to another user")
+    @unittest.skipUnless(os.geteuid() == 0, "optional: only root can give a link to another user")
     def test_a_snapshot_is_written_through_no_link_of_another_user(self):
         place = self.folder / "index.json"
         place.symlink_to(self.folder / "else")

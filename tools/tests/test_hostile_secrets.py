@@ -147,7 +147,7 @@ class Secrets(Hostile):
                 path.write_bytes(hashlib.sha256(data).hexdigest().encode() + b"\n" + data)
                 self.taken()
 
-    @unittest.skipUnless(os.geteuid() == 0, "only root can give a folder to another user")
+    @unittest.skipUnless(os.geteuid() == 0, "optional: only root can give a folder to another user")
     def test_a_cache_of_another_user_is_refused(self):
         cache = self.folder / "cache"
         self.taken()

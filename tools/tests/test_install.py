@@ -61,7 +61,7 @@ class Places(unittest.TestCase):
             self.assertEqual(self.install(*words, status=1), fault)
         self.assertEqual([path.name for path in self.outside.iterdir()], ["__pycache__"])
 
-    @unittest.skipUnless(os.geteuid() == 0, "only root can be another user")
+    @unittest.skipUnless(os.geteuid() == 0, "optional: only root can be another user")
     def test_a_folder_that_cannot_be_written_is_told_before_anything_is_done(self):
         self.folder.chmod(0o755)
         (self.prefix / "share" / "man").mkdir(parents=True)
@@ -156,7 +156,7 @@ class Installed(unittest.TestCase):
             self.install("file", status=1), f"install: {self.folder}/file: it can't be written; give a PREFIX that can, as ~/.local\n"
         )
         script = Path(shutil.copy(INSTALL, self.folder))
-        self.assertEqual(self.install("x", status=1, script=script), "install: crates/reqlock/out/reqlock isn't there: build the program first, by ./demo\n")
+        self.assertEqual(self.install("x", status=1, script=script), "install: crates/reqlock/out/reqlock isn't there: build the program first, by ./demo --proved\n")
 
     def test_bash_completes(self):
         self.install(self.prefix)
@@ -281,18 +281,22 @@ class Words(unittest.TestCase):
 
     def test_other_shells_read_them(self):
         for shell, name in ("bash", "reqlock.bash"), ("zsh", "_reqlock"), ("fish", "reqlock.fish"):
-            if shutil.which(shell):
+            with self.subTest(shell=shell):
+                if not shutil.which(shell):
+                    self.skipTest(f"there is no {shell}: apt-get install {shell}")
                 done = subprocess.run([shell, "-n", SHARE / name], capture_output=True, encoding="utf-8", check=False)
-                self.assertEqual((done.returncode, done.stderr), (0, ""), name)
+                self.assertEqual((done.returncode, done.stderr), (0, ""))
 
     def test_the_manual_page(self):
         text = self.read("reqlock.1").replace("\\-", "-")
         section = text.split(".SH SUBCOMMANDS")[1].split(".SH FILES")[0]
         self.assertEqual(set(re.findall(r'(?m)^\.TP\n\.[A-Z]+ "?([a-z]+)', section)), self.subcommands)
         self.assertEqual(set(re.findall(r"--[a-z][a-z-]*", text)), self.all_options())
-        if shutil.which("groff"):
-            done = subprocess.run(["groff", "-man", "-Tascii", "-ww", SHARE / "reqlock.1"], capture_output=True, encoding="utf-8", check=False)
-            self.assertEqual((done.returncode, done.stderr), (0, ""))
+
+    @unittest.skipUnless(shutil.which("groff"), "there is no groff: apt-get install groff")
+    def test_groff_reads_the_manual_page(self):
+        done = subprocess.run(["groff", "-man", "-Tascii", "-ww", SHARE / "reqlock.1"], capture_output=True, encoding="utf-8", check=False)
+        self.assertEqual((done.returncode, done.stderr), (0, ""))
 
 
 if __name__ == "__main__":

@@ -9,13 +9,13 @@ import functools
 import sys
 import unittest
 
-from places import IS_LONG, new_folder
-from rules.library_scenarios import CRATE, scenario_text, scenarios, wanted
+from places import IS_LONG, built, new_folder
+from rules.library_scenarios import scenario_text, scenarios, wanted
 
 import growths  # (these stand in tools/)
 from conformance_rows import behind_answers
 
-PROGRAM = CRATE / "out" / "conformance"
+PROGRAM = built("conformance")
 PACE = 1 if IS_LONG else 50
 LAST = 40
 AMPLE = 10**12

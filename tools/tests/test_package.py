@@ -65,7 +65,7 @@ class Package(Packaged):
 
 class Faults(Packaged):
     def test_are_told(self):
-        absent = "package: crates/reqlock/out/reqlock isn't there: build the program first, by ./demo\n"
+        absent = "package: crates/reqlock/out/reqlock isn't there: build the program first, by ./demo --proved\n"
         self.assertEqual(self.build(program=None, status=1), absent)
         self.assertIn("usage: ./package", self.build("--delete", status=2))
         self.assertIn("the FOLDER is empty", self.build("", status=2))
@@ -92,7 +92,7 @@ class Faults(Packaged):
             path.chmod(0o755)
             self.assertIn("crates/reqlock/out/reqlock: it is no program for Linux", self.build(program=None, status=1))
 
-    @unittest.skipUnless(os.geteuid() == 0, "only root can be another user")
+    @unittest.skipUnless(os.geteuid() == 0, "optional: only root can be another user")
     def test_a_folder_that_cannot_be_written(self):
         self.folder.chmod(0o755)
         (self.folder / "closed").mkdir(mode=0o755)

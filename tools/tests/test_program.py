@@ -317,7 +317,7 @@ class Writing(Program):
             path.chmod(mode)
             self.assertEqual(self.files(), before)
 
-    @unittest.skipUnless(os.geteuid() == 0, "only root may give files away")
+    @unittest.skipUnless(os.geteuid() == 0, "optional: only root may give files away")
     def test_mode_owner_and_group_stay(self):
         self.begin_at_one()
         given = {name: (0o640 + place, NOBODY - place, 100 + place) for place, name in enumerate(FILES)}

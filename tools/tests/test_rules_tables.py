@@ -59,7 +59,7 @@ class Rows(unittest.TestCase):
         texts += sum(len(texts) for texts, _ in rows(REQUIREMENTS, "requirements"))
         self.assertEqual(texts, 432)
 
-    @unittest.skipUnless(has_packaging(), "there is no packaging 23.0")
+    @unittest.skipUnless(has_packaging(), "Debian's python3 has no packaging 23.0: apt-get install python3-packaging")
     def test_are_those_that_are_printed(self):
         for tool in VERSIONS, REQUIREMENTS:
             for word, lines in zip(("rows", "answers"), printed_lines(tool)):

@@ -95,7 +95,7 @@ class Shapes(Program):
             with self.subTest(shape=make.__name__):
                 self.check_told(*make(), SECONDS)
 
-    @unittest.skipUnless(IS_LONG, "LONG_TESTS=1 asks for it")
+    @unittest.skipUnless(IS_LONG, "optional: LONG_TESTS=1 asks for it")
     def test_larger_shapes(self):
         for make, count in LARGER:
             with self.subTest(shape=make.__name__, count=count):
