@@ -1,4 +1,4 @@
-//! Parts of a problem for who writes a resolver: which releases a requirement admits and why not, which
+//! Parts of a problem for who writes a resolver or a checker: which releases a requirement admits and why not, which
 //! dependencies count, nodes by their numbers, and nodes and choices that are lent. Who has a problem solved needs none of it.
 
 pub use crate::admission::{admissions, admits};
