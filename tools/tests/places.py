@@ -15,7 +15,7 @@ IS_WITHOUT_PROGRAM = os.environ.get("WITHOUT_PROGRAM") == "1"
 sys.path.insert(0, str(TOOLS))
 
 
-def built(crate):
+def built(crate: str) -> Path:
     """The program of a crate. Where tests without a program are asked for, it isn't there."""
     return TOP / "crates" / crate / ("none" if IS_WITHOUT_PROGRAM else "out") / crate
 
