@@ -5,7 +5,9 @@
                        the new one; an open is told as "create FILE" where it may make the file, as "open FILE" where it may write or cut
                        it, and else not at all
    FILE_CALLS_STOP     the program is killed in the place of this call of these, counted from 1
-   FILE_CALLS_LOCK     flock fails with this error */
+   FILE_CALLS_LOCK     flock fails with this error
+   FILE_CALLS_SWAP     before the first call that gives a file an owner, this file is moved to the path of that one
+   FILE_CALLS_BREAK    a signal interrupts as many writes to the output as this says, each before it writes anything */
 #define _GNU_SOURCE
 #include <errno.h>
 #include <fcntl.h>
@@ -76,6 +78,36 @@ int fchmod(int descriptor, mode_t mode) {
     return (int)syscall(SYS_fchmod, descriptor, mode);
 }
 
+/* Moves the other file to a path, once. */
+static void swap(const char *path) {
+    const char *other = getenv("FILE_CALLS_SWAP");
+    static bool is_done;
+    if (other != NULL && !is_done)
+        syscall(SYS_renameat, AT_FDCWD, other, AT_FDCWD, path);
+    is_done = true;
+}
+
+int fchown(int descriptor, uid_t owner, gid_t group) {
+    char link[64], path[PATH_MAX + 1];
+    tell_open("fchown", descriptor);
+    snprintf(link, sizeof link, "/proc/self/fd/%d", descriptor);
+    ssize_t length = readlink(link, path, PATH_MAX);
+    path[length < 0 ? 0 : length] = 0;
+    swap(path);
+    return (int)syscall(SYS_fchown, descriptor, owner, group);
+}
+
+ssize_t write(int descriptor, const void *bytes, size_t count) {
+    const char *times = getenv("FILE_CALLS_BREAK");
+    static long broken;
+    if (times != NULL && descriptor == STDOUT_FILENO && broken < atol(times)) {
+        broken++;
+        errno = EINTR;
+        return -1;
+    }
+    return syscall(SYS_write, descriptor, bytes, count);
+}
+
 /* Calls on paths */
 
 int open(const char *path, int flags, ...) {
@@ -108,5 +140,6 @@ int mkdir(const char *path, mode_t mode) {
 
 int lchown(const char *path, uid_t owner, gid_t group) {
     tell("lchown", path);
+    swap(path);
     return (int)syscall(SYS_fchownat, AT_FDCWD, path, owner, group, AT_SYMLINK_NOFOLLOW);
 }

@@ -10,7 +10,7 @@ import unittest
 
 from made.environments import LINUX, WINDOWS
 from places import TESTS
-from program import Fifty
+from program import NOBODY, Fifty
 
 import growths  # (it stands in tools/)
 
@@ -78,7 +78,7 @@ class FileCalls(Fifty):
         calls = ["flock folder", *(f"unlink {name}.new" for name in self.names())]
         for name in self.names():
             beside = f"{name}.new"
-            owner = [f"lchown {beside}"] * 2
+            owner = [f"fchown {beside}"] * 2
             calls += [f"open {name}", f"unlink {beside}", f"create {beside}", *owner, f"fchmod {beside}", f"fsync {beside}", "fsync folder"]
         for name in self.names():
             calls += [f"rename {name}", "fsync folder"]
@@ -113,6 +113,30 @@ class FileCalls(Fifty):
         self.assertEqual((status, output), (0, "ok 1\n"))
         place = calls.index(f"rename {lock}")
         self.assertEqual(calls[place : place + 2], [f"rename {lock}", "fsync other"])
+
+    @unittest.skipUnless(os.geteuid() == 0, "only root may give files away")
+    def test_what_is_moved_to_the_name_of_a_new_file_does_not_change_hands(self):
+        """Root saves in the folder of another user, who moves a file of root's there meanwhile."""
+        self.begin_all()
+        for path in [self.folder, *self.folder.iterdir()]:
+            os.chown(path, NOBODY, NOBODY)
+        secret, place = self.folder / "secret", self.folder / "requirements.txt"
+        secret.write_bytes(b"root's own\n")
+        self.watched("add", "p01", FILE_CALLS_SWAP=str(secret))
+        # it went the way of the file that it was put in the place of
+        self.assertEqual((secret.exists(), place.read_bytes()), (False, b"root's own\n"))
+        self.assertEqual((place.stat().st_uid, place.stat().st_gid), (0, 0))
+
+    def test_a_signal_interrupts_no_reply(self):
+        self.begin_all()
+        before = self.files()
+        for words, told in (["add", "p01"], "ok 1\n"), (["show", "p00"], None), (["batch"], ""), (["why", "p02>2"], None), (["--help"], None):
+            with self.subTest(words=words):
+                self.put(before)
+                whole = self.watched(*words)[:2]
+                self.put(before)
+                self.assertEqual(self.watched(*words, FILE_CALLS_BREAK="3")[:2], whole)
+                self.assertIn(told, (None, whole[1]))
 
     def test_a_stop_at_each_call(self):
         self.begin_all()

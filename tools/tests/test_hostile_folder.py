@@ -1,15 +1,22 @@
-"""Tests of a folder that comes from others and wants to do harm: no first save goes through a link to what isn't reqlock's, and what
-stands in the place of a file and isn't one makes no call wait."""
+"""Tests of a folder that comes from others and wants to do harm: no first save goes through a link to what isn't reqlock's, what
+stands in the place of a file and isn't one makes no call wait, and what has no end isn't read without end."""
 
 import os
+import resource
+import signal
 import stat
 import subprocess
+import time
 
 from places import PROGRAM
 from program import FILES, Program
 
 # A call that waits for somebody to write to a pipe would wait for ever.
 SECONDS = 60
+# how many bytes are taken of lines and pins that are handed over
+MOST = 2**25
+# for what is read of them, with the program itself
+MEMORY = 256 * 2**20
 OUT = "reqlock: {}: write failed\n"
 WHY = "{} is a link to {}, which is none of reqlock's files: remove the link, so that a file is written here\n"
 
@@ -61,16 +68,38 @@ class LinksOut(Program):
         self.assertIn(b'version = "2"', (self.outside / "pylock.toml").read_bytes())
         self.assertEqual([(self.folder / name).is_symlink() for name in FILES[1:]], [True] * 2)
 
-    def test_a_link_inside_of_the_folder_is_followed(self):
-        (self.folder / "locks").mkdir()
-        (self.folder / "locks" / "one").write_bytes(b"")
-        self.link("pylock.toml", "locks/one")
+    def test_no_hook_and_no_setting_of_git_is_overwritten(self):
+        """A hook runs at the next commit, and so would a URL in a lock in its place."""
+        for place, mode in ("hooks/pre-commit", 0o755), ("config", 0o644), ("hooks/post-commit", 0o755):
+            path = self.folder / ".git" / place
+            path.parent.mkdir(parents=True, exist_ok=True)
+            text = b"" if place == "hooks/post-commit" else b"[core]\n"
+            path.write_bytes(text)
+            path.chmod(mode)
+            for name in FILES[1:]:
+                with self.subTest(place=place, name=name):
+                    self.link(name, f".git/{place}")
+                    self.assertEqual(self.told("init"), (5, "", OUT.format(name)))
+                    why = OUT.format(name) + WHY.format(name, path.resolve())
+                    self.assertEqual(self.told("init", "--verbose"), (5, "", why))
+                    self.assertEqual(path.read_bytes(), text)
+                    self.assertEqual(list(self.folder.rglob("*.new")), [])
+                    (self.folder / name).unlink()
+
+    def test_a_link_inside_of_the_folder_to_a_lock_and_a_journal_of_reqlock_is_followed(self):
         self.assertEqual(self.told("init"), (0, "ok 0\n", ""))
-        self.assertTrue((self.folder / "locks" / "one").read_bytes().startswith(b"created-by"))
+        (self.folder / "locks").mkdir()
+        for name in FILES[1:]:
+            os.rename(self.folder / name, self.folder / "locks" / name)
+            self.link(name, f"locks/{name}")
+        self.begin(b"# more\na\n", ("a", "2", []))
+        self.assertEqual(self.told("init"), (0, "ok 0\n", ""))
+        self.assertIn(b'version = "2"', (self.folder / "locks" / "pylock.toml").read_bytes())
 
     def test_the_folder_itself_may_be_a_link(self):
         (self.outside / "way").symlink_to("folder")
-        (self.folder / "one").write_bytes(b"")
+        self.assertEqual(self.told("init"), (0, "ok 0\n", ""))
+        os.rename(self.folder / "pylock.toml", self.folder / "one")
         self.link("pylock.toml", "one")
         done = subprocess.run([PROGRAM, *self.options(self.outside / "way"), "init"], capture_output=True, check=False)
         self.assertEqual((done.returncode, done.stdout), (0, b"ok 0\n"))
@@ -158,3 +187,153 @@ class Pipes(Program):
                 [PROGRAM, "init", *options, "--index", "/dev/stdin"], stdin=index, capture_output=True, check=False, timeout=SECONDS
             )
         self.assertEqual((done.returncode, done.stdout), (0, b"ok 0\n"))
+
+
+def little_memory():
+    resource.setrlimit(resource.RLIMIT_AS, (MEMORY, MEMORY))
+
+
+class Endless(Program):
+    """What has no end, or grows far beyond its text, in the place of what a call is handed."""
+
+    HANDED = (
+        (["replace", "{}"], "new requirements"), (["why", "--replace", "{}"], "new requirements"), (["replace", "--was", "{}"], "old requirements"),
+        (["init", "--pins", "{}"], "pins"), (["replace", "-", "--pins", "{}"], "pins"),
+    )
+
+    def setUp(self):
+        super().setUp()
+        self.begin(b"a\n", ("a", "1", []))
+        self.assertEqual(self.call("init"), (0, "ok 0\n"))
+
+    def handed(self, path):
+        """The calls that are handed a path, and the file in whose place it stands."""
+        for words, name in self.HANDED:
+            yield [word.format(path) for word in words], name
+
+    def test_a_device_is_not_read(self):
+        for path in "/dev/zero", "/dev/urandom":
+            for words, name in self.handed(path):
+                with self.subTest(path=path, words=words):
+                    told = self.call(*words, before=little_memory, seconds=SECONDS)
+                    self.assertEqual(told, (4, f"reqlock: {name}: unreadable\n"))
+        told = self.call("replace", "/dev/zero", "--verbose", before=little_memory, seconds=SECONDS)
+        self.assertEqual(told, (4, "reqlock: new requirements: unreadable\n/dev/zero: this is no regular file\n"))
+        for words in ["skipped"], ["init"]:
+            self.assertEqual(self.called_with_index("/dev/zero", words), (4, "reqlock: index: unreadable\n"))
+
+    def called_with_index(self, path, words):
+        environment = [] if words == ["skipped"] else ["--env", self.environment_file("")]
+        done = subprocess.run(
+            [PROGRAM, "--dir", self.folder, "--index", path, *environment, *words], stdout=subprocess.PIPE, stderr=subprocess.STDOUT, encoding="utf-8",
+            check=False, preexec_fn=little_memory, timeout=SECONDS,
+        )
+        return done.returncode, done.stdout
+
+    def test_the_device_that_has_nothing_is_an_empty_file(self):
+        self.assertEqual(self.call("replace", "/dev/null"), (0, "ok 1\n"))
+        self.holds("")
+
+    def test_a_pipe_without_end_is_read_up_to_a_bound(self):
+        for words, name in self.handed("/dev/stdin"):
+            given = [PROGRAM, *self.options(), *words]
+            for call in given, ["-" if word == "/dev/stdin" else word for word in given]:
+                if "-" in call and "/dev/stdin" in call or call.count("-") > 1:
+                    continue
+                with self.subTest(call=call[1:]):
+                    self.assertEqual(self.read_of_yes(call), (4, f"reqlock: {name}: unreadable\n"))
+
+    @staticmethod
+    def read_of_yes(call):
+        with subprocess.Popen(["yes", "#"], stdout=subprocess.PIPE) as endless:
+            done = subprocess.run(
+                call, stdin=endless.stdout, stdout=subprocess.PIPE, stderr=subprocess.STDOUT, encoding="utf-8", check=False,
+                preexec_fn=little_memory, timeout=SECONDS,
+            )
+            endless.kill()
+        return done.returncode, done.stdout
+
+    def test_a_pipe_up_to_the_bound_is_read(self):
+        text = "a\n" + "#" * (MOST - 3) + "\n"
+        self.assertEqual(self.call("replace", "-", text=text), (0, "ok 1\n"))
+        self.assertEqual(self.call("replace", "-", text=text + "\n"), (4, "reqlock: new requirements: unreadable\n"))
+
+    def test_keys_of_many_parts_take_little_memory(self):
+        """Each part of a key is a table of its own, which takes a thousand times its text."""
+        pins = self.outside / "pins.toml"
+        for part in "a", '":"':
+            key = ".".join([part] * 70)
+            lines = 2**20 // (len(key) + 10)
+            pins.write_text("".join(f"k{number}.{key} = 1\n" for number in range(lines)), encoding="utf-8")
+            start = time.monotonic()
+            for words in ["init"], ["replace", self.folder / "requirements.txt"]:
+                told = self.call(*words, "--pins", pins, before=little_memory, seconds=SECONDS)
+                self.assertEqual(told, (4, "reqlock: pins: unreadable\n"))
+            self.assertLess(time.monotonic() - start, SECONDS)
+
+
+class NearNames(Program):
+    """Names that an index hasn't, with many or long names beside them."""
+
+    def told_of(self, absent, names):
+        """What is told of lines on names that the index lacks; it has these."""
+        self.begin("".join(f"{name}\n" for name in absent).encode(), *((name, "1", []) for name in names))
+        start = time.monotonic()
+        status, output, errors = self.told("init", "--verbose")
+        self.assertLess(time.monotonic() - start, SECONDS)
+        self.assertEqual((status, output), (3, "refused no-solution\n"))
+        told = [line for line in errors.splitlines() if line.startswith("the index has no release of ")]
+        self.assertEqual([line.split(";")[0].split(" ")[-1] for line in told], absent)
+        return [line.partition("; near names: ")[2] for line in told]
+
+    def test_of_long_names_none_are_told(self):
+        for length, near in (100, True), (101, False), (40_000, False):
+            with self.subTest(length=length):
+                name = "a" * (length - 1)
+                self.assertEqual(self.told_of([f"{name}b"], [f"{name}c"]), [f"{name}c" if near else ""])
+
+    def test_a_near_name_is_little_longer_or_shorter(self):
+        self.assertEqual(self.told_of(["abcdefghij"], ["abcdefghijklm", "abcdefghijkl", "defghij", "cdefghij"]), ["abcdefghijkl, cdefghij"])
+
+    def test_of_many_names_they_are_told_of_the_first(self):
+        letters = "a" * 92
+        absent = [f"{letters}-x{number:04}" for number in range(2000)]
+        told = self.told_of(absent, [f"{letters}-y{number:04}" for number in range(2000)])
+        self.assertEqual([bool(near) for near in told], [True] * 20 + [False] * 1980)
+        self.assertEqual(told[7], f"{letters}-y0007, {letters}-y0000, {letters}-y0001")
+
+    def test_so_it_is_in_sentences(self):
+        absent = [f"lack{number:02}" for number in range(30)]
+        releases = [("a", str(number + 1), [f"{name}y"]) for number, name in enumerate(absent)]
+        self.begin(b"a\n", *releases, *((f"{name}x", "1", []) for name in absent))
+        told = self.call("why", "--init", "--explain", "--long")[1]
+        self.assertEqual((told.count("the index has no package lack"), told.count("near names:")), (30, 20))
+
+
+class Pigeons(Program):
+    """More packages than places for them, for which no short reason is known: each version of a package takes a place for itself."""
+
+    def begin_pigeons(self, count):
+        takes = [(f"p{number}", f"{place}", [f"h{place}=={number}"]) for number in range(count) for place in range(1, count)]
+        places = [(f"h{place}", f"{number}", []) for place in range(1, count) for number in range(count)]
+        self.begin("".join(f"p{number}\n" for number in range(count)).encode(), *takes, *places)
+
+    def test_sentences_take_little_more_time_than_the_list(self):
+        self.begin_pigeons(6)
+        taken = []
+        for words in ["why", "--init"], ["why", "--init", "--explain"]:
+            start = time.monotonic()
+            self.assertEqual(self.call(*words, seconds=SECONDS)[0], 3)
+            taken.append(time.monotonic() - start)
+        self.assertLess(taken[1], 4 * taken[0])
+
+    def test_an_interrupt_ends_the_search(self):
+        self.begin_pigeons(12)
+        before = self.files()
+        for words in ["why", "--init"], ["why", "--init", "--explain"], ["init"]:
+            call = self.start(*words)
+            with self.assertRaises(subprocess.TimeoutExpired):
+                call.wait(timeout=1)
+            call.send_signal(signal.SIGINT)
+            self.assertEqual((call.wait(timeout=SECONDS), call.communicate()[0]), (-signal.SIGINT, ""))
+            self.assertEqual(self.files(), before)

@@ -5,14 +5,13 @@ use inputs::{Fault, InputFile, passed_over, path_of, read_bytes};
 use journal::{Journal, Session};
 use lists::Seq;
 use std::alloc::AllocError;
-use std::path::Path;
 use std::rt::Files;
 use std::{fs, io};
 
 // The line with which a lock of reqlock begins.
 const MADE_BY_US: &[u8] = b"created-by = \"reqlock\"\n";
 
-/// A link that leads out of the folder, in the place of a file.
+/// A link to what isn't reqlock's, in the place of a file.
 #[derive(Drop)]
 pub struct LinkOut {
     pub file: InputFile,
@@ -20,9 +19,10 @@ pub struct LinkOut {
     pub place: String,
 }
 
-/// The first of the files that a first save writes whose place is a link out of the folder, to a file that is
-/// no lock and no journal of reqlock: the save would overwrite that one. A later save finds such files
-/// not to be its own. The requirements file stays as it is.
+/// The first of the files that a first save writes whose place is a link to a file that is no lock and no journal
+/// of reqlock: the save would overwrite that one, as a hook of git, which then runs what stands in the lock. It counts
+/// for nothing whether the link leads out of the folder. A later save finds such files not to be its own. The
+/// requirements file stays as it is.
 pub fn link_out<R: Files + AllocGlobal>(
     rt: &R,
     dir: &str,
@@ -44,7 +44,7 @@ fn link_of<R: Files + AllocGlobal>(
     file: InputFile,
 ) -> Result<Option<LinkOut>, Fault> {
     let path = path_of(rt.alloc(), dir, &file)?;
-    match place_outside(rt, dir, path.as_str()) {
+    match place_behind(rt, path.as_str()) {
         Ok(None) => Ok(None),
         Ok(Some(place)) => {
             if is_ours(rt, file.clone()?, place.as_str())? {
@@ -56,21 +56,12 @@ fn link_of<R: Files + AllocGlobal>(
     }
 }
 
-/// Where a link leads, if that is outside of the folder.
-fn place_outside<R: Files + AllocGlobal>(
-    rt: &R,
-    dir: &str,
-    path: &str,
-) -> io::Result<Option<String>> {
+/// Where a link leads; nothing where the path is none.
+fn place_behind<R: Files + AllocGlobal>(rt: &R, path: &str) -> io::Result<Option<String>> {
     if !fs::symlink_metadata(rt, path)?.is_symlink() {
         return Ok(None);
     }
-    let place = fs::canonicalize(rt, path)?.into_string();
-    let folder = fs::canonicalize(rt, dir)?.into_string();
-    if Path::new(place.as_str()).starts_with(folder.as_str()) {
-        return Ok(None);
-    }
-    Ok(Some(place))
+    Ok(Some(fs::canonicalize(rt, path)?.into_string()))
 }
 
 /// Whether a file is a lock or a journal that reqlock wrote.

@@ -1,11 +1,11 @@
 // Replacing files so that none is ever half written: each is written whole beside its place, under
 // its name and `.new`, and only when all of them stand are they renamed to their places.
 
-use inputs::{Fault, InputFile, passed_over, path_of, sync_folder, unwritten};
+use inputs::{Fault, InputFile, LockFile, passed_over, path_of, sync_folder, unwritten};
 use std::fs::{File, Metadata, OpenFile, OpenOptions};
 use std::io::{ErrorKind, Write};
 use std::marker::Model;
-use std::os::unix::fs::{MetadataExt, lchown};
+use std::os::unix::fs::MetadataExt;
 use std::path::Path;
 use std::rt::Files;
 use std::{fs, io};
@@ -45,7 +45,10 @@ pub fn replace_all<R: Files + AllocGlobal>(
     rt: &R,
     dir: &str,
     replacements: &[Replacement<'_>],
-) -> Result<(), Fault> {
+) -> Result<(), Fault>
+where
+    R::File: LockFile,
+{
     let mut staged = Vec::with_capacity(rt.alloc(), replacements.len())?;
     for replacement in replacements {
         match stage(rt, dir, replacement) {
@@ -101,15 +104,15 @@ fn stage<R: Files + AllocGlobal>(
     rt: &R,
     dir: &str,
     replacement: &Replacement<'_>,
-) -> io::Result<Places> {
+) -> io::Result<Places>
+where
+    R::File: LockFile,
+{
     let file = replacement.file.clone()?;
     let path = path_of(rt.alloc(), dir, &file)?;
     let places = places_of(rt, file, path.as_str())?;
     let replaced = metadata_at(rt, places.place.as_str())?;
     let mut file = create_anew(rt, places.beside.as_str())?;
-    if let Some(metadata) = &replaced {
-        keep_owner(rt, places.beside.as_str(), metadata);
-    }
     match write_whole(&mut file, replacement.bytes, replaced.as_ref()) {
         Ok(()) => {
             sync_names(rt, places.place.as_str());
@@ -181,19 +184,21 @@ fn create_anew<R: Files>(rt: &R, path: &str) -> io::Result<R::File> {
     File::create_new(rt, path)
 }
 
-/// Gives a file the group and the owner of the one that it replaces, each where the system lets it.
-fn keep_owner<R: Files>(rt: &R, path: &str, replaced: &Metadata) {
-    let _ = lchown(rt, path, None, Some(replaced.gid()));
-    let _ = lchown(rt, path, Some(replaced.uid()), None);
+/// Gives an open file the group and the owner of the one that it replaces, each where the system lets it. By its name they could
+/// go to another file, which somebody puts there meanwhile.
+fn keep_owner<F: LockFile>(file: &F, replaced: &Metadata) {
+    let _ = file.give(None, Some(replaced.gid()));
+    let _ = file.give(Some(replaced.uid()), None);
 }
 
 /// The mode comes behind the owner, whose change may take bits of it away.
-fn write_whole<F: Write + OpenFile>(
+fn write_whole<F: Write + OpenFile + LockFile>(
     file: &mut F,
     bytes: &[u8],
     replaced: Option<&Metadata>,
 ) -> io::Result<()> {
     if let Some(metadata) = replaced {
+        keep_owner(&*file, metadata);
         file.set_permissions(metadata.permissions())?;
     }
     file.write_all(bytes)?;

@@ -11,7 +11,7 @@ ghost use Rattle.inputs.specs.declared.fault.Fault.TheVariants.{OutOfMemory};
 use crate::replacement::{Places, Replacement, places_at, replace_all};
 use crate::stopped_save::{Beside, end_save, remove_left_of_opened};
 use edits::{Refusal, TargetName};
-use inputs::{Fault, InputFault, InputFile, path_of, read_bytes};
+use inputs::{Fault, InputFault, InputFile, LockFile, path_of, read_bytes};
 use journal::{Journal, Saved, Session};
 use lists::{Seq, Text};
 use std::alloc::{AllocError, Global};
@@ -137,7 +137,10 @@ impl SavedFiles {
         rt: &R,
         dir: &str,
         session: &Session,
-    ) -> Result<(), Fault> {
+    ) -> Result<(), Fault>
+    where
+        R::File: LockFile,
+    {
         let saved = session.save(rt.alloc())?;
         let replacements = self.replacements(rt.alloc(), &saved)?;
         replace_all(rt, dir, replacements.as_slice())

@@ -8,18 +8,23 @@ use crate::fault::{Fault, passed_over, unwritten};
 use crate::input_files::InputFile;
 use std::fs::{File, OpenFile};
 use std::io::{self, ErrorKind};
+use std::os::unix::fs::fchown;
 use std::rt::Files;
 
 // Linux's ENOLCK, for which std has no kind: a network file system without a service of locks.
 const NO_LOCKS: i32 = 37;
 
-/// A file with an advisory lock, which is held until the file is closed.
+/// What an open file can do beyond `std`'s `OpenFile`: it has an advisory lock, which is held until it is closed, and is given an
+/// owner and a group, whatever stands at its name meanwhile.
 pub trait LockFile {
     /// Waits until nothing else has the file locked.
     fn lock(&self) -> io::Result<()>;
 
     /// Waits until nothing else has the file locked for itself alone.
     fn lock_shared(&self) -> io::Result<()>;
+
+    /// Gives it this user and this group, each where there is one.
+    fn give(&self, user: Option<u32>, group: Option<u32>) -> io::Result<()>;
 }
 
 impl LockFile for File {
@@ -29,6 +34,10 @@ impl LockFile for File {
 
     fn lock_shared(&self) -> io::Result<()> {
         File::lock_shared(self)
+    }
+
+    fn give(&self, user: Option<u32>, group: Option<u32>) -> io::Result<()> {
+        fchown(self, user, group)
     }
 }
 

@@ -1,9 +1,9 @@
 // Files that a call is handed beside those of its folder, one of them perhaps from standard input.
 
 use crate::fault::Fault;
-use crate::input_files::{InputFault, InputFile, read_bytes};
+use crate::input_files::{InputFault, InputFile, read_as, read_bounded, read_bytes};
 use std::alloc::Global;
-use std::io::{ErrorKind, Read};
+use std::io::Read;
 use std::rt::Files;
 
 /// Where a call reads the files that it is handed. `-` is standard input, which can be read once.
@@ -33,22 +33,11 @@ impl<'a, R: Files + AllocGlobal, I: Read + Drop> HandedIn<'a, R, I> {
             return read_bytes(self.rt, file, path);
         }
         match self.input.take() {
-            Some(input) => read_input(self.rt.alloc(), file, input),
+            Some(input) => {
+                let read = read_bounded(self.rt.alloc(), &file, input);
+                read_as(file, read)
+            }
             None => Err(Fault::Input(file, InputFault::Unreadable)),
         }
-    }
-}
-
-/// All bytes of standard input, in the place of a file.
-fn read_input<I: Read + Drop>(
-    alloc: Global,
-    file: InputFile,
-    mut input: I,
-) -> Result<Vec<u8>, Fault> {
-    let mut bytes = Vec::new(alloc);
-    match input.read_to_end(&mut bytes) {
-        Ok(_) => Ok(bytes),
-        Err(error) if error.kind() == ErrorKind::OutOfMemory => Err(Fault::OutOfMemory),
-        Err(_) => Err(Fault::Input(file, InputFault::Unreadable)),
     }
 }

@@ -15,12 +15,23 @@ use pep508::{Cause, Environment, Fault as LineFault, ReqFile};
 use pylock::Fault as LockFault;
 use snapshot::{Fault as IndexFault, Snapshot};
 use std::alloc::{AllocError, Global};
-use std::io::{self, ErrorKind};
+use std::fs::{File, FileType};
+use std::io::{self, ErrorKind, Read};
+use std::os::unix::fs::FileTypeExt;
 use std::rt::Files;
 use std::{fmt, fs};
 
 /// The kind of the error of what is no regular file.
 pub const NO_REGULAR_FILE: ErrorKind = ErrorKind::Unsupported;
+
+/// The kind of the error of what is handed over and has more bytes than are taken.
+pub const TOO_LONG: ErrorKind = ErrorKind::FileTooLarge;
+
+// How many bytes are taken of an index that is handed over.
+const MOST_OF_INDEX: u64 = 1 << 30;
+
+// How many bytes are taken of anything else that is handed over.
+const MOST_OF_OTHERS: u64 = 1 << 25;
 
 /// A file that a call reads. The first three stand in its folder, and are written too.
 #[derive(Debug, Drop)]
@@ -143,7 +154,7 @@ pub fn read_bytes<R: Files + AllocGlobal>(
 }
 
 /// What was read of a file, or why it can't be read.
-fn read_as<T>(file: InputFile, read: io::Result<T>) -> Result<T, Fault>
+pub(crate) fn read_as<T>(file: InputFile, read: io::Result<T>) -> Result<T, Fault>
     ensures { result ≡ read_as file read }
 {
     match read {
@@ -156,16 +167,46 @@ fn read_as<T>(file: InputFile, read: io::Result<T>) -> Result<T, Fault>
 }
 
 /// The bytes of a regular file. Who can put a pipe in its place could else make every call wait. What a call
-/// names itself may also be what the shell or the system hands over, as `/dev/stdin`.
+/// names itself may also be a pipe that the shell or the system hands over, as `/dev/stdin`. Of a device, which may have no
+/// end, nothing is read.
 pub fn read_file<R: Files + AllocGlobal>(
     rt: &R,
     file: &InputFile,
     path: &str,
 ) -> io::Result<Vec<u8>> {
-    if is_handed_over(file, path) || fs::metadata(rt, path)?.is_file() {
+    let kind = fs::metadata(rt, path)?.file_type();
+    if is_handed_over(file, path) && is_read_of(path, kind) {
+        return read_bounded(rt.alloc(), file, File::open(rt, path)?);
+    }
+    if kind.is_file() {
         return fs::read(rt, path);
     }
     Err(io::Error::from(NO_REGULAR_FILE))
+}
+
+/// Whether what the system hands over is read: a file, a pipe, or the device that has nothing.
+fn is_read_of(path: &str, kind: FileType) -> bool {
+    kind.is_file() || kind.is_fifo() || path == "/dev/null"
+}
+
+/// All bytes of what is handed over in the place of a file; an error where they are too many.
+pub fn read_bounded<I: Read + Drop>(
+    alloc: Global,
+    file: &InputFile,
+    input: I,
+) -> io::Result<Vec<u8>> {
+    let most = match file {
+        InputFile::Index => MOST_OF_INDEX,
+        _other => MOST_OF_OTHERS,
+    };
+    let mut bytes = Vec::new(alloc);
+    let mut front = input.take(most);
+    front.read_to_end(&mut bytes)?;
+    let mut rest = front.into_inner();
+    match rest.read(&mut [0])? {
+        0 => Ok(bytes),
+        _more => Err(io::Error::from(TOO_LONG)),
+    }
 }
 
 /// Whether a call names the file itself, in a place where the shell and the system hand over.

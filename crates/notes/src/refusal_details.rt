@@ -3,7 +3,7 @@
 use edits::{Cause, Edit, Environment, Line, Name, Refusal, Snapshot, State};
 use lists::Text;
 use pep440::{Fault as SpecifierFault, SpecifierSet};
-use phrases::{add_near_names, add_plain, add_word, clause_column, column_of, has_package};
+use phrases::{SOUGHT, add_near_names, add_plain, add_word, clause_column, column_of, has_package};
 use std::alloc::{AllocError, Global};
 
 /// A refused edit of a state over an index.
@@ -173,14 +173,14 @@ fn add_lacking_names(
         return Ok(());
     };
     match Line::read(alloc, line.as_str()) {
-        Ok(line) => add_lacking_name(alloc, text, &line, environments, snapshot),
+        Ok(line) => add_lacking(alloc, text, [line].as_slice(), environments, snapshot),
         Err(Cause::OutOfMemory) => Err(AllocError),
         Err(_) => Ok(()),
     }
 }
 
 /// Puts the names of the lines behind the text that count in one of the environments, and of which the index has no release.
-/// Behind a name of which it has no package stand those that are near to it.
+/// Behind a name of which it has no package stand those that are near to it, as far as such names are few.
 pub fn add_lacking(
     alloc: Global,
     text: &mut String,
@@ -188,32 +188,33 @@ pub fn add_lacking(
     environments: &[&Environment],
     snapshot: &Snapshot,
 ) -> Result<(), AllocError> {
+    let mut count: usize = 0;
     for line in lines {
-        add_lacking_name(alloc, text, line, environments, snapshot)?;
+        if let Some(name) = lacking_name(line, environments, snapshot) {
+            add_lacked(alloc, text, name, snapshot, count < SOUGHT)?;
+            count = count.saturating_add(1);
+        }
     }
     Ok(())
 }
 
-fn add_lacking_name(
-    alloc: Global,
-    text: &mut String,
-    line: &Line,
+/// The name of a line that counts in one of the environments, where the index has no release of it.
+fn lacking_name<'a>(
+    line: &'a Line,
     environments: &[&Environment],
     snapshot: &Snapshot,
-) -> Result<(), AllocError> {
-    let Some(requirement) = line.requirement() else {
-        return Ok(());
-    };
+) -> Option<&'a Name> {
+    let requirement = line.requirement()?;
     let name = requirement.name();
     if !snapshot.releases(name).is_empty() {
-        return Ok(());
+        return None;
     }
     for environment in environments {
         if requirement.is_active(environment) {
-            return add_lacked(alloc, text, name, snapshot);
+            return Some(name);
         }
     }
-    Ok(())
+    None
 }
 
 /// A name of which the index has no release.
@@ -222,10 +223,11 @@ fn add_lacked(
     text: &mut String,
     name: &Name,
     snapshot: &Snapshot,
+    seeks_near: bool,
 ) -> Result<(), AllocError> {
     text.push_str("the index has no release of ")?;
     text.push_str(name.normal())?;
-    if !has_package(snapshot, name) {
+    if seeks_near && !has_package(snapshot, name) {
         add_near_names(alloc, text, snapshot, name)?;
     }
     text.push_str("\n")

@@ -4,22 +4,25 @@
 mod given_words;
 mod program;
 mod question;
+mod repeated;
 mod screen;
 mod subcommand_files;
 
 use crate::given_words::{given_words, report_words};
 use crate::program::{Given, program};
+use crate::repeated::Repeated;
 use crate::screen::{Screen, Terminals};
 use std::io::IsTerminal;
 use std::process::ExitCode;
 
 fn main(rt: HostRuntime) -> ExitCode {
     let mut errors = rt.stderr();
-    let mut output = rt.stdout();
+    let output = rt.stdout();
     let terminals = Terminals {
         output: output.is_terminal(),
         errors: errors.is_terminal(),
     };
+    let mut output = Repeated::new(output);
     let status = match given_words(&rt) {
         Ok(words) => match Screen::new(&rt, terminals) {
             Ok(screen) => {

@@ -211,7 +211,10 @@ fn init<R: Files + AllocGlobal, I: Read + Drop, O: Write>(
     inputs: &Inputs<'_>,
     targets: Vec<TargetFile>,
     input: I,
-) -> Result<(), Stop> {
+) -> Result<(), Stop>
+where
+    R::File: LockFile,
+{
     let paths = first_paths(call.rt.alloc(), inputs, targets)?;
     begin_history(call, details, paths, input)
 }

@@ -9,6 +9,7 @@ use commands::batch::accepted_in;
 use edits::Pool;
 use files::first_inputs::FirstPaths;
 use files::saved_history::{SavedHistory, history_to_save};
+use inputs::LockFile;
 use inputs::target_files::TargetFile;
 use journal::Session;
 use std::alloc::Global;
@@ -21,7 +22,10 @@ pub fn run_batch<R: Files + AllocGlobal, I: Read + Drop, O: Write>(
     call: &mut Call<'_, R, O>,
     inputs: EditInputs<'_>,
     input: I,
-) -> Result<(), Stop> {
+) -> Result<(), Stop>
+where
+    R::File: LockFile,
+{
     let (rt, dir) = (call.rt, call.dir);
     let SavedHistory {
         files,

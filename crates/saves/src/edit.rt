@@ -12,6 +12,7 @@ use commands::{ReplyText, is_accepted};
 use edits::Edit;
 use files::SavedFiles;
 use files::saved_history::{SavedHistory, history_to_save};
+use inputs::LockFile;
 use journal::{Command, Reply, Session};
 use resolve::RESOLVER;
 use std::alloc::Global;
@@ -24,7 +25,10 @@ pub fn edit_once<R: Files + AllocGlobal, O: Write>(
     details: &mut Details,
     edit: Edit,
     inputs: EditInputs<'_>,
-) -> Result<(), Stop> {
+) -> Result<(), Stop>
+where
+    R::File: LockFile,
+{
     let SavedHistory {
         files,
         session,
@@ -39,7 +43,10 @@ pub fn step_once<R: Files + AllocGlobal, O: Write>(
     call: &mut Call<'_, R, O>,
     details: &mut Details,
     command: &Command<'_>,
-) -> Result<(), Stop> {
+) -> Result<(), Stop>
+where
+    R::File: LockFile,
+{
     let (rt, dir) = (call.rt, call.dir);
     let (files, session) = SavedFiles::read_to_save(rt, dir)?.open_to_save(rt, dir)?;
     apply(call, details, &files, session, command)
@@ -53,7 +60,10 @@ pub(crate) fn apply<R: Files + AllocGlobal, O: Write>(
     files: &SavedFiles,
     mut session: Session,
     command: &Command<'_>,
-) -> Result<(), Stop> {
+) -> Result<(), Stop>
+where
+    R::File: LockFile,
+{
     let alloc = call.rt.alloc();
     let from = Place::of(&session);
     let mut text = ReplyText::new(alloc)?;

@@ -5,7 +5,7 @@ use calls::Stop;
 use edits::{Cause, Refusal};
 use files::LinkOut;
 use inputs::target_files::environment_path;
-use inputs::{InputFault, InputFile, NO_REGULAR_FILE, path_of, read_file};
+use inputs::{InputFault, InputFile, NO_REGULAR_FILE, TOO_LONG, path_of, read_file};
 use notes::{
     BadEnvironment, ENVIRONMENT, INDEX, IndexPlan, add_bad_lines, add_environment_command,
     add_environment_note, add_index_note, form_of,
@@ -177,6 +177,9 @@ impl Details {
         add_plain(&mut self.known, path.as_str())?;
         if error.kind() == NO_REGULAR_FILE {
             return Ok(self.known.push_str(": this is no regular file\n")?);
+        }
+        if error.kind() == TOO_LONG {
+            return Ok(self.known.push_str(": this has too many bytes\n")?);
         }
         write!(self.known, ": {error}\n")?;
         if error.kind() == ErrorKind::NotFound {

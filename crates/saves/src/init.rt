@@ -6,20 +6,24 @@ use commands::ReplyText;
 use files::first_inputs::{FirstInputs, FirstPaths, first_inputs};
 use files::saved_history::SavedHistory;
 use files::{LinkOut, end_left, link_out, remove_left};
+use inputs::LockFile;
 use journal::{Reply, Session};
 use resolve::RESOLVER;
 use std::io::{Read, Write};
 use std::rt::Files;
 
 /// Locks the requirements file, keeping the pins that are handed in, and saves the history that begins with it. A save that was stopped is
-/// ended before, so that its history stays where this one can't be saved. A link out of the folder is
-/// followed only to a file of reqlock's.
+/// ended before, so that its history stays where this one can't be saved. A link is followed only to a file of
+/// reqlock's.
 pub fn begin_history<R: Files + AllocGlobal, I: Read + Drop, O: Write>(
     call: &mut Call<'_, R, O>,
     details: &mut Details,
     paths: FirstPaths<'_>,
     input: I,
-) -> Result<(), Stop> {
+) -> Result<(), Stop>
+where
+    R::File: LockFile,
+{
     let (rt, dir) = (call.rt, call.dir);
     let left = end_left(rt, dir)?;
     let steps_before = details.steps_before(rt, dir)?;

@@ -19,7 +19,10 @@ pub fn replace_once<R: Files + AllocGlobal, I: Read + Drop, O: Write>(
     replacement: &Replacement<'_>,
     inputs: EditInputs<'_>,
     input: I,
-) -> Result<(), Stop> {
+) -> Result<(), Stop>
+where
+    R::File: LockFile,
+{
     let ReplacedHistory { history, edit } = replaced_to_save(
         call.rt,
         call.dir,
