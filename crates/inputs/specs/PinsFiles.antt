@@ -1,5 +1,5 @@
 -- Files of pins, and the targets that they are for. All of it is reqlock's own rule.
-use Rattle.std.specs.Prelude.{ℕ, ◌==◌, Bool, List, filter, flat_map, length, map, Result, Ok, Err, if◌then◌else◌}
+use Rattle.std.specs.Prelude.{ℕ, ◌==◌, ◌/◌, ◌&&◌, nat_lt, count_by, Bool, List, filter, flat_map, length, map, Result, Ok, Err, if◌then◌else◌}
 use Rattle.std.specs.List.{list_any}
 use Rattle.std.specs.Str.{bytes_eq}
 use Rattle.markers.specs.Environment.{Texts}
@@ -22,9 +22,17 @@ as_pins (Err (pins.Lines fault)) = Err (inputs.Requirements fault)
 as_pins (Err (pins.NoPin line)) = Err (inputs.NoPin line)
 as_pins (Err pins.OutOfMemory) = Err inputs.OutOfMemory
 
--- the file of pins that bytes are, a lock or a requirements file
+-- how many bytes are dots
+abbrev pub count_dots : List ℕ → ℕ
+count_dots bytes = count_by (λ b. b == 46) bytes
+
+-- whether over a thousand bytes are dots, and more than one in eight
+abbrev pub has_many_dots : List ℕ → Bool
+has_many_dots bytes = nat_lt 1000 (count_dots bytes) && nat_lt (length bytes / 8) (count_dots bytes)
+
+-- the file of pins that bytes are, a lock or a requirements file; a lock that is mostly dotted keys isn't read
 abbrev pub pin_file_in : Bool → List ℕ → Result PinFile InputFault
-pin_file_in is_lock bytes = as_pins (if is_lock then locked_pins bytes else written_pins bytes)
+pin_file_in is_lock bytes = if is_lock then (if has_many_dots bytes then Err inputs.Unreadable else as_pins (locked_pins bytes)) else as_pins (written_pins bytes)
 
 -- whether one of the files is for a target alone
 abbrev pub has_own : List PinsFile → List ℕ → Bool

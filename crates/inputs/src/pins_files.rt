@@ -19,6 +19,9 @@ use std::alloc::{AllocError, Global};
 use std::io::Read;
 use std::rt::Files;
 
+// How many dots any lock may have.
+const MANY_DOTS: usize = 1000;
+
 /// The target that a file of pins is for, and where the file stands. Without a name it is for every target that no
 /// other file is for.
 #[derive(Drop)]
@@ -89,10 +92,28 @@ pub fn read_pins<R: Files + AllocGlobal, I: Read + Drop>(
     Ok(read)
 }
 
-/// The file of pins that these bytes are: a lock or a requirements file.
+/// How many bytes are dots.
+fn count_dots(bytes: &[u8]) -> usize
+    ensures { result ≡ spec.count_dots bytes.now }
+{
+    bytes.iter().filter(|byte| **byte == b'.').count()
+}
+
+/// Whether a lock is mostly dotted keys. Each part of one is a table, which takes a thousand times the room of its text.
+fn has_many_dots(bytes: &[u8]) -> bool
+    ensures { result ≡ spec.has_many_dots bytes.now }
+{
+    let dots = count_dots(bytes);
+    dots > MANY_DOTS && bytes.len() / 8 < dots
+}
+
+/// The file of pins that these bytes are: a lock or a requirements file. A lock that is mostly dotted keys isn't read.
 pub fn read_pin_file(alloc: Global, is_lock: bool, bytes: &[u8]) -> Result<PinFile, InputFault>
     ensures { Answers OutOfMemory (spec.pin_file_in is_lock bytes.now) result }
 {
+    if is_lock && has_many_dots(bytes) {
+        return Err(InputFault::Unreadable);
+    }
     if is_lock {
         as_input(PinFile::read_lock(alloc, bytes))
     } else {
