@@ -2,11 +2,12 @@
 which one thing is changed."""
 
 import json
+import random
 import re
 import unittest
 
 from made.environments import LINUX
-from made.releases import index_in
+from made.releases import index_in, index_of
 from made.unsolved import NAMES, Draw
 from places import IS_LONG
 from program import Program
@@ -327,6 +328,31 @@ class Drawn(Program):
             elif self.asked([*named, ("the new line", line)], KEEP, "--explain", "--", line, kept=kept):
                 count += 1
         self.assertEqual({told.endswith("doesn't have") for told in self.kept_told}, {True, False})
+
+    def begin_chain(self, seed, count, most):
+        """A chain of so many packages whose releases ask each for a range of its own of the next one, which goes up by two from link to link at
+        most. The last line asks for more. Some releases are in nobody's range."""
+        chance, releases = random.Random(seed), []
+        for place in range(count):
+            for version in range(1, most + 1):
+                first = min(max(1, version + chance.randint(-1, 1)), most - 1)
+                needs = [f"c{place + 1:02}>={first},<={first + 1}"] if place < count - 1 else []
+                releases.append((f"c{place:02}", f"{version}", needs))
+        self.index, self.file = json.dumps(index_of(*releases)).encode(), [f"c00<={most - 2 * count}", f"c{count - 1:02}=={most}"]
+        (self.outside / "index.json").write_bytes(self.index)
+        self.put({"requirements.txt": "".join(f"{line}\n" for line in self.file).encode()})
+
+    def test_each_sentence_on_a_chain_of_ranges_is_true(self):
+        for seed in range(10 if IS_LONG else 3):
+            self.begin_chain(seed, 10, 30)
+            self.assertTrue(self.asked(numbered(self.file), "--init", "--explain"))
+
+    def test_a_chain_of_forty_ranges_is_told_by_its_ends(self):
+        for seed in range(3):
+            self.begin_chain(seed, 40, 100)
+            status, told = self.call("why", "--init", "--explain")
+            self.assertEqual((status, len(re.findall("So it goes on through [0-9]+ packages", " ".join(told.split())))), (3, 1))
+            self.assertLessEqual(len(told.splitlines()), 20)
 
 
 class Planted(unittest.TestCase):

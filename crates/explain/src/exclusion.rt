@@ -38,12 +38,12 @@ fn excluded_by(
     node: &Node,
     wanted: &Bits,
 ) -> Result<Option<Bits>, AllocError> {
+    if !old.iter().all(|term| term.is_on(node) || binding(term, conflict).is_some()) {
+        return Ok(None);
+    }
     let mut excluded = wanted.clone()?;
     for term in old {
         if binding(term, conflict).is_none() {
-            if !term.is_on(node) {
-                return Ok(None);
-            }
             excluded.keep(&term.places);
         }
     }

@@ -11,7 +11,7 @@ use crate::line_name::line_names;
 use crate::narrowed_refutation::narrowed_refutation;
 use crate::placed_term::{PlacedTerm, placed_conflicts};
 use crate::sentences::Sentences;
-use crate::sentences::steps::{cited_lines, told_steps};
+use crate::sentences::steps::{cited_lines, first_missing, told_steps};
 use crate::wording::Wording;
 use problems::Problem;
 use set_refutations::SetRefutation;
@@ -68,9 +68,9 @@ fn conflicts_of(
         (IsSetRefutation (rules_of problem.now) same_version refutation.now → ⊥)
         (λ _. IsSetRefutation (rules_of problem.now) same_version refutation.now)) }
 {
-    match grounds_of(alloc, problem, refutation)? {
+    let conflicts = placed_conflicts(alloc, problem, refutation.conflicts())?;
+    match grounds_of(alloc, problem, refutation, conflicts.as_slice())? {
         Some(grounds) => {
-            let conflicts = placed_conflicts(alloc, problem, refutation.conflicts())?;
             let derivations = derivations(
                 alloc,
                 problem,
@@ -148,6 +148,7 @@ impl Explanation {
         };
         let steps = told_steps(derived)?;
         let cited = cited_lines(derived, steps.as_slice())?;
+        let sought = first_missing(alloc, steps.as_slice())?;
         let sentences = Sentences {
             alloc,
             problem,
@@ -155,6 +156,7 @@ impl Explanation {
             lines: lines.as_slice(),
             steps: steps.as_slice(),
             cited: cited.as_slice(),
+            sought: sought.as_slice(),
         };
         sentences.add_all(text)
     }

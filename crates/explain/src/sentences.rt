@@ -35,6 +35,8 @@ pub struct Sentences<'a> {
     pub steps: &'a [Step],
     /// The places of the lines on which the sentences rest.
     pub cited: &'a [usize],
+    /// The conflicts beside which near names are told.
+    pub sought: &'a [usize],
 }
 
 impl Sentences<'_> {

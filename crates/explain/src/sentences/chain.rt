@@ -28,7 +28,7 @@ pub fn parts_of(derived: Derived<'_>, steps: &[Step]) -> Result<Vec<Part>, Alloc
     let mut parts = Vec::new(derived.alloc);
     let mut first = 0;
     for place in 0..steps.len() {
-        let is_on = derived.extent == Extent::Short && goes_on(derived, steps, &uses, place);
+        let is_on = derived.extent == Extent::Short && goes_on(derived, steps, &uses, place)?;
         if !is_on {
             add_parts(&mut parts, first, place)?;
             first = place.saturating_add(1);
@@ -55,41 +55,72 @@ fn goes_on(
     steps: &[Step],
     uses: &BTreeMap<usize, usize>,
     place: usize,
-) -> bool {
+) -> Result<bool, AllocError> {
+    let Some(step) = steps.get(place) else {
+        return Ok(false);
+    };
     let next = place.saturating_add(1);
-    match steps.get(place) {
-        Some(step) => {
-            let count = uses.get(&step.conflict).copied().unwrap_or(0);
-            count == 1 && is_link(derived, steps, place) && is_link(derived, steps, next)
-        }
-        None => false,
-    }
+    let count = uses.get(&step.conflict).copied().unwrap_or(0);
+    Ok(count == 1 && is_link(derived, steps, place)? && is_link(derived, steps, next)?)
 }
 
 /// Whether a step says that some releases need a package of which the step before rules out all that they need, beside the
 /// same others.
-fn is_link(derived: Derived<'_>, steps: &[Step], place: usize) -> bool {
+fn is_link(derived: Derived<'_>, steps: &[Step], place: usize) -> Result<bool, AllocError> {
     if place == 0 {
-        return false;
+        return Ok(false);
     }
     let (Some(step), Some(before)) = (steps.get(place), steps.get(place.saturating_sub(1))) else {
-        return false;
+        return Ok(false);
     };
     match (&step.account, derived.need_of(step.conflict)) {
         (Account::Needed(_, exclusions), Some(SetNeed::Term(at))) => {
-            is_by(exclusions.as_slice(), before)
-                && are_beside_alike(derived, step, before, at)
-                && !is_held(derived, step)
+            Ok(
+                are_beside_alike(derived, step, before, at)
+                    && !is_held(derived, step)
+                    && are_by(derived, exclusions.as_slice(), (step, before), at)?,
+            )
         }
-        _ => false,
+        _ => Ok(false),
     }
 }
 
-/// Whether a step alone excludes what there is to exclude.
-fn is_by(exclusions: &[Exclusion], before: &Step) -> bool {
-    match exclusions {
-        [exclusion] => exclusion.conflict == before.conflict,
-        _ => false,
+/// Whether the second step rules out all that is excluded in the first, but for what the releases of the term at a place
+/// don't admit.
+fn are_by(
+    derived: Derived<'_>,
+    exclusions: &[Exclusion],
+    steps: (&Step, &Step),
+    at: usize,
+) -> Result<bool, AllocError> {
+    let (step, before) = steps;
+    let mut is_by = false;
+    for exclusion in exclusions {
+        if exclusion.conflict == before.conflict {
+            is_by = true;
+        } else if !is_unadmitted(derived, step, exclusion, at)? {
+            return Ok(false);
+        }
+    }
+    Ok(is_by)
+}
+
+/// Whether none of the releases of the term at a place admits what is excluded.
+fn is_unadmitted(
+    derived: Derived<'_>,
+    step: &Step,
+    exclusion: &Exclusion,
+    at: usize,
+) -> Result<bool, AllocError> {
+    let (Some(conflict), Some(exhausted)) = (
+        derived.conflicts.get(step.conflict),
+        derived.exhausted(step.conflict),
+    ) else {
+        return Ok(false);
+    };
+    match conflict.get(at) {
+        Some(term) => derived.each_refuses(term, &exhausted.node.name, &exclusion.places),
+        None => Ok(false),
     }
 }
 

@@ -9,6 +9,7 @@ use crate::placed_term::PlacedTerm;
 use crate::release_set::add_listed;
 use crate::sentences::steps::{Step, number_of};
 use crate::sentences::{Sentences, add_node};
+use pep508::Name;
 use phrases::{add_near_names, has_package};
 use problems::Node;
 use set_refutations::SetNeed;
@@ -33,7 +34,8 @@ impl Sentences<'_> {
                 self.add_sides(text, conflict, &bare, sides.as_slice())
             }
             (Account::Missing, Some(need)) => {
-                self.add_missing(text, conflict, &exhausted.node, need)
+                self.add_missing(text, conflict, &exhausted.node, need)?;
+                self.add_near(text, step.conflict, &exhausted.node.name)
             }
             (Account::Needed(side, exclusions), Some(_)) => {
                 self.add_asking(text, conflict, side, &exhausted.node)?;
@@ -211,8 +213,7 @@ impl Sentences<'_> {
         Ok(())
     }
 
-    /// That what needs a node needs what the index lacks: it has no package of the name, and which ones have nearly this
-    /// name; or it has no release of it that can be used.
+    /// That what needs a node needs what the index lacks: it has no package of the name, or no release of it that can be used.
     fn add_missing(
         &self,
         text: &mut String,
@@ -220,18 +221,24 @@ impl Sentences<'_> {
         node: &Node,
         need: SetNeed,
     ) -> Result<(), AllocError> {
-        let problem = self.problem;
-        let snapshot = problem.snapshot;
         self.add_need(text, conflict, node, need)?;
         let name = node.name.normal();
-        if has_package(snapshot, &node.name) {
+        if has_package(self.problem.snapshot, &node.name) {
             return write!(
                 text,
                 ", and the index has no release of {name} that can be used"
             );
         }
-        write!(text, ", and the index has no package {name}")?;
-        add_near_names(self.alloc, text, snapshot, &node.name)
+        write!(text, ", and the index has no package {name}")
+    }
+
+    /// Which packages have nearly the name of what the index lacks, where it has no package of this name.
+    fn add_near(&self, text: &mut String, conflict: usize, name: &Name) -> Result<(), AllocError> {
+        let snapshot = self.problem.snapshot;
+        if !self.sought.contains(&conflict) || has_package(snapshot, name) {
+            return Ok(());
+        }
+        add_near_names(self.alloc, text, snapshot, name)
     }
 
     /// What needs a node, and by which requirements.

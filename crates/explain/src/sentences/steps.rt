@@ -4,6 +4,7 @@ use crate::account::{Account, Derived};
 use crate::derivation::Derivation;
 use crate::exclusion::Exclusion;
 use crate::sides::Party;
+use phrases::SOUGHT;
 use set_refutations::SetNeed;
 use std::alloc::{AllocError, Global};
 use std::collections::BTreeSet;
@@ -77,6 +78,17 @@ fn cited_by(alloc: Global, exclusions: &[Exclusion]) -> Result<Vec<usize>, Alloc
 pub fn number_of(steps: &[Step], conflict: usize) -> Option<usize> {
     let place = steps.iter().position(|step| step.conflict == conflict)?;
     Some(place.saturating_add(1))
+}
+
+/// The first conflicts at which the index lacks what is needed, as many as names near to it are looked for.
+pub fn first_missing(alloc: Global, steps: &[Step]) -> Result<Vec<usize>, AllocError> {
+    let mut first = Vec::new(alloc);
+    for step in steps {
+        if first.len() < SOUGHT && matches!(step.account, Account::Missing) {
+            first.push(step.conflict)?;
+        }
+    }
+    Ok(first)
 }
 
 /// The places of the active lines on which the sentences rest, in their order.
