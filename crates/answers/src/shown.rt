@@ -2,7 +2,6 @@
 
 ghost use Rattle.std.specs.Prelude.{IfOk, MatchOption};
 ghost use Rattle.std.specs.List.{All};
-ghost use Rattle.search.specs.Conflicts.{IsRefutation};
 ghost use Rattle.search.specs.SetConflicts.{IsSetRefutation};
 ghost use Rattle.problems.specs.Rules.{rules_of, same_version};
 ghost use Rattle.problems.specs.Solutions.{HasSolution};
@@ -10,7 +9,7 @@ ghost use Rattle.answers.specs.Answers.{IsFirstRefuted, IsSolvable, ShowsNone};
 
 use edits::{Problem, TargetName};
 use explain::{Explanation, explained};
-use refutations::{Refutation, check};
+use refutations::Refutation;
 use refute::{refute_by_choices, refute_by_sets};
 use std::alloc::{AllocError, Global};
 
@@ -56,28 +55,10 @@ fn shown_of(
             None => Ok(None),
         }
     } else {
-        match refuted(alloc, problem)? {
+        match refute_by_choices(alloc, problem)? {
             Some(refutation) => Ok(Some(Shown::Listed(refutation))),
             None => Ok(None),
         }
-    }
-}
-
-/// A refutation of the problem, which `check` has accepted. Nothing where the problem has a solution.
-fn refuted(alloc: Global, problem: &Problem<'_>) -> Result<Option<Refutation>, AllocError>
-    ensures { IfOk result
-        (λ found. MatchOption found (HasSolution problem.now)
-        (IsRefutation (rules_of problem.now) same_version)) }
-{
-    match refute_by_choices(alloc, problem)? {
-        Some(refutation) => {
-            if check(problem, &refutation) {
-                return Ok(Some(refutation));
-            }
-            // `refute_by_choices` gives nothing that `check` doesn't accept
-            Ok(None)
-        }
-        None => Ok(None),
     }
 }
 
