@@ -96,7 +96,8 @@ left() {
         longest=$((longest > ${chain[$name]} ? longest : ${chain[$name]}))
     done
     all=$((all / RT_JOBS))
-    echo "; some $(((longest > all ? longest : all) / 60 + 1)) min are left"
+    longest=$(((longest > all ? longest : all) / 60))
+    if [ "$longest" -gt 0 ]; then echo "; some $longest min are left"; fi
 }
 
 # Tells of a crate whose check has ended what it took.

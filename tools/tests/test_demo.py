@@ -184,6 +184,18 @@ class Demo(unittest.TestCase):
         self.assertEqual(process.returncode, 0)
         self.assertIn(f"  {'states':15} ..\n", told)
 
+    def test_what_is_left_is_told_by_size(self):
+        # a minute for each byte of b, c and d: c and then d take longer than half of all
+        script = """
+            RT_JOBS=$1 proved_size=10 proved_seconds=$2
+            order=(a b c d) below=([a]= [b]=a [c]=a [d]="b c") size=([a]=10 [b]=10 [c]=30 [d]=10) functions=([a]=1)
+            left
+        """
+        for jobs, seconds, told in ("2", "600", "; some 40 min are left\n"), ("1", "600", "; some 50 min are left\n"), ("1", "119", ""):
+            words = ["bash", "-euc", f". {TOP}/tools/proof_progress.bash\n{script}", "bash", jobs, seconds]
+            done = subprocess.run(words, capture_output=True, encoding="utf-8", check=True)
+            self.assertEqual(done.stdout, told)
+
     def test_a_proof_ends_with_the_demo(self):
         with self.waiting_demo() as process:
             for line in process.stdout:
