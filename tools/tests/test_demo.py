@@ -102,7 +102,7 @@ class Demo(unittest.TestCase):
             (self.copy / "crates" / name / "src").mkdir(parents=True)
         self.programs = self.folder / "programs"
         self.programs.mkdir()
-        for name in "bash", "basename", "cat", "chmod", "dirname", "du", "env", "mkdir", "sed", "sleep", "tail":
+        for name in "bash", "basename", "cat", "chmod", "dirname", "du", "env", "mkdir", "rm", "sed", "sleep", "tail":
             os.symlink(shutil.which(name), self.programs / name)
         self.calls = self.folder / "calls"
         self.calls.touch()
@@ -153,8 +153,12 @@ class Demo(unittest.TestCase):
 
     def test_shows_the_same_without_a_proof(self):
         self.give_rt()
+        stale = self.copy / "crates" / "reqlock" / "out" / "demo.cases" / "99"
+        stale.parent.mkdir(parents=True)
+        stale.touch()
         status, output, errors, calls = self.demo()
         self.assertEqual((status, errors, calls), (0, "", ["reqlock: try"]))
+        self.assertFalse(stale.exists())
         self.assertTrue(output.startswith("The same sources with checks at run time, not yet proved;"))
         self.check_session(output, f"tried: --dir {self.copy}/crates/reqlock/out/demo", f"{self.copy}/")
         self.build('echo "built: $*"')
