@@ -52,6 +52,8 @@ SIGNS: dict[str, Callable[[Any, Any], bool]] = {
     "==": operator.eq, "!=": operator.ne, "<": operator.lt, "<=": operator.le, ">": operator.gt, ">=": operator.ge,
 }
 LARGEST, MOST_OPEN, MOST_TOLD = 2**64 - 1, 64, 10
+# A check of more steps is given up. To compare a version with a clause takes about so many.
+MOST_STEPS, STEPS_OF_A_CLAUSE = 5 * 10**7, 10
 
 Extra = str | None
 Choice = tuple[str, Extra, Any]
@@ -74,7 +76,7 @@ class Requirement(NamedTuple):
 
 class Release(NamedTuple):
     version: Any
-    python: list[Clause]
+    fits_python: bool
     needs: list[Requirement]
     is_yanked: bool
 
@@ -120,20 +122,23 @@ def read_set(text: str) -> list[Clause]:
     return list(map(read_clause, pieces[:-1] if len(pieces) > 1 and not pieces[-1].strip(BLANK) else pieces))
 
 
-def matches(clauses: Iterable[Clause], version: Any) -> bool:
-    public = Version(version.public) if version.local else version
-    for sign, wanted, is_prefix in clauses:
+def is_met(clause: Clause, version: Any, public: Any) -> bool:
+    """Whether a version meets a clause. It is given without its local part too."""
+    sign, wanted, is_prefix = clause
+    ours = version if wanted.local else public
+    if is_prefix or sign == "~=":
         begin = wanted.release[: -1 if sign == "~=" else None]
         begins = version.epoch == wanted.epoch and (version.release + (0,) * len(begin))[: len(begin)] == begin
-        ours = version if wanted.local else public
-        is_odd = {"<": ours.is_prerelease > wanted.is_prerelease, ">": ours.is_postrelease > wanted.is_postrelease}.get(sign)
-        if is_prefix or sign == "~=":
-            is_met = begins == (sign != "!=") and (is_prefix or ours >= wanted)
-        else:
-            is_met = SIGNS[sign](ours, wanted) and not (is_odd and Version(ours.base_version) == Version(wanted.base_version))
-        if not is_met:
-            return False
-    return True
+        return bool(begins == (sign != "!=") and (is_prefix or ours >= wanted))
+    if not SIGNS[sign](ours, wanted):
+        return False
+    is_odd = sign == "<" and ours.is_prerelease > wanted.is_prerelease or sign == ">" and ours.is_postrelease > wanted.is_postrelease
+    return not (is_odd and Version(ours.base_version) == Version(wanted.base_version))
+
+
+def matches(clauses: Iterable[Clause], version: Any) -> bool:
+    public = Version(version.public) if version.local else version
+    return all(is_met(clause, version, public) for clause in clauses)
 
 
 def atom_holds(left: str, sign: str, right: str, environment: dict[str, str], extra: Extra) -> bool:
@@ -251,6 +256,14 @@ def of_file(path: str | int, read: Callable[[str], Any], is_by_line: bool = Fals
     return [at(f"line {number}", read, line) for number, line in enumerate(lines, 1)] if is_by_line else read(text)
 
 
+def pins(requirement: Requirement) -> bool:
+    return any(clause.sign == "==" and not clause.is_prefix for clause in requirement.clauses)
+
+
+def names_pre_release(requirement: Requirement) -> bool:
+    return any(clause.sign != "!=" and clause.version.is_prerelease for clause in requirement.clauses)
+
+
 class Problem:
     """What has no solution. Of a name that is held, its version alone is a candidate."""
 
@@ -260,9 +273,25 @@ class Problem:
     ) -> None:
         self.packages, self.environment, self.held = packages, environment, held or {}
         self.read: dict[str, dict[Any, Release]] = {}
-        self.admitted: dict[str, set[Any]] = {}
         self.python = read_version(environment["python_full_version"])
-        self.lines = [line for line in lines if line and holds(line.marker, environment)]
+        self.lines: dict[str, list[Requirement]] = {}
+        self.nodes: dict[tuple[str, Extra], tuple[str, str]] = {}
+        for line in lines:
+            if line and holds(line.marker, environment):
+                self.lines.setdefault(line.name, []).append(line)
+                self.nodes |= {node: ("a line", line.text) for node in line.nodes}
+        self.pinned = {name for name, own in self.lines.items() if any(map(pins, own))}
+        self.with_pre_releases = {name for name, own in self.lines.items() if any(map(names_pre_release, own))}
+        self.admitted: dict[tuple[str, Any], bool] = {}
+        self.refused: dict[tuple[str, Any], bool] = {}
+        self.needed: dict[Choice, list[Requirement]] = {}
+        self.kept: dict[str, list[Any]] = {}
+        self.steps = self.most_steps = MOST_STEPS
+
+    def spend(self, steps: int) -> None:
+        """Counts steps, and gives up where there are too many."""
+        self.steps -= steps
+        want(self.steps >= 0, f"it takes over {self.most_steps} steps to check; --steps NUMBER takes more")
 
     def releases(self, name: str) -> dict[Any, Release]:
         """The releases of a name by version, without those that can't be read, have no file or stand twice."""
@@ -276,40 +305,76 @@ class Problem:
                 except Refusal:
                     continue
                 if any(file["name"].endswith((".whl", ".tar.gz", ".zip")) for file in it["files"]):
-                    found.setdefault(version, Release(version, python, needs, it.get("yanked", False)))
+                    release = Release(version, matches(python, self.python), needs, it.get("yanked", False))
+                    found.setdefault(version, release)
         return self.read[name]
 
     def candidates(self, name: str) -> list[Any]:
         """The versions of a name that a solution may have."""
-        return [version for version in self.releases(name) if self.held.get(name, version) == version]
+        if name not in self.kept:
+            self.kept[name] = [version for version in self.releases(name) if self.held.get(name, version) == version]
+        return self.kept[name]
 
-    def all_admitted(self, requirement: Requirement) -> set[Any]:
-        """The versions of the releases that a requirement admits."""
-        if requirement.text not in self.admitted:
-            found = [it for it in self.releases(requirement.name).values() if matches(requirement.clauses, it.version)]
-            found = [it for it in found if matches(it.python, self.python)]
-            clauses = [clause for it in [requirement, *self.lines] if it.name == requirement.name for clause in it.clauses]
-            pins = any(clause.sign == "==" and not clause.is_prefix for clause in clauses)
-            pre = any(clause.sign != "!=" and clause.version.is_prerelease for clause in clauses)
-            pre = pre or all(it.version.is_prerelease or it.is_yanked for it in found)
-            found = [it for it in found if (pins or not it.is_yanked) and (pre or not it.version.is_prerelease)]
-            self.admitted[requirement.text] = {it.version for it in found}
-        return self.admitted[requirement.text]
+    def matches(self, requirement: Requirement, version: Any) -> bool:
+        self.spend(STEPS_OF_A_CLAUSE * (1 + len(requirement.clauses)))
+        return matches(requirement.clauses, version)
+
+    def admits(self, requirement: Requirement, version: Any) -> bool:
+        """Whether a requirement admits a release of this version, and there is one."""
+        key = requirement.text, version
+        if key not in self.admitted:
+            release = self.releases(requirement.name).get(version)
+            self.admitted[key] = release is not None and self.admits_release(requirement, release)
+        return self.admitted[key]
+
+    def admits_release(self, requirement: Requirement, release: Release) -> bool:
+        name, version = requirement.name, release.version
+        if not release.fits_python or not self.matches(requirement, version):
+            return False
+        if release.is_yanked and not (name in self.pinned or pins(requirement)):
+            return False
+        if not version.is_prerelease or name in self.with_pre_releases or names_pre_release(requirement):
+            return True
+        finals = [it.version for it in self.releases(name).values() if it.fits_python and not (it.version.is_prerelease or it.is_yanked)]
+        return not any(self.matches(requirement, it) for it in finals)
+
+    def lines_refuse(self, name: str, version: Any) -> bool:
+        """Whether a line on a name doesn't admit a version."""
+        if (name, version) not in self.refused:
+            release, own = self.releases(name).get(version), self.lines.get(name, [])
+            self.refused[name, version] = any(release is None or not self.admits_release(line, release) for line in own)
+        return self.refused[name, version]
+
+    def needs(self, choice: Choice) -> list[Requirement]:
+        """What a chosen release needs here."""
+        if choice not in self.needed:
+            name, extra, version = choice
+            asked = getattr(self.releases(name).get(version), "needs", [])
+            self.needed[choice] = [it for it in asked if holds(it.marker, self.environment, extra)]
+        return self.needed[choice]
+
+    def is_ruled_out(self, choices: Conflict, earlier: dict[Choice | None, list[Conflict]]) -> bool:
+        """Whether an earlier conflict is part of some choices."""
+        for choice in (None, *choices):
+            for place, conflict in enumerate(earlier.get(choice, ()), 1):
+                if conflict <= choices:
+                    self.spend(place)
+                    return True
+            self.spend(1 + len(earlier.get(choice, ())))
+        return False
 
     def left(self, conflict: Conflict, earlier: dict[Choice | None, list[Conflict]]) -> list[str] | None:
         """For each needed node a release that is left; None where the conflict follows. Earlier ones stand under a choice."""
-        versions = {name: version for name, _, version in conflict}
-        needs, found = [("a line", line) for line in self.lines], dict[tuple[str, Extra], str]()
-        for name, extra, version in conflict:
-            asked = getattr(self.releases(name).get(version), "needs", [])
-            needs += [(told([(name, extra, version)]), it) for it in asked if holds(it.marker, self.environment, extra)]
-        refuses = any(it.name in versions and versions[it.name] not in self.all_admitted(it) for _, it in needs)
-        if refuses or any(versions[name] != version for name, _, version in conflict):
+        versions, found = {name: version for name, _, version in conflict}, dict[tuple[str, Extra], str]()
+        needs = [(told([choice]), it) for choice in conflict for it in self.needs(choice)]
+        refuses = any(it.name in versions and not self.admits(it, versions[it.name]) for _, it in needs)
+        if refuses or any(versions[name] != version or self.lines_refuse(name, version) for name, _, version in conflict):
             return None
-        for who, node, text in ((who, node, it.text) for who, it in needs for node in it.nodes):
+        nodes = self.nodes | {node: (who, it.text) for who, it in needs for node in it.nodes}
+        self.spend(len(needs) + len(nodes))
+        for node, (who, text) in nodes.items():
             for version in self.candidates(node[0]):
-                choices = conflict | {(*node, version)}
-                if not any(it <= choices for choice in (None, *choices) for it in earlier.get(choice, ())):
+                if not self.is_ruled_out(conflict | {(*node, version)}, earlier):
                     break
             else:
                 return None
@@ -344,6 +409,7 @@ def main(words: list[str]) -> int:
     parser.add_argument(
         "--upgrade", metavar="NAME", action="append", default=[], help="a name whose versions all count; may stand several times"
     )
+    parser.add_argument("--steps", metavar="NUMBER", type=int, default=MOST_STEPS, help=f"give up behind so many steps; else {MOST_STEPS}")
     options = parser.parse_args(words)
     try:
         packages = at(options.INDEX, of_file, options.INDEX, read_index)
@@ -352,7 +418,9 @@ def main(words: list[str]) -> int:
         held = at(options.keep, of_file, options.keep, read_held) if options.keep is not None else {}
         freed = [at("--upgrade", read_name, name) for name in options.upgrade]
         held = {name: version for name, version in held.items() if name not in freed}
-        against = check(Problem(packages, environment, lines, held), at("standard input", of_file, 0, read_conflict, True))
+        problem = Problem(packages, environment, lines, held)
+        problem.steps = problem.most_steps = options.steps
+        against = at("standard input", check, problem, at("standard input", of_file, 0, read_conflict, True))
     except Refusal as fault:
         say(str(fault))
         return 2

@@ -7,13 +7,14 @@ from functools import partial
 
 from reqlock_tools.names import tool
 
-FAILED = 1
+FAILED, STOPPED = 1, 130
 # What the tools are written for. This module and `names` are read by older ones too, from 3.6 on, so that they can tell it.
 OLDEST = 3, 11
 
 
 def call(module: str) -> int:
-    """The status of a tool. An output that nobody reads any more ends it without a word, one that can't be written is told."""
+    """The status of a tool. An output that nobody reads any more ends it without a word, one that can't be written is told, and so is
+    Ctrl-C."""
     if sys.version_info < OLDEST:
         print(f"{tool(module)}: Python {OLDEST[0]}.{OLDEST[1]} or later is needed, and this is {sys.version.split()[0]}", file=sys.stderr)
         return FAILED
@@ -27,9 +28,18 @@ def call(module: str) -> int:
         if fault.filename is not None:
             raise
         forget_output()
-        importlib.import_module("reqlock_tools.refusal").speaker(module)(f"standard output: {fault.strerror}")
+        say(module, f"standard output: {fault.strerror}")
         return FAILED
+    except KeyboardInterrupt:
+        forget_output()
+        say(module, "stopped")
+        return STOPPED
     return status
+
+
+def say(module: str, text: str) -> None:
+    """Tells a text of a tool on standard error."""
+    importlib.import_module("reqlock_tools.refusal").speaker(module)(text)
 
 
 def forget_output() -> None:

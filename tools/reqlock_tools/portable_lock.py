@@ -28,7 +28,7 @@ from reqlock_tools.files import Node, decoded, read_json
 from reqlock_tools.markers import NO_EXTRA, Tree, tree_extras, tree_of, variables_of
 from reqlock_tools.names import called, tool
 from reqlock_tools.refusal import Refusal, fault_text, speaker
-from reqlock_tools.regular_file import open_regular, read_bytes
+from reqlock_tools.regular_file import read_bytes
 from reqlock_tools.specifiers import BLANK, Clause, matches, read_set
 from reqlock_tools.toml import array_end, read_toml
 from reqlock_tools.versions import Version, is_name, normal, read_version
@@ -183,8 +183,7 @@ def portable(options: argparse.Namespace) -> tuple[str, list[str]]:
     lock, index = read_lock_text(options.lock, text), read_json(options.index)
     is_index = isinstance(index.value, dict) and index.value.get("snapshot") == 1
     refuse_unless(is_index, f"{options.index}: no index of reqlock; {called('tools/snapshot.py')} makes one")
-    with open_regular(options.index) as file:
-        is_own = hashlib.file_digest(file, "sha256").hexdigest() == lock.digest
+    is_own = hashlib.sha256(read_bytes(options.index)).hexdigest() == lock.digest
     refuse_unless(is_own, f"{options.index}: the lock was made of another index; relock over this one first")
     path = options.requirements or os.path.join(os.path.dirname(options.lock), "requirements.txt")
     lines = read_lines(path, text_of(path))

@@ -9,6 +9,7 @@ import unittest
 from collections import Counter
 from contextlib import redirect_stderr, redirect_stdout
 from itertools import count
+from pathlib import Path
 
 import test_why
 from made.environments import LINUX
@@ -297,8 +298,8 @@ class Drawn(Program):
         return done.returncode, done.stdout, done.stderr
 
     def answer(self, words, output):
-        given = self.outside / "refutation"
-        given.write_text(output, encoding="utf-8")
+        given = str(self.outside / "refutation")
+        Path(given).write_text(output, encoding="utf-8")
         told, errors = io.StringIO(), io.StringIO()
         before = checker.of_file
         checker.of_file = lambda path, *rest: before(path or given, *rest)

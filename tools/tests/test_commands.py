@@ -1,16 +1,32 @@
 """Tests of what the tools have in common: their names as scripts of a checkout and as installed commands, and what they tell of words
 and of an output that are wrong."""
 
+import contextlib
 import os
+import signal
 import subprocess
 import sys
 import unittest
+from functools import partial
 from unittest import mock
 
 from places import TOOLS, new_folder
 from test_install import COMMANDS
 
 from reqlock_tools import names
+
+
+# A tool in which Ctrl-C is pressed at once.
+PRESSED = """
+import importlib, sys
+from reqlock_tools import commands
+
+def press(words):
+    raise KeyboardInterrupt
+
+importlib.import_module(f"reqlock_tools.{sys.argv[1]}").main = press
+sys.exit(commands.call(sys.argv[1]))
+"""
 
 
 class Names(unittest.TestCase):
@@ -63,6 +79,34 @@ class Calls(unittest.TestCase):
                 done = self.run_tool(command, *words)
                 self.assertEqual((done.stdout, done.stderr), ("", f"{command}: none: No such file or directory\n"))
                 self.assertEqual(done.returncode, 2 if command == "reqlock-check-refutation" else 1)
+
+    @staticmethod
+    def interrupted(call):
+        """The status of a call at which Ctrl-C is pressed, and again where Python had it before it began to wait."""
+        for _ in range(60):
+            call.send_signal(signal.SIGINT)
+            with contextlib.suppress(subprocess.TimeoutExpired):
+                return call.wait(timeout=1)
+        return None
+
+    def test_ctrl_c(self):
+        """It is pressed while the tool reads its input, which is longer than a pipe holds."""
+        for command, *words in (
+            ("reqlock-hashes", "/dev/stdin"), ("reqlock-portable-lock", "/dev/stdin", "--index", "none"),
+            ("reqlock-adopt", "/dev/stdin", "none", "--index", "none", "--env", "none"), ("reqlock-check-refutation", "/dev/stdin", "none", "none"),
+        ):
+            with self.subTest(command=command), subprocess.Popen(
+                [sys.executable, "-B", self.folder / command, *words], cwd=self.folder, stdin=subprocess.PIPE, stdout=subprocess.PIPE,
+                stderr=subprocess.PIPE, preexec_fn=partial(signal.signal, signal.SIGINT, signal.SIG_DFL),
+            ) as call:
+                call.stdin.write(b"#" * 2**18)
+                call.stdin.flush()
+                self.assertEqual(self.interrupted(call), 130)
+                self.assertEqual((call.stdout.read(), call.stderr.read().decode()), (b"", f"{command}: stopped\n"))
+        for module in names.COMMANDS:
+            with self.subTest(module=module):
+                done = subprocess.run([sys.executable, "-B", "-c", PRESSED, module], cwd=TOOLS, capture_output=True, encoding="utf-8", check=False)
+                self.assertEqual((done.returncode, done.stdout, done.stderr), (130, "", f"{module}.py: stopped\n"))
 
     def test_an_output_that_is_full_or_closed(self):
         with open("/dev/full", "w", encoding="utf-8") as full:

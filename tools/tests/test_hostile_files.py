@@ -4,6 +4,7 @@ and disk."""
 import bz2
 import gzip
 import io
+import json
 import os
 import resource
 import subprocess
@@ -17,6 +18,7 @@ from pathlib import Path
 from unittest import mock
 
 from made.archives import headers, tarred, zipped
+from made.environments import LINUX
 from places import IS_LONG, TOOLS, new_folder
 from wanted_libraries import want_libraries
 
@@ -46,15 +48,15 @@ class Hostile(unittest.TestCase):
     def setUp(self):
         self.folder = new_folder(self.addCleanup)
 
-    def run_tool(self, name, *words):
-        """The status and standard error of a call that may have this memory and time."""
+    def run_tool(self, name, *words, given=subprocess.DEVNULL):
+        """The status and standard error of a call that may have this memory and time. Its standard input may be given."""
 
         def limit():
             resource.setrlimit(resource.RLIMIT_AS, (MEMORY, MEMORY))
 
         command = [sys.executable, "-B", TOOLS / f"{name}.py", *words]
         done = subprocess.run(
-            command, cwd=self.folder, capture_output=True, encoding="utf-8", check=False, preexec_fn=limit, timeout=SECONDS * 3
+            command, cwd=self.folder, stdin=given, capture_output=True, encoding="utf-8", check=False, preexec_fn=limit, timeout=SECONDS * 3,
         )
         self.assertNotIn("Traceback", done.stderr)
         return done.returncode, done.stderr
@@ -305,6 +307,31 @@ class Pipes(Hostile):
             script = f'"{sys.executable}" -B "{TOOLS}/hashed_requirements.py" {words}'
             done = subprocess.run(["bash", "-c", script, "bash", lock], capture_output=True, check=False, timeout=SECONDS)
             self.assertEqual((done.returncode, done.stdout, done.stderr), (0, b"", b""))
+
+
+class Refutations(Hostile):
+    """What a refutation, an index and lines of others take is bounded."""
+
+    def check(self, count, conflicts, *words):
+        """The status and standard error of a check with so many lines on a name and so many releases of it."""
+        releases = [{"version": f"{number}", "files": [{"name": "a.zip"}]} for number in range(count)]
+        index = {"snapshot": 1, "packages": [{"name": "a", "releases": releases}]}
+        (self.folder / "index.json").write_text(json.dumps(index), encoding="utf-8")
+        (self.folder / "environment.json").write_text(json.dumps(LINUX), encoding="utf-8")
+        (self.folder / "lines").write_text("".join(f"a!={number}\n" for number in reversed(range(count))), encoding="utf-8")
+        with open(self.folder / "refutation", "w+", encoding="utf-8") as file:
+            file.write("".join(f"{it}\n" for it in conflicts))
+            file.seek(0)
+            return self.run_tool("check_refutation", "index.json", "environment.json", "lines", *words, given=file)
+
+    def test_with_many_lines_and_releases(self):
+        self.assertEqual(self.check(3000, ["a==0"]), (1, ""))
+
+    def test_with_more_than_can_be_compared_soon(self):
+        many = [f"a=={number}" for number in range(200)] + ["-"]
+        self.assertEqual(self.check(200, many), (0, ""))
+        told = "check_refutation.py: standard input: it takes over 100000 steps to check; --steps NUMBER takes more\n"
+        self.assertEqual(self.check(200, many, "--steps", "100000"), (2, told))
 
 
 class Links(Hostile):

@@ -77,6 +77,37 @@ class Places(unittest.TestCase):
         self.assertEqual(self.install("--remove", status=1, user=user), fault)
         self.assertEqual(sorted(self.prefix.rglob("*")), stood)
 
+    def test_what_an_older_version_installed_goes(self):
+        """A newer version has other modules, and a command less."""
+        older = self.tree / "tools" / "reqlock_tools" / "older"
+        older.mkdir()
+        (older / "one.py").write_bytes(b"")
+        (self.tree / "tools" / "gone.py").write_bytes(b"")
+        text = (self.tree / "install").read_text(encoding="utf-8")
+        (self.tree / "install").write_text(text.replace("scripts=(", "scripts=(gone "), encoding="utf-8")
+        self.install()
+        self.assertTrue((self.prefix / "bin" / "reqlock-gone").exists())
+        (self.prefix / "lib" / "reqlock" / "reqlock_tools" / "older" / "__pycache__").mkdir()
+        (self.tree / "install").write_text(text, encoding="utf-8")
+        shutil.rmtree(older)
+        for words, left in ([], True), (["--remove"], False):
+            self.install(*words)
+            self.assertEqual([path for path in self.prefix.rglob("*") if path.name in ("older", "one.py", "gone.py", "reqlock-gone")], [])
+            self.assertEqual((self.prefix / "bin" / "reqlock").exists(), left)
+        self.assertEqual(list(self.prefix.rglob("*")), [])
+
+    def test_what_no_list_has_stays_and_is_told(self):
+        self.install()
+        place = self.prefix / "lib" / "reqlock" / "reqlock_tools" / "mine.py"
+        place.write_bytes(b"")
+        (self.outside / "x").write_bytes(b"")
+        with (self.prefix / "lib" / "reqlock" / "installed").open("a", encoding="utf-8") as file:
+            file.write("bin/../../outside/x\n../outside/x\nbin/other\n/etc/none\n")
+        (self.prefix / "bin" / "other").write_bytes(b"")
+        told = self.install("--remove")
+        self.assertIn(f"{self.prefix}/lib/reqlock: files that aren't in the list of what was installed stay there\n", told)
+        self.assertTrue(place.exists() and (self.outside / "x").exists() and (self.prefix / "bin" / "other").exists())
+
     def test_another_tree_of_the_path_is_not_taken(self):
         copy_tree(self.outside / "tree")
         (self.outside / "tree" / "share" / "reqlock.1").write_text("another", encoding="utf-8")

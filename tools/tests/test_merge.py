@@ -315,7 +315,8 @@ class Stops(Two):
         self.begin_two()
         place = self.outside / "bin"
         place.mkdir()
-        text = f'#!/bin/sh\n[ "$1" = update-index ] || exec {shutil.which("git")} "$@"\n{shutil.which("git")} "$@"\nkill -9 $PPID\n'
+        git = shutil.which("git")
+        text = f'#!/bin/sh\ncase " $* " in *" update-index "*) ;; *) exec {git} "$@" ;; esac\n{git} "$@"\nkill -9 $PPID\n'
         (place / "git").write_text(text, encoding="utf-8")
         (place / "git").chmod(0o755)
         path = self.variables["PATH"]

@@ -63,6 +63,40 @@ class Package(Packaged):
         self.assertEqual(sorted(asked), [("distributed", "dask"), *wanted])
 
 
+@unittest.skipUnless(shutil.which("git"), "there is no git")
+class Strays(Packaged):
+    """What came to stand in the tree gets into no wheel, and no link leads out of it."""
+
+    def setUp(self):
+        super().setUp()
+        self.secret = self.folder / "secret"
+        self.secret.write_bytes(b"s3cr3t")
+        self.place = self.tree / "tools" / "reqlock_tools" / "stray.py"
+
+    def git(self, *words):
+        subprocess.run(["git", *words], cwd=self.tree, stdout=subprocess.DEVNULL, check=True)
+
+    def test_what_git_does_not_list_is_left_out(self):
+        self.git("init", "--quiet")
+        self.git("add", "--all")
+        (self.place.parent / "strays").mkdir()
+        (self.place.parent / "strays" / "__init__.py").write_bytes(b"")
+        self.place.symlink_to(self.secret)
+        self.build()
+        with zipfile.ZipFile(self.wheel()) as archive:
+            self.assertEqual([name for name in archive.namelist() if "stray" in name], [])
+        self.git("add", "--all")
+        self.assertEqual(self.build(status=1), "package: tools/reqlock_tools/stray.py: a link leads elsewhere; remove it first\n")
+
+    def test_no_link_is_followed_where_there_is_no_git(self):
+        self.place.symlink_to(self.secret)
+        self.assertEqual(self.build(status=1), "package: tools/reqlock_tools/stray.py: a link leads elsewhere; remove it first\n")
+
+    def test_no_module_can_be_called(self):
+        modes = {path.stat().st_mode & 0o111 for path in (TOP / "tools" / "reqlock_tools").rglob("*.py")}
+        self.assertEqual(modes, {0})
+
+
 class Faults(Packaged):
     def test_are_told(self):
         absent = "package: crates/reqlock/out/reqlock isn't there: build the program first, by ./demo --proved\n"
@@ -80,7 +114,7 @@ class Faults(Packaged):
     def test_no_readelf(self):
         place = self.folder / "bin"
         place.mkdir()
-        for name in "bash", "env", "dirname", "basename", "mkdir", "python3":
+        for name in "bash", "env", "dirname", "basename", "mkdir", "python3", "git", "find", "mktemp", "rm", "realpath", "cp":
             (place / name).symlink_to(shutil.which(name))
         self.assertIn("package: readelf is needed", self.build(status=1, PATH=str(place)))
 
