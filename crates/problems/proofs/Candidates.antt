@@ -1,5 +1,5 @@
 -- The candidates of a name are the versions of its eligible releases.
-use Rattle.std.proofs.Common.{◌≡◌, inl, inr, not, ℕ, true, List, [], ◌∷◌, Option, Some, None, Contains, find, filter, option_map, refl, ap, subst}
+use Rattle.std.proofs.Common.{◌≡◌, inl, inr, not, ℕ, Bool, true, List, [], ◌∷◌, Option, Some, None, Contains, find, filter, option_map, refl, ap, subst}
 use Rattle.std.specs.Map.{lookup}
 use Rattle.std.specs.Option.{option_and_then, option_to_list}
 use Rattle.std.specs.Ordering.{is_eq}
