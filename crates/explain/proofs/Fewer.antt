@@ -1,8 +1,14 @@
--- A conflict of sets that follows from some conflicts follows from more of them too.
-use Rattle.std.proofs.Common.{List, ◌≡◌, ◌⊎◌, inl, inr, Bool, Contains}
+-- A ground by which a conflict of sets follows from some conflicts is one among more of them too.
+use Rattle.std.proofs.Common.{List, ◌≡◌, Bool, Contains, Option, None, Some, IfSome, MatchOption, tt}
 use Rattle.search.specs.Rules.{Rules}
 use Rattle.search.specs.declared.term.Term.{Term}
-use Rattle.search.specs.SetConflicts.{CompletesSet, EachVersion, NoCandidateLeft, SetFollows}
+use Rattle.search.specs.SetConflicts.{CompletesSet, EachVersion, NoCandidateLeft}
+use Rattle.problems.specs.Problem.{ProblemParts}
+use Rattle.problems.specs.Rules.{rules_of, same_version}
+use Rattle.set_refutations.specs.Grounds.{IsSetGround}
+use Rattle.set_refutations.specs.SetRefutations.{TermParts}
+use Rattle.set_refutations.specs.declared.set_ground.SetGround.{SetGround}
+use Rattle.set_refutations.specs.declared.set_ground.SetGround.TheVariants.{EachVersion as Each, LineRefuses as Refused, NoneLeft as Exhausted, TermsClash}
 
 completes-fewer : {X V : Type 0} (same : V → V → Bool) (few all : List (List (Term X V))) → ((old : List (Term X V)) → Contains few old → Contains all old)
     → (conflict : List (Term X V)) (node : X) (v : V) → CompletesSet same few conflict node v → CompletesSet same all conflict node v
@@ -24,11 +30,15 @@ none-fewer rules same few all among conflict f = record {
   each = λ v i. completes-fewer same few all among conflict f.node v (f.each v i);
 }
 
-pub follows-fewer : {N X V R : Type 0} (rules : Rules N X V R) (same : V → V → Bool) (few all : List (List (Term X V))) → ((old : List (Term X V)) → Contains few old → Contains all old)
-    → (conflict : List (Term X V)) → SetFollows rules same few conflict → SetFollows rules same all conflict
-follows-fewer rules same few all among conflict f = elim f [
-  | inl a ↦ inl a
-  | inr (inl b) ↦ inr (inl b)
-  | inr (inr (inl d)) ↦ inr (inr (inl (each-fewer same few all among conflict d)))
-  | inr (inr (inr e)) ↦ inr (inr (inr (none-fewer rules same few all among conflict e)))
-]
+ground-fewer : (given : ProblemParts) (few all : List (List TermParts)) → ((old : List TermParts) → Contains few old → Contains all old)
+    → (conflict : List TermParts) (ground : SetGround) → IsSetGround given few conflict ground → IsSetGround given all conflict ground
+ground-fewer given few all among conflict (Refused line term) k = k
+ground-fewer given few all among conflict (TermsClash one other) k = k
+ground-fewer given few all among conflict (Each term) k = (each-fewer same_version few all among conflict k.0, k.1)
+ground-fewer given few all among conflict (Exhausted need name extra) k = (none-fewer (rules_of given) same_version few all among conflict k.0, k.1, k.2)
+
+-- what is found among few is a ground among all
+pub found-fewer : (given : ProblemParts) (few all : List (List TermParts)) → ((old : List TermParts) → Contains few old → Contains all old)
+    → (conflict : List TermParts) (none : Type 0) (found : Option SetGround) → MatchOption found none (IsSetGround given few conflict) → IfSome found (IsSetGround given all conflict)
+found-fewer given few all among conflict none None k = tt
+found-fewer given few all among conflict none (Some ground) k = ground-fewer given few all among conflict ground k

@@ -1,32 +1,19 @@
 // What each conflict of a set refutation rests on.
 
-ghost use Rattle.std.specs.Prelude.{◌≡◌, ◌↔◌, ◌++◌, ◌∷◌, [], IfOk, IsTrue, List, MatchOption};
+ghost use Rattle.std.specs.Prelude.{◌≡◌, ◌↔◌, ◌++◌, ◌∷◌, [], IfOk, IfSome, IsTrue, List, MatchOption};
 ghost use Rattle.std.specs.List.{Contains};
 ghost use Rattle.search.specs.SetConflicts.{EachSetFollows, IsSetRefutation, SetFollows};
 ghost use Rattle.problems.specs.Rules.{rules_of, same_version};
+ghost use Rattle.set_refutations.specs.Grounds.{IsSetGround};
 ghost use Rattle.set_refutations.specs.SetRefutations.{TermParts};
 
-use crate::exclusion::binding;
-use crate::placed_term::{PlacedTerm, are_one};
+use crate::exhausting::exhausting;
+use crate::placed_term::PlacedTerm;
 use lists::Seq;
 use problems::Problem;
 use problems::parts::copy_of;
 use set_refutations::{SetGround, SetRefutation, SetTerm, set_ground_of};
 use std::alloc::{AllocError, Global};
-
-/// Whether all terms that a conflict doesn't bind are on one node.
-fn may_be_contained(old: &[PlacedTerm], own: &[PlacedTerm]) -> bool {
-    let mut free: Option<&PlacedTerm> = None;
-    for term in old {
-        if binding(term, own).is_none() {
-            match free {
-                Some(other) if !are_one(&other.node, &term.node) => return false,
-                _ => free = Some(term),
-            }
-        }
-    }
-    true
-}
 
 fn copied(alloc: Global, conflict: &[SetTerm]) -> Result<Seq<SetTerm>, AllocError>
     ensures { IfOk result (λ copy. copy ≡ conflict.now) }
@@ -45,48 +32,69 @@ fn copied(alloc: Global, conflict: &[SetTerm]) -> Result<Seq<SetTerm>, AllocErro
     Ok(Seq::from_vec(terms))
 }
 
-/// Those of the earlier conflicts that a conflict may contain with one release more, among them each that it does. They are
-/// mostly few, and each look for one goes through all.
-fn containable(
+/// Those of the earlier conflicts that are marked.
+fn marked(
     alloc: Global,
     earlier: &[Seq<SetTerm>],
-    placed: &[Vec<PlacedTerm>],
-    own: &[PlacedTerm],
+    marks: &[bool],
 ) -> Result<Seq<Seq<SetTerm>>, AllocError>
     ensures { IfOk result
         (λ found. (old : List TermParts) → Contains found old → Contains earlier.now old) }
 {
     let mut found = Vec::new(alloc);
     for at in 0..earlier.len() {
-        let may_be = match placed.get(at) {
-            Some(old) => may_be_contained(old.as_slice(), own),
-            None => true,
-        };
-        if may_be {
+        if marks.get(at).copied().unwrap_or(false) {
             found.push(copied(alloc, earlier[at].as_slice())?)?;
         }
     }
     Ok(Seq::from_vec(found))
 }
 
-/// A ground by which a conflict follows from earlier ones, or nothing where it doesn't follow.
+/// A ground by which a conflict follows from the few earlier ones that are marked, since each look for one goes through all. There is
+/// none either where memory is wanting.
+fn ground_by_few<'a>(
+    alloc: Global,
+    problem: &'a Problem<'_>,
+    earlier: &[Seq<SetTerm>],
+    conflict: &'a [SetTerm],
+    marks: &[bool],
+) -> Option<SetGround<'a>>
+    ensures { IfSome result (IsSetGround problem.now earlier.now conflict.now) }
+{
+    let Ok(few) = marked(alloc, earlier, marks) else {
+        return None;
+    };
+    set_ground_of(problem, few.as_slice(), conflict)
+}
+
+/// What `set_ground_of` gives, which is looked for among few of the earlier conflicts before it is looked for among all.
 fn ground_among<'a>(
     alloc: Global,
     problem: &'a Problem<'_>,
     earlier: &[Seq<SetTerm>],
     conflict: &'a [SetTerm],
-    placed: (&[Vec<PlacedTerm>], &[PlacedTerm]),
-) -> Result<Option<SetGround<'a>>, AllocError>
-    ensures { IfOk result
-        (λ found. MatchOption found
+    marks: &[bool],
+) -> Option<SetGround<'a>>
+    ensures { MatchOption result
         (SetFollows (rules_of problem.now) same_version earlier.now conflict.now → ⊥)
-        (λ _. SetFollows (rules_of problem.now) same_version earlier.now conflict.now)) }
+        (IsSetGround problem.now earlier.now conflict.now) }
 {
-    let few = containable(alloc, earlier, placed.0, placed.1)?;
-    match set_ground_of(problem, few.as_slice(), conflict) {
-        Some(ground) => Ok(Some(ground)),
-        // it follows from few, or not at all
-        None => Ok(set_ground_of(problem, earlier, conflict)),
+    if let Some(ground) = ground_by_few(alloc, problem, earlier, conflict, marks) {
+        return Some(ground);
+    }
+    set_ground_of(problem, earlier, conflict)
+}
+
+/// Which of the conflicts before the one at a place can matter to it.
+fn marks_for(
+    alloc: Global,
+    problem: &Problem<'_>,
+    placed: &[Vec<PlacedTerm>],
+    place: usize,
+) -> Result<Vec<bool>, AllocError> {
+    match (placed.get(..place), placed.get(place)) {
+        (Some(earlier), Some(own)) => exhausting(alloc, problem, earlier, own.as_slice()),
+        _ => Ok(Vec::new(alloc)),
     }
 }
 
@@ -104,18 +112,14 @@ fn each_ground<'a>(
 {
     let mut grounds = Vec::new(alloc);
     for place in 0..conflicts.len() {
-        let own = match placed.get(place) {
-            Some(own) => own.as_slice(),
-            None => &[],
-        };
-        let earlier = &conflicts[..place];
+        let marks = marks_for(alloc, problem, placed, place)?;
         match ground_among(
             alloc,
             problem,
-            earlier,
+            &conflicts[..place],
             conflicts[place].as_slice(),
-            (placed, own),
-        )? {
+            marks.as_slice(),
+        ) {
             Some(ground) => grounds.push(ground)?,
             None => return Ok(None),
         }

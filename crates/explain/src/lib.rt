@@ -8,6 +8,7 @@ mod changed_lines;
 mod dependencies;
 mod derivation;
 mod exclusion;
+mod exhausting;
 mod explanation;
 mod grounds;
 mod idle_terms;

@@ -1,5 +1,8 @@
 // Writes that a signal interrupts.
 
+ghost use Rattle.std.specs.Io.{WritesAtMost};
+ghost use Rattle.std.specs.Io.KnownBytes.{WriteAppends};
+
 use std::io::{self, ErrorKind, Write};
 
 /// A writer of which each write that a signal interrupts is done again, so that no reply is told to have failed which the
@@ -20,16 +23,28 @@ impl<W: Write> Write for Repeated<W> {
     ghost contents = { λ w. W.contents w.inner };
 
     fn write(&mut self, buffer: &[u8]) -> io::Result<usize> {
-        for _ in 0..u64::MAX {
-            match self.inner.write(buffer) {
-                Err(error) if error.kind() == ErrorKind::Interrupted => {}
-                written => return written,
-            }
-        }
-        Err(io::Error::from(ErrorKind::Interrupted))
+        written(&mut self.inner, buffer)
     }
 
     fn flush(&mut self) -> io::Result<()> {
         self.inner.flush()
     }
+}
+
+/// One write, which is done again where a signal interrupts it.
+fn written<W: Write>(writer: &mut W, buffer: &[u8]) -> io::Result<usize>
+    ensures bound { WritesAtMost result buffer.now }
+    ensures bytes { WriteAppends (W.contents writer.old) (W.contents writer.new) result buffer.now }
+{
+    for _ in 0..u64::MAX {
+        match writer.write(buffer) {
+            Ok(count) => return Ok(count),
+            Err(error) => {
+                if error.kind() != ErrorKind::Interrupted {
+                    return Err(error);
+                }
+            }
+        }
+    }
+    Err(io::Error::from(ErrorKind::Interrupted))
 }

@@ -22,7 +22,7 @@ loop-place-preserved c =
     let conflicts = c.args.conflicts.now in
     let place = c.loop-place.place in
     let here = c.index-conflicts-place.result in
-    let ground = rw c.as_slice.ensures at c.set_ground_of.ensures in
-    let follows = (ground-decides given (take place conflicts) here c.set_ground_of.result ground).0 (rw c.in-Some.is refl) in
+    let ground = rw c.as_slice.ensures at c.ground_among.ensures in
+    let follows = (ground-decides given (take place conflicts) here c.ground_among.result ground).0 (rw c.in-Some.is refl) in
     let more = take_more conflicts place here c.loop-place-test.true ∙ ap (λ (conflict : List TermParts). take place conflicts ++ conflict ∷ []) (sym c.index-conflicts-place.is) in
     subst (λ (cs : List (List TermParts)). EachSetFollows (rules_of given) same_version [] cs) (sym more) (each-push given [] (take place conflicts) here c.loop-place.invariant follows)

@@ -1,0 +1,113 @@
+// Which earlier conflicts can leave nothing of a node beside a conflict.
+
+use crate::exclusion::binding;
+use crate::placed_term::{PlacedTerm, are_one, candidate_places};
+use lists::Bits;
+use problems::parts::copy_of;
+use problems::{Node, Problem};
+use std::alloc::{AllocError, Global};
+
+/// A node, the releases that some earlier conflicts exclude there beside a conflict, and the places of these.
+#[derive(Drop)]
+struct Excluded {
+    node: Node,
+    releases: Bits,
+    conflicts: Vec<usize>,
+}
+
+/// The terms of an earlier conflict that another one doesn't bind.
+#[derive(Clone, Copy)]
+enum Unbound<'a> {
+    Nothing,
+    /// They are on one node: the first of them.
+    One(&'a PlacedTerm),
+    Several,
+}
+
+fn unbound<'a>(old: &'a [PlacedTerm], own: &[PlacedTerm]) -> Unbound<'a> {
+    let mut found = Unbound::Nothing;
+    for term in old {
+        if binding(term, own).is_none() {
+            match found {
+                Unbound::Nothing => found = Unbound::One(term),
+                Unbound::One(first) if are_one(&first.node, &term.node) => {}
+                _ => return Unbound::Several,
+            }
+        }
+    }
+    found
+}
+
+/// For each earlier conflict whether it can be one of those by which nothing is left of a node beside this conflict. No other
+/// one is needed for its ground.
+pub fn exhausting(
+    alloc: Global,
+    problem: &Problem<'_>,
+    earlier: &[Vec<PlacedTerm>],
+    own: &[PlacedTerm],
+) -> Result<Vec<bool>, AllocError> {
+    let mut marks = vec![in alloc; false; earlier.len()]?;
+    let mut nodes: Vec<Excluded> = Vec::new(alloc);
+    for (at, old) in earlier.iter().enumerate() {
+        match unbound(old.as_slice(), own) {
+            Unbound::Nothing => mark(&mut marks, at),
+            Unbound::One(term) => add(alloc, &mut nodes, term, at)?,
+            Unbound::Several => {}
+        }
+    }
+    for excluded in nodes.as_slice() {
+        if is_exhausted(alloc, problem, excluded, own)? {
+            for at in excluded.conflicts.as_slice() {
+                mark(&mut marks, *at);
+            }
+        }
+    }
+    Ok(marks)
+}
+
+fn mark(marks: &mut [bool], place: usize) {
+    if let Some(marked) = marks.get_mut(place) {
+        *marked = true;
+    }
+}
+
+/// Adds what a conflict excludes at the node of a term.
+fn add(
+    alloc: Global,
+    nodes: &mut Vec<Excluded>,
+    term: &PlacedTerm,
+    conflict: usize,
+) -> Result<(), AllocError> {
+    for excluded in nodes.as_mut_slice() {
+        if are_one(&excluded.node, &term.node) {
+            excluded.releases.join(&term.places)?;
+            return excluded.conflicts.push(conflict);
+        }
+    }
+    let mut conflicts = Vec::new(alloc);
+    conflicts.push(conflict)?;
+    nodes.push(Excluded {
+        node: Node {
+            name: term.node.name.clone()?,
+            extra: copy_of(term.node.extra.as_ref())?,
+        },
+        releases: term.places.clone()?,
+        conflicts,
+    })
+}
+
+/// Whether all candidates of a node are excluded there, or all releases of a term of the conflict on it.
+fn is_exhausted(
+    alloc: Global,
+    problem: &Problem<'_>,
+    excluded: &Excluded,
+    own: &[PlacedTerm],
+) -> Result<bool, AllocError> {
+    if let Some(term) = own.iter().find(|term| term.is_on(&excluded.node)) {
+        if term.places.lies_within(&excluded.releases) {
+            return Ok(true);
+        }
+    }
+    let candidates = candidate_places(alloc, problem, &excluded.node.name)?;
+    Ok(candidates.lies_within(&excluded.releases))
+}
