@@ -81,19 +81,22 @@ fn add(
     for excluded in nodes.as_mut_slice() {
         if are_one(&excluded.node, &term.node) {
             excluded.releases.join(&term.places)?;
-            return excluded.conflicts.push(conflict);
+            return Ok(excluded.conflicts.push(conflict)?);
         }
     }
     let mut conflicts = Vec::new(alloc);
     conflicts.push(conflict)?;
+    let node = Node {
+        name: term.node.name.clone()?,
+        extra: copy_of(term.node.extra.as_ref())?,
+    };
+    let releases = term.places.clone()?;
     nodes.push(Excluded {
-        node: Node {
-            name: term.node.name.clone()?,
-            extra: copy_of(term.node.extra.as_ref())?,
-        },
-        releases: term.places.clone()?,
+        node,
+        releases,
         conflicts,
-    })
+    })?;
+    Ok(())
 }
 
 /// Whether all candidates of a node are excluded there, or all releases of a term of the conflict on it.
