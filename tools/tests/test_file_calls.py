@@ -114,7 +114,7 @@ class FileCalls(Fifty):
         place = calls.index(f"rename {lock}")
         self.assertEqual(calls[place : place + 2], [f"rename {lock}", "fsync other"])
 
-    @unittest.skipUnless(os.geteuid() == 0, "only root may give files away")
+    @unittest.skipUnless(os.geteuid() == 0, "optional: only root may give files away")
     def test_what_is_moved_to_the_name_of_a_new_file_does_not_change_hands(self):
         """Root saves in the folder of another user, who moves a file of root's there meanwhile."""
         self.begin_all()
