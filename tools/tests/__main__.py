@@ -3,6 +3,7 @@ With REQUIRE_ALL=1 one that is skipped has failed, unless its reason begins with
 the rights of root, and what LONG_TESTS=1 alone asks for. With WITHOUT_PROGRAM=1 those that need the built program are left out."""
 
 import os
+import signal
 import sys
 import unittest
 from pathlib import Path
@@ -41,6 +42,8 @@ def told(place: Path, require_all: bool) -> tuple[int, int, int]:
 
 
 def main() -> int:
+    # (a shell's background job ignores SIGINT, and so would each program that a test interrupts)
+    signal.signal(signal.SIGINT, signal.default_int_handler)
     place = Path(sys.argv[1]) if len(sys.argv) > 1 else TESTS
     passed, failed, skipped = told(place, os.environ.get("REQUIRE_ALL") == "1")
     print(f"{passed} passed, {failed} failed, {skipped} skipped")
