@@ -120,8 +120,8 @@ def end_with_all() -> None:
 
 def main() -> int:
     end_with_all()
-    # (each build takes some 5 GB of memory; ./check counts 4 for a job)
-    jobs = 2 if int(os.environ.get("RT_JOBS", "1")) >= 3 else 1
+    # (each build takes up to 7 GB of memory; ./check counts 4 for a job)
+    jobs = 2 if int(os.environ.get("RT_JOBS", "1")) >= 4 else 1
     with ThreadPoolExecutor(jobs) as pool:
         rows, calls = pool.submit(rows_differ), pool.submit(calls_differ)
         is_wrong, (passed, failed) = rows.result(), calls.result()
