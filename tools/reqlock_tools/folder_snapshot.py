@@ -1,20 +1,35 @@
 """The packages of a folder of archives and documents."""
 
-import argparse
 import os
 import pathlib
 import urllib.parse
 from collections.abc import Iterator
+from dataclasses import dataclass
 
 from reqlock_tools.archives import ArchivedRelease, archive_paths, read_archive, releases_of
 from reqlock_tools.index_documents import Document, File, documents_of
+from reqlock_tools.limits import limits_of
 from reqlock_tools.markers import Markers
 from reqlock_tools.progress import Progress
 from reqlock_tools.refusal import Refusal, Say
 from reqlock_tools.releases import release_of
 from reqlock_tools.snapshot_output import Packages, say
 from reqlock_tools.versions import normal
-from reqlock_tools.walk import Walk
+from reqlock_tools.walk import Walk, extras_text
+
+
+@dataclass(frozen=True)
+class FolderRequest:
+    """A snapshot of a folder that is to be made, and where it is to stand: standard output where `output` is None."""
+
+    folder: str
+    base_url: str | None
+    requirements: tuple[str, ...]
+    environments: tuple[str, ...]
+    assumes_none: bool
+    limits: tuple[str, ...]
+    output: str | None
+
 
 Listed = dict[str, tuple[list[File], str]]
 
@@ -110,24 +125,24 @@ def counted(paths: list[str]) -> Iterator[str]:
         progress.clear()
 
 
-def url_of(path: str, options: argparse.Namespace) -> str:
+def url_of(path: str, request: FolderRequest) -> str:
     """Where a file is: below the base URL as it is below the folder, or on this machine."""
-    if options.base_url is None:
+    if request.base_url is None:
         return pathlib.Path(path).resolve().as_uri()
-    below = os.path.relpath(path, options.folder).replace(os.sep, "/")
-    return f"{options.base_url.rstrip('/')}/{urllib.parse.quote(os.fsencode(below))}"
+    below = os.path.relpath(path, request.folder).replace(os.sep, "/")
+    return f"{request.base_url.rstrip('/')}/{urllib.parse.quote(os.fsencode(below))}"
 
 
 def absent_names(
     packages: Packages, texts: list[str] | None, environments: list[dict[str, str]]
-) -> tuple[list[str], list[str]]:
+) -> tuple[list[str], str]:
     """The names that requirements lead to, or all packages where there are none, and of which no document tells."""
     walk = Walk(Markers(environments))
     for name, package in packages.items():
         for release in package["releases"]:
             walk.add(name, release["requires_dist"] or [])
     walk.ask(packages if texts is None else texts)
-    return sorted(set(walk.asked).difference(packages)), walk.extras()
+    return sorted(set(walk.asked).difference(packages)), extras_text(walk.extras_asked())
 
 
 def say_absent(packages: Packages, texts: list[str] | None, environments: list[dict[str, str]]) -> None:
@@ -136,14 +151,15 @@ def say_absent(packages: Packages, texts: list[str] | None, environments: list[d
         by = "others depend on" if texts is None else "are needed"
         say(f"no document tells of these packages, which {by}: {' '.join(names)}")
     if texts is not None and extras:
-        say(f"extras that are followed: {' '.join(extras)}")
+        say(f"extras that are followed: {extras}")
 
 
-def folder_packages(options: argparse.Namespace) -> Packages:
+def folder_packages(request: FolderRequest) -> Packages:
     """The packages of the archives and documents of a folder."""
-    paths, documents = archive_paths(options.folder), documents_of(options.folder, options.limits, say)
+    limits = limits_of(list(request.limits))
+    paths, documents = archive_paths(request.folder), documents_of(request.folder, limits, say)
     if not paths and not documents:
-        raise Refusal(f"{options.folder}: no archive and no document is in it")
-    archives = [read_archive(path, url_of(path, options), options.limits) for path in counted(paths)]
+        raise Refusal(f"{request.folder}: no archive and no document is in it")
+    archives = [read_archive(path, url_of(path, request), limits) for path in counted(paths)]
     documents += releases_of(archives, say)
-    return packages_of(documents, options.assume_no_dependencies)
+    return packages_of(documents, request.assumes_none)

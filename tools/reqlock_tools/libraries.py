@@ -28,6 +28,11 @@ def needed(name: str) -> Any:
     return found
 
 
+__all__ = [
+    "absent_text", "library", "needed", "packaging_requirements", "packaging_tags", "packaging_utils", "packaging_version",
+]
+
+
 class Late:
     """A module of a library that is looked for where something of it is used first."""
 

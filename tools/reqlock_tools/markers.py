@@ -1,7 +1,7 @@
 """Markers (PEP 508) as reqlock reads them: trees of comparisons, what decides them, and where they hold or can hold."""
 
 import re
-from collections.abc import Callable, Iterator, Mapping
+from collections.abc import Callable, Iterator, Mapping, Sequence
 from functools import lru_cache
 from typing import NamedTuple
 
@@ -231,17 +231,23 @@ def variables_of(tree: Tree, extra: str) -> set[str]:
 
 
 class Markers:
-    """Where markers can hold: in one of the environments, or anywhere where none is given."""
+    """Where markers can hold: in which of the environments, or anywhere where none is given. Environments are told as the bits of a
+    number, the first as its lowest."""
 
-    def __init__(self, environments: list[dict[str, str]]) -> None:
-        self.environments: list[dict[str, str] | None] = [*environments] or [None]
-        self.known: dict[str, Extras] = {}
+    def __init__(self, environments: Sequence[Mapping[str, str]]) -> None:
+        self.environments: list[Mapping[str, str] | None] = [*environments] or [None]
+        self.all = (1 << len(self.environments)) - 1
+        self.known: dict[str, list[Extras]] = {}
 
-    def can_hold(self, marker: str, extra: str) -> bool:
-        """Whether a marker can hold with an extra, or with none. One that isn't read can."""
+    def where(self, marker: str, extra: str) -> int:
+        """The environments in which a marker can hold with an extra, or with none. One that isn't read can in each."""
         if marker == "":
-            return True
+            return self.all
         if marker not in self.known:
             tree = tree_of(marker)
-            self.known[marker] = union([tree_extras(tree, it) for it in self.environments]) if tree else ALL
-        return self.known[marker].has(extra)
+            self.known[marker] = [tree_extras(tree, it) if tree else ALL for it in self.environments]
+        return sum(1 << place for place, extras in enumerate(self.known[marker]) if extras.has(extra))
+
+    def can_hold(self, marker: str, extra: str) -> bool:
+        """Whether a marker can hold somewhere with an extra, or with none."""
+        return self.where(marker, extra) != 0

@@ -5,7 +5,7 @@ from functools import lru_cache
 from typing import NamedTuple
 
 from reqlock_tools.environment import VARIABLES
-from reqlock_tools.files import read_json, read_text
+from reqlock_tools.files import Node, read_json, read_text
 from reqlock_tools.libraries import library
 from reqlock_tools.names import called
 from reqlock_tools.refusal import Refusal, Say
@@ -72,11 +72,20 @@ def read_lines(path: str, say: Say) -> list[str]:
     return found
 
 
-def read_environment(path: str) -> dict[str, str]:
-    """The eleven variables of an environment file."""
+def environment_node(path: str) -> Node:
+    """What stands in an environment file."""
     try:
-        object_of = read_json(path)
+        return read_json(path)
     except FileNotFoundError:
         raise Refusal(f"{path}: there is no such file; {called('tools/environment.py')} prints an environment") from None
-    found = {name: object_of.member(name).text() for name in VARIABLES}
+
+
+def variables_in(told: Node) -> dict[str, str]:
+    """The eleven variables of an environment."""
+    found = {name: told.member(name).text() for name in VARIABLES}
     return {**found, "python_full_version": found["python_full_version"].removesuffix("+")}
+
+
+def read_environment(path: str) -> dict[str, str]:
+    """The eleven variables of an environment file."""
+    return variables_in(environment_node(path))

@@ -2,9 +2,11 @@
 
   snapshot.py simple URL [NAME ..] --for requirements.txt --env environment.json --output index.json
             asks the package index at URL; `snapshot.py simple --help` tells how
+  snapshot.py again [NAME ..] --output index.json
+            makes that snapshot of an index again, as it was made, with more names
   snapshot.py FOLDER --output index.json
             reads a folder of wheels, sdists and documents, and asks nobody. A folder that is
-            named `simple` is given as ./simple
+            named `simple` or `again` is given as ./simple or ./again
 
 These files in FOLDER and the folders below it are read. Others are passed over.
 
@@ -34,34 +36,45 @@ written; or 2 where the words are no request; or 130 after Ctrl-C.
 
 import argparse
 import re
+from collections.abc import Callable
+from functools import partial
 
-from reqlock_tools.folder_snapshot import folder_packages, say_absent
-from reqlock_tools.limits import limits_of, limits_text
+from reqlock_tools.folder_snapshot import FolderRequest, folder_packages, say_absent
+from reqlock_tools.limits import limits_text
 from reqlock_tools.names import called, tool
 from reqlock_tools.refusal import Refusal, fault_text
 from reqlock_tools.requirements import read_environment, read_lines
-from reqlock_tools.simple.request import add_limits, simple_request
-from reqlock_tools.simple.run import simple_packages
-from reqlock_tools.snapshot_output import refuse_place, say, write_snapshot
+from reqlock_tools.simple.addresses import parts_of
+from reqlock_tools.simple.credentials import Credentials, way
+from reqlock_tools.simple.request import Request, add_limits, again_request, simple_request
+from reqlock_tools.simple.run import Run
+from reqlock_tools.snapshot_output import Snapshot, refuse_place, say, write_snapshot
 
 INTERRUPTED = 130
 
 
-def make_of_folder(options: argparse.Namespace) -> None:
+def make_of_folder(request: FolderRequest) -> None:
     """Reads archives and documents, and writes the snapshot."""
-    texts = [text for path in options.requirements for text in read_lines(path, say)] if options.requirements else None
-    environments = list(map(read_environment, options.env))
-    packages = folder_packages(options)
+    refuse_place(request.output)
+    texts = [text for path in request.requirements for text in read_lines(path, say)] if request.requirements else None
+    environments = list(map(read_environment, request.environments))
+    packages = folder_packages(request)
     say_absent(packages, texts, environments)
-    write_snapshot(packages, options.output)
+    write_snapshot(Snapshot(packages, None), request.output)
 
 
-def make_of_index(options: argparse.Namespace) -> None:
-    """Asks the index, and writes the snapshot."""
-    write_snapshot(simple_packages(options), options.output)
+def make_of_index(request: Request) -> None:
+    """Asks the indexes, and writes the snapshot."""
+    refuse_place(request.output)
+    plan = request.plan()
+    for url in request.urls:
+        if parts_of(url).password is not None:
+            say(f"each process of this machine can read the password in the words of this call: {way(url)}")
+    credentials = Credentials(request.urls or [it.url for it in plan.indexes], say)
+    write_snapshot(Run(plan, request.asking, credentials).snapshot(), request.output)
 
 
-def folder_request(arguments: list[str]) -> argparse.Namespace:
+def folder_request(arguments: list[str]) -> FolderRequest:
     parser = argparse.ArgumentParser(
         prog=tool("snapshot"), description=called(__doc__ or ""), formatter_class=argparse.RawDescriptionHelpFormatter,
         epilog=limits_text(),
@@ -88,16 +101,25 @@ def folder_request(arguments: list[str]) -> argparse.Namespace:
         parser.error(called("an index is asked by `snapshot.py simple URL ..`, with `simple` before all options"))
     if rest:
         parser.error(f"unrecognized arguments: {' '.join(rest)}")
-    return options
+    return FolderRequest(
+        folder=options.folder, base_url=options.base_url, requirements=tuple(options.requirements), environments=tuple(options.env),
+        assumes_none=options.assume_no_dependencies, limits=tuple(options.limit), output=options.output,
+    )
+
+
+def work_of(words: list[str]) -> Callable[[], None]:
+    """What the words ask for."""
+    if words[:1] == ["simple"]:
+        return partial(make_of_index, simple_request(words[1:]))
+    if words[:1] == ["again"]:
+        return partial(make_of_index, again_request(words[1:]))
+    return partial(make_of_folder, folder_request(words))
 
 
 def main(words: list[str]) -> int:
-    is_simple = words[:1] == ["simple"]
-    options = simple_request(words[1:]) if is_simple else folder_request(words)
+    work = work_of(words)
     try:
-        options.limits = limits_of(options.limit)
-        refuse_place(options.output)
-        (make_of_index if is_simple else make_of_folder)(options)
+        work()
     except (Refusal, OSError) as fault:
         say(fault_text(fault))
         return 1

@@ -3,13 +3,21 @@
 import json
 import os
 import sys
-from typing import Any
+from typing import Any, NamedTuple
 
 from reqlock_tools.files import is_own, usual_mode, write_whole
 from reqlock_tools.refusal import Refusal, speaker
 from reqlock_tools.simple.addresses import hidden
 
 Packages = dict[str, dict[str, Any]]
+Made = dict[str, Any]
+
+
+class Snapshot(NamedTuple):
+    """The packages by normal name, and how they were made; None where nothing tells it."""
+
+    packages: Packages
+    made: Made | None
 
 
 def say(text: str) -> None:
@@ -25,13 +33,21 @@ def compact(value: object) -> str:
     return json.dumps(value, ensure_ascii=False, separators=(",", ":"))
 
 
-def snapshot_text(packages: Packages) -> str:
+def made_text(made: Made) -> str:
+    """How a snapshot was made, with a line for each key, and for each thing that was left out."""
+    left = ",\n".join(map(compact, made["left"]))
+    lines = [f'"{key}":{compact(value)}' for key, value in made.items() if key != "left"]
+    return "{\n" + ",\n".join([*lines, f'"left":[{left}]']) + "}"
+
+
+def snapshot_text(snapshot: Snapshot) -> str:
     """The snapshot, with a line for each release."""
     texts = []
-    for package in packages.values():
+    for package in snapshot.packages.values():
         releases = ",\n".join(map(compact, package["releases"]))
         texts.append(f'{{"name":{compact(package["name"])},"releases":[\n{releases}]}}')
-    return '{"snapshot":1,"packages":[\n' + ",\n".join(texts) + "]}\n"
+    made = "" if snapshot.made is None else f'"made":{made_text(snapshot.made)},'
+    return f'{{"snapshot":1,{made}"packages":[\n' + ",\n".join(texts) + "]}\n"
 
 
 def refuse_place(output: str | None) -> None:
@@ -46,9 +62,9 @@ def refuse_place(output: str | None) -> None:
             raise Refusal(f"{output}: a link of another user stands there")
 
 
-def write_snapshot(packages: Packages, output: str | None) -> None:
+def write_snapshot(snapshot: Snapshot, output: str | None) -> None:
     """Writes the snapshot to a file, whole or not at all, or to standard output where none is named."""
-    data = snapshot_text(packages).encode()
+    data = snapshot_text(snapshot).encode()
     if output is None:
         sys.stdout.buffer.write(data)
         sys.stdout.buffer.flush()

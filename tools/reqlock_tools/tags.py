@@ -1,6 +1,7 @@
 """Wheel tags (the packaging guide's platform compatibility tags) of environments."""
 
 import math
+import re
 from collections.abc import Mapping
 from functools import lru_cache
 from typing import TYPE_CHECKING, NamedTuple
@@ -28,8 +29,10 @@ def built_of(environment: Mapping[str, object]) -> Built | None:
     interpreter, abis, platforms = (environment.get(name) for name in ("interpreter", "abis", "platforms"))
     if not (isinstance(interpreter, str) and isinstance(abis, (list, tuple)) and isinstance(platforms, (list, tuple))):
         return None
-    major, minor = str(environment["python_version"]).split(".")[:2]
-    return Built(interpreter, (int(major), int(minor)), tuple(map(str, abis)), tuple(map(str, platforms)))
+    version = re.fullmatch(r"([0-9]{1,3})\.([0-9]{1,3})", str(environment.get("python_version")))
+    if version is None or not all(isinstance(text, str) for text in (*abis, *platforms)):
+        return None
+    return Built(interpreter, (int(version[1]), int(version[2])), tuple(abis), tuple(platforms))
 
 
 @lru_cache(maxsize=2**8)

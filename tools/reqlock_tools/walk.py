@@ -1,4 +1,4 @@
-"""Which names are reached from requirements through the dependencies of releases."""
+"""Which names are reached from requirements through the dependencies of releases, and in which environments."""
 
 from collections.abc import Iterable
 
@@ -6,6 +6,8 @@ from reqlock_tools.markers import NO_EXTRA, Markers, extras_of, tree_of
 from reqlock_tools.requirements import Need, need_of
 
 Needs = dict[str, list[Need]]
+# Needs that are to be followed: with an extra, in some environments.
+Pending = list[tuple[Needs, str, int]]
 
 
 def needs_of(texts: Iterable[str]) -> Needs:
@@ -20,52 +22,74 @@ def needs_of(texts: Iterable[str]) -> Needs:
 
 
 class Walk:
-    """The names that are reached, with the extras that are asked for. A dependency is followed where its marker can hold with such
-    an extra, or with none. With an extra that its marker doesn't read it holds as with none."""
+    """The names that are reached, with the extras that are asked for and the environments that ask. A dependency is followed where its
+    marker can hold with such an extra, or with none. With an extra that its marker doesn't read it holds as with none. Environments are
+    told as `Markers` tells them."""
 
     def __init__(self, markers: Markers) -> None:
         self.markers = markers
-        self.asked: dict[str, dict[str, None]] = {}
-        self.releases: dict[str, list[Needs]] = {}
+        self.asked: dict[str, dict[str, int]] = {}
+        self.releases: dict[str, list[tuple[Needs, int]]] = {}
         # Those that were reached, by their ids: to compare or hash one takes as long as it has extras.
-        self.known: dict[int, Need] = {}
+        self.known: dict[int, tuple[Need, int]] = {}
 
     def ask(self, texts: Iterable[str]) -> list[str]:
         """Follows requirements. The names that weren't reached before are given, in order."""
-        return self.follow([(needs_of(texts), NO_EXTRA)])
+        return self.follow([(needs_of(texts), NO_EXTRA, self.markers.all)])
 
-    def add(self, name: str, texts: Iterable[str]) -> list[str]:
-        """Takes the dependencies of a release, and follows them where its name is reached."""
-        needs = needs_of(texts)
-        self.releases.setdefault(name, []).append(needs)
-        return self.follow([(needs, extra) for extra in self.asked.get(name, ())])
+    def add(self, name: str, texts: Iterable[str], where: int | None = None) -> list[str]:
+        """Takes the dependencies of a release that some environments can install, and follows them where its name is reached."""
+        needs, where = needs_of(texts), self.markers.all if where is None else where
+        self.releases.setdefault(name, []).append((needs, where))
+        return self.follow([(needs, extra, asking & where) for extra, asking in self.asked.get(name, {}).items()])
 
-    def follow(self, pending: list[tuple[Needs, str]]) -> list[str]:
+    def follow(self, pending: Pending) -> list[str]:
         new = []
         while pending:
-            needs, extra = pending.pop()
-            for need in needs.get(extra, ()):
-                if not self.markers.can_hold(need.marker, extra):
+            needs, extra, asking = pending.pop()
+            for need in needs.get(extra, ()) if asking else ():
+                where = asking & self.markers.where(need.marker, extra)
+                if not where:
                     continue
                 if need.name not in self.asked:
                     new.append(need.name)
-                pending += self.reached(need)
+                pending += self.reached(need, where)
         return new
 
-    def reached(self, need: Need) -> list[tuple[Needs, str]]:
-        """What is to be followed since a name is asked for, with extras that nobody asked for before."""
-        if id(need) in self.known:
+    def reached(self, need: Need, where: int) -> Pending:
+        """What is to be followed since a name is asked for, with extras and in environments that nobody asked for before."""
+        before = self.known.get(id(need), (need, 0))[1]
+        if where | before == before:
             return []
-        self.known[id(need)] = need
+        self.known[id(need)] = need, where | before
         asked = self.asked.setdefault(need.name, {})
-        found = []
+        found: Pending = []
         for extra in (NO_EXTRA, *need.extras):
-            if extra not in asked:
-                asked[extra] = None
-                found += [(needs, extra) for needs in self.releases.get(need.name, ())]
+            fresh = where & ~asked.get(extra, 0)
+            if fresh:
+                asked[extra] = asked.get(extra, 0) | fresh
+                found += [(needs, extra, fresh & able) for needs, able in self.releases.get(need.name, ())]
         return found
 
-    def extras(self) -> list[str]:
-        """The extras that are asked for, as `name[one,other]`, in order."""
+    def where(self, name: str) -> int:
+        """The environments that can need a name."""
+        return self.asked.get(name, {}).get(NO_EXTRA, 0)
+
+    def extras_asked(self) -> dict[str, list[str]]:
+        """The extras that are asked for, by name, in order."""
         found = {name: sorted(set(asked) - {NO_EXTRA}) for name, asked in sorted(self.asked.items())}
-        return [f"{name}[{','.join(extras)}]" for name, extras in found.items() if extras]
+        return {name: extras for name, extras in found.items() if extras}
+
+    def extras_passed(self) -> dict[str, list[str]]:
+        """The extras that releases of names that are reached have, and that nobody asks for, by name."""
+        found = {}
+        for name, asked in sorted(self.asked.items()):
+            known = {extra for needs, _ in self.releases.get(name, ()) for extra in needs}
+            if extras := sorted(known - asked.keys() - {NO_EXTRA}):
+                found[name] = extras
+        return found
+
+
+def extras_text(extras: dict[str, list[str]]) -> str:
+    """Extras by name, as `name[one,other]`."""
+    return " ".join(f"{name}[{','.join(those)}]" for name, those in extras.items())

@@ -24,9 +24,9 @@ class Simple(unittest.TestCase):
     def setUp(self):
         self.folder = new_folder(self.addCleanup)
         self.output = self.folder / "index.json"
-        without_proxy = mock.patch.dict(os.environ, {"no_proxy": "*", "NO_PROXY": "*"})
-        without_proxy.start()
-        self.addCleanup(without_proxy.stop)
+        own = mock.patch.dict(os.environ, {"no_proxy": "*", "NO_PROXY": "*", "NETRC": os.devnull, "PATH": f"/usr/bin:{os.environ['PATH']}"})
+        own.start()
+        self.addCleanup(own.stop)
 
     def serve(self, packages, **options):
         """An index of these packages, each a list of files by its name."""
@@ -38,17 +38,29 @@ class Simple(unittest.TestCase):
 
     def call(self, url, *words):
         """The status of a call, and the lines of standard error without the script's name and the server's address."""
+        self.output.unlink(missing_ok=True)
+        return self.told(url, "simple", url, *words)
+
+    def again(self, index, *words):
+        """The same of a call that makes the snapshot again."""
+        return self.told(index.url, "again", *words)
+
+    def told(self, url, *words):
+        """The status of a call with these words, and what it tells but the address of a URL."""
         errors = io.StringIO()
         options = "--output", self.output, "--cache", self.folder / "cache"
-        self.output.unlink(missing_ok=True)
         with contextlib.redirect_stderr(errors):
             try:
-                status = snapshot.main(["simple", url, *map(str, [*options, *words])])
+                status = snapshot.main([*map(str, [words[0], *options, *words[1:]])])
             except SystemExit as end:
                 status = end.code
         address = url.partition("://")[2].rpartition("@")[2].partition("/")[0]
         lines = re.sub(f"https?://{re.escape(address)}", "", errors.getvalue()).splitlines()
         return status, [line.removeprefix("snapshot.py: ") for line in lines]
+
+    def read(self):
+        """The snapshot."""
+        return json.loads(self.output.read_text(encoding="utf-8"))
 
     def made(self, index, *words, url=None):
         """The releases by package and version, and the lines of standard error but the last, which counts."""

@@ -177,7 +177,7 @@ class Slow(Hostile):
         files = [{"filename": name, "url": name, "hashes": {"sha256": "0" * 64}} for name in names]
         files.append(self.index.json_item(self.index.projects["a"][0]))
         self.index.instead[PATH] = [lambda to: to.give(200, page_of(*files), JSON_TYPE)]
-        told = ["left out as their names have over 255 characters: 2 files", "left out by --for-this-machine: 1 file"]
+        told = ["left out as their names have over 255 characters: 2 files", "left out as no environment takes them: 1 file"]
         self.assertEqual([line.replace(", with 1 whole release", "") for line in self.taken("--for-this-machine")], told)
 
     def test_a_wheel_for_very_many_machines(self):
@@ -185,7 +185,7 @@ class Slow(Hostile):
         name = f"a-1-{many}-{many}-{many}.whl"
         files = [{"filename": name, "url": name, "hashes": {"sha256": "0" * 64}}, self.index.json_item(self.index.projects["a"][0])]
         self.index.instead[PATH] = [lambda to: to.give(200, page_of(*files), JSON_TYPE)]
-        self.assertEqual(self.taken("--for-this-machine"), ["left out by --for-this-machine: 1 file"])
+        self.assertEqual(self.taken("--for-this-machine"), ["left out as no environment takes them: 1 file"])
 
     def test_html(self):
         count = 2_000_000 if IS_LONG else 200_000

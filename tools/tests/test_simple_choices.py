@@ -3,6 +3,8 @@
 import contextlib
 import io
 import json
+import platform
+import sys
 import unittest
 
 from made.served_index import sdist_of, wheel_of
@@ -48,9 +50,10 @@ class Following(Simple):
     }
 
     def test_keeps_to_the_extras_that_are_asked(self):
-        self.assertEqual(self.names(self.EXTRAS, "a"), ("abce", ["extras that are followed: b[x]"]))
+        passed = "extras that nobody asks for, and that aren't followed: 1, of 1 package"
+        self.assertEqual(self.names(self.EXTRAS, "a"), ("abce", ["extras that are followed: b[x]", passed]))
         self.assertEqual(self.names(self.EXTRAS, "b[Y]"), ("abcde", ["extras that are followed: a[z-z] b[x,y]"]))
-        self.assertEqual(self.names(self.EXTRAS, "b[y]", "--env", LINUX), ("be", ["extras that are followed: b[y]"]))
+        self.assertEqual(self.names(self.EXTRAS, "b[y]", "--env", LINUX), ("be", ["extras that are followed: b[y]", passed]))
 
     def test_takes_an_extra_that_is_asked_late(self):
         chain = {"a": ["b", "c"], "b": ["z ; extra == 'Late.x'"], "c": ["d"], "d": ["b[late_x]"], "z": ["y"], "y": []}
@@ -185,7 +188,10 @@ class Choices(Simple):
         made, lines = self.made(index, "a", "--for-this-machine")
         found = {version: [file["name"] for file in it["files"]] for version, it in made["a"].items()}
         self.assertEqual(found, {"1": [f"a-1-{ours}.whl"], "2": ["a-2.tar.gz"], "4": ["a-4-py2.py3-none-any.wasi.whl"]})
-        self.assertEqual(lines, ["left out by --for-this-machine: 4 files, with 2 whole releases"])
+        own = f"Python {sys.version_info.major}.{sys.version_info.minor} on {sys.platform} {platform.machine()}"
+        self.assertEqual(lines, [
+            "left out as no environment takes them: 4 files, with 2 whole releases", f"left out as {own} takes no file of them: a 3, 5",
+        ])
         self.assertEqual(len(self.versions(index, "a")[0]["a"]), 5)
 
     def test_are_counted_in_their_order(self):
@@ -261,8 +267,8 @@ class Kept(Simple):
         index = self.serve({"a": [foreign["1"], foreign["2"], sdist_of("a", "2"), wheel_of("a", "3")]})
         kept, lines = self.kept(index, ["1", "2"], "--for-this-machine", "--only-binary")
         self.assertEqual(kept, {"2": "gz", "3": "whl"})
-        self.assertEqual(lines, [
-            "left out by --for-this-machine: 2 files, with 1 whole release", "locked, but not in the snapshot: a 1",
+        self.assertEqual([line for line in lines if "takes no file" not in line], [
+            "left out as no environment takes them: 2 files, with 1 whole release", "locked, but not in the snapshot: a 1",
         ])
 
     def test_and_what_it_depends_on(self):

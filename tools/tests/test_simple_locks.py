@@ -83,8 +83,7 @@ class Locks(Simple):
         (folder / "requirements.txt").write_text(requirements, encoding="utf-8")
         self.output = folder / "index.json"
         status, lines = self.call(
-            index.url, "--for", folder / "requirements.txt", "--env", self.environment, "--for-this-machine",
-            "--cache", self.folder / f"cache-{name}", *words,
+            index.url, "--for", folder / "requirements.txt", "--env", self.environment, "--cache", self.folder / f"cache-{name}", *words,
         )
         self.assertEqual(status, 0, lines)
         return folder, self.reqlock(folder, "init")

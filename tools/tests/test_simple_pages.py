@@ -32,7 +32,7 @@ class Pages(Simple):
             found = []
             for index.is_html in False, True:
                 made, lines = self.made(index, "Tea_Pot", "--cache", self.folder / f"cache-{index.is_html}")
-                self.assertEqual(lines, [])
+                self.assertEqual(lines, ["extras that nobody asks for, and that aren't followed: 1, of 1 package"])
                 found.append(self.output.read_bytes())
             self.assertEqual(found[0], found[1])
         self.assertEqual({name: list(it) for name, it in made.items()}, {"cup": ["1.0+b"], "tea-pot": ["1.0", "2.0"]})
@@ -213,7 +213,7 @@ class Addresses(Simple):
     def test_may_have_user_and_password(self):
         index = self.serve({"a": [wheel_of("a", "1")]}, has_sizes=False)
         self.locked(index)
-        self.check_refused(index, "a", fault="^/simple/a/: 401 Unauthorized; give user and password in the URL")
+        self.check_refused(index, "a", fault="^/simple/a/: 401 Unauthorized; user and password stand in ~/.netrc, or in ")
         self.made(index, "a", url=index.url.replace("//", "//me:s%40crt@"))
         text = self.output.read_text(encoding="utf-8") + "".join(
             path.read_text(encoding="utf-8") for path in (self.folder / "cache").rglob("*") if path.is_file()
@@ -224,7 +224,10 @@ class Addresses(Simple):
     def test_are_shown_without_the_password(self):
         index = self.serve({"a": [wheel_of("a", "1")]})
         index.instead["/simple/a/"] = [lambda to: to.give(403)]
-        self.check_refused(index, "a", url=index.url.replace("//", "//me:s%40crt@"), fault="^/simple/a/: 403 Forbidden; give")
+        status, lines = self.call(index.url.replace("//", "//me:s%40crt@"), "a")
+        self.assertEqual((status, len(lines)), (1, 2))
+        self.assertRegex(lines[1], "^/simple/a/: 403 Forbidden; ")
+        self.assertNotIn("crt", "".join(lines))
 
     def test_of_other_hosts_are_not_told_the_password(self):
         index, other = self.serve({}), self.serve({"a": [wheel_of("a", "1")]})

@@ -367,7 +367,10 @@ class Around(Folder):
         self.assertTrue(Path("/dev/null").is_char_device())
 
     def test_is_stopped_by_the_keyboard(self):
-        pipe_path, output = self.folder / "in", self.folder / "index"
+        # (what stands below /dev is read as it is, where any other pipe is refused)
+        place = tempfile.TemporaryDirectory(dir="/dev/shm")
+        self.addCleanup(place.cleanup)
+        pipe_path, output = Path(place.name) / "in", self.folder / "index"
         os.mkfifo(pipe_path)
         command = [sys.executable, "-B", SCRIPT, self.folder, "--for", pipe_path, "--output", output]
         streams = {"stdout": subprocess.PIPE, "stderr": subprocess.PIPE, "encoding": "utf-8"}

@@ -30,7 +30,7 @@ def packages():
         "werkzeug": [wheel_of("werkzeug", "2.3.8"), wheel_of("werkzeug", "3.0.4")],
         "jinja2": [wheel_of("jinja2", "3.1.4", beside=False)],
         "requests": [wheel_of("requests", version, "urllib3<3,>=1.21.1") for version in ("2.31.0", "2.32.3")],
-        "urllib3": [wheel_of("urllib3", "1.26.20"), wheel_of("urllib3", "2.2.3")],
+        "urllib3": [wheel_of("urllib3", "1.26.20"), wheel_of("urllib3", "2.2.3", tag="cp312-cp312-manylinux_2_17_x86_64")],
         "asgiref": [wheel_of("asgiref", "3.8.1")],
         "colorama": [wheel_of("colorama", "0.4.6")],
     }

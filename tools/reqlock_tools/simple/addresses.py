@@ -82,6 +82,12 @@ def plain_url(url: str) -> str:
     return urllib.parse.urlunsplit((parts.scheme, parts.netloc.rpartition("@")[2], path, query, ""))
 
 
+def is_index(url: str) -> bool:
+    """Whether a URL can be the address of an index."""
+    parts = parts_of(url)
+    return parts.scheme in PORTS and bool(parts.hostname) and not (parts.query or parts.fragment or is_odd(url))
+
+
 def without_password(text: str) -> str:
     """A text with a URL as it may be shown. The URL need not be a lawful one: all before the last `@` may be a password."""
     beginning, slashes, rest = text.partition("//")
@@ -104,15 +110,16 @@ def without_passwords(data: bytes) -> bytes:
 
 
 def basic(user: str, password: str) -> str:
-    """The header's value that tells user and password, as a URL writes them."""
-    pair = f"{urllib.parse.unquote(user)}:{urllib.parse.unquote(password)}"
-    return "Basic " + base64.b64encode(pair.encode()).decode()
+    """The header's value that tells user and password."""
+    return "Basic " + base64.b64encode(f"{user}:{password}".encode()).decode()
 
 
 def credentials_of(url: str) -> str | None:
     """The header's value for the user and password that a URL has; None where it has none."""
     parts = parts_of(url)
-    return None if parts.username is None else basic(parts.username, parts.password or "")
+    if parts.username is None:
+        return None
+    return basic(urllib.parse.unquote(parts.username), urllib.parse.unquote(parts.password or ""))
 
 
 @lru_cache(maxsize=2**10)

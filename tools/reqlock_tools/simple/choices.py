@@ -1,51 +1,36 @@
 """Which of the files that an index lists go into a snapshot."""
 
-import argparse
 import datetime
-import math
 from collections import Counter
 from collections.abc import Callable, Iterator
-from typing import Any, NamedTuple
+from functools import partial
+from typing import NamedTuple
 
 from reqlock_tools.archives import LONGEST_NAME
-from reqlock_tools.libraries import needed
+from reqlock_tools.markers import Markers
 from reqlock_tools.refusal import Refusal
-from reqlock_tools.simple.locked import locked_versions
+from reqlock_tools.simple.bounds import Bound, Bounds
+from reqlock_tools.simple.left import Left
+from reqlock_tools.simple.locked import versions_of
 from reqlock_tools.simple.pages import Link, PageFiles
-from reqlock_tools.snapshot_output import plural
+from reqlock_tools.simple.plan import Plan
+from reqlock_tools.simple.platforms import FOREIGN, Platforms
 from reqlock_tools.versions import Version, version_of
 
 DIGEST = "for want of a sha256"
 YANKED = "as they are yanked, beside others of their releases that aren't"
 LONG_NAMES = f"as their names have over {LONGEST_NAME} characters"
-# A wheel's name can stand for so many tags and no more.
-MOST_TAGS = 1000
 
 Release = list[Link]
 Test = Callable[[Link], bool]
 
 
-class Left:
-    """How many files and whole releases are left out, by the causes."""
+class Chosen(NamedTuple):
+    """The releases that are chosen of a page, each as its files, what is left out of them, and the versions that the page has."""
 
-    def __init__(self) -> None:
-        self.files: Counter[str] = Counter()
-        self.releases: Counter[str] = Counter()
-
-    def count(self, why: str, files: int, releases: int) -> None:
-        self.files[why] += files
-        self.releases[why] += releases
-
-    def add(self, other: "Left") -> None:
-        self.files.update(other.files)
-        self.releases.update(other.releases)
-
-    def told(self) -> Iterator[str]:
-        """A line for each cause that left something out."""
-        for why, files in self.files.items():
-            if files:
-                whole = self.releases[why]
-                yield f"left out {why}: {plural(files, 'file')}" + (f", with {plural(whole, 'whole release')}" if whole else "")
+    releases: list[Release]
+    left: Left
+    versions: list[str]
 
 
 def moment_of(text: str) -> datetime.datetime:
@@ -67,7 +52,7 @@ def is_of(release: Release, versions: set[Version]) -> bool:
 
 def by_version(links: list[Link]) -> list[Release]:
     """The links of each release, from the oldest release to the newest. Equal versions are one release."""
-    found: dict[Any, Release] = {}
+    found: dict[Version, Release] = {}
     for link in links:
         found.setdefault(version_of(link.version), []).append(link)
     return [found[key] for key in sorted(found)]
@@ -78,7 +63,7 @@ def without_files(releases: list[Release], is_out: Test, why: str, left: Left) -
     kept = []
     for release in releases:
         rest = [link for link in release if not is_out(link)]
-        left.count(why, len(release) - len(rest), not rest)
+        left.count(why, len(release) - len(rest), [] if rest else [release[0].version])
         kept += [rest] if rest else []
     return kept
 
@@ -86,14 +71,18 @@ def without_files(releases: list[Release], is_out: Test, why: str, left: Left) -
 def without_yanked(releases: list[Release], left: Left) -> list[Release]:
     """The releases without yanked files that stand beside others."""
     kept = [[link for link in release if not link.file.yanked] or release for release in releases]
-    left.count(YANKED, sum(map(len, releases)) - sum(map(len, kept)), 0)
+    left.count(YANKED, sum(map(len, releases)) - sum(map(len, kept)))
     return kept
 
 
 def without_releases(releases: list[Release], is_out: Callable[[Release], bool], why: str, left: Left) -> list[Release]:
     out = [release for release in releases if is_out(release)]
-    left.count(why, sum(map(len, out)), len(out))
+    left.count(why, sum(map(len, out)), [release[0].version for release in out])
     return [release for release in releases if not is_out(release)]
+
+
+def is_outside(bound: Bound, name: str, release: Release) -> bool:
+    return bound.is_out(name, version_of(release[0].version))
 
 
 class FileTest(NamedTuple):
@@ -105,21 +94,23 @@ class FileTest(NamedTuple):
 
 
 class Choices:
-    """What the options choose. What each left out is counted."""
+    """What a plan chooses."""
 
-    def __init__(self, options: argparse.Namespace) -> None:
-        self.options = options
-        self.until = None if options.exclude_newer is None else moment_of(options.exclude_newer)
-        self.tags = frozenset(needed("packaging.tags").sys_tags()) if options.for_this_machine else None
-        self.locked = locked_versions(options.keep)
-        self.left = Left()
+    def __init__(self, plan: Plan, markers: Markers) -> None:
+        self.options = plan.options
+        self.until = None if plan.options.exclude_newer is None else moment_of(plan.options.exclude_newer)
+        self.platforms = Platforms(plan)
+        self.locked = versions_of(plan.keep)
+        self.bounds = Bounds(plan.constraints, markers)
 
-    def chosen(self, url: str, page: PageFiles) -> tuple[list[Release], Left]:
-        """The releases that are chosen of a page's files, each as its files, and what is left out of them."""
+    def chosen(self, url: str, page: PageFiles) -> Chosen:
+        """What is chosen of a page's files."""
         left = Left()
-        left.count(LONG_NAMES, page.long_names, 0)
+        left.count(LONG_NAMES, page.long_names)
         releases = by_version(page.links())
+        versions = [release[0].version for release in releases]
         locked = self.locked.get(page.project, set())
+        releases = self.within_bounds(page.project, releases, left)
         spared = self.spared(url, [release for release in releases if is_of(release, locked)])
         for why, is_out, is_strict in self.tests(url):
             exempt = set() if is_strict else spared
@@ -128,14 +119,20 @@ class Choices:
         if self.options.no_pre:
             releases = without_releases(releases, lambda it: is_pre(it) and not is_of(it, locked), "by --no-pre", left)
         if self.options.newest is not None:
-            kept = self.newest(releases)
+            kept = self.newest(releases, self.options.newest)
             why = f"by --newest {self.options.newest}"
             releases = without_releases(releases, lambda it: id(it) not in kept and not is_of(it, locked), why, left)
-        return releases, left
+        return Chosen(releases, left, versions)
 
     def is_locked(self, name: str, release: Release) -> bool:
         """Whether a lock has a release of a package of this normal name."""
         return is_of(release, self.locked.get(name, set()))
+
+    def within_bounds(self, name: str, releases: list[Release], left: Left) -> list[Release]:
+        """The releases that no constraint leaves out, and a locked one neither."""
+        for file, bound in self.bounds.of(name):
+            releases = without_releases(releases, partial(is_outside, bound, name), f"by {file}", left)
+        return releases
 
     def tests(self, url: str) -> Iterator[FileTest]:
         """What leaves single files out, in turn."""
@@ -144,8 +141,8 @@ class Choices:
             yield FileTest(f"by --exclude-newer {self.options.exclude_newer}", lambda link: self.is_newer(url, link), False)
         if self.options.only_binary:
             yield FileTest("by --only-binary", lambda link: not link.is_wheel, False)
-        if self.tags is not None:
-            yield FileTest("by --for-this-machine", lambda link: link.is_wheel and not self.fits(link.file.name), True)
+        if not self.platforms.is_any:
+            yield FileTest(FOREIGN, lambda link: self.platforms.able([link.file.name]) == 0, True)
 
     def spared(self, url: str, locked: list[Release]) -> set[int]:
         """The ids of the files of locked releases that would be left without any."""
@@ -161,19 +158,15 @@ class Choices:
         except (ValueError, OverflowError):
             raise Refusal(f"{url}: {link.uploaded!a}, the upload-time of {link.file.name}, is no time") from None
 
-    def fits(self, name: str) -> bool:
-        """Whether a wheel of a name is for this machine."""
-        texts = name.removesuffix(".whl").split("-")[-3:]
-        count = math.prod(text.count(".") + 1 for text in texts)
-        return count <= MOST_TAGS and not (self.tags or frozenset()).isdisjoint(needed("packaging.tags").parse_tag("-".join(texts)))
-
-    def newest(self, releases: list[Release]) -> set[int]:
-        """The ids of the newest releases, pre-releases counted apart. Those that are yanked stand among them uncounted."""
+    def newest(self, releases: list[Release], count: int) -> set[int]:
+        """The ids of the newest releases, pre-releases counted apart. Those that are yanked, or that one of the environments can't
+        install, stand among them uncounted."""
         counts: Counter[bool] = Counter()
         kept = set()
         for release in reversed(releases):
             kind = is_pre(release)
-            if counts[kind] < self.options.newest:
+            if counts[kind] < count:
                 kept.add(id(release))
-                counts[kind] += not all(link.file.yanked for link in release)
+                is_able = self.platforms.able([link.file.name for link in release]) == self.platforms.all
+                counts[kind] += is_able and not all(link.file.yanked for link in release)
         return kept

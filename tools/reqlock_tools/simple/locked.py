@@ -5,7 +5,7 @@ from collections.abc import Iterable
 from reqlock_tools.files import Node, read_text
 from reqlock_tools.refusal import Refusal
 from reqlock_tools.toml import read_toml
-from reqlock_tools.versions import Version, normal, read_version
+from reqlock_tools.versions import Version, normal, read_version, version_of
 
 Locked = dict[str, set[Version]]
 
@@ -25,6 +25,20 @@ def version_of_package(package: Node) -> Version | None:
         return None
     found = read_version(told.text())
     told.want(found is not None, "a version")
+    return found
+
+
+def texts_of(locked: Locked) -> tuple[str, ...]:
+    """Versions as texts NAME==VERSION, in order."""
+    return tuple(f"{name}=={version}" for name in sorted(locked) for version in sorted(locked[name]))
+
+
+def versions_of(texts: Iterable[str]) -> Locked:
+    """The versions of such texts."""
+    found: Locked = {}
+    for text in texts:
+        name, _, version = text.partition("==")
+        found.setdefault(name, set()).add(version_of(version))
     return found
 
 

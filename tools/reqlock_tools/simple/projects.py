@@ -4,39 +4,60 @@ import re
 import threading
 import urllib.parse
 from dataclasses import dataclass, field
+from fnmatch import fnmatchcase
 
 from reqlock_tools.archives import LONGEST_NAME, ArchivedRelease, plain, release_of_archives
-from reqlock_tools.limits import Limits
 from reqlock_tools.refusal import Refusal
 from reqlock_tools.releases import Release, release_of
 from reqlock_tools.simple.addresses import Unfetched, plain_url, without_passwords
 from reqlock_tools.simple.cache import Beside, Cache
-from reqlock_tools.simple.choices import Choices, Left
-from reqlock_tools.simple.client import Client
+from reqlock_tools.simple.choices import Choices, Chosen
+from reqlock_tools.simple.client import Answer, Client
+from reqlock_tools.simple.fresh import freshness, is_fresh
+from reqlock_tools.simple.left import Left
 from reqlock_tools.simple.metadata import ABSENT, MetadataReader
 from reqlock_tools.simple.pages import ACCEPT, Link, read_page
+from reqlock_tools.simple.plan import Asking, IndexAddress, Plan
 from reqlock_tools.simple.served import Served
 
+UNTOLD = "as no file tells what they depend on"
+FAULTY = "as a file of them can't be read, or their files ask for different things"
 # Longer pages are read one at a time, as each takes much memory meanwhile.
 LONG_PAGE = 2**20
 
 
 @dataclass
 class Project:
-    """A project with its releases in their places, None where one is left out, and what is said of it."""
+    """A project of an index with its releases in their places, None where one is left out; all versions of its page, what is left out
+    of them, and what is said of it."""
 
     name: str
+    base: str
+    versions: list[str]
+    left: Left
     releases: list[Release | None] = field(default_factory=list)
     notes: list[str] = field(default_factory=list)
     untold: list[str] = field(default_factory=list)
+
+    def take(self, place: int, read: "ReadRelease") -> None:
+        """Takes a release that was read, at its place."""
+        self.releases[place] = read.release
+        self.notes += read.notes
+        self.left.add(read.left)
+        if read.untold is not None:
+            self.untold.append(read.untold)
+            self.left.count(UNTOLD, 0, [read.version])
+        elif read.release is None and not any(read.left.versions.values()):
+            self.left.count(FAULTY, 0, [read.version])
 
 
 @dataclass
 class ReadRelease:
     """A release as a snapshot has it, None where it is left out; and why, or its version where nothing tells what it needs."""
 
-    release: Release | None
-    notes: list[str]
+    version: str
+    release: Release | None = None
+    notes: list[str] = field(default_factory=list)
     untold: str | None = None
     left: Left = field(default_factory=Left)
 
@@ -61,14 +82,14 @@ def put_release(read: ReadRelease, told: ArchivedRelease, links: list[Link]) -> 
 class Index:
     """Asks an index for projects and releases. It may be asked by several threads."""
 
-    def __init__(self, base: str, client: Client, cache: Cache, choices: Choices, limits: Limits) -> None:
-        self.base = plain_url(base).rstrip("/")
-        self.client, self.cache, self.choices, self.limits = client, cache, choices, limits
-        self.reader = MetadataReader(client, cache, limits)
+    def __init__(self, address: IndexAddress, client: Client, cache: Cache, choices: Choices, asking: Asking) -> None:
+        self.address, self.base = address, plain_url(address.url).rstrip("/")
+        self.client, self.cache, self.choices, self.asking = client, cache, choices, asking
+        self.reader = MetadataReader(client, cache, client.limits)
         self.lock = threading.Lock()
 
-    def chosen(self, name: str) -> tuple[list[list[Link]], Left] | None:
-        """The releases that are chosen of a project, each as its files, and how many aren't; None where there is no page."""
+    def chosen(self, name: str) -> Chosen | None:
+        """What is chosen of a project; None where there is no page."""
         if len(name) > LONGEST_NAME:
             return None
         url = f"{self.base}/{urllib.parse.quote(name)}/"
@@ -78,23 +99,26 @@ class Index:
         told, body = page
         if len(body) > LONG_PAGE:
             with self.lock:
-                return self.choices.chosen(told["url"], read_page(told["url"], told["type"], body, name, self.limits))
-        return self.choices.chosen(told["url"], read_page(told["url"], told["type"], body, name, self.limits))
+                return self.choices.chosen(told["url"], read_page(told["url"], told["type"], body, name, self.client.limits))
+        return self.choices.chosen(told["url"], read_page(told["url"], told["type"], body, name, self.client.limits))
 
     def page(self, url: str) -> tuple[Beside, bytes] | None:
-        """A page with its type and last URL; None where there is none. One that is kept is asked for only if it has changed."""
+        """A page with its type and last URL; None where there is none. One that is kept is asked for only where it isn't fresh, and
+        comes only if it has changed."""
         kept = self.cache.get("page", url)
-        if self.cache.is_offline:
+        if self.asking.is_offline:
             if kept is None:
                 self.cache.refuse_absent(url)
             return None if kept is None or kept[0]["is_absent"] else kept
+        if kept is not None and not self.asking.is_refreshed and is_fresh(kept[0]):
+            return kept
         headers = {"Accept": ACCEPT, "Accept-Encoding": "gzip"}
         if kept is not None:
             names = {"etag": "If-None-Match", "modified": "If-Modified-Since"}
             headers |= {names[key]: kept[0][key] for key in names if kept[0][key] is not None}
         answer = self.client.ask(url, headers)
         if answer.status == 304 and kept is not None:
-            return kept
+            return self.still(url, kept, answer)
         told = {
             "url": answer.url, "type": answer.headers.get("Content-Type", ""), "etag": stamp(answer.headers.get("ETag")),
             "modified": stamp(answer.headers.get("Last-Modified")), "is_absent": answer.status in ABSENT,
@@ -105,13 +129,20 @@ class Index:
         if self.client.wanted(answer).status != 200:
             raise Unfetched(f"{answer.url}: {answer.status} {answer.reason}, which wasn't asked for")
         body = without_passwords(answer.body)
-        self.cache.put("page", url, told, body)
+        self.cache.put("page", url, told | freshness(answer.headers), body)
         return told, body
+
+    def still(self, url: str, kept: tuple[Beside, bytes], answer: Answer) -> tuple[Beside, bytes]:
+        """A page that is still as it was, which is fresh again as long as the answer says."""
+        more = freshness(answer.headers)
+        if more:
+            self.cache.put("page", url, kept[0] | more, kept[1])
+        return kept
 
     def release(self, name: str, links: list[Link]) -> ReadRelease:
         """A release of its files. The wheels tell of it, or where there is none, its sdists."""
         served = Served(links, self.choices.is_locked(name, links), self.base)
-        read = ReadRelease(None, [], left=served.left)
+        read = ReadRelease(links[0].version, left=served.left)
         try:
             archives = served.archives(self.reader.archive)
             if not archives:
@@ -131,3 +162,24 @@ class Index:
         if served.links:
             put_release(read, told, served.links)
         return read
+
+
+class Indexes:
+    """The indexes of a plan. A name is asked of the first that has it, and of no other: of those whose `only` it matches, or where it
+    matches none, of those without `only`."""
+
+    def __init__(self, plan: Plan, client: Client, cache: Cache, choices: Choices, asking: Asking) -> None:
+        self.all = [Index(address, client, cache, choices, asking) for address in plan.indexes]
+
+    def chosen(self, name: str) -> tuple[Index, Chosen] | None:
+        """The index that has a project, and what is chosen of it; None where none has it."""
+        for index in self.asked_for(name):
+            found = index.chosen(name)
+            if found is not None:
+                return index, found
+        return None
+
+    def asked_for(self, name: str) -> list[Index]:
+        """The indexes that are asked for a name, in order."""
+        bound = [it for it in self.all if any(fnmatchcase(name, pattern) for pattern in it.address.only)]
+        return bound or [it for it in self.all if not it.address.only]

@@ -4,7 +4,7 @@ from collections.abc import Callable
 from typing import TypeVar
 
 from reqlock_tools.simple.addresses import Unfetched, Unreachable, address_of
-from reqlock_tools.simple.choices import Left
+from reqlock_tools.simple.left import Left
 from reqlock_tools.simple.pages import Link
 
 Found = TypeVar("Found")
@@ -42,4 +42,4 @@ class Served:
             more = ", and it is a file of a locked release" if self.is_locked else ""
             raise Unfetched(f"{fault}{more}") from None
         self.links.remove(link)
-        self.left.count(f"as nobody answers at {address.host}:{address.port}", 1, int(not self.links))
+        self.left.count(f"as nobody answers at {address.host}:{address.port}", 1, [] if self.links else [link.version])
