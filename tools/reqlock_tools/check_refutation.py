@@ -8,6 +8,8 @@ error, with status 2. docs/RULES.md has the rules.
 Where `why` was asked with --keep-locked, give the lock with --keep: of each name that it has, its version alone counts then, but
 for names that are given with --upgrade, as they were to `why`.
 
+A check that takes more steps than --steps is given up, with status 2: what others wrote could take very long.
+
 No line is shared with reqlock or its tests. Versions are read and ordered by packaging, or by pip's copy of it. Specifiers and
 markers are read here, since packaging differs from the rules: by its release it takes `===`, empty clauses, `==1a1.*` and older
 variables; 1.2a1 doesn't match `==1.2.0.*`, nor 1.0+local `>1.0a1`; and texts that are no versions are compared otherwise.

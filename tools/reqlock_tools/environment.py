@@ -332,6 +332,9 @@ def main(words: Optional[List[str]] = None) -> int:
     except Refused as fault:
         say(str(fault))
         return 1
+    except KeyboardInterrupt:
+        say("stopped")
+        return 130
     refused = [name for name in VARIABLES if not is_lawful(found[name])]
     for name in refused:
         say("reqlock refuses {}: {!a}".format(name, found[name]))
