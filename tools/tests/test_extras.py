@@ -12,6 +12,7 @@ from rules.locks import best_solution, entries_of
 SEEDS = 1000 if IS_LONG else 40
 EXTRAS = "e", "F_1", "g", "f.1", "h"
 NAMES = [f"n{number}" for number in range(8)]
+COUNT, OTHERS = 12, 3
 
 
 class Drawn(Chance):
@@ -50,6 +51,38 @@ class Drawn(Chance):
 
 
 class ManyExtras(Program):
+    def locks_as_the_rules(self, lines, releases):
+        """What is locked is what the rules say, and something is."""
+        problem = problem_in(lines, *releases)
+        best = best_solution(problem)
+        self.assertIsNotNone(best)
+        self.begin(lines.encode(), *releases)
+        self.assertEqual(self.call("init"), (0, "ok 0\n"))
+        entries = read_lock((self.folder / "pylock.toml").read_bytes())[2]
+        self.assertEqual(entries, entries_of(problem, best))
+        return entries
+
+    def test_extras_times_dependencies(self):
+        """All extras are asked for, of a release whose dependencies are equal, have ranges of one name, or are on other names. Markers
+        read none of the extras, or each reads all."""
+        extras = [f"e{number}" for number in range(COUNT)]
+        names = [NAMES[number % OTHERS] for number in range(COUNT)]
+        shapes = {
+            "equal": ["n0"] * COUNT, "ranges": [f"n0>=0.{number}" for number in range(COUNT)], "names": names,
+            "extras": [f"{name}[{extra}]" for name, extra in zip(names, extras)],
+        }
+        reading = " or ".join(f"extra == '{extra}'" for extra in extras)
+        others = [(name, version, ["m; extra == 'e1'"]) for name in NAMES[:OTHERS] for version in ("0.1", "1")] + [("m", "1", [])]
+        for shape, needs in shapes.items():
+            for marker in "", f" ; {reading}":
+                with self.subTest(shape=shape, marker=marker):
+                    entries = self.locks_as_the_rules(
+                        f"a[{','.join(extras)}]\n", [("a", "1", [need + marker for need in needs]), *others]
+                    )
+                    self.assertEqual("m" in entries, shape == "extras")
+                    self.assertEqual(entries["a"]["dependencies"], NAMES[: 1 if shape in ("equal", "ranges") else OTHERS])
+                    self.setUp()
+
     def test_locks_are_those_of_the_rules(self):
         solved = 0
         for seed in range(SEEDS):
