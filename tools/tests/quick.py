@@ -8,6 +8,7 @@ import signal
 import subprocess
 import sys
 import tempfile
+import time
 from concurrent.futures import ThreadPoolExecutor
 from pathlib import Path
 
@@ -16,15 +17,18 @@ from quick_calls import SESSIONS, Call, Session, shown_sessions
 
 CONFORMANCE = TOP / "crates" / "conformance"
 PROGRAM = TOP / "crates" / "reqlock"
-SECONDS = "300"
+# (for one run of a program: the rows of `conformance` are one)
+SECONDS = "540"
 ENDED = re.compile(r"(?m)^case=(\d+) run=ended status=(\d+) .*\n")
 CASE = re.compile(r"(?m)^== (\d+)(?:\n|\Z)")
 
 
 def tried(crate: Path, *words: str, text: str = "") -> tuple[int, str, str]:
     """The status of `rt try` in a crate, and what it prints on standard output and on standard error."""
+    start = time.monotonic()
     command = ["rt", "try", "--seconds", SECONDS, *words]
     done = subprocess.run(command, cwd=crate, input=text, capture_output=True, encoding="utf-8", check=False)
+    print(f"rt try of {crate.name}: {time.monotonic() - start:.0f} s", flush=True)
     return done.returncode, done.stdout, done.stderr
 
 
