@@ -24,7 +24,7 @@ enum Unbound<'a> {
     Several,
 }
 
-fn unbound<'a>(old: &'a [PlacedTerm], own: &[PlacedTerm]) -> Unbound<'a> {
+fn unbound_in<'a>(old: &'a [PlacedTerm], own: &[PlacedTerm]) -> Unbound<'a> {
     let mut found = Unbound::Nothing;
     for term in old {
         if binding(term, own).is_none() {
@@ -49,7 +49,7 @@ pub fn exhausting(
     let mut marks = vec![in alloc; false; earlier.len()]?;
     let mut nodes: Vec<Excluded> = Vec::new(alloc);
     for (at, old) in earlier.iter().enumerate() {
-        match unbound(old.as_slice(), own) {
+        match unbound_in(old.as_slice(), own) {
             Unbound::Nothing => mark(&mut marks, at),
             Unbound::One(term) => add(alloc, &mut nodes, term, at)?,
             Unbound::Several => {}
