@@ -15,6 +15,8 @@ from made.journals import entry, lock_text
 from made.releases import index_of
 from places import TOOLS, new_folder
 
+from reqlock_tools.environment import VARIABLES
+
 try:
     from packaging.markers import Marker
 except ImportError:
@@ -78,8 +80,8 @@ class PortableLock(unittest.TestCase):
 
     def check_meaning(self, marker):
         """To packaging the marker holds wherever the kept variables are what they were, and nowhere else."""
-        for name, value in LINUX.items():
-            other = LINUX | {name: value + "0"}
+        for name in VARIABLES:
+            other = LINUX | {name: LINUX[name] + "0"}
             self.assertTrue(Marker(marker).evaluate(LINUX))
             self.assertEqual(Marker(marker).evaluate(other), name not in KEPT, name)
 
