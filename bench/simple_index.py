@@ -1,10 +1,12 @@
 #!/usr/bin/env python3
-"""Times `tools/snapshot.py simple` on an index of its own: simple_index.py [PACKAGES [RELEASES [SECONDS]]]
+"""Times `tools/snapshot.py simple` on an index of its own: simple_index.py [PACKAGES [RELEASES [SECONDS [LINES]]]]
 
 The index has 300 packages with 30 releases each, unless told otherwise, and answers on 127.0.0.1 from another process, each
 request after SECONDS more, 0 where none are given. Each release has a wheel with its metadata beside it, and four dependencies on
-average. A first call has an empty cache, a second a full one, a third is offline. Of each the seconds by the clock, the processor
-seconds, the requests that the index counted and the peak memory are printed. All three give the same bytes.
+average. Thirty names lead to all packages; with LINES so many names lead to six packages each, and to no others.
+A first call has an empty cache, a second a full one, of which it asks whether each page is as it was, a third is offline. They give the
+same bytes. A fourth makes the snapshot again with one name more while all pages are fresh. Of each the seconds by the clock, the
+processor seconds, the requests that the index counted and the peak memory are printed.
 """
 import multiprocessing
 import os
@@ -21,23 +23,32 @@ from made.served_index import Answers, MadeIndex, wheel_of  # noqa: E402
 
 SEED = 1
 LINES = 30
+GROUP = 6
 
 
 def name_of(number):
     return f"package-{number:03}"
 
 
-def fill(index, packages, releases):
-    """Makes the world. A package needs others with a lower bound, most of them near it."""
+def others_of(chance, number, packages, has_groups):
+    """What a release needs: others that are mostly near it, or those behind it in its group."""
+    if has_groups:
+        behind = range(number + 1, min(packages, (number // GROUP + 1) * GROUP))
+        return set(chance.sample(behind, min(len(behind), chance.randint(3, 5))))
+    return {(number + int(chance.expovariate(0.1)) + 1) % packages for _ in range(chance.randint(2, 6))}
+
+
+def fill(index, packages, releases, has_groups):
+    """Makes the world. A package needs others with a lower bound."""
     chance = random.Random(SEED)
     for number in range(packages):
         for version in range(1, releases + 1):
-            others = {(number + int(chance.expovariate(0.1)) + 1) % packages for _ in range(chance.randint(2, 6))}
+            others = others_of(chance, number, packages, has_groups)
             needs = [f"{name_of(other)}>={chance.randint(1, version)}" for other in sorted(others)]
             index.add(name_of(number), wheel_of(name_of(number).replace("-", "_"), f"1.{version}", *needs, python=">=3.8"))
 
 
-def serve(pipe, packages, releases, seconds):
+def serve(pipe, packages, releases, seconds, has_groups):
     """Tells where the index is, and then how many requests came since, as often as it is asked."""
     usual = Answers.do_GET
 
@@ -47,18 +58,17 @@ def serve(pipe, packages, releases, seconds):
 
     if seconds:
         Answers.do_GET = Answers.do_HEAD = later
-    index = MadeIndex()
-    fill(index, packages, releases)
+    index = MadeIndex(max_age=600)
+    fill(index, packages, releases, has_groups)
     pipe.send(index.url)
     while pipe.recv():
         pipe.send(sum(index.counts().values()))
 
 
-def timed(pipe, words):
+def timed(pipe, words, variables):
     """The figures of one call."""
     start = time.monotonic()
-    command = [sys.executable, "-B", TOOLS / "snapshot.py", "simple", *words]
-    call = subprocess.Popen(command, stderr=subprocess.PIPE, encoding="utf-8")
+    call = subprocess.Popen([sys.executable, TOOLS / "snapshot.py", *words], stderr=subprocess.PIPE, encoding="utf-8", env=variables)
     told = call.stderr.read()
     _, status, usage = os.wait4(call.pid, 0)
     seconds = time.monotonic() - start
@@ -69,20 +79,26 @@ def timed(pipe, words):
 
 
 def main(arguments):
-    packages, releases, seconds = (*map(int, arguments[:2]), *(300, 30)[len(arguments):], *map(float, arguments[2:]), 0)[:3]
+    packages, releases, seconds, lines = (*arguments, *("300", "30", "0", "0")[len(arguments):])[:4]
+    packages, releases, seconds, lines = int(packages), int(releases), float(seconds), int(lines)
     pipe, theirs = multiprocessing.Pipe()
-    server = multiprocessing.Process(target=serve, args=(theirs, packages, releases, seconds), daemon=True)
+    server = multiprocessing.Process(target=serve, args=(theirs, packages, releases, seconds, lines > 0), daemon=True)
     server.start()
     url, texts = pipe.recv(), []
     with tempfile.TemporaryDirectory() as name:
         output = Path(name) / "index.json"
-        names = [name_of(number) for number in range(0, packages, max(1, packages // LINES))]
-        words = [url, *names, "--cache", Path(name) / "cache", "--output", output]
-        for title, more in ("empty cache", []), ("full cache", []), ("offline", ["--offline"]):
-            clock, processor, requests, memory = timed(pipe, [*words, *more])
+        step = GROUP * max(1, packages // GROUP // lines) if lines else max(1, packages // LINES)
+        names = [name_of(number) for number in range(0, packages, step)][: lines or None]
+        place = "--cache", Path(name) / "cache", "--output", output
+        new = name_of(GROUP - 1 if lines else 0) if step == GROUP else name_of(step - 1)
+        for title, words in (
+            ("empty cache", ["simple", url, *names]), ("full cache", ["simple", url, *names, "--refresh"]),
+            ("offline", ["simple", url, *names, "--offline"]), ("one name more", ["again", new]),
+        ):
+            clock, processor, requests, memory = timed(pipe, [*words, *place], {**os.environ, "PYTHONPYCACHEPREFIX": name})
             texts.append(output.read_bytes())
-            print(f"{title}: {clock:.1f} s, {processor:.1f} s of processor time, {requests} requests, {memory:.0f} MB", flush=True)
-    if len(set(texts)) != 1:
+            print(f"{title}: {clock:.2f} s, {processor:.2f} s of processor time, {requests} requests, {memory:.0f} MB", flush=True)
+    if len(set(texts[:3])) != 1:
         sys.exit("the snapshots differ")
     print(f"the snapshot has {len(texts[0]) / 1e6:.1f} MB")
     pipe.send(False)

@@ -5,7 +5,6 @@ import sys
 from functools import cache
 from typing import TYPE_CHECKING, Any
 
-from reqlock_tools.names import is_installed
 from reqlock_tools.refusal import Refusal
 
 
@@ -30,6 +29,7 @@ def needed(name: str) -> Any:
 
 __all__ = [
     "absent_text", "library", "needed", "packaging_requirements", "packaging_tags", "packaging_utils", "packaging_version",
+    "rich_console", "rich_progress", "urllib3", "urllib3_connection", "urllib3_pools", "urllib3_retry",
 ]
 
 
@@ -46,6 +46,12 @@ class Late:
 
 
 if TYPE_CHECKING:
+    import rich.console as rich_console
+    import rich.progress as rich_progress
+    import urllib3 as urllib3
+    import urllib3.connection as urllib3_connection
+    import urllib3.connectionpool as urllib3_pools
+    import urllib3.util.retry as urllib3_retry
     from packaging import requirements as packaging_requirements
     from packaging import tags as packaging_tags
     from packaging import utils as packaging_utils
@@ -53,9 +59,11 @@ if TYPE_CHECKING:
 else:
     packaging_requirements, packaging_tags = Late("packaging.requirements"), Late("packaging.tags")
     packaging_utils, packaging_version = Late("packaging.utils"), Late("packaging.version")
+    rich_console, rich_progress = Late("rich.console"), Late("rich.progress")
+    urllib3, urllib3_retry = Late("urllib3"), Late("urllib3.util.retry")
+    urllib3_connection, urllib3_pools = Late("urllib3.connection"), Late("urllib3.connectionpool")
 
 
 def absent_text(package: str) -> str:
     """What is told where a library is absent."""
-    next_step = "install reqlock with its extra, as 'reqlock[index]'" if is_installed() else f"python3 -m pip install {package}"
-    return f"{sys.executable} has neither the library {package} nor pip, which has a copy: {next_step}"
+    return f"{sys.executable} has neither the library {package} nor pip, which has a copy: python3 -m pip install {package}"

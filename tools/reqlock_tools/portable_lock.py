@@ -100,8 +100,9 @@ def read_lock(lock: dict[str, Any]) -> Lock:
     marker, *more = lock["environments"]
     environment = dict(re.findall('(?<![a-z_])([a-z_]+) == "([^"]*)"', marker))
     refuse_unless(not more and marker == marker_of(environment) and sorted(environment) == sorted(VARIABLES), UNREAD)
-    packages = {package["name"]: read_version(package["version"]) for package in lock["packages"]}
-    refuse_unless(None not in packages.values(), UNREAD)
+    read = {package["name"]: read_version(package["version"]) for package in lock["packages"]}
+    packages = {name: version for name, version in read.items() if version is not None}
+    refuse_unless(packages.keys() == read.keys(), UNREAD)
     return Lock(environment, packages, lock["tool"]["reqlock"]["snapshot"])
 
 

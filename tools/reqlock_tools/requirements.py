@@ -6,7 +6,7 @@ from typing import NamedTuple
 
 from reqlock_tools.environment import VARIABLES
 from reqlock_tools.files import Node, read_json, read_text
-from reqlock_tools.libraries import library
+from reqlock_tools.libraries import library, packaging_requirements
 from reqlock_tools.names import called
 from reqlock_tools.refusal import Refusal, Say
 from reqlock_tools.versions import is_name, normal
@@ -47,11 +47,10 @@ def fault_of(text: str) -> str | None:
 
 def doubt_of(text: str) -> str | None:
     """Why packaging doesn't read a text as a requirement; None where it does."""
-    requirements = library("packaging.requirements")
-    if requirements is None or len(text) > LONGEST:
+    if library("packaging.requirements") is None or len(text) > LONGEST:
         return None
     try:
-        requirements.Requirement(text)
+        packaging_requirements.Requirement(text)
     except (ValueError, RecursionError) as error:
         return str(error).partition("\n")[0]
     return None

@@ -2,14 +2,18 @@
 
 import re
 from functools import lru_cache
-from typing import Any
+from typing import TYPE_CHECKING
 
-from reqlock_tools.libraries import needed
+from reqlock_tools.libraries import packaging_utils, packaging_version
+
+if TYPE_CHECKING:
+    from packaging.version import Version as Version
+else:
+    Version = object
 
 LARGEST = 2**64 - 1
 SPACE = " \t\n\r\f\v"
 LONGEST = 2**12
-Version = Any
 
 
 def read_version(text: str) -> Version | None:
@@ -24,7 +28,7 @@ def read_short(text: str) -> Version | None:
     if re.fullmatch("[!-~]+", text) is None:
         return None
     try:
-        found = needed("packaging.version").Version(text)
+        found = packaging_version.Version(text)
     except ValueError:
         return None
     numbers = [found.epoch, *found.release, *(found.pre or ())[1:], found.post or 0, found.dev or 0]
@@ -43,8 +47,7 @@ def version_of(text: str) -> Version:
 @lru_cache(maxsize=2**14)
 def normal(name: str) -> str:
     """The form of a name by which packages are compared (PEP 503)."""
-    found: str = needed("packaging.utils").canonicalize_name(name)
-    return found
+    return packaging_utils.canonicalize_name(name)
 
 
 def is_name(text: str) -> bool:

@@ -1,6 +1,7 @@
 """Which names are reached from requirements through the dependencies of releases, and in which environments."""
 
 from collections.abc import Iterable
+from functools import lru_cache
 
 from reqlock_tools.markers import NO_EXTRA, Markers, extras_of, tree_of
 from reqlock_tools.requirements import Need, need_of
@@ -10,8 +11,9 @@ Needs = dict[str, list[Need]]
 Pending = list[tuple[Needs, str, int]]
 
 
-def needs_of(texts: Iterable[str]) -> Needs:
-    """What dependencies need, by the extras that their markers read. Each stands under no extra too."""
+@lru_cache(maxsize=2**14)
+def needs_of(texts: tuple[str, ...]) -> Needs:
+    """What dependencies need, by the extras that their markers read. Each stands under no extra too. Releases often need the same."""
     found: Needs = {NO_EXTRA: []}
     for need in map(need_of, texts):
         if need is not None:
@@ -30,16 +32,20 @@ class Walk:
         self.markers = markers
         self.asked: dict[str, dict[str, int]] = {}
         self.releases: dict[str, list[tuple[Needs, int]]] = {}
+        self.added: set[tuple[str, int, int]] = set()
         # Those that were reached, by their ids: to compare or hash one takes as long as it has extras.
         self.known: dict[int, tuple[Need, int]] = {}
 
     def ask(self, texts: Iterable[str]) -> list[str]:
         """Follows requirements. The names that weren't reached before are given, in order."""
-        return self.follow([(needs_of(texts), NO_EXTRA, self.markers.all)])
+        return self.follow([(needs_of(tuple(texts)), NO_EXTRA, self.markers.all)])
 
     def add(self, name: str, texts: Iterable[str], where: int | None = None) -> list[str]:
         """Takes the dependencies of a release that some environments can install, and follows them where its name is reached."""
-        needs, where = needs_of(texts), self.markers.all if where is None else where
+        needs, where = needs_of(tuple(texts)), self.markers.all if where is None else where
+        if (name, id(needs), where) in self.added:
+            return []
+        self.added.add((name, id(needs), where))
         self.releases.setdefault(name, []).append((needs, where))
         return self.follow([(needs, extra, asking & where) for extra, asking in self.asked.get(name, {}).items()])
 

@@ -128,9 +128,15 @@ class Secrets(Hostile):
 
     def test_entries_of_a_cache_that_are_no_files_are_not_waited_for(self):
         self.taken()
-        for path in [path for path in (self.folder / "cache").rglob("*") if path.is_file()]:
+        entries = [path for path in (self.folder / "cache").rglob("*") if path.is_file()]
+        whole = [path for path in entries if "project" in str(path)]
+        for path in entries:
+            for other in whole:
+                other.unlink()
+            self.taken()
             for make in os.mkfifo, lambda path: path.symlink_to("/dev/zero"):
-                path.unlink()
+                for entry in {path, *whole}:
+                    entry.unlink()
                 make(path)
                 self.taken()
                 self.assertTrue(path.is_file() and not path.is_symlink())

@@ -239,7 +239,7 @@ class Cache(Simple):
         self.made(self.index, "a")
         data, entries = self.output.read_bytes(), self.entries()
         kept = {path: path.read_bytes() for path in entries}
-        self.assertEqual(len(entries), 2)
+        self.assertEqual(len(entries), 3)
         for broken in b"", b"{}\n", b"[]\n", b"\xff", kept[entries[0]][:-1], kept[entries[0]] + b" ":
             for path in entries:
                 path.write_bytes(broken)
@@ -247,9 +247,40 @@ class Cache(Simple):
             self.assertEqual(self.output.read_bytes(), data)
             self.assertEqual({path: path.read_bytes() for path in self.entries()}, kept)
 
+    def forget_projects(self):
+        """Removes what is kept of whole projects, so that their files count."""
+        for path in self.entries():
+            if "project" in str(path):
+                path.unlink()
+
+    def test_has_whole_projects_for_one_choice_of_one_page(self):
+        """What is kept of a project is what its files tell, and of another page or another choice it is read again."""
+        self.index.add("a", sdist_of("a", "0.1", metadata="1.0"), wheel_of("a", "2", "b"), wheel_of("a", "2rc1", told={"yanked": True}))
+        self.index.projects["a"] += [sdist_of("a", "3")]
+        self.index.files["a-3.tar.gz"] = sdist_of("a", "3", "c")  # (its digest isn't the page's)
+        words = [], ["--no-pre"], ["--only-binary"], ["--newest", "1"], ["--exclude-newer", "2000-01-01"], ["--assume-no-dependencies"]
+        self.index.projects["a"].pop()
+        for file in self.index.projects["a"]:
+            file.told["upload-time"] = "1999-01-01T00:00:00Z"
+        for some in words:
+            with self.subTest(words=some):
+                first, data = self.made(self.index, "a", *some), self.output.read_bytes()
+                self.assertEqual((self.made(self.index, "a", *some), self.output.read_bytes()), (first, data))
+                self.forget_projects()
+                self.assertEqual((self.made(self.index, "a", *some), self.output.read_bytes()), (first, data))
+        self.index.projects["a"].pop()
+        self.assertEqual(list(self.made(self.index, "a")[0]["a"]), ["1", "2"])
+
+    def test_has_no_project_whose_files_may_come_yet(self):
+        file = self.index.add("a", wheel_of("a", "2", beside=False)) or self.index.files.pop("a-2-py3-none-any.whl")
+        self.assertEqual(list(self.made(self.index, "a")[0]["a"]), ["1"])
+        self.index.files[file.name] = file
+        self.assertEqual(list(self.made(self.index, "a")[0]["a"]), ["1", "2"])
+
     def test_whose_entries_changed_places_is_filled_again(self):
         self.index.add("a", wheel_of("a", "2"))
         self.made(self.index, "a")
+        self.forget_projects()
         one, other = (path for path in self.entries() if "metadata" in str(path))
         texts = one.read_bytes(), other.read_bytes()
         one.write_bytes(texts[1])
@@ -263,6 +294,7 @@ class Cache(Simple):
         self.made(self.index, "a")
         self.index.counts()
         self.made(self.index, "a", "--offline")
+        self.forget_projects()
         [path] = [path for path in self.entries() if "metadata" in str(path)]
         path.unlink()
         self.check_refused(self.index, "a", "--offline", fault="^/files/a-1-py3-none-any.whl.metadata: it isn't in ")

@@ -10,6 +10,7 @@ import unittest
 
 from made.archives import wheel
 from made.environments import LINUX
+from made.library_wheels import make_library_wheels, missing_names
 from made.releases import index_of
 from packaged import PAGES, Packaged, own_variables
 from places import PROGRAM, TOP
@@ -18,6 +19,7 @@ from test_install import COMMANDS
 TOOLS = [command for command in COMMANDS if command != "reqlock"]
 
 
+@unittest.skipIf(missing_names(), f"python3 lacks {' '.join(missing_names())}, of which the tests make wheels: apt-get install python3-NAME")
 class Wheeled(Packaged):
     """A test with a wheel, and with a home for a user."""
 
@@ -25,6 +27,7 @@ class Wheeled(Packaged):
         super().setUp()
         self.build()
         (self.folder / "home").mkdir()
+        self.libraries = make_library_wheels(self.folder / "libraries")
 
     def venv(self):
         """An empty environment with pip alone."""
@@ -70,28 +73,41 @@ class Installed(Wheeled):
     def test_by_pip_and_removed(self):
         venv = self.venv()
         pip = venv / "bin" / "python", "-m", "pip"
-        self.run_in(self.folder, *pip, "install", "--no-index", self.wheel())
+        self.run_in(self.folder, *pip, "install", "--no-index", "--find-links", self.libraries, self.wheel())
         self.check_runs(venv / "bin")
+        self.assertEqual(self.run_in(self.folder, *pip, "check"), "No broken requirements found.\n")
         self.check_page(venv / "share")
         self.run_in(self.folder, *pip, "uninstall", "--yes", "reqlock")
         self.assertEqual([path.name for path in venv.rglob("*reqlock*") if "__pycache__" not in str(path)], [])
 
-    def test_tools_without_pip_tell_what_to_install(self):
+    def test_the_libraries_come_with_it(self):
+        """They are those that the tools take: pip's copies may go."""
         venv = self.venv()
         pip = venv / "bin" / "python", "-m", "pip"
-        self.run_in(self.folder, *pip, "install", "--no-index", self.wheel())
+        self.run_in(self.folder, *pip, "install", "--no-index", "--find-links", self.libraries, self.wheel())
         self.run_in(self.folder, *pip, "uninstall", "--yes", "pip")
+        words = "simple", "http://127.0.0.1:1/simple/", "a", "--cache", self.folder / "cache"
+        told = self.run_in(self.folder, venv / "bin" / "reqlock-snapshot", *words, status=1)
+        self.assertIn("/simple/a/: Connection refused; is the address right?", told)
+
+    def test_tools_without_libraries_tell_what_to_install(self):
+        venv = self.venv()
+        pip = venv / "bin" / "python", "-m", "pip"
+        self.run_in(self.folder, *pip, "install", "--no-index", "--no-deps", self.wheel())
+        self.run_in(self.folder, *pip, "uninstall", "--yes", "pip")
+        for command in TOOLS:
+            self.assertTrue(self.run_in(self.folder, venv / "bin" / command, "--help").startswith(f"usage: {command} "))
         words = "simple", "http://127.0.0.1:1/simple/", "a"
         told = self.run_in(self.folder, venv / "bin" / "reqlock-snapshot", *words, status=2)
-        self.assertIn("has neither the library packaging nor pip, which has a copy: install reqlock with its extra", told)
+        self.assertIn("has neither the library packaging nor pip, which has a copy: python3 -m pip install packaging", told)
         (self.folder / "pylock.toml").write_text('lock-version = "1.0"\n[[packages]]\nname = "a"\nversion = "1"\n', encoding="utf-8")
         told = self.run_in(self.folder, venv / "bin" / "reqlock-hashes", "pylock.toml", status=1)
-        self.assertIn("install reqlock with its extra, as 'reqlock[index]'", told)
+        self.assertIn("python3 -m pip install packaging", told)
 
     @unittest.skipUnless(shutil.which("pipx"), "there is no pipx: apt-get install pipx")
     def test_by_pipx_and_removed(self):
         local = self.folder / "home" / ".local"
-        self.run_in(self.folder, "pipx", "install", "--pip-args=--no-index", self.wheel())
+        self.run_in(self.folder, "pipx", "install", f"--pip-args=--no-index --find-links {self.libraries}", self.wheel())
         self.assertEqual(sorted(path.name for path in (local / "bin").iterdir()), sorted(COMMANDS))
         self.check_runs(local / "bin")
         [venv] = [path.parent for path in local.glob("**/venvs/reqlock/share")]
@@ -108,7 +124,7 @@ class Job(Wheeled):
     def project(self):
         """A repository with all that the job reads."""
         place = self.folder / "repository"
-        (place / "ci").mkdir(parents=True)
+        shutil.copytree(self.libraries, place / "ci")
         shutil.copy(self.wheel(), place / "ci")
         wheel(place / "wheels", "a", "1")
         (place / "requirements.txt").write_bytes(b"a\n")

@@ -44,6 +44,11 @@ class Bound:
             if need is not None and markers.can_hold(need.marker, NO_EXTRA):
                 self.clauses.setdefault(need.name, []).extend(clauses_of(text) or ())
 
+    def told(self, name: str) -> str:
+        """What is asked of a package, as a text."""
+        clauses = [(it.sign, str(it.version), it.is_prefix) for it in self.clauses.get(name, ())]
+        return repr((sorted(map(str, self.versions.get(name, ()))), name in self.versions, clauses))
+
     def is_out(self, name: str, version: Version) -> bool:
         """Whether a release is outside."""
         if name in self.versions and version not in self.versions[name]:

@@ -19,6 +19,7 @@ Beside = dict[str, Any]
 # What stands beside the bodies of each kind.
 KEYS: dict[str, set[str]] = {
     "page": {"url", "type", "etag", "modified", "is_absent"}, "metadata": set(), "absent": set(), "archive": set(), "size": {"size"},
+    "project": set(),
 }
 
 

@@ -8,9 +8,9 @@ import urllib.request
 import zlib
 from collections.abc import Iterator, Mapping
 from dataclasses import dataclass
-from typing import IO, Any, NamedTuple
+from typing import IO, TYPE_CHECKING, Any, NamedTuple
 
-from reqlock_tools.libraries import needed
+from reqlock_tools.libraries import urllib3, urllib3_retry
 from reqlock_tools.limits import Limits
 from reqlock_tools.refusal import Say
 from reqlock_tools.simple.addresses import (
@@ -20,6 +20,9 @@ from reqlock_tools.simple.credentials import Credentials, Origin
 from reqlock_tools.simple.plan import Asking
 from reqlock_tools.simple.watch import TooLong, Watch, pools_of
 from reqlock_tools.snapshot_output import plural
+
+if TYPE_CHECKING:
+    from urllib3 import HTTPResponse
 
 REDIRECTS = 301, 302, 303, 307, 308
 MOST_REDIRECTS = 10
@@ -122,9 +125,10 @@ class Client:
     def __init__(self, asking: Asking, limits: Limits, credentials: Credentials, say: Say) -> None:
         self.limits, self.credentials = limits, credentials
         self.seconds, self.retries, self.jobs, self.say = asking.timeout, asking.retries, asking.jobs, say
-        self.urllib3, self.watch = needed("urllib3"), Watch(self.limits)
+        self.watch = Watch(self.limits)
         # Its own pauses aren't taken: nothing ends them before their time, and a server may ask for any.
-        self.retry = needed("urllib3.util.retry").Retry()
+        self.retry = urllib3_retry.Retry()
+        # (urllib3 tells no types of these before its version 2)
         self.pools: dict[object, tuple[Any, Any]] = {}
         self.proxies = urllib.request.getproxies()
         self.reached: set[Origin] = set()
@@ -186,7 +190,7 @@ class Client:
                 raise Unfetched(str(self.limits.over(str(error), url))) from None
             except Broken as error:
                 fault = str(error)
-            except (self.urllib3.exceptions.HTTPError, OSError, http.client.HTTPException, UnicodeError) as error:
+            except (urllib3.exceptions.HTTPError, OSError, http.client.HTTPException, UnicodeError) as error:
                 self.refuse_lasting(address, url, error)
                 fault = fault_text(error, self.seconds)
             pause = min(FIRST_PAUSE * 2 ** min(count, 10), LONGEST_PAUSE) if asked is None else asked
@@ -207,7 +211,7 @@ class Client:
     def refuse_lasting(self, address: Address, url: str, error: Exception) -> None:
         """Refuses where asking again can't help."""
         cause = cause_of(error)
-        if isinstance(error, self.urllib3.exceptions.LocationValueError) or isinstance(cause, UnicodeError):
+        if isinstance(error, urllib3.exceptions.LocationValueError) or isinstance(cause, UnicodeError):
             raise Unfetched(f"{url}: its host is no name: {cause}") from None
         if fault := certificate_fault(error):
             raise Unfetched(f"{url}: its certificate isn't trusted: {fault}; SSL_CERT_FILE can name other authorities") from None
@@ -259,7 +263,7 @@ class Client:
         pause = self.pause_asked(response) if response.status in TRY_AGAIN else None
         return Answer(request.url, response.status, response.reason or "", response.headers, body), pause
 
-    def received(self, response: Any, into: IO[bytes] | None, most: str) -> bytes:
+    def received(self, response: "HTTPResponse", into: IO[bytes] | None, most: str) -> bytes:
         """The body of a response, which must be whole. It goes into a file where one is given."""
         pieces, count = [], 0
         if into is not None:
@@ -277,11 +281,11 @@ class Client:
             self.bytes += count
         return b"".join(pieces)
 
-    def pause_asked(self, response: Any) -> float | None:
+    def pause_asked(self, response: "HTTPResponse") -> float | None:
         """The seconds that Retry-After asks for; None where it asks for none."""
         try:
             found = self.retry.get_retry_after(response)
-        except (self.urllib3.exceptions.HTTPError, ValueError, TypeError, OverflowError):
+        except (urllib3.exceptions.HTTPError, ValueError, TypeError, OverflowError):
             return None
         return None if found is None else min(max(float(found), 0.0), LONGEST_PAUSE)
 
@@ -306,10 +310,11 @@ class Client:
         """What opens connections, through a proxy where the surroundings name one."""
         trust = ssl.create_default_context()
         # Before its version 2 urllib3 compares hosts and certificates itself, and needs this to reach a host by its number.
-        trust.check_hostname = trust.check_hostname and not self.urllib3.__version__.startswith("1.")
-        timeout = self.urllib3.Timeout(connect=self.seconds, read=self.seconds)
+        trust.check_hostname = trust.check_hostname and not urllib3.__version__.startswith("1.")
+        timeout = urllib3.Timeout(connect=self.seconds, read=self.seconds)
+        found: Any
         if proxy is None:
-            found = self.urllib3.PoolManager(maxsize=self.jobs, timeout=timeout, ssl_context=trust)
+            found = urllib3.PoolManager(maxsize=self.jobs, timeout=timeout, ssl_context=trust)
         else:
             url = proxy if "//" in proxy else f"http://{proxy}"
             if is_odd(url):
@@ -317,7 +322,7 @@ class Client:
             address, value = address_of(url), credentials_of(url)
             headers = {} if value is None else {"Proxy-Authorization": value}
             host = f"[{address.host}]" if ":" in address.host else address.host
-            found = self.urllib3.ProxyManager(
+            found = urllib3.ProxyManager(
                 f"{address.scheme}://{host}:{address.port}", proxy_headers=headers, proxy_ssl_context=trust, maxsize=self.jobs,
                 timeout=timeout, ssl_context=trust,
             )

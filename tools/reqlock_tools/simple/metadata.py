@@ -43,6 +43,10 @@ def key_of(link: Link) -> str:
     return f"{(link.file.sha256 or '').lower()} {link.file.url}"
 
 
+class Absent(Refusal):
+    """The index doesn't have a file, which it may have later."""
+
+
 class MetadataReader:
     """Reads files of an index, each once: metadata beside a wheel is kept by its digest, or by its URL where none is told."""
 
@@ -79,7 +83,7 @@ class MetadataReader:
                 return None, data
         told, data = kept or self.within(link)
         if "fault" in told:
-            raise Refusal(f"{link.file.url}: {told['fault']}")
+            raise (Absent if told.get("is_absent") else Refusal)(f"{link.file.url}: {told['fault']}")
         return told.get("inner"), data
 
     # The file beside a wheel
@@ -122,7 +126,7 @@ class MetadataReader:
         told: Beside = {}
         data = b""
         if self.is_absent_offline(url):
-            return {"fault": "the index doesn't have it"}, b""
+            return {"fault": "the index doesn't have it", "is_absent": True}, b""
         with tempfile.TemporaryFile() as file:
             try:
                 told, data = (self.by_ranges if link.is_wheel else self.by_whole)(link, file)

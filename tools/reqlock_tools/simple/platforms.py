@@ -16,8 +16,8 @@ class Platforms:
 
     def __init__(self, plan: Plan) -> None:
         self.all = (1 << max(1, len(plan.environments))) - 1
-        built = [] if plan.options.any_platform else [it.built for it in plan.environments]
-        self.tags = [None if it is None else built_tags(it) for it in built]
+        self.built = [] if plan.options.any_platform else [it.built for it in plan.environments]
+        self.tags = [None if it is None else built_tags(it) for it in self.built]
         self.known: dict[str, int] = {}
         self.is_any = all(it is None for it in self.tags)
 

@@ -3,63 +3,26 @@
 import re
 import threading
 import urllib.parse
-from dataclasses import dataclass, field
+from dataclasses import dataclass
 from fnmatch import fnmatchcase
 
 from reqlock_tools.archives import LONGEST_NAME, ArchivedRelease, plain, release_of_archives
 from reqlock_tools.refusal import Refusal
 from reqlock_tools.releases import Release, release_of
+from reqlock_tools.simple import known
 from reqlock_tools.simple.addresses import Unfetched, plain_url, without_passwords
 from reqlock_tools.simple.cache import Beside, Cache
 from reqlock_tools.simple.choices import Choices, Chosen
 from reqlock_tools.simple.client import Answer, Client
 from reqlock_tools.simple.fresh import freshness, is_fresh
-from reqlock_tools.simple.left import Left
-from reqlock_tools.simple.metadata import ABSENT, MetadataReader
+from reqlock_tools.simple.metadata import ABSENT, Absent, MetadataReader
 from reqlock_tools.simple.pages import ACCEPT, Link, read_page
 from reqlock_tools.simple.plan import Asking, IndexAddress, Plan
+from reqlock_tools.simple.project import Project, ReadRelease
 from reqlock_tools.simple.served import Served
 
-UNTOLD = "as no file tells what they depend on"
-FAULTY = "as a file of them can't be read, or their files ask for different things"
 # Longer pages are read one at a time, as each takes much memory meanwhile.
 LONG_PAGE = 2**20
-
-
-@dataclass
-class Project:
-    """A project of an index with its releases in their places, None where one is left out; all versions of its page, what is left out
-    of them, and what is said of it."""
-
-    name: str
-    base: str
-    versions: list[str]
-    left: Left
-    releases: list[Release | None] = field(default_factory=list)
-    notes: list[str] = field(default_factory=list)
-    untold: list[str] = field(default_factory=list)
-
-    def take(self, place: int, read: "ReadRelease") -> None:
-        """Takes a release that was read, at its place."""
-        self.releases[place] = read.release
-        self.notes += read.notes
-        self.left.add(read.left)
-        if read.untold is not None:
-            self.untold.append(read.untold)
-            self.left.count(UNTOLD, 0, [read.version])
-        elif read.release is None and not any(read.left.versions.values()):
-            self.left.count(FAULTY, 0, [read.version])
-
-
-@dataclass
-class ReadRelease:
-    """A release as a snapshot has it, None where it is left out; and why, or its version where nothing tells what it needs."""
-
-    version: str
-    release: Release | None = None
-    notes: list[str] = field(default_factory=list)
-    untold: str | None = None
-    left: Left = field(default_factory=Left)
 
 
 def stamp(text: str | None) -> str | None:
@@ -88,19 +51,32 @@ class Index:
         self.reader = MetadataReader(client, cache, client.limits)
         self.lock = threading.Lock()
 
-    def chosen(self, name: str) -> Chosen | None:
-        """What is chosen of a project; None where there is no page."""
+    def found(self, name: str) -> "Found | None":
+        """What is chosen of a project, or the whole of it where an earlier run read it; None where there is no page."""
         if len(name) > LONGEST_NAME:
             return None
         url = f"{self.base}/{urllib.parse.quote(name)}/"
         page = self.page(url)
         if page is None:
             return None
-        told, body = page
-        if len(body) > LONG_PAGE:
+        key = known.key_of(url, page, self.choices.told(name))
+        project = known.known(self.cache, key, name, self.base)
+        if project is not None:
+            return Found(self, key, project, [])
+        if len(page[1]) > LONG_PAGE:
             with self.lock:
-                return self.choices.chosen(told["url"], read_page(told["url"], told["type"], body, name, self.client.limits))
+                chosen = self.chosen(name, *page)
+        else:
+            chosen = self.chosen(name, *page)
+        return Found(self, key, Project(name, self.base, chosen.versions, chosen.left), chosen.releases)
+
+    def chosen(self, name: str, told: Beside, body: bytes) -> Chosen:
+        """What is chosen of a page."""
         return self.choices.chosen(told["url"], read_page(told["url"], told["type"], body, name, self.client.limits))
+
+    def keep(self, key: str, project: Project) -> None:
+        """Keeps a project that is read whole."""
+        known.keep(self.cache, key, project)
 
     def page(self, url: str) -> tuple[Beside, bytes] | None:
         """A page with its type and last URL; None where there is none. One that is kept is asked for only where it isn't fresh, and
@@ -151,6 +127,7 @@ class Index:
         except Unfetched:
             raise
         except Refusal as fault:
+            read.is_lasting = not isinstance(fault, Absent)
             read.notes.append(f"{links[0].version}: left out: {fault}")
             return read
         if told.requires_dist is None and self.choices.options.assume_no_dependencies:
@@ -159,9 +136,20 @@ class Index:
             read.untold = None if told.is_left_out else told.version
             return read
         served.each(self.reader.find_size)
+        read.is_lasting = all(link.file.size is not None for link in served.links)
         if served.links:
             put_release(read, told, served.links)
         return read
+
+
+@dataclass
+class Found:
+    """A project of an index, and the releases of it that are to be read yet, each as its files. It is known again by the key."""
+
+    index: Index
+    key: str
+    project: Project
+    releases: list[list[Link]]
 
 
 class Indexes:
@@ -171,13 +159,13 @@ class Indexes:
     def __init__(self, plan: Plan, client: Client, cache: Cache, choices: Choices, asking: Asking) -> None:
         self.all = [Index(address, client, cache, choices, asking) for address in plan.indexes]
 
-    def chosen(self, name: str) -> tuple[Index, Chosen] | None:
-        """The index that has a project, and what is chosen of it; None where none has it."""
-        for index in self.asked_for(name):
-            found = index.chosen(name)
-            if found is not None:
-                return index, found
-        return None
+    def found(self, name: str) -> Found | None:
+        """What is found of a project in the index that has it; None where none has it."""
+        return next((found for index in self.asked_for(name) if (found := index.found(name)) is not None), None)
+
+    def count_needs(self, release: Release) -> None:
+        """Counts what a release depends on that an earlier run read."""
+        self.all[0].reader.count_needs(release["version"], release["requires_dist"])
 
     def asked_for(self, name: str) -> list[Index]:
         """The indexes that are asked for a name, in order."""

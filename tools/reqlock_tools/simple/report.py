@@ -4,7 +4,7 @@ from reqlock_tools.refusal import Refusal
 from reqlock_tools.simple.choices import Choices
 from reqlock_tools.simple.left import Left
 from reqlock_tools.simple.plan import Plan
-from reqlock_tools.simple.projects import Project
+from reqlock_tools.simple.project import Project
 from reqlock_tools.simple.result import Result
 from reqlock_tools.snapshot_output import plural, say
 from reqlock_tools.versions import version_of

@@ -8,7 +8,7 @@ from reqlock_tools.simple.left import ranges_of
 from reqlock_tools.simple.made import Findings
 from reqlock_tools.simple.plan import Plan
 from reqlock_tools.simple.platforms import FOREIGN
-from reqlock_tools.simple.projects import Project
+from reqlock_tools.simple.project import Project
 from reqlock_tools.snapshot_output import Packages
 from reqlock_tools.versions import version_of
 from reqlock_tools.walk import Walk
@@ -19,17 +19,22 @@ class Result:
 
     def __init__(self, plan: Plan, walk: Walk, projects: dict[str, Project], absent: set[str], choices: Choices) -> None:
         self.plan, self.choices = plan, choices
-        self.first = walk
+        self.first, self.is_less = walk, False
         self.unable: dict[str, dict[int, list[str]]] = {}
         releases = {name: self.kept(projects[name]) for name in sorted(projects)}
-        self.walk = Walk(walk.markers)
-        self.walk.ask([*plan.names, *plan.lines])
-        for name, kept in releases.items():
-            for release in kept:
-                self.walk.add(name, release["requires_dist"], self.able(release))
+        self.walk = self.walk_over(releases) if self.is_less else walk
         self.projects = {name: projects[name] for name in releases if name in self.walk.asked}
         self.releases = {name: releases[name] for name in self.projects}
         self.absent = sorted(absent & self.walk.asked.keys())
+
+    def walk_over(self, releases: dict[str, list[Release]]) -> Walk:
+        """What is reached through these releases alone."""
+        walk = Walk(self.first.markers)
+        walk.ask([*self.plan.names, *self.plan.lines])
+        for name, kept in releases.items():
+            for release in kept:
+                walk.add(name, release["requires_dist"], self.able(release))
+        return walk
 
     def able(self, release: Release) -> int:
         return self.choices.platforms.able([file["name"] for file in release["files"]])
@@ -47,6 +52,7 @@ class Result:
             unable[where] = list(lost)
         for release in filter(None, project.releases):
             if lacking := where & ~self.able(release):
+                self.is_less = True
                 unable.setdefault(lacking, []).append(release["version"])
             else:
                 found.append(release)

@@ -5,14 +5,16 @@ from functools import partial
 
 from reqlock_tools.markers import Markers
 from reqlock_tools.progress import Progress
+from reqlock_tools.releases import Release
 from reqlock_tools.simple.cache import Cache
-from reqlock_tools.simple.choices import Choices, Chosen
+from reqlock_tools.simple.choices import Choices
 from reqlock_tools.simple.client import Client
 from reqlock_tools.simple.credentials import Credentials
 from reqlock_tools.simple.crew import Crew
 from reqlock_tools.simple.made import made_json
 from reqlock_tools.simple.plan import Asking, Plan
-from reqlock_tools.simple.projects import Index, Indexes, Project, ReadRelease
+from reqlock_tools.simple.project import Project, ReadRelease
+from reqlock_tools.simple.projects import Found, Indexes
 from reqlock_tools.simple.report import Report, size_text
 from reqlock_tools.simple.result import Result
 from reqlock_tools.snapshot_output import Snapshot, plural, say
@@ -71,26 +73,34 @@ class Run:
     def read_pages(self, names: Iterable[str]) -> None:
         self.limits.refuse_over("names", len(self.walk.asked), self.indexes.all[0].base)
         for name in names:
-            self.crew.start(PAGES, partial(self.indexes.chosen, name), partial(self.take_project, name))
+            self.crew.start(PAGES, partial(self.indexes.found, name), partial(self.take_project, name))
 
-    def take_project(self, name: str, found: tuple[Index, Chosen] | None) -> None:
+    def take_project(self, name: str, found: Found | None) -> None:
         if found is None:
             self.absent.add(name)
             self.whole_packages += 1
             return
-        index, chosen = found
-        releases = chosen.releases
-        self.projects[name] = Project(name, index.base, chosen.versions, chosen.left, [None] * len(releases))
-        self.under_way[name] = len(releases)
-        self.whole_packages += not releases
-        for place, links in enumerate(releases):
-            self.crew.start(RELEASES, partial(index.release, name, links), partial(self.take_release, name, place))
+        self.projects[name] = found.project
+        self.under_way[name] = len(found.releases)
+        self.whole_packages += not found.releases
+        for release in filter(None, found.project.releases):
+            self.indexes.count_needs(release)
+            self.follow(name, release)
+        found.project.releases += [None] * len(found.releases)
+        for place, links in enumerate(found.releases):
+            self.crew.start(RELEASES, partial(found.index.release, name, links), partial(self.take_release, found, place))
 
-    def take_release(self, name: str, place: int, read: ReadRelease) -> None:
-        project = self.projects[name]
-        self.under_way[name] -= 1
-        self.whole_packages += self.under_way[name] == 0
+    def take_release(self, found: Found, place: int, read: ReadRelease) -> None:
+        project = found.project
         project.take(place, read)
+        self.under_way[project.name] -= 1
+        if self.under_way[project.name] == 0:
+            self.whole_packages += 1
+            found.index.keep(found.key, project)
         if read.release is not None:
-            able = self.choices.platforms.able([file["name"] for file in read.release["files"]])
-            self.read_pages(self.walk.add(name, read.release["requires_dist"], able))
+            self.follow(project.name, read.release)
+
+    def follow(self, name: str, release: Release) -> None:
+        """Follows what a release depends on, for the environments that can install it."""
+        able = self.choices.platforms.able([file["name"] for file in release["files"]])
+        self.read_pages(self.walk.add(name, release["requires_dist"], able))

@@ -8,7 +8,7 @@ from collections.abc import Iterator
 from contextlib import contextmanager, suppress
 from typing import Any
 
-from reqlock_tools.libraries import needed
+from reqlock_tools.libraries import urllib3_connection, urllib3_pools
 from reqlock_tools.limits import Limits
 
 SECONDS_BETWEEN_LOOKS = 0.1
@@ -125,8 +125,6 @@ def response_of(limits: Limits) -> type[http.client.HTTPResponse]:
 
 def pools_of(watch: Watch) -> dict[str, Any]:
     """The classes of urllib3's pools, by scheme, whose connections are watched."""
-    connections, pools = needed("urllib3.connection"), needed("urllib3.connectionpool")
-
     class Watched:
         """What a connection does more than urllib3's own."""
 
@@ -143,9 +141,9 @@ def pools_of(watch: Watch) -> dict[str, Any]:
                 watch.over(self.sock)
             return super().putrequest(*words, **options)  # type: ignore[misc]
 
-    plain = type("PlainConnection", (Watched, connections.HTTPConnection), {})
-    encrypted = type("EncryptedConnection", (Watched, connections.HTTPSConnection), {})
+    plain = type("PlainConnection", (Watched, urllib3_connection.HTTPConnection), {})
+    encrypted = type("EncryptedConnection", (Watched, urllib3_connection.HTTPSConnection), {})
     return {
-        "http": type("PlainPool", (pools.HTTPConnectionPool,), {"ConnectionCls": plain}),
-        "https": type("EncryptedPool", (pools.HTTPSConnectionPool,), {"ConnectionCls": encrypted}),
+        "http": type("PlainPool", (urllib3_pools.HTTPConnectionPool,), {"ConnectionCls": plain}),
+        "https": type("EncryptedPool", (urllib3_pools.HTTPSConnectionPool,), {"ConnectionCls": encrypted}),
     }

@@ -37,9 +37,10 @@ def tarred(members):
     return data.getvalue()
 
 
-def record_line(name, text):
-    digest = base64.urlsafe_b64encode(hashlib.sha256(text.encode()).digest()).rstrip(b"=").decode()
-    return f"{name},sha256={digest},{len(text)}\n"
+def record_line(name, content):
+    data = content.encode() if isinstance(content, str) else content
+    digest = base64.urlsafe_b64encode(hashlib.sha256(data).digest()).rstrip(b"=").decode()
+    return f"{name},sha256={digest},{len(data)}\n"
 
 
 def wheel(folder, name, version, *requires, tag="py3-none-any", **others):

@@ -116,9 +116,10 @@ class Answers(BaseHTTPRequestHandler):
             return self.give(404, b"no such project")
         body = index.page(name)
         tag = f'"{hashlib.sha256(body).hexdigest()}"'
+        more = {} if index.max_age is None else {"Cache_Control": f"max-age={index.max_age}"}
         if self.headers.get("If-None-Match") == tag:
-            return self.give(304, ETag=tag)
-        return self.give(200, body, HTML_TYPE if index.is_html else JSON_TYPE, ETag=tag)
+            return self.give(304, ETag=tag, **more)
+        return self.give(200, body, HTML_TYPE if index.is_html else JSON_TYPE, ETag=tag, **more)
 
     def give_file(self, index, name):
         data = index.content(name)
@@ -150,7 +151,8 @@ class MadeIndex:
 
     usual = object()
 
-    def __init__(self, *files, is_html=False, has_ranges=True, has_sizes=True, prefix="/simple/", certificate=None):
+    def __init__(self, *files, is_html=False, has_ranges=True, has_sizes=True, prefix="/simple/", certificate=None, max_age=None):
+        self.max_age = max_age
         self.is_html, self.has_ranges, self.has_sizes, self.prefix = is_html, has_ranges, has_sizes, prefix
         self.projects, self.files, self.instead = {}, {}, {}
         self.asked, self.headers, self.lock = [], [], threading.Lock()

@@ -1,0 +1,38 @@
+"""Projects that an earlier run read whole, by their pages and by what was chosen of them: all that the run found, but for what an
+answer may change while the page stays the same."""
+
+import hashlib
+import json
+from typing import Any
+
+from reqlock_tools.simple.cache import Beside, Cache
+from reqlock_tools.simple.left import Left
+from reqlock_tools.simple.project import Project
+
+KIND, FORM = "project", 1
+
+
+def key_of(url: str, page: tuple[Beside, bytes], choice: str) -> str:
+    """By what a project is known: its page, where it came from, and what is chosen of it."""
+    told, body = page
+    return json.dumps([FORM, url, told["url"], told["type"], hashlib.sha256(body).hexdigest(), choice])
+
+
+def keep(cache: Cache, key: str, project: Project) -> None:
+    """Keeps a project, unless something of it could be there the next time."""
+    if project.is_lasting:
+        left = [[why, files, project.left.versions[why]] for why, files in project.left.files.items()]
+        found = [project.versions, left, project.releases, project.notes, project.untold]
+        cache.put(KIND, key, {}, json.dumps(found, ensure_ascii=False, separators=(",", ":")).encode())
+
+
+def known(cache: Cache, key: str, name: str, base: str) -> Project | None:
+    """A project that was kept; None where it wasn't."""
+    kept = cache.get(KIND, key)
+    if kept is None:
+        return None
+    found: list[Any] = json.loads(kept[1])
+    left = Left()
+    for why, files, versions in found[1]:
+        left.count(why, files, versions)
+    return Project(name, base, found[0], left, found[2], found[3], found[4])
