@@ -13,6 +13,8 @@ if TYPE_CHECKING:
 
 # A wheel's name can stand for so many tags and no more.
 MOST_TAGS = 1000
+# An environment has fewer, and its tags are made of each pair.
+MOST_ABIS, MOST_PLATFORMS = 16, 1000
 
 
 class Built(NamedTuple):
@@ -29,8 +31,10 @@ def built_of(environment: Mapping[str, object]) -> Built | None:
     interpreter, abis, platforms = (environment.get(name) for name in ("interpreter", "abis", "platforms"))
     if not (isinstance(interpreter, str) and isinstance(abis, (list, tuple)) and isinstance(platforms, (list, tuple))):
         return None
-    version = re.fullmatch(r"([0-9]{1,3})\.([0-9]{1,3})", str(environment.get("python_version")))
+    version = re.fullmatch(r"([0-9])\.([0-9]{1,2})", str(environment.get("python_version")))
     if version is None or not all(isinstance(text, str) for text in (*abis, *platforms)):
+        return None
+    if len(abis) > MOST_ABIS or len(platforms) > MOST_PLATFORMS:
         return None
     return Built(interpreter, (int(version[1]), int(version[2])), tuple(abis), tuple(platforms))
 

@@ -6,7 +6,7 @@ from functools import lru_cache
 from pathlib import Path
 
 ASKS = "import sys; print(*sys.version_info[:2])"
-PLACES = "/root/.pyenv/versions", "~/.pyenv/versions", "/usr/bin", "/usr/local/bin"
+PLACES = "~/.pyenv/versions", "/usr/bin", "/usr/local/bin"
 
 
 @lru_cache(maxsize=None)

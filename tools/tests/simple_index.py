@@ -24,7 +24,7 @@ class Simple(unittest.TestCase):
     def setUp(self):
         self.folder = new_folder(self.addCleanup)
         self.output = self.folder / "index.json"
-        own = mock.patch.dict(os.environ, {"no_proxy": "*", "NO_PROXY": "*", "NETRC": os.devnull, "PATH": f"/usr/bin:{os.environ['PATH']}"})
+        own = mock.patch.dict(os.environ, {"no_proxy": "*", "NO_PROXY": "*", "NETRC": os.devnull})
         own.start()
         self.addCleanup(own.stop)
 

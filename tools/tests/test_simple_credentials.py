@@ -10,6 +10,7 @@ from places import new_folder
 from simple_index import Simple
 
 from reqlock_tools.refusal import Refusal
+from reqlock_tools.simple.addresses import address_of
 from reqlock_tools.simple.credentials import Credentials, variable_of
 
 SECRET = "s3cr3t:/@tP W"
@@ -78,6 +79,15 @@ class Places(Secret):
             Credentials(urls, self.fail)
         self.assertNotIn("s3cr3t", str(found.exception))
         Credentials([urls[0], f"{urls[0]}other/"], self.fail)
+
+    def test_of_an_address_in_a_file_are_told_over_tls_alone(self):
+        """A stranger's snapshot could name your host with http."""
+        self.netrc(f"machine index.example login me password \"{SECRET}\"\n")
+        for url, is_told in ("http://index.example/", False), ("https://index.example/", True):
+            found = Credentials([url], self.fail, are_typed=False)
+            self.assertEqual(found.get(address_of(url)) is not None, is_told)
+            self.assertFalse(not is_told and found.find_more(address_of(url), None))
+            self.assertIsNotNone(Credentials([url], self.fail).get(address_of(url)))
 
     def test_of_netrc(self):
         self.netrc(f"machine 127.0.0.1 login me password \"{SECRET}\"\n")

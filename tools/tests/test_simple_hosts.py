@@ -75,11 +75,12 @@ class Hosts(Simple):
             self.check_refused(index, "a", "--retries", "0", fault=f"^{path}: {status} ")
 
     def test_what_the_index_serves_itself_is_no_link_to_nobody(self):
-        """Its page is kept in the cache, and then it goes down."""
-        index = self.serve({"a": [wheel_of("a", "1")]})
-        self.made(index, "a")
+        """Its page is fresh in the cache, and then it goes down: what it tells of an older release isn't there."""
+        index = self.serve({"a": [wheel_of("a", "1"), wheel_of("a", "2")]}, max_age=600)
+        self.assertEqual(self.versions(index, "a", "--newest", "1")[0], {"a": ["2"]})
         index.close()
-        self.check_refused(index, "a", fault="^/simple/a/: Connection refused")
+        self.assertEqual(self.versions(index, "a", "--newest", "1")[0], {"a": ["2"]})
+        self.check_refused(index, "a", fault="^/files/a-1-py3-none-any.whl.metadata: Connection refused")
 
 
 if __name__ == "__main__":

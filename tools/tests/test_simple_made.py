@@ -41,7 +41,7 @@ class Made(Simple):
         left, environments = found.pop("left"), found.pop("environments")
         self.assertEqual(found, {
             "indexes": [{"url": self.index.url, "packages": ["flask", "rich", "werkzeug"]}], "names": ["rich"], "lines": ["flask"],
-            "constraints": [], "keep": ["werkzeug==1.0"], "options": {"no_pre": True, "newest": 1}, "limits": ["names=50"],
+            "constraints": [], "keep": ["werkzeug==1.0"], "options": {"no_pre": True, "newest": 1},
             "extras": {}, "lacks": {"names": ["gone"], "extras": {"flask": ["async"]}},
         })
         self.assertEqual(environments, [
@@ -116,7 +116,8 @@ class Made(Simple):
             (["environments", 0, "abis"], 1, "/made/environments/0: an environment with interpreter"),
             (["options"], {"newest": 0}, "/made/options/newest: "), (["options"], {"newest": True}, "/made/options/newest: "),
             (["options"], {"exclude_newer": "May"}, "/made/options/exclude_newer: "), (["options"], {"output": "x"}, "/made/options: one of"),
-            (["limits"], ["page=x"], "/made/limits: "), (["constraints"], [{"file": "c", "requirements": ["a==="], "versions": []}], "/made/"),
+            (["indexes"], [], "/made/indexes: an index"), (["environments", 0, "platforms"], ["p"] * 1001, "/made/environments/0: an env"),
+            (["constraints"], [{"file": "c", "requirements": ["a==="], "versions": []}], "/made/"),
         ):
             with self.subTest(keys=keys, value=value):
                 text = json.loads(json.dumps(good))
@@ -126,6 +127,12 @@ class Made(Simple):
                 place[keys[-1]] = value
                 self.check_again(fault, json.dumps(text))
                 self.assertNotIn("secret", "".join(self.again(self.index)[1]))
+
+    def test_again_takes_no_limit_of_it(self):
+        """A stranger's snapshot, with an address of theirs, lets them send no more than usual."""
+        self.made(self.index, "rich", "--limit", "page=100000000")
+        self.assertNotIn("limit", self.output.read_text(encoding="utf-8"))
+        self.assertEqual(self.again(self.index, "--limit", "page=10", "--cache", self.folder / "cache" / "other")[0], 1)
 
     def test_stands_in_front_of_the_packages(self):
         self.made(self.index, "rich")

@@ -98,7 +98,7 @@ class Choices:
     """What a plan chooses."""
 
     def __init__(self, plan: Plan, markers: Markers) -> None:
-        self.options, self.limits = plan.options, plan.limits
+        self.options = plan.options
         self.until = None if plan.options.exclude_newer is None else moment_of(plan.options.exclude_newer)
         self.platforms = Platforms(plan)
         self.locked = versions_of(plan.keep)
@@ -108,7 +108,7 @@ class Choices:
         """A digest of all that decides what is chosen of a project."""
         locked = sorted(map(str, self.locked.get(name, set())))
         bounds = [(file, bound.told(name)) for file, bound in self.bounds.of(name)]
-        return hashlib.sha256(repr((self.options, self.limits, locked, bounds, self.platforms.built)).encode()).hexdigest()
+        return hashlib.sha256(repr((self.options, locked, bounds, self.platforms.built)).encode()).hexdigest()
 
     def chosen(self, url: str, page: PageFiles) -> Chosen:
         """What is chosen of a page's files."""

@@ -122,8 +122,8 @@ def unpacked(url: str, body: bytes, coding: str, limits: Limits, most: str) -> b
 class Client:
     """Asks over kept connections, from several threads."""
 
-    def __init__(self, asking: Asking, limits: Limits, credentials: Credentials, say: Say) -> None:
-        self.limits, self.credentials = limits, credentials
+    def __init__(self, asking: Asking, credentials: Credentials, say: Say) -> None:
+        self.limits, self.credentials = asking.limits, credentials
         self.seconds, self.retries, self.jobs, self.say = asking.timeout, asking.retries, asking.jobs, say
         self.watch = Watch(self.limits)
         # Its own pauses aren't taken: nothing ends them before their time, and a server may ask for any.

@@ -12,7 +12,7 @@ import urllib.parse
 from collections.abc import Iterable
 
 from reqlock_tools.refusal import Refusal, Say
-from reqlock_tools.simple.addresses import Address, address_of, basic, credentials_of, parts_of, without_password
+from reqlock_tools.simple.addresses import Address, address_of, basic, credentials_of, is_loopback, parts_of, without_password
 
 Origin = tuple[str, str, int]
 SECONDS = 60
@@ -39,10 +39,10 @@ def netrc_path() -> str | None:
 
 class Credentials:
     """The header's values for the indexes, by where they are. Of a URL's own user and password, the variables and netrc the first one
-    that tells counts; keyring is asked once the index wants more."""
+    that tells counts; keyring is asked once the index wants more. An address that a file tells is told none over plain http."""
 
-    def __init__(self, urls: Iterable[str], say: Say) -> None:
-        self.say, self.lock = say, threading.Lock()
+    def __init__(self, urls: Iterable[str], say: Say, are_typed: bool = True) -> None:
+        self.say, self.lock, self.are_typed = say, threading.Lock(), are_typed
         self.urls = {address_of(url).origin: url for url in urls}
         self.refuse_alike()
         self.machines = self.read_netrc()
@@ -76,10 +76,14 @@ class Credentials:
             return {}
         return {host: (user or "", password or "") for host, (user, _, password) in hosts.items() if host != "default"}
 
+    def may_have(self, url: str) -> bool:
+        address = address_of(url)
+        return self.are_typed or address.scheme == "https" or is_loopback(address.host)
+
     def value_of(self, url: str) -> str | None:
         """The value for an index; None where nothing tells a password."""
         parts = parts_of(url)
-        if parts.password is not None:
+        if not self.may_have(url) or parts.password is not None:
             return credentials_of(url)
         user, variable = urllib.parse.unquote(parts.username or ""), variable_of(url)
         if f"{variable}_PASSWORD" in os.environ:
@@ -92,7 +96,7 @@ class Credentials:
     def find_more(self, address: Address, used: str | None) -> bool:
         """Whether there is something else for an index that refused what was used: what keyring has, which is asked once."""
         url = self.urls.get(address.origin)
-        if url is None:
+        if url is None or not self.may_have(url):
             return False
         with self.lock:
             if address.origin not in self.asked:

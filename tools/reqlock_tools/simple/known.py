@@ -5,6 +5,7 @@ import hashlib
 import json
 from typing import Any
 
+from reqlock_tools.limits import Limits
 from reqlock_tools.simple.cache import Beside, Cache
 from reqlock_tools.simple.left import Left
 from reqlock_tools.simple.project import Project
@@ -12,10 +13,10 @@ from reqlock_tools.simple.project import Project
 KIND, FORM = "project", 1
 
 
-def key_of(url: str, page: tuple[Beside, bytes], choice: str) -> str:
-    """By what a project is known: its page, where it came from, and what is chosen of it."""
+def key_of(url: str, page: tuple[Beside, bytes], choice: str, limits: Limits) -> str:
+    """By what a project is known: its page, where it came from, what is chosen of it, and how much was taken."""
     told, body = page
-    return json.dumps([FORM, url, told["url"], told["type"], hashlib.sha256(body).hexdigest(), choice])
+    return json.dumps([FORM, url, told["url"], told["type"], hashlib.sha256(body).hexdigest(), choice, repr(limits)])
 
 
 def keep(cache: Cache, key: str, project: Project) -> None:

@@ -5,7 +5,6 @@ from dataclasses import asdict, dataclass, fields
 from typing import Any
 
 from reqlock_tools.files import Node, read_json
-from reqlock_tools.limits import limits_of
 from reqlock_tools.names import called
 from reqlock_tools.refusal import Refusal
 from reqlock_tools.requirements import fault_of, variables_in
@@ -61,7 +60,6 @@ def made_json(plan: Plan, found: Findings) -> Json:
         "constraints": [constraints_json(it) for it in plan.constraints],
         "keep": list(plan.keep),
         "options": options,
-        "limits": list(plan.limits),
         "extras": dict(found.extras),
         "lacks": {"names": list(found.absent), "extras": dict(found.passed)},
         "left": list(found.left),
@@ -84,15 +82,19 @@ def read_plan(path: str) -> Plan:
 
 def plan_of(made: Node) -> Plan:
     return Plan(
-        indexes=tuple(map(index_of, made.member("indexes").items())),
+        indexes=indexes_of(made.member("indexes")),
         names=tuple(map(requirement_of, made.member("names").items())),
         lines=tuple(map(requirement_of, made.member("lines").items())),
         environments=tuple(map(told_environment, made.member("environments").items())),
         constraints=tuple(map(constraints_of, made.member("constraints").items())),
         keep=tuple(map(pin_of, made.member("keep").items())),
         options=options_of(made.member("options")),
-        limits=limits_in(made.member("limits")),
     )
+
+
+def indexes_of(node: Node) -> tuple[IndexAddress, ...]:
+    node.want(node.items(), "an index")
+    return tuple(map(index_of, node.items()))
 
 
 def index_of(node: Node) -> IndexAddress:
@@ -157,11 +159,3 @@ def is_moment(text: str) -> bool:
     except ValueError:
         return False
     return True
-
-
-def limits_in(node: Node) -> tuple[str, ...]:
-    try:
-        limits_of(node.texts())
-    except Refusal as fault:
-        raise Refusal(f"{node.path}: {node.pointer}: {fault}") from None
-    return tuple(node.texts())

@@ -4,7 +4,7 @@ from collections.abc import Iterable, Mapping
 from dataclasses import dataclass
 from typing import Any
 
-from reqlock_tools.limits import Limits, limits_of
+from reqlock_tools.limits import Limits
 from reqlock_tools.requirements import need_of
 from reqlock_tools.tags import Built, built_of
 
@@ -67,16 +67,11 @@ class Plan:
     constraints: tuple[Constraints, ...]
     keep: tuple[str, ...]
     options: Options
-    limits: tuple[str, ...]
-
-    def read_limits(self) -> Limits:
-        """The limits, of which only those that were given are told."""
-        return limits_of(list(self.limits))
 
 
 @dataclass(frozen=True)
 class Asking:
-    """How indexes are asked, which changes nothing of a snapshot."""
+    """How indexes are asked, and how much is taken of them, which changes nothing of a snapshot."""
 
     jobs: int
     timeout: float
@@ -84,6 +79,7 @@ class Asking:
     cache: str
     is_offline: bool
     is_refreshed: bool
+    limits: Limits
 
 
 def environment_of(name: str, found: Mapping[str, Any], variables: Mapping[str, str]) -> Environment:

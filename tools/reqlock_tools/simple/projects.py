@@ -59,7 +59,7 @@ class Index:
         page = self.page(url)
         if page is None:
             return None
-        key = known.key_of(url, page, self.choices.told(name))
+        key = known.key_of(url, page, self.choices.told(name), self.client.limits)
         project = known.known(self.cache, key, name, self.base)
         if project is not None:
             return Found(self, key, project, [])

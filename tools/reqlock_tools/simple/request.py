@@ -179,7 +179,7 @@ def again_request(arguments: list[str]) -> Request:
 def asking_of(options: argparse.Namespace) -> Asking:
     return Asking(
         jobs=options.jobs, timeout=options.timeout, retries=options.retries, cache=options.cache, is_offline=options.offline,
-        is_refreshed=options.refresh,
+        is_refreshed=options.refresh, limits=limits_of(options.limit),
     )
 
 
@@ -197,15 +197,13 @@ def new_plan(options: argparse.Namespace, addresses: tuple[IndexAddress, ...]) -
             only_binary=options.only_binary, no_pre=options.no_pre, newest=options.newest, exclude_newer=options.exclude_newer,
             assume_no_dependencies=options.assume_no_dependencies, any_platform=options.any_platform,
         ),
-        limits=last_limits(options.limit),
     )
 
 
 def plan_again(options: argparse.Namespace) -> Plan:
     """The plan by which a snapshot was made, with more names. Files that are given take the place of those of the same kind."""
     plan = read_plan(options.output)
-    limits = last_limits([*plan.limits, *options.limit])
-    plan = replace(plan, names=followed_texts([*plan.names, *options.names]), limits=limits)
+    plan = replace(plan, names=followed_texts([*plan.names, *options.names]))
     if options.requirements:
         plan = replace(plan, lines=read_followed(options.requirements))
     if options.env:
@@ -217,11 +215,6 @@ def plan_again(options: argparse.Namespace) -> Plan:
     elif plan.constraints:
         say(f"constraints as they were then, of {', '.join(it.file for it in plan.constraints)}; --constraints FILE reads them anew")
     return plan
-
-
-def last_limits(words: list[str]) -> tuple[str, ...]:
-    """Limits as they were given, of two with one name the last."""
-    return tuple(sorted({word.partition("=")[0]: word for word in words}.values()))
 
 
 def read_followed(paths: list[str]) -> tuple[str, ...]:

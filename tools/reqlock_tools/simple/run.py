@@ -27,10 +27,10 @@ class Run:
     """The packages that are known so far, and the requests that will tell of more. All but the requests is done in one thread."""
 
     def __init__(self, plan: Plan, asking: Asking, credentials: Credentials) -> None:
-        self.plan, self.limits = plan, plan.read_limits()
+        self.plan, self.limits = plan, asking.limits
         self.progress = Progress()
         self.cache = Cache(asking.cache, asking.is_offline, self.say)
-        self.client = Client(asking, self.limits, credentials, self.say)
+        self.client = Client(asking, credentials, self.say)
         markers = Markers([it.variables for it in plan.environments])
         self.choices = Choices(plan, markers)
         self.indexes = Indexes(plan, self.client, self.cache, self.choices, asking)
