@@ -1,5 +1,5 @@
-"""Tests of a snapshot that wants to do harm by what it names: a file whose name is a path, which an installer would write outside of its folder,
-and a name or a URL with what acts on a terminal. Such a release is left out, and `skipped` tells why."""
+"""Tests of a snapshot that wants to do harm by what it names: a file whose name is a path, which an installer would write outside of its
+folder, and a name or a URL with what acts on a terminal. Such a release is left out, and `skipped` tells why."""
 
 import re
 
@@ -29,6 +29,7 @@ class Names(Program):
         self.put({"requirements.txt": b"a\n"})
         self.assertEqual(self.told("init"), (0, "ok 0\n", ""))
         self.assertEqual(self.locked(), {"a": version})
+        self.assertIsNone(re.search(rb"[^\n -~]", self.files()["pylock.toml"]))
         for words in [["export", "--format", "pylock"], ["export"], ["show", "a"], ["show", "--json"]]:
             status, told, errors = self.told(*words)
             self.assertEqual((status, errors), (0, ""))
@@ -66,6 +67,19 @@ class Names(Program):
         causes = "version bad-version", "requirement 0 bad-name", "file-name"
         told = [f"a: release {place}: {cause}\n" for place, cause in enumerate(causes)]
         self.assertEqual(self.told("skipped"), (0, "".join(told) + "a: release 4: duplicate\n", ""))
+
+    def test_no_other_text_brings_an_odd_character_into_a_lock(self):
+        for letter in ODD:
+            if letter not in "\t ":
+                self.begin(b"a\n", ("a", "1", []), ("a", "2", [], {"requires_python": f">=3{letter}"}))
+                self.assertEqual(self.told("skipped"), (0, "a: release 1: requires-python bad-clause\n", ""))
+                self.locks("1")
+        self.begin(b"a\n", ("a", "1", [], {"requires_python": "\t>=3 "}))
+        self.locks("1")
+        for letter in ODD:
+            if letter != " ":
+                self.lock_for({"": self.environments[""] | {"platform_version": f"x{letter}y"}})
+                self.assertEqual(self.told("init"), (4, "", "reqlock: environment: bad-environment platform_version\n"))
 
     def test_plain_names_stay(self):
         for name in PLAIN:
