@@ -221,9 +221,10 @@ impl Sentences<'_> {
         node: &Node,
         need: SetNeed,
     ) -> Result<(), AllocError> {
+        let problem = self.problem;
         self.add_need(text, conflict, node, need)?;
         let name = node.name.normal();
-        if has_package(self.problem.snapshot, &node.name) {
+        if has_package(problem.snapshot, &node.name) {
             return write!(
                 text,
                 ", and the index has no release of {name} that can be used"
@@ -234,11 +235,11 @@ impl Sentences<'_> {
 
     /// Which packages have nearly the name of what the index lacks, where it has no package of this name.
     fn add_near(&self, text: &mut String, conflict: usize, name: &Name) -> Result<(), AllocError> {
-        let snapshot = self.problem.snapshot;
-        if !self.sought.contains(&conflict) || has_package(snapshot, name) {
+        let problem = self.problem;
+        if !self.sought.contains(&conflict) || has_package(problem.snapshot, name) {
             return Ok(());
         }
-        add_near_names(self.alloc, text, snapshot, name)
+        add_near_names(self.alloc, text, problem.snapshot, name)
     }
 
     /// What needs a node, and by which requirements.
