@@ -1,5 +1,5 @@
 -- A ground by which a conflict of sets follows from some conflicts is one among more of them too.
-use Rattle.std.proofs.Common.{List, ◌≡◌, Bool, Contains, Option, None, Some, IfSome, MatchOption, tt}
+use Rattle.std.proofs.Common.{List, Bool, Contains, Option, None, Some, IfSome, MatchOption}
 use Rattle.search.specs.Rules.{Rules}
 use Rattle.search.specs.declared.term.Term.{Term}
 use Rattle.search.specs.SetConflicts.{CompletesSet, EachVersion, NoCandidateLeft}
@@ -32,6 +32,7 @@ none-fewer rules same few all among conflict f = record {
 
 ground-fewer : (given : ProblemParts) (few all : List (List TermParts)) → ((old : List TermParts) → Contains few old → Contains all old)
     → (conflict : List TermParts) (ground : SetGround) → IsSetGround given few conflict ground → IsSetGround given all conflict ground
+unfolding each-fewer none-fewer
 ground-fewer given few all among conflict (Refused line term) k = k
 ground-fewer given few all among conflict (TermsClash one other) k = k
 ground-fewer given few all among conflict (Each term) k = (each-fewer same_version few all among conflict k.0, k.1)
