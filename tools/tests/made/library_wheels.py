@@ -29,6 +29,8 @@ def dependencies_of(name):
     """What a library needs in each environment, by names: what isn't installed here is left out, and so are the versions."""
     texts = importlib.metadata.requires(name) or []
     names = [re.match("[A-Za-z0-9._-]+", text)[0] for text in texts if ";" not in text]
+    # (Debian's urllib3 has no copy of six, and doesn't tell that it needs it)
+    names += ["six"] if name == "urllib3" and "from six" in (module_of(name).parent / "exceptions.py").read_text(encoding="utf-8") else []
     return [name for name in names if module_of(name) is not None]
 
 
