@@ -91,11 +91,13 @@ def main(arguments):
         names = [name_of(number) for number in range(0, packages, step)][: lines or None]
         place = "--cache", Path(name) / "cache", "--output", output
         new = name_of(GROUP - 1 if lines else 0) if step == GROUP else name_of(step - 1)
+        variables = {**os.environ, "PYTHONPYCACHEPREFIX": name}
+        subprocess.run([sys.executable, TOOLS / "snapshot.py", "simple", url, "none"], env=variables, capture_output=True, check=False)
         for title, words in (
             ("empty cache", ["simple", url, *names]), ("full cache", ["simple", url, *names, "--refresh"]),
             ("offline", ["simple", url, *names, "--offline"]), ("one name more", ["again", new]),
         ):
-            clock, processor, requests, memory = timed(pipe, [*words, *place], {**os.environ, "PYTHONPYCACHEPREFIX": name})
+            clock, processor, requests, memory = timed(pipe, [*words, *place], variables)
             texts.append(output.read_bytes())
             print(f"{title}: {clock:.2f} s, {processor:.2f} s of processor time, {requests} requests, {memory:.0f} MB", flush=True)
     if len(set(texts[:3])) != 1:

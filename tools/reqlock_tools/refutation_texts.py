@@ -2,21 +2,11 @@
 
 import operator
 import re
-import sys
 from collections.abc import Callable, Iterable
 from typing import Any, NamedTuple
 
-from reqlock_tools.refusal import Refusal, speaker
-
-Version: Any
-try:
-    from packaging.version import Version
-except ImportError:
-    try:
-        from pip._vendor.packaging.version import Version
-    except ImportError:
-        speaker("check_refutation")(f"{sys.executable} has neither packaging nor pip; install one of them")
-        sys.exit(2)
+from reqlock_tools.libraries import packaging_version
+from reqlock_tools.refusal import Refusal
 
 SPACE, BLANK = " \t\n\r\f\v", " \t"
 NAME = "[A-Za-z0-9](?:[A-Za-z0-9._-]*[A-Za-z0-9])?"
@@ -59,7 +49,7 @@ def read_version(text: str) -> Any:
     text = text.strip(SPACE)
     want(re.fullmatch("[!-~]+", text), "bad-version")
     try:
-        found = Version(text)
+        found = packaging_version.Version(text)
     except ValueError:
         raise Refusal("bad-version") from None
     numbers = [found.epoch, *found.release, *(found.pre or ())[1:], found.post or 0, found.dev or 0]
@@ -102,11 +92,11 @@ def is_met(clause: Clause, version: Any, public: Any) -> bool:
     if not SIGNS[sign](ours, wanted):
         return False
     is_odd = sign == "<" and ours.is_prerelease > wanted.is_prerelease or sign == ">" and ours.is_postrelease > wanted.is_postrelease
-    return not (is_odd and Version(ours.base_version) == Version(wanted.base_version))
+    return not (is_odd and packaging_version.Version(ours.base_version) == packaging_version.Version(wanted.base_version))
 
 
 def matches(clauses: Iterable[Clause], version: Any) -> bool:
-    public = Version(version.public) if version.local else version
+    public = packaging_version.Version(version.public) if version.local else version
     return all(is_met(clause, version, public) for clause in clauses)
 
 

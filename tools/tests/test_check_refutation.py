@@ -21,11 +21,11 @@ from rules.edits import KEEP
 from rules.locks import Problem, is_refutation, read_index, read_refutation
 from rules.requirements import Fault, cut_lines, holds, matches, read_line, read_marker, read_requirement, read_set, read_version
 
+from reqlock_tools import check_refutation
+from reqlock_tools.libraries import library
+
 SCRIPT = TOOLS / "check_refutation.py"
-try:
-    from reqlock_tools import check_refutation as checker
-except SystemExit:
-    checker = None
+checker = check_refutation if library("packaging.version") else None
 
 REFUTATIONS = 1000 if IS_LONG else 100
 PROCESSES = 10

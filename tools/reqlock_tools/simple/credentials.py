@@ -43,11 +43,22 @@ class Credentials:
 
     def __init__(self, urls: Iterable[str], say: Say, are_typed: bool = True) -> None:
         self.say, self.lock, self.are_typed = say, threading.Lock(), are_typed
-        self.urls = {address_of(url).origin: url for url in urls}
+        self.urls: dict[Origin, str] = {}
+        for url in urls:
+            self.take(url)
         self.refuse_alike()
         self.machines = self.read_netrc()
         self.values = {origin: value for origin, url in self.urls.items() if (value := self.value_of(url)) is not None}
         self.asked: set[Origin] = set()
+
+    def take(self, url: str) -> None:
+        """Takes an index. Two at one host and port have one user and password, since each is told them."""
+        origin = address_of(url).origin
+        other = self.urls.get(origin, url)
+        given = {credentials_of(it) for it in (other, url)} - {None}
+        if len(given) > 1:
+            raise Refusal(f"{without_password(url)}: another index at its host and port has another user or password")
+        self.urls[origin] = url if credentials_of(url) is not None else other
 
     def get(self, address: Address) -> str | None:
         return self.values.get(address.origin)
