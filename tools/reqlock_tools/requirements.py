@@ -83,8 +83,3 @@ def variables_in(told: Node) -> dict[str, str]:
     """The eleven variables of an environment."""
     found = {name: told.member(name).text() for name in VARIABLES}
     return {**found, "python_full_version": found["python_full_version"].removesuffix("+")}
-
-
-def read_environment(path: str) -> dict[str, str]:
-    """The eleven variables of an environment file."""
-    return variables_in(environment_node(path))

@@ -43,11 +43,12 @@ from reqlock_tools.folder_snapshot import FolderRequest, folder_packages, say_ab
 from reqlock_tools.limits import limits_text
 from reqlock_tools.names import called, tool
 from reqlock_tools.refusal import Refusal, fault_text
-from reqlock_tools.requirements import read_environment, read_lines
+from reqlock_tools.requirements import read_lines
 from reqlock_tools.simple.addresses import parts_of
 from reqlock_tools.simple.credentials import Credentials, way
 from reqlock_tools.simple.request import Request, add_limits, again_request, simple_request
 from reqlock_tools.simple.run import Run
+from reqlock_tools.simple.targets import read_target
 from reqlock_tools.snapshot_output import Snapshot, refuse_place, say, write_snapshot
 
 INTERRUPTED = 130
@@ -57,7 +58,7 @@ def make_of_folder(request: FolderRequest) -> None:
     """Reads archives and documents, and writes the snapshot."""
     refuse_place(request.output)
     texts = [text for path in request.requirements for text in read_lines(path, say)] if request.requirements else None
-    environments = list(map(read_environment, request.environments))
+    environments = [dict(read_target(word)[1].variables) for word in request.environments]
     packages = folder_packages(request)
     say_absent(packages, texts, environments)
     write_snapshot(Snapshot(packages, None), request.output)
@@ -87,7 +88,7 @@ def folder_request(arguments: list[str]) -> FolderRequest:
         help="a requirements file: packages that it leads to are named where they are absent",
     )
     parser.add_argument(
-        "--env", metavar="FILE", action="append", default=[],
+        "--env", metavar="[NAME=]FILE", action="append", default=[],
         help="an environment: what no environment needs isn't named as absent",
     )
     parser.add_argument(

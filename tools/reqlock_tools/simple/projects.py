@@ -163,9 +163,9 @@ class Indexes:
         """What is found of a project in the index that has it; None where none has it."""
         return next((found for index in self.asked_for(name) if (found := index.found(name)) is not None), None)
 
-    def count_needs(self, release: Release) -> None:
+    def count_needs(self, name: str, release: Release) -> None:
         """Counts what a release depends on that an earlier run read."""
-        self.all[0].reader.count_needs(release["version"], release["requires_dist"])
+        self.all[0].reader.count_needs(f"{name} {release['version']}", release["requires_dist"])
 
     def asked_for(self, name: str) -> list[Index]:
         """The indexes that are asked for a name, in order."""

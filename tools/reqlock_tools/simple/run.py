@@ -84,7 +84,7 @@ class Run:
         self.under_way[name] = len(found.releases)
         self.whole_packages += not found.releases
         for release in filter(None, found.project.releases):
-            self.indexes.count_needs(release)
+            self.indexes.count_needs(name, release)
             self.follow(name, release)
         found.project.releases += [None] * len(found.releases)
         for place, links in enumerate(found.releases):
