@@ -44,7 +44,7 @@ def fill(index, packages, releases, has_groups):
     for number in range(packages):
         for version in range(1, releases + 1):
             others = others_of(chance, number, packages, has_groups)
-            needs = [f"{name_of(other)}>={chance.randint(1, version)}" for other in sorted(others)]
+            needs = [f"{name_of(other)}>=1.{chance.randint(1, version)}" for other in sorted(others)]
             index.add(name_of(number), wheel_of(name_of(number).replace("-", "_"), f"1.{version}", *needs, python=">=3.8"))
 
 

@@ -13,7 +13,6 @@ from collections.abc import Callable, Iterator
 from typing import IO, cast
 
 from reqlock_tools.limits import Limits
-from reqlock_tools.refusal import Refusal
 from reqlock_tools.sought_file import SoughtFile
 
 PIECE = 2**20

@@ -1,9 +1,8 @@
 """Tests of `tools/snapshot.py simple` with several indexes, and with constraints."""
 
-import json
 import unittest
 
-from made.served_index import sdist_of, wheel_of
+from made.served_index import wheel_of
 from simple_index import LINUX, Simple
 from test_simple_hosts import free_port
 
