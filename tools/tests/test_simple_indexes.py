@@ -1,5 +1,6 @@
 """Tests of `tools/snapshot.py simple` with several indexes, and with constraints."""
 
+import time
 import unittest
 
 from made.served_index import wheel_of
@@ -54,6 +55,9 @@ class Indexes(Simple):
             self.check_refused(self.team, "team-lib", "--index", self.public.url, "--retries", "0", fault=f"^{path}: {status} ")
         self.team.instead[path] = [lambda to: setattr(to, "close_connection", True)]
         self.check_refused(self.team, "team-lib", "--index", self.public.url, "--retries", "0", fault=f"^{path}: the connection was cut")
+        self.team.instead[path] = [lambda to: time.sleep(1)]
+        words = "--index", self.public.url, "--retries", "0", "--timeout", "0.2"
+        self.check_refused(self.team, "team-lib", *words, fault=f"^{path}: no answer in 0.2 s")
         url = f"http://127.0.0.1:{free_port()}/simple/"
         self.check_refused(self.team, "team-lib", "--index", self.public.url, url=url, fault=f"^{path}: Connection refused")
         self.assertEqual(self.asked(self.public), [])

@@ -128,6 +128,15 @@ class Made(Simple):
                 self.check_again(fault, json.dumps(text))
                 self.assertNotIn("secret", "".join(self.again(self.index)[1]))
 
+    def test_again_leaves_the_snapshot_where_it_fails(self):
+        self.made(self.index, "rich")
+        data = self.output.read_bytes()
+        self.index.instead["/simple/flask/"] = [lambda to: to.give(503)]
+        self.assertEqual(self.again(self.index, "flask", "--retries", "0")[0], 1)
+        self.index.close()
+        self.assertEqual(self.again(self.index, "--refresh", "--retries", "0")[0], 1)
+        self.assertEqual(self.output.read_bytes(), data)
+
     def test_again_takes_no_limit_of_it(self):
         """A stranger's snapshot, with an address of theirs, lets them send no more than usual."""
         self.made(self.index, "rich", "--limit", "page=100000000")
