@@ -10,7 +10,7 @@ import unittest
 
 from made.archives import wheel
 from made.environments import LINUX
-from made.library_wheels import make_library_wheels, missing_names
+from made.library_wheels import make_library_wheels, needed_names, python_with_libraries
 from made.releases import index_of
 from packaged import PAGES, Packaged, own_variables
 from places import PROGRAM, TOP
@@ -19,7 +19,7 @@ from test_install import COMMANDS
 TOOLS = [command for command in COMMANDS if command != "reqlock"]
 
 
-@unittest.skipIf(missing_names(), f"python3 lacks {' '.join(missing_names())}, of which the tests make wheels: apt-get install python3-NAME")
+@unittest.skipUnless(python_with_libraries(), f"no python3 has {' '.join(needed_names())}, of which the tests make wheels")
 class Wheeled(Packaged):
     """A test with a wheel, and with a home for a user."""
 

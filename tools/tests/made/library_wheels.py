@@ -1,13 +1,20 @@
-"""Wheels of libraries that are installed here, made of their files, so that what needs them is installed without an index."""
+"""Wheels of libraries that are installed here, made of their files, so that what needs them is installed without an index.
+
+  python3 -m made.library_wheels FOLDER
+            makes those of the libraries that the wheel of reqlock depends on
+"""
 
 import importlib.metadata
 import importlib.util
 import re
+import subprocess
+import sys
 import tomllib
+from functools import lru_cache
 from pathlib import Path
 
 from made.archives import record_line, zipped
-from places import TOP
+from places import TESTS, TOP
 
 # The module of a library whose name is another.
 MODULES = {"markdown-it-py": "markdown_it"}
@@ -50,13 +57,27 @@ def wheel_of_library(folder, name):
     (folder / f"{inner}-py3-none-any.whl").write_bytes(zipped(members))
 
 
-def missing_names():
-    """The libraries that the wheel depends on and that aren't installed here."""
-    return [name for name in needed_names() if module_of(name) is None]
+@lru_cache(maxsize=None)
+def python_with_libraries():
+    """A Python that has them all; None where there is none."""
+    asks = "import importlib, sys; [importlib.import_module(name) for name in sys.argv[1:]]"
+    for python in sys.executable, "python3", "/usr/bin/python3":
+        try:
+            if subprocess.run([python, "-c", asks, *needed_names()], capture_output=True, check=False).returncode == 0:
+                return python
+        except OSError:
+            continue
+    return None
 
 
 def make_library_wheels(folder):
     """A folder with the wheels of all that the wheel of reqlock depends on, each with what it needs."""
+    command = [python_with_libraries(), "-B", "-m", "made.library_wheels", folder]
+    subprocess.run(command, cwd=TESTS, check=True)
+    return folder
+
+
+def main(folder):
     folder.mkdir(parents=True, exist_ok=True)
     names, done = needed_names(), set()
     while names:
@@ -65,4 +86,7 @@ def make_library_wheels(folder):
             done.add(name)
             wheel_of_library(folder, name)
             names += dependencies_of(name)
-    return folder
+
+
+if __name__ == "__main__":
+    main(Path(sys.argv[1]))
