@@ -17,21 +17,19 @@ import argparse
 import json
 import os
 import re
-import shutil
 import subprocess
 import tempfile
 from pathlib import Path
 from typing import Any, NamedTuple
 
 from reqlock_tools.names import called, tool
+from reqlock_tools.program import program_path
 from reqlock_tools.refusal import Refusal, speaker
 from reqlock_tools.regular_file import read_bytes
 from reqlock_tools.toml import read_toml
 from reqlock_tools.versions import normal, read_version, version_of
 
 FILES = "requirements.txt", "pylock.toml", "reqlock.journal"
-# Where a checkout has the program.
-BUILT = Path(__file__).resolve().parent.parent.parent / "crates" / "reqlock" / "out" / "reqlock"
 PIN = re.compile(r"([A-Za-z0-9._-]+)\s*(?:\[[^]]*\]\s*)?==\s*([^\s;,*=]+)\s*(;.*)?", re.DOTALL)
 DONE, SOME = 0, 3
 MOST_FAULTS = 20
@@ -286,7 +284,7 @@ def main(words: list[str]) -> int:
     parser.add_argument("--dir", metavar="DIR", default=".", help="the folder of the new history")
     parser.add_argument("--program", metavar="FILE", help="reqlock, where it isn't on the PATH")
     options = parser.parse_args(words)
-    options.program = options.program or shutil.which("reqlock") or str(BUILT)
+    options.program = program_path(options.program)
     try:
         return run(options)
     except (Refusal, OSError) as refusal:

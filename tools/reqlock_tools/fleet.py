@@ -21,17 +21,16 @@ folder is touched; or 2 where the words are no request; or 130 after Ctrl-C.
 import argparse
 import contextlib
 import os
-import shutil
 import sys
 from collections.abc import Callable
 
-from reqlock_tools.adopt import BUILT
 from reqlock_tools.fleet_dask import Dask
 from reqlock_tools.fleet_output import report_json, report_text
 from reqlock_tools.fleet_request import Request, Task, Usage, check_request, folders_of, request_of
 from reqlock_tools.fleet_row import BROKEN, REFUSED, WAITING, Row
 from reqlock_tools.fleet_run import Here, Rows, Run, Stop
 from reqlock_tools.names import called, tool
+from reqlock_tools.program import program_path
 from reqlock_tools.progress import Progress
 from reqlock_tools.refusal import Refusal, fault_text, shown, speaker
 
@@ -130,7 +129,7 @@ def main(words: list[str]) -> int:
     parser = parser_of()
     place = words.index("--") if "--" in words else len(words)
     options = parser.parse_intermixed_args(words[:place])
-    options.program = options.program or shutil.which("reqlock") or str(BUILT)
+    options.program = program_path(options.program)
     try:
         return run(options, words[place + 1 :])
     except Usage as fault:

@@ -20,12 +20,10 @@ import argparse
 import os
 import re
 import shlex
-import shutil
 import subprocess
 import tempfile
 from pathlib import Path
 
-from reqlock_tools.adopt import BUILT
 from reqlock_tools.files import refuse_no_file
 from reqlock_tools.merge_git import Checkout
 from reqlock_tools.merge_pins import told_pins, versions_in
@@ -34,6 +32,7 @@ from reqlock_tools.merge_sides import (
     JOURNAL, REQUIREMENTS, Found, Journal, Side, are_of_one_history, digest_of, lock_name, read_journal, read_side, saved,
 )
 from reqlock_tools.names import called, tool
+from reqlock_tools.program import program_path
 from reqlock_tools.refusal import Refusal, fault_text, speaker
 
 MARKER = re.compile(rb"(<{7}|\|{7}|={7}|>{7})( |\r?$)")
@@ -276,7 +275,7 @@ def main(words: list[str]) -> int:
     options = parser.parse_args(words)
     options.index = options.index or os.environ.get("REQLOCK_INDEX")
     options.dir = options.dir or os.environ.get("REQLOCK_DIR") or "."
-    options.program = options.program or shutil.which("reqlock") or str(BUILT)
+    options.program = program_path(options.program)
     if not options.index:
         parser.error("--index is needed")
     try:

@@ -3,7 +3,7 @@
 import sys
 from collections.abc import Callable
 
-from reqlock_tools.names import tool
+from reqlock_tools.names import speaking
 
 Say = Callable[[str], None]
 # A line on standard error has no more characters than these.
@@ -23,7 +23,7 @@ def speaker(module: str) -> Say:
     """What tells lines on standard error, each behind the name of the tool that has this module."""
 
     def say(text: str) -> None:
-        print(f"{tool(module)}: {shown(text[:LONGEST_LINE])}{' ..' if len(text) > LONGEST_LINE else ''}", file=sys.stderr)
+        print(f"{speaking(module)}: {shown(text[:LONGEST_LINE])}{' ..' if len(text) > LONGEST_LINE else ''}", file=sys.stderr)
 
     return say
 

@@ -19,7 +19,7 @@ SHARE = TOP / "share"
 EVERYWHERE = {"--verbose", "--quiet", "--color", "--help"}  # the options of each subcommand
 COMMANDS = (
     "reqlock", "reqlock-adopt", "reqlock-check-refutation", "reqlock-environment", "reqlock-fleet", "reqlock-hashes",
-    "reqlock-merge", "reqlock-portable-lock", "reqlock-snapshot",
+    "reqlock-merge", "reqlock-portable-lock", "reqlock-snapshot", "rql",
 )
 
 

@@ -1,0 +1,108 @@
+"""Calls of the program: its output and its status are handed on untouched."""
+
+import os
+import shlex
+import shutil
+import subprocess
+import sys
+from collections.abc import Sequence
+from dataclasses import dataclass
+
+from reqlock_tools.program import program_path
+from reqlock_tools.refusal import Refusal, shown
+from reqlock_tools.rql.faults import STOPPED
+from reqlock_tools.rql.requests import Options
+
+
+@dataclass(frozen=True)
+class Answer:
+    """The status of a call, and what it wrote."""
+
+    status: int
+    output: bytes
+    errors: bytes
+
+    def hand_on(self) -> int:
+        """Writes what the call wrote, to the byte, and answers its status."""
+        for stream, data in (sys.stdout, self.output), (sys.stderr, self.errors):
+            stream.flush()
+            stream.buffer.write(data)
+            stream.flush()
+        return self.status
+
+
+def tell_call(words: Sequence[str], text: str | None = None) -> None:
+    """Prints a call so that it can be typed."""
+    given = f"printf %s {shlex.quote(text)} | " if text is not None else ""
+    print(f"+ {shown(given + shlex.join(words))}", file=sys.stderr, flush=True)
+
+
+class Caller:
+    """What calls the program. With -v each call is told on standard error, so that it can be typed."""
+
+    def __init__(self, options: Options) -> None:
+        self.options = options
+        self.program = program_path(options.program)
+
+    def words(self, *words: str) -> list[str]:
+        """The words of a call as they are typed: what rql was told of telling is told to the program too."""
+        told = ["-v"] * self.options.is_verbose + ["-q"] * self.options.is_quiet
+        return [self.program, *told, *words]
+
+    def tell(self, words: Sequence[str], text: str | None = None) -> None:
+        if self.options.is_verbose:
+            is_found = shutil.which("reqlock") == self.program
+            tell_call(["reqlock" if is_found else self.program, *words[1:]], text)
+
+    def hand_over(self, *words: str) -> int:
+        """The status of a call that reads and writes what this process does. Ctrl-C is left to it."""
+        command = self.words(*words)
+        self.tell(command)
+        sys.stdout.flush()
+        try:
+            done = subprocess.Popen(command)
+        except OSError as fault:
+            raise self.absent(fault) from None
+        try:
+            status = done.wait()
+        except KeyboardInterrupt:
+            done.wait()
+            status = STOPPED
+        return self.status(status)
+
+    def answered(self, *words: str, text: str | None = None) -> Answer:
+        """What a call answers, which is printed by nobody yet."""
+        command = self.words(*words)
+        self.tell(command, text)
+        return self.asked(command, text)
+
+    def quietly(self, *words: str) -> Answer:
+        """The same of a call on a copy, which is told to nobody."""
+        return self.asked(self.words(*words), None)
+
+    def ask(self, *words: str) -> Answer:
+        """The same of a call that only reads, and tells nothing beside its answer."""
+        return self.asked([self.program, *words], None)
+
+    def asked(self, command: list[str], text: str | None) -> Answer:
+        given = b"" if text is None else text.encode(errors="surrogateescape")
+        try:
+            done = subprocess.run(command, input=given, capture_output=True, check=False)
+        except OSError as fault:
+            raise self.absent(fault) from None
+        return Answer(self.status(done.returncode), done.stdout, done.stderr)
+
+    def absent(self, fault: OSError) -> Refusal:
+        return Refusal(f"{self.program}: {fault.strerror}; give the program by --program")
+
+    @staticmethod
+    def status(status: int) -> int:
+        """A status as a shell has it."""
+        return status if status >= 0 else 128 - status
+
+
+def typed_path(path: str | os.PathLike[str]) -> str:
+    """A path as a person types it: from here on, where it is below."""
+    whole = os.path.abspath(path)
+    near = os.path.relpath(whole)
+    return whole if near.startswith("..") else near

@@ -1,0 +1,62 @@
+"""`rql check`: sources and settings against lines and targets first, then what the program checks."""
+
+from reqlock_tools.refusal import speaker
+from reqlock_tools.rql.calls import Caller, typed_path
+from reqlock_tools.rql.environments import are_alike, environments, label_of
+from reqlock_tools.rql.faults import FOUND
+from reqlock_tools.rql.history import content, journal_of
+from reqlock_tools.rql.kept import Kept
+from reqlock_tools.rql.project import REQUIREMENTS, Project
+from reqlock_tools.rql.requests import CheckRequest
+
+say = speaker("rql")
+
+
+def run_check(project: Project, request: CheckRequest) -> int:
+    """The program's status; or 1 where settings or sources differ and the program finds nothing."""
+    differences = [*target_differences(project), *source_differences(project)]
+    for text in differences:
+        say(text)
+    words = [*["--json"] * request.is_json, *["--current"] * request.is_current]
+    status = checked(project, request, words)
+    return status or (FOUND if differences else 0)
+
+
+def checked(project: Project, request: CheckRequest, words: list[str]) -> int:
+    caller, place = Caller(project.options), ["--dir", typed_path(project.folder)]
+    if not request.is_current:
+        return caller.hand_over(*place, "check", *words)
+    from reqlock_tools.rql.index import Wanted, made_index
+
+    kept = Kept(project)
+    with kept.locked():
+        index = made_index(project, kept, Wanted(is_asked=True))
+        return caller.hand_over(*place, "--index", typed_path(index), "check", *words)
+
+
+def target_differences(project: Project) -> list[str]:
+    """What the settings and the journal tell otherwise of environments."""
+    journal = journal_of(project)
+    if journal is None or not project.settings.environments:
+        return []
+    wanted, found = environments(project.settings), journal.environments
+    lines = [f"{named(name)} is in the settings, and isn't locked for: rql env add" for name in wanted.keys() - found.keys()]
+    lines += [f"{named(name)} is locked for, and isn't in the settings: rql env remove" for name in found.keys() - wanted.keys()]
+    for name in sorted(wanted.keys() & found.keys()):
+        if not are_alike(wanted[name], found[name]):
+            lines.append(f"{named(name)} is {label_of(wanted[name])} in the settings, and {label_of(found[name])} is locked for")
+    return sorted(lines)
+
+
+def named(target: str) -> str:
+    return f"target {target}" if target else "the target without a name"
+
+
+def source_differences(project: Project) -> list[str]:
+    """What the sources and the lines tell otherwise."""
+    from reqlock_tools.rql.locking import gathered
+
+    lines = gathered(project) if project.settings.sources else None
+    if lines is None or lines == content(project.folder / REQUIREMENTS):
+        return []
+    return [f"{typed_path(project.folder / REQUIREMENTS)}: the sources have other lines: rql lock takes them over"]

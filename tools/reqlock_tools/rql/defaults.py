@@ -1,0 +1,109 @@
+"""What `rql init` takes where no word tells it: the index that pip asks, and this machine's platform."""
+
+import os
+import re
+import subprocess
+import sys
+from collections.abc import Mapping
+
+from reqlock_tools.environment import PLATFORMS, own_environment
+from reqlock_tools.refusal import speaker
+from reqlock_tools.rql.faults import SettingsFault
+
+PIP = sys.executable, "-m", "pip"
+VARIABLES_OF_INDEXES = "PIP_INDEX_URL", "UV_INDEX_URL", "UV_DEFAULT_INDEX"
+DEFAULT = re.compile(r"\(default:?\s+(https?://\S+?)\)")
+
+say = speaker("rql")
+
+
+def pip_told(*words: str) -> str:
+    """What pip prints; nothing where it isn't there."""
+    try:
+        done = subprocess.run([*PIP, *words], stdin=subprocess.DEVNULL, capture_output=True, encoding="utf-8", errors="replace", check=False)
+    except OSError:
+        return ""
+    return done.stdout if done.returncode == 0 else ""
+
+
+def index_of_pip() -> tuple[str, str]:
+    """The index that pip asks, and what says so."""
+    for variable in VARIABLES_OF_INDEXES:
+        if os.environ.get(variable):
+            return os.environ[variable], variable
+    told = pip_told("config", "get", "global.index-url").strip()
+    if told:
+        return told, "pip's configuration"
+    found = DEFAULT.search(" ".join(pip_told("install", "--help").split()))
+    if found is None:
+        raise SettingsFault("no index is known: pip isn't there to tell one: give it by --index URL")
+    return found[1], "pip install --help"
+
+
+def plain_index(url: str, origin: str) -> str:
+    """The address of an index without user and password, and with a / at its end. Where a password is put is told."""
+    from reqlock_tools.rql.settings import way_of
+    from reqlock_tools.simple.addresses import Unfetched, is_index, parts_of, plain_url
+
+    try:
+        parts = parts_of(url)
+        plain = plain_url(url).rstrip("/") + "/"
+        if not is_index(plain):
+            raise SettingsFault(f"{origin}: the address of an index is wanted, as https://HOST/simple/")
+    except Unfetched as fault:
+        raise SettingsFault(f"{origin}: {fault}") from None
+    if parts.username is not None or parts.password is not None:
+        say(f"{origin}: user and password aren't written into settings: {way_of(url)}")
+    return plain
+
+
+def indexes(given: tuple[str, ...]) -> tuple[str, ...]:
+    """The addresses of the indexes: those that are given, else the one that pip asks."""
+    if given:
+        return tuple(plain_index(url, "--index") for url in given)
+    url, origin = index_of_pip()
+    found = plain_index(url, origin)
+    say(f"index {found}, as {origin} says")
+    if os.environ.get("PIP_EXTRA_INDEX_URL") or pip_told("config", "get", "global.extra-index-url").strip():
+        say("pip's extra index isn't taken over, since pip mixes what indexes have: give all by --index URL, in order")
+    return (found,)
+
+
+def platform_name(told: Mapping[str, object]) -> str | None:
+    """The name of the platform of an environment; None where it has none."""
+    is_musl = any("musllinux" in str(it) for it in as_texts(told.get("platforms")))
+    for name, it in PLATFORMS.items():
+        values = (told["os_name"], told["platform_machine"], told["platform_system"], told["sys_platform"])
+        if values == tuple(it[:4]) and (it.family == "musl") == is_musl:
+            return name
+    return None
+
+
+def as_texts(value: object) -> list[str]:
+    return [str(it) for it in value] if isinstance(value, list) else []
+
+
+def own_platform() -> str:
+    """The name of this machine's platform."""
+    name = platform_name(own_environment())
+    if name is None:
+        raise SettingsFault(f"this machine has no name as a platform: give one by --platform: {', '.join(PLATFORMS)}")
+    return name
+
+
+def own_python() -> str:
+    """The version of this Python, without what tells of a pre-release."""
+    return ".".join(map(str, sys.version_info[:3]))
+
+
+def family_name(platform: str) -> str:
+    """The name of a target for a platform, as linux for linux-x86_64."""
+    return platform.partition("-")[0]
+
+
+def target_names(platforms: tuple[str, ...]) -> list[str]:
+    """A name for each platform: that of its family, or where two have the same the whole."""
+    families = [family_name(it) for it in platforms]
+    return [it if families.count(it) == 1 else whole.replace("_", "-") for it, whole in zip(families, platforms)]
+
+

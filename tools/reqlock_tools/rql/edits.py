@@ -1,0 +1,114 @@
+"""Edits: the index is brought up to date for what is asked, and then the program decides."""
+
+import shutil
+import tempfile
+from collections.abc import Sequence
+from pathlib import Path
+
+from reqlock_tools.refusal import speaker
+from reqlock_tools.rql.calls import Caller, typed_path
+from reqlock_tools.rql.exports import write_export
+from reqlock_tools.rql.faults import SettingsFault
+from reqlock_tools.rql.index import Wanted, made_index, present_index
+from reqlock_tools.rql.kept import Kept
+from reqlock_tools.rql.project import JOURNAL, REQUIREMENTS, Project
+from reqlock_tools.rql.requests import EditRequest
+
+# Those that change one line for each of their texts.
+OF_LINES = "add", "remove", "set"
+# Those that ask the index what is new.
+ASKING = "upgrade", "relock"
+
+say = speaker("rql")
+
+
+def run_edit(project: Project, request: EditRequest) -> int:
+    """Makes an edit, or tells what it would change."""
+    if project.settings.sources and request.word in (*OF_LINES, "constrain"):
+        raise SettingsFault(f"{project.settings.file}: sources: the lines come from there: change them there, and then call rql lock")
+    kept = Kept(project)
+    with kept.locked():
+        return Edit(project, kept, request).run()
+
+
+class Edit:
+    """An edit of a project, with what it calls."""
+
+    def __init__(self, project: Project, kept: Kept, request: EditRequest) -> None:
+        self.project, self.kept, self.request = project, kept, request
+        self.caller = Caller(project.options)
+        self.index = self.fresh_index()
+        self.keeping = ["--keep-locked"] * request.keeps_locked
+        self.drying = ["--dry-run"] * request.is_dry
+
+    def fresh_index(self) -> Path:
+        """The index that has what is asked. A removal asks for nothing new."""
+        word = self.request.word
+        if word == "remove":
+            return present_index(self.project, self.kept)
+        texts = self.request.texts if word in ("add", "set") else ()
+        return made_index(self.project, self.kept, Wanted(texts=texts, is_asked=word in ASKING))
+
+    def given(self, folder: Path | None = None) -> list[str]:
+        """The words that tell of folder and index."""
+        return ["--dir", typed_path(folder or self.project.folder), "--index", typed_path(self.index)]
+
+    def words(self, *texts: str) -> list[str]:
+        """The program's words for the edit of these texts."""
+        if self.request.word == "set":
+            return ["replace", "--line", name_of(texts[0]), texts[0]]
+        return [self.request.word, *(["--"] * any(it.startswith("-") for it in texts)), *texts]
+
+    def run(self) -> int:
+        request = self.request
+        if request.word in OF_LINES and len(request.texts) > 1:
+            status = self.run_several()
+        else:
+            status = self.caller.hand_over(*self.given(), *self.keeping, *self.drying, *self.words(*request.texts))
+        if status == 0 and not request.is_dry:
+            accepted(self.project, self.kept, self.caller, self.index)
+        return status
+
+    def run_several(self) -> int:
+        """Makes the edits of several texts where all are accepted, else none."""
+        with tempfile.TemporaryDirectory() as name:
+            trial = copied(self.project.folder, Path(name))
+            for text in self.request.texts:
+                answer = self.caller.quietly(*self.given(trial), *self.keeping, *self.words(text))
+                if answer.status != 0:
+                    say(f"nothing is changed: {text!a} is refused")
+                    return answer.hand_on()
+            lines = (trial / REQUIREMENTS).read_bytes()
+        if self.request.word == "set" or self.request.is_dry:
+            new = self.kept.write("requirements.new.txt", lines)
+            return self.caller.hand_over(*self.given(), *self.keeping, *self.drying, "replace", typed_path(new))
+        text = "".join(f"{self.request.word} {it}\n" for it in self.request.texts)
+        return self.caller.answered(*self.given(), *self.keeping, "batch", text=text).hand_on()
+
+
+def name_of(text: str) -> str:
+    """The name of a requirement."""
+    from reqlock_tools.requirements import need_of
+
+    need = need_of(text)
+    if need is None:
+        raise SettingsFault(f"{text!a}: it begins with no name")
+    return need.name
+
+
+def copied(folder: Path, place: Path) -> Path:
+    """A copy of the program's files, over which edits are tried."""
+    for path in (folder / REQUIREMENTS, folder / JOURNAL, *folder.glob("pylock*.toml")):
+        if path.is_file():
+            shutil.copy(path, place)
+    return place
+
+
+def accepted(project: Project, kept: Kept, caller: Caller, index: Path | None, forced: Sequence[str] = ()) -> None:
+    """What is done once the program has accepted something: the index takes its place, and exports are written. Those that are forced take
+    the place of what another tool wrote."""
+    if index is not None:
+        kept.accept(index)
+    kept.save_lines()
+    for export in project.settings.exports:
+        write_export(project, kept, caller, export, export.file in forced)

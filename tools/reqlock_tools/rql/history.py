@@ -1,0 +1,35 @@
+"""What the program's files tell: the journal, and whether the files belong together."""
+
+from pathlib import Path
+
+from reqlock_tools.merge_sides import Journal, digest_of, lock_name, read_journal
+from reqlock_tools.regular_file import read_bytes
+from reqlock_tools.rql.faults import SettingsFault
+from reqlock_tools.rql.project import JOURNAL, REQUIREMENTS, Project
+
+
+def content(path: Path) -> bytes:
+    """What a file of the program holds; nothing where it isn't there. A link is followed by nobody."""
+    if path.is_symlink():
+        raise SettingsFault(f"{path}: it is a link, which isn't followed")
+    return read_bytes(str(path)) if path.exists() else b""
+
+
+def journal_of(project: Project) -> Journal | None:
+    """The journal; None where no history has begun."""
+    data = content(project.folder / JOURNAL)
+    return read_journal(str(project.folder / JOURNAL), data) if data else None
+
+
+def wanted_journal(project: Project) -> Journal:
+    found = journal_of(project)
+    if found is None:
+        raise SettingsFault(f"{project.folder / JOURNAL}: it isn't there, so there is no history: rql init begins one")
+    return found
+
+
+def is_whole(project: Project, journal: Journal) -> bool:
+    """Whether lines and locks are those that were saved with the journal."""
+    if digest_of(content(project.folder / REQUIREMENTS)) != journal.requirements:
+        return False
+    return all(digest_of(content(project.folder / lock_name(target))) == digest for target, digest in journal.locks.items())

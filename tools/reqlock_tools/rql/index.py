@@ -1,0 +1,202 @@
+"""The index, brought up to date by the functions of the snapshot tool: for what the lines, the locks and a call ask."""
+
+import contextlib
+import io
+import os
+import sys
+from collections.abc import Iterable, Iterator
+from dataclasses import dataclass, replace
+from pathlib import Path
+from typing import TYPE_CHECKING
+
+from reqlock_tools.refusal import Refusal, fault_text, speaker
+from reqlock_tools.rql.faults import IndexFault, SettingsFault
+from reqlock_tools.rql.kept import Kept
+from reqlock_tools.rql.project import REQUIREMENTS, Project
+from reqlock_tools.rql.requests import IndexRequest, Options
+from reqlock_tools.rql.settings import Settings
+
+if TYPE_CHECKING:
+    from reqlock_tools.simple.locked import Locked
+    from reqlock_tools.simple.plan import Asking, IndexAddress, Plan
+
+say = speaker("rql")
+
+
+@dataclass(frozen=True)
+class Wanted:
+    """What an index is made for, beside the lines and the locks that stand there: texts of requirements, and names that are remembered.
+    With `is_asked` pages are asked for even where they are fresh; `locks` are those of both sides of a merge, and `pins`, as
+    NAME==VERSION, what was locked by another tool."""
+
+    texts: tuple[str, ...] = ()
+    names: tuple[str, ...] = ()
+    is_asked: bool = False
+    locks: tuple[Path, ...] | None = None
+    pins: tuple[str, ...] = ()
+
+
+def is_told(options: Options) -> bool:
+    """Whether it is told what is asked of the network."""
+    return not options.is_quiet and (options.is_verbose or sys.stderr.isatty() or "CI" in os.environ)
+
+
+@contextlib.contextmanager
+def telling(options: Options) -> Iterator[None]:
+    """Has lines of the snapshot tool pass over standard error, or not, as the call is told."""
+    if is_told(options):
+        yield
+    else:
+        with contextlib.redirect_stderr(io.StringIO()):
+            yield
+
+
+def refuse_absent() -> None:
+    """Refuses a Python that lacks what an index is asked with."""
+    from reqlock_tools.libraries import absent_text, library
+    from reqlock_tools.simple.request import LIBRARIES
+
+    for name in LIBRARIES:
+        if library(name) is None:
+            raise IndexFault(absent_text(name))
+
+
+def asking_of(options: Options, is_asked: bool) -> "Asking":
+    """How the index is asked."""
+    from reqlock_tools.limits import limits_of
+    from reqlock_tools.simple.cache import default_folder
+    from reqlock_tools.simple.plan import Asking
+
+    cache = default_folder()
+    if cache is None:
+        raise IndexFault("no folder for a cache is known, since neither platformdirs nor pip is there")
+    return Asking(
+        jobs=16, timeout=30.0, retries=5, cache=cache, is_offline=options.is_offline, is_refreshed=is_asked or options.is_refreshed,
+        limits=limits_of([]),
+    )
+
+
+def lines_of(path: Path) -> list[str]:
+    """The requirements of a file. What is none is left to the program, which says so."""
+    from reqlock_tools.requirements import fault_of
+
+    if not path.is_file():
+        return []
+    texts = (line.partition(" #")[0].strip() for line in path.read_bytes().decode(errors="replace").splitlines())
+    return [text for text in texts if text and not text.startswith("#") and fault_of(text) is None]
+
+
+def addresses(project: Project) -> tuple["IndexAddress", ...]:
+    from reqlock_tools.simple.plan import IndexAddress
+
+    if not project.settings.index:
+        raise SettingsFault(f"{project.settings.file}: index: the address of an index is wanted, as [\"https://HOST/simple/\"]")
+    return tuple(IndexAddress(it.url, it.only) for it in project.settings.index)
+
+
+def locks_of(project: Project) -> list[Path]:
+    """The locks that stand there."""
+    return sorted(path for path in project.folder.glob("pylock*.toml") if path.is_file() and not path.is_symlink())
+
+
+def remembered(kept: Kept) -> tuple[str, ...]:
+    """The names that the present index was made for beside lines."""
+    from reqlock_tools.simple.made import read_plan
+
+    try:
+        return read_plan(str(kept.index)).names if kept.index.is_file() else ()
+    except (Refusal, OSError):
+        return ()
+
+
+def with_pins(locked: "Locked", pins: Iterable[str]) -> "Locked":
+    """What locks have, and what pins name."""
+    from reqlock_tools.simple.locked import versions_of
+
+    for name, versions in versions_of(pins).items():
+        locked.setdefault(name, set()).update(versions)
+    return locked
+
+
+def is_choosy(settings: Settings) -> bool:
+    """Whether the settings leave out releases that a lock may have. Where they don't, what is locked needs no naming, and an index that
+    tells the same stays the same."""
+    return bool(settings.exclude_newer or settings.newest or settings.only_binary or not settings.pre_releases)
+
+
+def plan_of(project: Project, kept: Kept, wanted: Wanted) -> "Plan":
+    """What the index is to be made of."""
+    from reqlock_tools.rql.environments import environments, variables_of
+    from reqlock_tools.simple.bounds import read_constraints
+    from reqlock_tools.simple.locked import locked_versions, texts_of
+    from reqlock_tools.simple.plan import Options as Choices
+    from reqlock_tools.simple.plan import Plan, environment_of, followed_texts
+
+    settings = project.settings
+    told = environments(settings)
+    bounds = [(text, project.place(text, "constraints")) for text in settings.constraints]
+    locks = wanted.locks if wanted.locks is not None else tuple(locks_of(project))
+    return Plan(
+        indexes=addresses(project),
+        names=followed_texts([*remembered(kept), *wanted.names]),
+        lines=followed_texts([*lines_of(project.folder / REQUIREMENTS), *wanted.texts]),
+        environments=tuple(environment_of(name, it, variables_of(it)) for name, it in told.items()),
+        constraints=tuple(replace(read_constraints(str(path), say), file=text) for text, path in bounds),
+        keep=texts_of(with_pins(locked_versions(map(str, locks)), wanted.pins)) if is_choosy(settings) else (),
+        options=Choices(
+            only_binary=settings.only_binary, no_pre=not settings.pre_releases, newest=settings.newest,
+            exclude_newer=settings.exclude_newer or None, assume_no_dependencies=settings.assume_no_dependencies,
+        ),
+    )
+
+
+def made_index(project: Project, kept: Kept, wanted: Wanted) -> Path:
+    """An index for what is wanted: the present one where nothing of it changes, else one that is to take its place once the program
+    has accepted what is asked."""
+    refuse_absent()
+    plan = plan_of(project, kept, wanted)
+    data = index_bytes(plan, asking_of(project.options, wanted.is_asked), project.options)
+    if kept.index.is_file() and not kept.index.is_symlink() and kept.index.read_bytes() == data:
+        return kept.index
+    return kept.write(kept.asked.name, data)
+
+
+def index_bytes(plan: "Plan", asking: "Asking", options: Options) -> bytes:
+    """The index that a plan gives, as a file has it."""
+    from reqlock_tools.simple.credentials import Credentials
+    from reqlock_tools.simple.run import Run
+    from reqlock_tools.snapshot_output import say as say_index
+    from reqlock_tools.snapshot_output import snapshot_text
+
+    try:
+        with telling(options):
+            credentials = Credentials((it.url for it in plan.indexes), say_index)
+            return snapshot_text(Run(plan, asking, credentials).snapshot()).encode()
+    except (Refusal, OSError) as fault:
+        from reqlock_tools.simple.addresses import hidden
+
+        raise IndexFault(hidden(fault_text(fault))) from None
+
+
+def present_index(project: Project, kept: Kept) -> Path:
+    """The present index, or where it isn't there one that is made."""
+    return kept.index if kept.index in kept.earlier() else made_index(project, kept, Wanted())
+
+
+def run_index(project: Project, request: IndexRequest) -> int:
+    """Makes the index anew."""
+    kept = Kept(project)
+    with kept.locked():
+        refuse_no_names(request.names)
+        kept.accept(made_index(project, kept, Wanted(names=request.names, is_asked=True)))
+    return 0
+
+
+def refuse_no_names(names: Iterable[str]) -> None:
+    from reqlock_tools.requirements import fault_of
+
+    for text in names:
+        if fault := fault_of(text):
+            raise SettingsFault(f"{text!a}: {fault}")
+
+

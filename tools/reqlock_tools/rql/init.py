@@ -1,0 +1,217 @@
+"""`rql init`: settings where there are none, environments, the index, and the first lock. Pins that stand there are kept."""
+
+import contextlib
+import os
+from pathlib import Path
+from typing import Any
+
+from reqlock_tools.adopt import Pin, fits, releases_by_name
+from reqlock_tools.files import write_whole
+from reqlock_tools.refusal import speaker
+from reqlock_tools.rql.calls import Caller, typed_path
+from reqlock_tools.rql.defaults import indexes, own_platform, own_python, platform_name, target_names
+from reqlock_tools.rql.draft import Draft, draft_of
+from reqlock_tools.rql.edits import accepted
+from reqlock_tools.rql.environments import environments
+from reqlock_tools.rql.faults import SettingsFault
+from reqlock_tools.rql.history import content, journal_of
+from reqlock_tools.rql.index import Wanted, made_index
+from reqlock_tools.rql.kept import MODE, Kept
+from reqlock_tools.rql.pins import read_pins
+from reqlock_tools.rql.project import REQUIREMENTS, Project, project_of, settings_in
+from reqlock_tools.rql.requests import InitRequest, Options
+from reqlock_tools.rql.settings import OWN_FILE, PROJECT_FILE, EnvironmentSetting, ExportSetting, settings_of
+from reqlock_tools.rql.settings_text import settings_text
+from reqlock_tools.toml import read_toml
+from reqlock_tools.versions import version_of
+
+say = speaker("rql")
+
+
+def run_init(options: Options, request: InitRequest) -> int:
+    """Begins a project in the folder in which the call is made."""
+    base = Path(os.path.realpath(options.start))
+    if not base.is_dir():
+        raise SettingsFault(f"{options.start}: there is no such folder")
+    found = settings_in(base)
+    if found is not None and (request.indexes or request.platforms or request.python):
+        raise SettingsFault(f"{found.file}: settings stand there already: change them there, or remove them")
+    draft = draft_of(base, request.pinned)
+    if found is not None:
+        return Beginning(project_of(found, options), draft, None).run()
+    file, text = new_settings(base, draft, request)
+    whole = read_toml(text)
+    settings = settings_of(whole if file.name == OWN_FILE else whole["tool"]["reqlock"], file, f"{file}: new settings")
+    return Beginning(project_of(settings, options), draft, text).run()
+
+
+def new_settings(base: Path, draft: Draft, request: InitRequest) -> tuple[Path, str]:
+    """The settings that are to be written, and the file."""
+    file = base / (PROJECT_FILE if (base / PROJECT_FILE).is_file() else OWN_FILE)
+    targets = new_environments(base, draft, request)
+    exports = [ExportSetting(draft.compiled, "hashes", targets[0].name or None)] if draft.compiled else []
+    table = "tool.reqlock" if file.name == PROJECT_FILE else ""
+    return file, settings_text(table, draft.folder, indexes(request.indexes), draft.sources, exports, targets)
+
+
+def new_environments(base: Path, draft: Draft, request: InitRequest) -> list[EnvironmentSetting]:
+    """The environments: those of the history that stands there, or what the words say, or what is here."""
+    journal = journal_in(base / draft.folder)
+    if journal and not (request.platforms or request.python):
+        return [of_journal(name, told) for name, told in journal.items()]
+    python = request.python or own_python()
+    if len(request.platforms) < 2:
+        return [EnvironmentSetting("", python, request.platforms[0] if request.platforms else own_platform())]
+    names = target_names(request.platforms)
+    return [EnvironmentSetting(name, python, platform) for name, platform in zip(names, request.platforms)]
+
+
+def journal_in(folder: Path) -> dict[str, Any]:
+    """The environments of the history of a folder; none where it has none."""
+    from reqlock_tools.merge_sides import read_journal
+    from reqlock_tools.rql.project import JOURNAL
+
+    data = content(folder / JOURNAL)
+    return read_journal(str(folder / JOURNAL), data).environments if data else {}
+
+
+def of_journal(name: str, told: dict[str, Any]) -> EnvironmentSetting:
+    """The setting of an environment that is locked for."""
+    platform = platform_name(told)
+    if platform is None:
+        raise SettingsFault(f"{told.get('sys_platform')} {told.get('platform_machine')}, which is locked for, has no name: --platform gives one")
+    return EnvironmentSetting(name, str(told["python_full_version"]), platform)
+
+
+class Beginning:
+    """The begin of a project. `text` is what is written as settings, None where they stand there."""
+
+    def __init__(self, project: Project, draft: Draft, text: str | None) -> None:
+        self.project, self.draft, self.text = project, draft, text
+        self.caller = Caller(project.options)
+        self.is_made: list[Path] = []
+
+    def run(self) -> int:
+        kept = Kept(self.project)
+        with kept.locked():
+            if journal_of(self.project) is not None:
+                return self.go_on(kept)
+            try:
+                status = self.begin(kept)
+            except BaseException:
+                self.take_back()
+                raise
+        return status
+
+    def go_on(self, kept: Kept) -> int:
+        """Writes settings for a history that stands there, and makes its index."""
+        kept.accept(made_index(self.project, kept, Wanted(is_asked=True)))
+        kept.save_lines()
+        self.write_settings()
+        say("the history that stands there goes on")
+        return self.caller.hand_over("--dir", typed_path(self.project.folder), "check")
+
+    def begin(self, kept: Kept) -> int:
+        self.put_lines()
+        pins = [pin for path in self.draft.pinned for pin in read_pins(path)]
+        index = made_index(self.project, kept, Wanted(is_asked=True, pins=tuple(f"{it.name}=={it.version}" for it in pins)))
+        packages = releases_by_name(str(index))
+        taken = [pin for pin in pins if fits(pin, packages)]
+        told = environments(self.project.settings)
+        files = [(name, kept.environment(name, it)) for name, it in told.items()]
+        words = ["--dir", typed_path(self.project.folder), "--index", typed_path(index)]
+        words += [word for name, path in files for word in ("--env", f"{name}={typed_path(path)}" if name else typed_path(path))]
+        status = self.caller.hand_over(*words, "init", *self.pin_words(kept, taken, list(told)))
+        if status != 0:
+            self.take_back()
+            return status
+        self.write_settings()
+        accepted(self.project, kept, self.caller, index, self.forced())
+        if self.draft.pinned:
+            self.tell_pins(taken, len(pins))
+        return status
+
+    def pin_words(self, kept: Kept, pins: list[Pin], targets: list[str]) -> list[str]:
+        """The words that have pins kept, for each target."""
+        if not pins:
+            return []
+        data = "".join(f"{pin.name}=={pin.version} {pin.marker}".rstrip() + "\n" for pin in pins)
+        path = typed_path(kept.write("pins.txt", data.encode()))
+        return [word for name in targets for word in ("--pins", f"{name}={path}" if name else path)]
+
+    # The files of the project
+
+    def put_lines(self) -> None:
+        """Puts the lines there with which the history begins."""
+        folder, path = self.project.folder, self.project.folder / REQUIREMENTS
+        if not folder.exists():
+            folder.mkdir(parents=True)
+            self.is_made.append(folder)
+        lines = self.lines()
+        if lines is None or (path.is_file() and content(path) == lines):
+            return
+        if os.path.lexists(path):
+            raise SettingsFault(f"{path}: it stands there already, with other lines than {', '.join(self.draft.sources)}")
+        write_whole(str(path), lines, MODE)
+        self.is_made.append(path)
+
+    def lines(self) -> bytes | None:
+        """The lines that are to stand in the program's file; None where those that stand there count."""
+        if self.project.settings.sources:
+            from reqlock_tools.rql.locking import gathered
+
+            return gathered(self.project)
+        if self.draft.lines is not None:
+            return self.draft.lines
+        return None if os.path.lexists(self.project.folder / REQUIREMENTS) else b""
+
+    def take_back(self) -> None:
+        """Removes what was put there, where nothing came of it."""
+        for path in reversed(self.is_made):
+            with contextlib.suppress(OSError):
+                path.rmdir() if path.is_dir() else path.unlink()
+
+    def write_settings(self) -> None:
+        """Writes settings where there are none; behind what stands in the file."""
+        if self.text is None:
+            return
+        file = self.project.settings.file
+        before = file.read_bytes() if file.is_file() else b""
+        end = b"\r\n" if b"\r\n" in before else b"\n"
+        gap = b"" if not before else end if before.endswith(b"\n") else end * 2
+        write_whole(str(file), before + gap + self.text.encode().replace(b"\n", end), MODE)
+        say(f"settings: {typed_path(file)}")
+
+    def forced(self) -> tuple[str, ...]:
+        """The files of another tool that are exported from now on."""
+        if self.draft.compiled is None or self.text is None:
+            return ()
+        say(f"{self.draft.compiled} is exported from now on, and the lines come from {', '.join(self.draft.sources)}")
+        return (self.draft.compiled,)
+
+    # What came of the pins
+
+    def tell_pins(self, pins: list[Pin], count: int) -> None:
+        """Tells which pins are locked, and which aren't."""
+        locks = [locked_in(self.project.lock_path(it)) for it in environments(self.project.settings)]
+        kept = 0
+        for pin in pins:
+            versions = [lock[pin.name] for lock in locks if pin.name in lock]
+            if any(version_of(it) == version_of(pin.version) for it in versions):
+                kept += 1
+            elif versions:
+                say(f"{pin.told()}: it isn't taken over: {', '.join(sorted(set(versions)))} is locked, since over this index it doesn't fit")
+            else:
+                say(f"{pin.told()}: it isn't taken over: nothing needs it")
+        names = {pin.name for pin in pins}
+        for name in sorted({name for lock in locks for name in lock} - names):
+            say(f"{name}: it is locked, and no pin was taken over for it")
+        say(f"{kept} of {count} pins are taken over")
+
+
+def locked_in(path: Path) -> dict[str, str]:
+    """The versions of a lock by name."""
+    lock = read_toml(content(path).decode())
+    return {entry["name"]: entry["version"] for entry in lock["packages"]}
+
+

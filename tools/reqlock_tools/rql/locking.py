@@ -1,0 +1,153 @@
+"""`rql lock`: the lock fits the lines again, whoever changed them."""
+
+import tempfile
+from pathlib import Path
+
+from reqlock_tools.files import write_whole
+from reqlock_tools.merge_git import Checkout, Sides
+from reqlock_tools.merge_sides import Journal, digest_of, lock_name, read_side, saved
+from reqlock_tools.refusal import Refusal, speaker
+from reqlock_tools.rql.calls import Caller, tell_call, typed_path
+from reqlock_tools.rql.edits import accepted
+from reqlock_tools.rql.faults import FOUND, SettingsFault
+from reqlock_tools.rql.history import content, is_whole, wanted_journal
+from reqlock_tools.rql.index import Wanted, made_index
+from reqlock_tools.rql.kept import MODE, Kept
+from reqlock_tools.rql.project import JOURNAL, REQUIREMENTS, Project
+from reqlock_tools.rql.requests import LockRequest
+
+say = speaker("rql")
+
+
+def run_lock(project: Project, request: LockRequest) -> int:
+    """Locks what was changed, or tells whether anything was."""
+    kept = Kept(project)
+    with kept.locked():
+        return Locking(project, kept, request).run()
+
+
+def checkout_of(project: Project) -> Checkout | None:
+    """The git checkout in which the project stands; None where it stands in none, or git isn't there."""
+    try:
+        return Checkout(str(project.folder))
+    except Refusal:
+        return None
+
+
+def gathered(project: Project) -> bytes | None:
+    """The lines that the sources have now; None where there are no sources."""
+    if not project.settings.sources:
+        return None
+    from reqlock_tools.rql.sources import gather
+
+    found: bytes = gather(project.base, project.settings.sources)
+    return found
+
+
+class Locking:
+    """A project whose lines may have been changed by hand, by a bot or by git."""
+
+    def __init__(self, project: Project, kept: Kept, request: LockRequest) -> None:
+        self.project, self.kept, self.request = project, kept, request
+        self.caller = Caller(project.options)
+        self.checkout = checkout_of(project)
+
+    def run(self) -> int:
+        lines = gathered(self.project)
+        sides = self.checkout.sides([REQUIREMENTS, JOURNAL]) if self.checkout else None
+        if self.checkout is not None and sides is not None:
+            return self.merge(self.checkout, sides, lines)
+        journal = wanted_journal(self.project)
+        are_same = lines is None or lines == content(self.project.folder / REQUIREMENTS)
+        if is_whole(self.project, journal) and are_same:
+            return self.caller.hand_over("--dir", typed_path(self.project.folder), "check")
+        if self.request.is_check:
+            return self.differs()
+        return self.replace(journal, lines)
+
+    def differs(self) -> int:
+        say("the lock doesn't fit the lines: rql lock has it fit them")
+        return FOUND
+
+    # Changes by hand
+
+    def replace(self, journal: Journal, lines: bytes | None) -> int:
+        """Has the lines that stand there take the place of those that were saved last."""
+        if lines is not None and is_whole(self.project, journal):
+            new = self.kept.write("requirements.new.txt", lines)
+            return self.replaced(lines, typed_path(new))
+        if lines is not None:
+            write_whole(str(self.project.folder / REQUIREMENTS), lines, MODE)
+        old = self.kept.write(REQUIREMENTS, self.saved_lines(journal))
+        return self.replaced(content(self.project.folder / REQUIREMENTS), "--was", typed_path(old))
+
+    def replaced(self, lines: bytes, *words: str) -> int:
+        index = made_index(self.project, self.kept, Wanted(texts=texts_in(lines)))
+        place = ["--dir", typed_path(self.project.folder), "--index", typed_path(index)]
+        status = self.caller.hand_over(*place, "replace", *words)
+        if status == 0:
+            accepted(self.project, self.kept, self.caller, index)
+        return status
+
+    def saved_lines(self, journal: Journal) -> bytes:
+        """The lines that were saved with the journal: rql keeps them, or git has them."""
+        if self.kept.saved.is_file() and digest_of(content(self.kept.saved)) == journal.requirements:
+            return content(self.kept.saved)
+        found = saved(self.checkout, REQUIREMENTS, journal.requirements, ["HEAD"]) if self.checkout else None
+        if found is None:
+            raise SettingsFault(
+                f"{self.project.folder / REQUIREMENTS}: nobody has the lines that were saved last; rql init --from"
+                f" {lock_name(sorted(journal.locks)[0])} begins a new history with the versions that are locked"
+            )
+        return found.data
+
+    # What git merges
+
+    def merge(self, checkout: Checkout, sides: Sides, lines: bytes | None) -> int:
+        """Locks what is in progress as reqlock-merge does, over an index that has what both sides have locked."""
+        from reqlock_tools import merge
+
+        if self.request.is_check:
+            return self.check_merge(checkout)
+        if lines is not None:
+            write_whole(str(self.project.folder / REQUIREMENTS), lines, MODE)
+        with tempfile.TemporaryDirectory() as name:
+            index = made_index(self.project, self.kept, Wanted(locks=both_locks(checkout, sides, Path(name))))
+        words = ["--dir", typed_path(self.project.folder), "--index", typed_path(index)]
+        if self.project.options.is_verbose:
+            tell_call(["reqlock-merge", *words])
+        status = merge.main([*words, "--program", self.caller.program])
+        if status == 0:
+            accepted(self.project, self.kept, self.caller, index)
+        return status
+
+    def check_merge(self, checkout: Checkout) -> int:
+        journal = content(self.project.folder / JOURNAL)
+        names = [REQUIREMENTS, JOURNAL]
+        if checkout.unmerged(names) or b"<<<<<<<" in journal or not is_whole(self.project, wanted_journal(self.project)):
+            return self.differs()
+        return self.caller.hand_over("--dir", typed_path(self.project.folder), "check")
+
+
+def texts_in(lines: bytes) -> tuple[str, ...]:
+    """The requirements of lines."""
+    with tempfile.NamedTemporaryFile(suffix=".txt") as file:
+        file.write(lines)
+        file.flush()
+        from reqlock_tools.rql.index import lines_of
+
+        return tuple(lines_of(Path(file.name)))
+
+
+def both_locks(checkout: Checkout, sides: Sides, place: Path) -> tuple[Path, ...]:
+    """The locks of both sides, as files."""
+    found: list[Path] = []
+    for name, places in ("ours", [":2", sides.ours]), ("theirs", [":3", sides.theirs or ":0"]):
+        side = read_side(checkout, name, places)
+        for target, data in (side.locks if side else {}).items():
+            if data is not None:
+                found.append(place / f"{name}.{lock_name(target)}")
+                found[-1].write_bytes(data)
+    return tuple(found)
+
+

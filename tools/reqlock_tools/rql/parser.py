@@ -1,0 +1,162 @@
+"""The words of rql: one parser, of which help, the manual page and the completions are made."""
+
+import argparse
+from collections.abc import Callable, Sequence
+from typing import TYPE_CHECKING
+
+from reqlock_tools.rql.requests import (
+    CheckRequest, EditRequest, EnvRequest, IndexRequest, InitRequest, LockRequest, Options, PassedRequest, Request, SyncRequest,
+)
+
+DESCRIPTION = """Keep a project's requirements and its locks together: rql keeps the index fresh, and then calls the program reqlock,
+which decides every version. docs/RQL.md tells it by task."""
+EPILOG = """The status is that of the program; or 1 where a check found something; 2 where words or settings are no good; 6 where the index
+or the network failed; 130 after Ctrl-C."""
+# What is handed to the program with all words behind it, and what of it is told in help.
+PASSED = {
+    "undo": "go back to the state before the last edit", "redo": "go on to the state that an undo left",
+    "show": "print the lock as a table, with what asks for each entry", "tree": "print the lock below the lines that ask for it",
+    "outdated": "print which locked releases have newer ones, and who holds them back",
+    "why": "say why a line can't be locked", "log": "print the history, a line for each edit",
+    "diff": "print what changed between two places of the history", "export": "print the lock in the form of another tool",
+    "skipped": "print which releases of the index are left out, and why",
+}
+# What is handed to another tool.
+TOOLS = {
+    "fleet": "ask the same of many folders", "merge": "lock what git merged, and keep the pins of both sides",
+    "check-refutation": "check a proof that nothing can be locked",
+}
+EDITS: dict[str, tuple[str, str, str, str]] = {
+    "add": ("put lines behind the others: all or none", "TEXT", "+", "a line, as 'httpx>=0.27'"),
+    "remove": ("take the lines of names out: all or none", "NAME", "+", "a name that has a line"),
+    "set": ("put texts in the place of the lines of their names: all or none", "TEXT", "+", "a line, as 'flask[async]>=2'"),
+    "upgrade": ("lock again without the locked versions of these names", "NAME", "*", "a locked name; without any, all of them"),
+}
+if TYPE_CHECKING:
+    Subparsers = argparse._SubParsersAction[argparse.ArgumentParser]
+
+
+def parser_of() -> argparse.ArgumentParser:
+    parser = argparse.ArgumentParser(prog="rql", description=DESCRIPTION, epilog=EPILOG, allow_abbrev=False)
+    add_options(parser)
+    words = parser.add_subparsers(dest="word", metavar="COMMAND", required=True)
+    add_init(words)
+    add_edits(words)
+    add_own(words)
+    add_env(words)
+    for name, told in {**PASSED, **TOOLS}.items():
+        whose = "the program" if name in PASSED else f"reqlock-{name}"
+        words.add_parser(name, help=told, description=f"{told}; the words behind it are those of {whose}", add_help=False)
+    return parser
+
+
+def add_options(parser: argparse.ArgumentParser) -> None:
+    parser.add_argument("-C", metavar="DIR", dest="start", default=".", help="look for the project's settings in DIR and above")
+    parser.add_argument("--offline", action="store_true", help="ask nobody: take all from the cache")
+    parser.add_argument("--refresh", action="store_true", help="ask also for pages that are said to be fresh yet")
+    parser.add_argument("-v", "--verbose", action="store_true", help="print each call of reqlock so that it can be typed")
+    parser.add_argument("-q", "--quiet", action="store_true", help="tell nothing beside the answer")
+    parser.add_argument("--program", metavar="FILE", help="reqlock, where it isn't on the PATH")
+
+
+def add_init(words: "Subparsers") -> None:
+    parser = words.add_parser("init", help="begin: settings, environments, index and lock", allow_abbrev=False)
+    parser.add_argument("--index", metavar="URL", action="append", default=[], help="an index, in order; else pip's")
+    parser.add_argument("--python", metavar="VERSION", help="the version of Python, as 3.11; this one where none is given")
+    parser.add_argument("--platform", metavar="NAME", action="append", default=[], help="a platform, as linux-x86_64; this one else")
+    parser.add_argument("--from", metavar="FILE", dest="pinned", action="append", default=[], help="a lock whose pins are kept")
+
+
+def add_edits(words: "Subparsers") -> None:
+    for name, (told, metavar, count, help_text) in EDITS.items():
+        parser = words.add_parser(name, help=told, description=told, allow_abbrev=False)
+        parser.add_argument("texts", metavar=metavar, nargs=count, help=help_text)
+        add_edit_options(parser)
+    parser = words.add_parser("constrain", help="put other specifiers in the line of a name", allow_abbrev=False)
+    parser.add_argument("name", metavar="NAME", help="a name that has a line")
+    parser.add_argument("spec", metavar="SPEC", nargs="?", default="", help="the specifiers, as '>=2,<3'; without them, none")
+    add_edit_options(parser)
+    add_edit_options(words.add_parser("relock", help="lock again over a fresh index; versions stay where they can", allow_abbrev=False))
+
+
+def add_edit_options(parser: argparse.ArgumentParser) -> None:
+    parser.add_argument("--keep-locked", action="store_true", help="move no locked version that is still needed")
+    parser.add_argument("--dry-run", action="store_true", help="save nothing; print what would change")
+
+
+def add_own(words: "Subparsers") -> None:
+    parser = words.add_parser("lock", help="have the lock fit the lines again, whoever changed them", allow_abbrev=False)
+    parser.add_argument("--check", action="store_true", help="change nothing; the status is 1 where it would")
+    parser = words.add_parser("sync", help="have a virtual environment hold exactly what is locked", allow_abbrev=False)
+    parser.add_argument("--venv", metavar="DIR", help="the environment; else VIRTUAL_ENV, else .venv")
+    parser.add_argument("--target", metavar="NAME", help="the target, where several fit")
+    parser.add_argument("--keep", metavar="NAME", action="append", default=[], help="a package that stays though it isn't locked")
+    parser.add_argument("--exact", action="store_true", help="take out folders and checkouts too")
+    parser.add_argument("--dry-run", action="store_true", help="change nothing; print what would change")
+    parser = words.add_parser("check", help="tell whether settings, lines and locks belong together", allow_abbrev=False)
+    parser.add_argument("--current", action="store_true", help="tell also whether a relock over today's index changes something")
+    parser.add_argument("--json", action="store_true", help="print JSON")
+    parser = words.add_parser("index", help="make the index anew, with these names too", allow_abbrev=False)
+    parser.add_argument("names", metavar="NAME", nargs="*", help="a package, or a requirement, to follow")
+
+
+def add_env(words: "Subparsers") -> None:
+    parser = words.add_parser("env", help="add, remove or list the environments that are locked for", allow_abbrev=False)
+    kinds = parser.add_subparsers(dest="kind", metavar="add|remove|list", required=True)
+    add = kinds.add_parser("add", help="lock for one environment more", allow_abbrev=False)
+    add.add_argument("name", metavar="NAME", help="the name of the target")
+    add.add_argument("--python", metavar="VERSION", required=True, help="the version of Python, as 3.11")
+    add.add_argument("--platform", metavar="NAME", required=True, help="the platform, as linux-x86_64")
+    remove = kinds.add_parser("remove", help="lock for one environment less", allow_abbrev=False)
+    remove.add_argument("name", metavar="NAME", help="the name of the target")
+    for it in add, remove:
+        it.add_argument("--anew", action="store_true", help="begin a new history, with the versions that are locked")
+    kinds.add_parser("list", help="print the environments", allow_abbrev=False)
+
+
+def parsed(arguments: Sequence[str]) -> tuple[Options, Request]:
+    """The request that words spell. What stands behind the name of a call that is handed on is read by nobody here."""
+    place = handed_on(arguments)
+    end = len(arguments) if place is None else place + 1
+    told = parser_of().parse_args(list(arguments[:end]))
+    options = Options(told.start, told.offline, told.refresh, told.verbose, told.quiet, told.program)
+    if place is not None:
+        return options, PassedRequest(told.word, tuple(arguments[end:]))
+    return options, READERS.get(told.word, edit_request)(told)
+
+
+def handed_on(arguments: Sequence[str]) -> int | None:
+    """The place of the word of a call that is handed on; None where the call is rql's own."""
+    place = 0
+    while place < len(arguments) and arguments[place].startswith("-"):
+        place += 2 if arguments[place] in ("-C", "--program") else 1
+    return place if place < len(arguments) and arguments[place] in (*PASSED, *TOOLS) else None
+
+
+def edit_request(told: argparse.Namespace) -> Request:
+    if told.word == "constrain":
+        texts = (told.name, told.spec) if told.spec else (told.name,)
+    else:
+        texts = tuple(getattr(told, "texts", ()))
+    return EditRequest(told.word, texts, told.keep_locked, told.dry_run)
+
+
+def init_request(told: argparse.Namespace) -> Request:
+    return InitRequest(tuple(told.index), told.python, tuple(told.platform), tuple(told.pinned))
+
+
+def sync_request(told: argparse.Namespace) -> Request:
+    return SyncRequest(told.venv, told.target, tuple(told.keep), told.exact, told.dry_run)
+
+
+def env_request(told: argparse.Namespace) -> Request:
+    python, platform = getattr(told, "python", ""), getattr(told, "platform", "")
+    return EnvRequest(told.kind, getattr(told, "name", ""), python, platform, getattr(told, "anew", False))
+
+
+READERS: dict[str, Callable[[argparse.Namespace], Request]] = {
+    "init": init_request, "sync": sync_request, "env": env_request,
+    "lock": lambda told: LockRequest(told.check),
+    "check": lambda told: CheckRequest(told.current, told.json),
+    "index": lambda told: IndexRequest(tuple(told.names)),
+}

@@ -1,0 +1,74 @@
+"""Calls that are handed on: the program's own, with folder and index filled in, and those of other tools."""
+
+import importlib
+from pathlib import Path
+
+from reqlock_tools.rql.calls import Caller, typed_path
+from reqlock_tools.rql.kept import Kept
+from reqlock_tools.rql.project import Project
+from reqlock_tools.rql.requests import Options, PassedRequest
+
+# Those that go to another state of the history.
+MOVING = "undo", "redo"
+# Those that read the index, where it is there.
+READING = "show", "tree", "export", "skipped"
+
+
+def run_passed(project: Project, request: PassedRequest) -> int:
+    """The status of a call of the program with the words that were given."""
+    caller = Caller(project.options)
+    words = ["show", "--tree"] if request.word == "tree" else [request.word]
+    call = [*words, *request.words]
+    given = ["--dir", typed_path(project.folder)]
+    if is_help(request.words):
+        return caller.hand_over(*call)
+    kept = Kept(project)
+    if request.word in MOVING:
+        return moved(project, kept, caller, [*given, *call])
+    if request.word in READING:
+        return caller.hand_over(*given, *index_words(kept.earlier()[:1]), *call)
+    if request.word in ("outdated", "why"):
+        with kept.locked():
+            return caller.hand_over(*given, *index_words([asked_index(project, kept, request)]), *call)
+    return caller.hand_over(*given, *call)
+
+
+def is_help(words: tuple[str, ...]) -> bool:
+    return "-h" in words or "--help" in words
+
+
+def index_words(indexes: list[Path]) -> list[str]:
+    return [word for path in indexes for word in ("--index", typed_path(path))]
+
+
+def moved(project: Project, kept: Kept, caller: Caller, call: list[str]) -> int:
+    """Goes to another state, and has the exports follow."""
+    from reqlock_tools.rql.edits import accepted
+
+    with kept.locked():
+        status = caller.hand_over(*call)
+        if status == 0 and "--dry-run" not in call:
+            accepted(project, kept, caller, None)
+    return status
+
+
+def asked_index(project: Project, kept: Kept, request: PassedRequest) -> Path:
+    """The index for a question: for what is new, or with what the words name."""
+    from reqlock_tools.requirements import fault_of
+    from reqlock_tools.rql.index import Wanted, made_index
+
+    if request.word == "outdated":
+        return made_index(project, kept, Wanted(is_asked=True))
+    return made_index(project, kept, Wanted(texts=tuple(it for it in request.words if fault_of(it) is None)))
+
+
+def run_tool(_: Options, request: PassedRequest) -> int:
+    """The status of another tool, which reads the words that were given."""
+    if request.word == "fleet" and request.words[:1] == ("show",):
+        from reqlock_tools.rql.fleet_table import run_table
+
+        found: int = run_table(request.words[1:])
+        return found
+    module = importlib.import_module(f"reqlock_tools.{request.word.replace('-', '_')}")
+    status: int = module.main(list(request.words))
+    return status

@@ -1,0 +1,92 @@
+"""What the words of rql ask for: one frozen dataclass for each kind of call."""
+
+from dataclasses import dataclass
+
+
+@dataclass(frozen=True)
+class Options:
+    """What counts for each call: where it begins to look for settings, and how it asks and tells."""
+
+    start: str
+    is_offline: bool
+    is_refreshed: bool
+    is_verbose: bool
+    is_quiet: bool
+    program: str | None
+
+
+@dataclass(frozen=True)
+class InitRequest:
+    """Begin a project: settings, environments, index and lock. `pinned` are files whose pins are kept."""
+
+    indexes: tuple[str, ...]
+    python: str | None
+    platforms: tuple[str, ...]
+    pinned: tuple[str, ...]
+
+
+@dataclass(frozen=True)
+class EditRequest:
+    """An edit: `word` is add, remove, constrain, set, upgrade or relock, and `texts` is what stands behind it."""
+
+    word: str
+    texts: tuple[str, ...]
+    keeps_locked: bool
+    is_dry: bool
+
+
+@dataclass(frozen=True)
+class LockRequest:
+    """Have the lock fit the lines again, or tell whether it does."""
+
+    is_check: bool
+
+
+@dataclass(frozen=True)
+class SyncRequest:
+    """Have a virtual environment hold exactly what is locked."""
+
+    venv: str | None
+    target: str | None
+    keep: tuple[str, ...]
+    is_exact: bool
+    is_dry: bool
+
+
+@dataclass(frozen=True)
+class CheckRequest:
+    """Tell whether all belongs together, and with `is_current` whether a relock over today's index changes nothing."""
+
+    is_current: bool
+    is_json: bool
+
+
+@dataclass(frozen=True)
+class IndexRequest:
+    """Make the index anew, with these names too."""
+
+    names: tuple[str, ...]
+
+
+@dataclass(frozen=True)
+class EnvRequest:
+    """Change or list the environments: `word` is add, remove or list."""
+
+    word: str
+    name: str
+    python: str
+    platform: str
+    is_anew: bool
+
+
+@dataclass(frozen=True)
+class PassedRequest:
+    """A call of the program, or of a tool, with the words that stand behind its name."""
+
+    word: str
+    words: tuple[str, ...]
+
+
+Request = (
+    InitRequest | EditRequest | LockRequest | SyncRequest | CheckRequest | IndexRequest | EnvRequest | PassedRequest
+)

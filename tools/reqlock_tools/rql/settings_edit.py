@@ -1,0 +1,50 @@
+"""Settings that stand in a file, changed and else left as they are to the byte."""
+
+import importlib
+import sys
+from collections.abc import Sequence
+from typing import TYPE_CHECKING, Any
+
+from reqlock_tools.rql.faults import SettingsFault
+from reqlock_tools.rql.settings import OWN_FILE, EnvironmentSetting, Settings
+
+if TYPE_CHECKING:
+    import tomlkit
+
+
+def library() -> Any:
+    """The library that writes TOML files."""
+    try:
+        return importlib.import_module("tomlkit")
+    except ImportError:
+        raise SettingsFault(f"{sys.executable} lacks the library tomlkit, which writes settings: python3 -m pip install tomlkit") from None
+
+
+def with_environments(settings: Settings, environments: Sequence[EnvironmentSetting]) -> bytes:
+    """The file of the settings with other environments."""
+    toml = library()
+    document: "tomlkit.TOMLDocument" = toml.parse(settings.file.read_bytes().decode())
+    table: Any = document if settings.file.name == OWN_FILE else document["tool"]["reqlock"]  # type: ignore[index]
+    named = {it.name: it for it in environments}
+    if "" in named:
+        table["environment"] = inline(toml, named[""])
+        return document.as_string().encode()
+    table.pop("environment", None)
+    if "environments" not in table:
+        table["environments"] = toml.table()
+    found = table["environments"]
+    for name in [it for it in found if it not in named]:
+        del found[name]
+    for name, it in named.items():
+        if name not in found:
+            found[name] = inline(toml, it)
+    return document.as_string().encode()
+
+
+def inline(toml: Any, it: EnvironmentSetting) -> Any:
+    """An environment as an inline table."""
+    table = toml.inline_table()
+    for key in "python", "platform", "glibc", "musl", "macos":
+        if getattr(it, key):
+            table[key] = getattr(it, key)
+    return table

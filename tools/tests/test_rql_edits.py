@@ -1,0 +1,239 @@
+"""Tests of the edits of rql over an index on this machine: the index is brought up to date for what is asked, several texts are taken all or
+none, and a new index takes the old one's place only with an accepted reply."""
+
+import json
+import os
+import unittest
+
+from made.served_index import wheel_of
+from rql_projects import ENVIRONMENT, Projects, Served
+
+FLASK = (
+    wheel_of("flask", "2.0", "werkzeug"),
+    wheel_of("flask", "3.0", "werkzeug", "asgiref ; extra == 'async'"),
+)
+
+
+class Edits(Served):
+    def setUp(self):
+        super().setUp()
+        self.serve(
+            flask=FLASK, werkzeug=[wheel_of("werkzeug", "1"), wheel_of("werkzeug", "2")], asgiref=[wheel_of("asgiref", "1")],
+            rich=[wheel_of("rich", "1"), wheel_of("rich", "2")],
+        )
+
+    def kept(self, name="index.json"):
+        path = self.folder / ".reqlock" / name
+        return path.read_bytes() if path.exists() else None
+
+    def named(self):
+        """The packages that the kept index has."""
+        return [it["name"] for it in json.loads(self.kept())["packages"]]
+
+    def test_each_word(self):
+        self.begin("")
+        self.accepts("add", "rich<2  # terminals", answer="ok 1\n")
+        self.accepts("add", "flask", answer="ok 2\n")
+        self.accepts("constrain", "rich", ">=1", answer="ok 3\n")
+        self.accepts("set", "flask[async]>=3", answer="ok 4\n")
+        self.assertEqual(self.lines(), "rich>=1  # terminals\nflask[async]>=3\n")
+        self.accepts("upgrade", "rich", answer="ok 5\n")
+        self.index.add("rich", wheel_of("rich", "3"))
+        self.accepts("relock", answer="ok 6\n")
+        self.accepts("upgrade", answer="ok 7\n")
+        self.assertIn("rich      3  ", self.rql("show")[1])
+        self.accepts("remove", "flask", answer="ok 8\n")
+        self.accepts("constrain", "rich", answer="ok 9\n")
+        self.assertEqual(self.lines(), "rich  # terminals\n")
+        self.accepts("check", answer="ok 9\n")
+
+    def test_an_extra_that_is_asked_for_is_followed_before_it_is_locked(self):
+        self.begin("flask\n")
+        self.assertNotIn("asgiref", self.named())
+        self.accepts("set", "flask[async]>=2", answer="ok 1\n")
+        self.assertIn("flask     3.0  ", self.rql("show")[1])
+        self.assertIn("asgiref   1  ", self.rql("show")[1])
+
+    def test_several_texts_all_or_none(self):
+        self.begin("")
+        before = self.files()
+        found, output, errors = self.rql("add", "rich", "flask>=9", "werkzeug")
+        self.assertEqual((found, output), (3, "refused no-solution\n"))
+        self.assertIn("nothing is changed: 'flask>=9' is refused\n", errors)
+        self.assertEqual(self.files(), before)
+        self.accepts("add", "rich", "flask", answer="ok 1\nok 2\n")
+        self.assertEqual(self.rql("remove", "rich", "none")[:2], (1, "refused not-present\n"))
+        self.assertEqual(self.lines(), "rich\nflask\n")
+        self.accepts("set", "rich<2", "flask<3", answer="ok 3\n")
+        self.assertEqual(self.lines(), "rich<2\nflask<3\n")
+        self.accepts("remove", "rich", "flask", answer="ok 4\nok 5\n")
+        self.assertEqual(self.lines(), "")
+
+    def test_a_dry_run_saves_nothing(self):
+        self.begin("")
+        before, kept = self.files(), self.kept()
+        self.accepts("add", "--dry-run", "rich", "flask")
+        self.assertIn("+ flask 3.0\n", self.rql("add", "--dry-run", "flask")[1])
+        self.assertEqual((self.files(), self.kept()), (before, kept))
+
+    def test_a_mistyped_name_is_not_remembered(self):
+        self.begin("rich\n")
+        before = self.kept()
+        self.assertEqual(self.rql("add", "flaks")[:2], (3, "refused no-solution\n"))
+        self.assertEqual(self.kept(), before)
+        self.accepts("add", "flask")
+        self.assertEqual(json.loads(self.kept())["made"]["lines"], ["flask", "rich"])
+        self.assertEqual(self.kept("index.1.json"), before)
+
+    def test_two_indexes_before_the_present_one_are_kept(self):
+        self.begin("")
+        indexes = [self.kept()]
+        for name in "rich", "flask", "werkzeug", "asgiref":
+            self.accepts("add", name)
+            indexes.append(self.kept())
+        self.assertEqual([self.kept(it) for it in ("index.json", "index.1.json", "index.2.json")], indexes[-1:-4:-1][:3])
+        self.assertIsNone(self.kept("index.3.json"))
+
+    def test_a_name_that_is_asked_for_stays_in_the_index(self):
+        self.begin("")
+        self.accepts("index", "asgiref", answer="")
+        self.accepts("add", "rich")
+        self.assertEqual(self.named(), ["asgiref", "rich"])
+
+    def test_the_same_answers_give_the_same_index(self):
+        self.begin("rich\n")
+        before = self.kept()
+        self.accepts("index")
+        self.assertEqual((self.kept(), self.kept("index.1.json")), (before, None))
+
+    def test_what_is_kept_may_be_removed(self):
+        self.begin("rich\n")
+        for path in sorted((self.folder / ".reqlock").iterdir()):
+            path.unlink()
+        (self.folder / ".reqlock").rmdir()
+        self.assertEqual(self.rql("check")[:2], (0, "ok 0\n"))
+        self.assertIn("rich  2  ", self.rql("show")[1])
+        self.accepts("remove", "rich", answer="ok 1\n")
+        self.assertEqual((self.folder / ".reqlock" / ".gitignore").read_text(encoding="utf-8").splitlines()[-1], "*")
+
+    def test_a_removal_asks_nobody(self):
+        self.begin("rich\nflask\n")
+        self.index.close()
+        self.accepts("remove", "rich", answer="ok 1\n")
+
+    def test_an_index_that_fails_changes_nothing(self):
+        self.begin("rich\n")
+        before, kept = self.files(), self.kept()
+        self.index.instead[f"{self.index.prefix}flask/"] = [lambda answer: answer.give(403)]
+        found, output, errors = self.rql("add", "flask")
+        self.assertEqual((found, output), (6, ""), errors)
+        self.assertIn("403", errors)
+        self.assertEqual((self.files(), self.kept()), (before, kept))
+
+    def test_offline_asks_nobody(self):
+        self.begin("rich\n")
+        asked = len(self.index.asked)
+        self.accepts("--offline", "relock", answer="same\n")
+        self.assertEqual(self.rql("--offline", "add", "flask")[0], 6)
+        self.assertEqual(len(self.index.asked), asked)
+
+    def test_questions_are_asked_over_a_fresh_index(self):
+        self.begin("rich\n")
+        self.assertEqual(self.rql("check", "--current")[:2], (0, "current\n"))
+        self.index.add("rich", wheel_of("rich", "3"))
+        self.assertEqual(self.rql("outdated")[1].splitlines()[1].split(), ["rich", "2", "3", "3"])
+        status, output, _ = self.rql("check", "--current")
+        self.assertEqual((status, output.splitlines()[0]), (1, "stale"))
+        self.assertEqual(self.rql("why", "flask>=9")[0], 3)
+        self.assertEqual(self.named(), ["rich"])
+
+    def test_it_is_told_what_is_asked_where_that_is_wanted(self):
+        self.begin("")
+        counts = r"(?m)^1 package, 2 releases, [0-9]+ requests?, [0-9.]+ kB, [0-9.]+ s$"
+        self.assertNotRegex(self.accepts("add", "--dry-run", "rich"), counts)
+        self.assertRegex(self.accepts("-v", "add", "--dry-run", "rich"), counts)
+        self.assertRegex(self.rql("add", "--dry-run", "rich", CI="1")[2], counts)
+        self.assertNotIn("package", self.rql("-q", "add", "--dry-run", "rich", CI="1")[2])
+
+    def test_constraints_bind_without_installing(self):
+        self.begin("")
+        self.put("bounds.txt", "rich<2\nflask<3\n")
+        path = self.folder / "reqlock.toml"
+        self.put("reqlock.toml", 'constraints = ["bounds.txt"]\n' + path.read_text(encoding="utf-8"))
+        self.accepts("add", "rich", answer="ok 1\n")
+        self.assertIn("rich  1  ", self.rql("show")[1])
+        self.assertEqual(json.loads(self.kept())["made"]["constraints"][0]["file"], "bounds.txt")
+
+    def test_the_call_that_is_told_can_be_typed(self):
+        self.begin("")
+        errors = self.accepts("-v", "add", "--dry-run", "rich")
+        call = next(line for line in errors.splitlines() if line.startswith("+ reqlock"))
+        self.assertEqual(call, "+ reqlock -v --dir . --index .reqlock/index.asked.json --dry-run add rich")
+
+
+class Exports(Served):
+    def setUp(self):
+        super().setUp()
+        self.serve(rich=[wheel_of("rich", "1"), wheel_of("rich", "2")])
+        self.begin("rich<2\n")
+        path = self.folder / "reqlock.toml"
+        self.put("reqlock.toml", 'exports = [{ file = "deploy/linux.txt" }]\n' + path.read_text(encoding="utf-8"))
+        self.export = self.folder / "deploy" / "linux.txt"
+
+    def exported(self):
+        return [line for line in self.export.read_text(encoding="utf-8").splitlines() if "==" in line]
+
+    def test_are_written_anew_after_each_accepted_call(self):
+        self.accepts("relock")
+        self.assertIn("rich==1 \\", self.exported())
+        self.assertTrue(self.export.read_text(encoding="utf-8").startswith("# Exported by rql"))
+        self.accepts("constrain", "rich")
+        self.accepts("upgrade")
+        self.assertIn("rich==2 \\", self.exported())
+        self.accepts("undo")
+        self.assertIn("rich==1 \\", self.exported())
+        self.assertEqual(self.rql("add", "rich")[0], 1)
+        self.assertIn("rich==1 \\", self.exported())
+
+    def test_take_the_place_of_no_file_that_was_not_exported(self):
+        self.put("deploy/linux.txt", "import this\n")
+        errors = self.accepts("constrain", "rich", "<3")
+        self.assertIn("deploy/linux.txt: it isn't exported anew, since rql didn't write it", errors)
+        self.assertEqual(self.export.read_text(encoding="utf-8"), "import this\n")
+
+    def test_that_cannot_be_made_are_left_as_they_are_and_told(self):
+        self.accepts("relock")
+        before = self.export.read_bytes()
+        self.accepts("constrain", "rich")
+        self.accepts("upgrade")
+        for path in (self.folder / ".reqlock").glob("index*.json"):
+            path.unlink()
+        self.assertIn("deploy/linux.txt: it is as it was, since the index of this lock is gone", self.accepts("undo"))
+        self.assertNotEqual(self.export.read_bytes(), before)
+
+    def test_a_link_in_the_place_is_not_followed(self):
+        self.export.parent.mkdir()
+        other = self.outside / "other.txt"
+        other.write_bytes(b"# Exported by rql. What is changed here is lost with its next call.\n")
+        self.export.symlink_to(other)
+        self.assertIn("is a link, which isn't followed", self.refuses("relock"))
+        self.assertEqual(len(other.read_bytes().splitlines()), 1)
+
+
+class Stranger(Projects):
+    """Settings without an index ask nobody."""
+
+    def test_no_index_is_known(self):
+        self.stand_in()
+        self.put("reqlock.toml", ENVIRONMENT)
+        self.assertIn('index: the address of an index is wanted, as ["https://HOST/simple/"]', self.refuses("add", "a"))
+        self.assertEqual(sorted(os.listdir(self.folder / ".reqlock")), [".gitignore"])
+
+    def test_an_environment_that_cannot_be_described(self):
+        self.put("reqlock.toml", f'index = ["http://127.0.0.1:9/"]\n{ENVIRONMENT.replace("3.11", "2.7")}')
+        self.assertIn("environment.python: '2.7' is no version of Python 3", self.refuses("add", "a"))
+
+
+
+if __name__ == "__main__":
+    unittest.main()
