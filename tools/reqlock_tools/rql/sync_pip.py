@@ -1,0 +1,162 @@
+"""Calls of pip that install what is locked and take out what isn't. Hashes are always asked for, and dependencies never followed; what
+pip is told elsewhere counts for the way to the index alone, and not for what is installed."""
+
+import ast
+import contextlib
+import html
+import os
+import re
+import signal
+import subprocess
+import sys
+import tempfile
+import urllib.parse
+from collections.abc import Iterable, Iterator, Mapping, Sequence
+from fnmatch import fnmatchcase
+from pathlib import Path
+from types import FrameType
+
+from reqlock_tools.rql.faults import STOPPED, SettingsFault
+from reqlock_tools.rql.sync_installed import Environment
+from reqlock_tools.rql.sync_locked import Locked
+from reqlock_tools.simple.plan import IndexAddress
+
+# The options of pip that tell how the index is reached, which stay as they are configured.
+WAYS = (
+    "cache-dir", "cert", "client-cert", "default-timeout", "no-cache-dir", "proxy", "resume-retries", "retries", "timeout", "trusted-host",
+    "use-deprecated", "use-feature",
+)
+CONFIGURED = re.compile(r"(?:global|install|:env:)\.([a-z-]+)=(.*)")
+SECONDS = 60
+# From this pip on, one can work in the environment of another Python.
+FOREIGN = 22, 3
+
+
+class Stopped(BaseException):
+    """The process was told to end by a signal."""
+
+
+def end(number: int, frame: FrameType | None) -> None:
+    raise Stopped
+
+
+@contextlib.contextmanager
+def mended_end() -> Iterator[None]:
+    """Has a signal that ends the process run what is to be done at the end: files with passwords are removed."""
+    before = {number: signal.signal(number, end) for number in (signal.SIGTERM, signal.SIGHUP)}
+    try:
+        yield
+    finally:
+        for number, handler in before.items():
+            signal.signal(number, handler)
+
+
+def run(command: Sequence[str], variables: Mapping[str, str]) -> int:
+    """The status of a call that tells what it does on standard error. Ctrl-C reaches it too, and it is waited for."""
+    sys.stderr.flush()
+    child = subprocess.Popen(command, stdin=subprocess.DEVNULL, stdout=2, env=variables)
+    try:
+        return child.wait()
+    except KeyboardInterrupt:
+        child.wait()
+        return STOPPED
+    except Stopped:
+        child.terminate()
+        child.wait()
+        raise SystemExit(128 + signal.SIGTERM) from None
+
+
+def asked(command: Sequence[str]) -> str | None:
+    """What a call prints; None where it fails."""
+    try:
+        done = subprocess.run(
+            command, stdin=subprocess.DEVNULL, capture_output=True, encoding="utf-8", errors="replace", timeout=SECONDS, check=True
+        )
+    except (OSError, subprocess.SubprocessError):
+        return None
+    return done.stdout
+
+
+def pip_of(environment: Environment) -> list[str]:
+    """How pip is called: that of the environment, or where it has none that of this Python, which works in the environment. Neither takes
+    modules of the folder in which the call is made."""
+    own = [str(environment.python), "-I", "-m", "pip"]
+    if "pip" in environment.installed or asked([*own, "--version"]) is not None:
+        return own
+    other = [sys.executable, "-I", "-m", "pip"]
+    told = re.match(r"pip ([0-9]+)\.([0-9]+)", asked([*other, "--version"]) or "")
+    if told is None or (int(told[1]), int(told[2])) < FOREIGN:
+        raise SettingsFault(f"{environment.place}: it has no pip: {environment.python} -m ensurepip puts it there")
+    return [*other, "--python", str(environment.python)]
+
+
+def variables_for(pip: Sequence[str], netrc: Path) -> dict[str, str]:
+    """The variables of a call of pip. Of its configuration the way to the index alone is taken over."""
+    found = {name: value for name, value in os.environ.items() if not name.startswith(("PIP_", "PYTHON"))}
+    for line in (asked([*pip, "config", "list"]) or "").splitlines():
+        told = CONFIGURED.fullmatch(line)
+        if told is not None and told[1] in WAYS:
+            with contextlib.suppress(ValueError, SyntaxError):
+                found[f"PIP_{told[1].upper().replace('-', '_')}"] = str(ast.literal_eval(told[2]))
+    return found | {"PIP_CONFIG_FILE": os.devnull, "PIP_DISABLE_PIP_VERSION_CHECK": "1", "PIP_NO_INPUT": "1", "NETRC": str(netrc)}
+
+
+def page_of(locked: Iterable[Locked]) -> str:
+    """A page of links to the files that are locked, each with its hash. pip takes of it the one that fits best."""
+    links = []
+    for it in locked:
+        for file in it.files:
+            if file.is_linked:
+                url = html.escape(f"{urllib.parse.urldefrag(file.url).url}#sha256={file.sha256}")
+                links.append(f'<a href="{url}">{html.escape(file.name)}</a><br>\n')
+    return f"<!DOCTYPE html><html><body>\n{''.join(links)}</body></html>\n"
+
+
+def indexes_for(name: str, indexes: Sequence[IndexAddress]) -> tuple[str, ...]:
+    """The indexes that are asked for a name: those of whose patterns it is, or else those without patterns."""
+    bound = [it for it in indexes if any(fnmatchcase(name, pattern) for pattern in it.only)]
+    return tuple(it.url for it in bound or [it for it in indexes if not it.only])
+
+
+def index_words(urls: Sequence[str]) -> list[str]:
+    """The options that tell pip of indexes."""
+    if not urls:
+        return ["--no-index"]
+    return ["--index-url", urls[0], *(word for url in urls[1:] for word in ("--extra-index-url", url))]
+
+
+def calls_for(locked: Sequence[Locked], indexes: Sequence[IndexAddress]) -> dict[tuple[str, ...], list[Locked]]:
+    """What each call of pip installs, by its words for indexes. Wheels to which the lock has links come first, and no index is asked for
+    them; of what has none, or has to be built, no index is told a name that it isn't asked for."""
+    found: dict[tuple[str, ...], list[Locked]] = {}
+    for it in sorted(locked, key=lambda one: not one.is_linked):
+        words = ("--no-index", "--only-binary", ":all:") if it.is_linked else tuple(index_words(indexes_for(it.name, indexes)))
+        found.setdefault(words, []).append(it)
+    return found
+
+
+def install_words(folder: Path, locked: Sequence[Locked], *others: str) -> list[str]:
+    """The words that have pip install these packages. The lines and the links are put into a folder."""
+    lines, page = folder / "locked.txt", folder / "links.html"
+    lines.write_text("".join(f"{it.line()}\n" for it in locked), encoding="utf-8")
+    page.write_text(page_of(locked), encoding="utf-8")
+    quiet = [] if sys.stderr.isatty() else ["--quiet"]
+    # (each is installed anew: those that are as they should be aren't among them)
+    fixed = ["--require-hashes", "--no-deps", "--force-reinstall", "--no-input", "--no-warn-script-location", *quiet]
+    return ["install", *fixed, *others, "--find-links", str(page), "--requirement", str(lines)]
+
+
+def install(pip: Sequence[str], locked: Sequence[Locked], indexes: Sequence[IndexAddress], variables: Mapping[str, str]) -> int:
+    """The status of installing what is locked: that of the first call that fails, behind which nothing is installed."""
+    for words, several in calls_for(locked, indexes).items():
+        with tempfile.TemporaryDirectory(prefix="rql-") as name:
+            status = run([*pip, *install_words(Path(name), several, *words)], variables)
+        if status != 0:
+            return status
+    return 0
+
+
+def uninstall(pip: Sequence[str], names: Sequence[str], variables: Mapping[str, str]) -> int:
+    """The status of taking out what has these names."""
+    quiet = [] if sys.stderr.isatty() else ["--quiet"]
+    return run([*pip, "uninstall", "--yes", *quiet, *names], variables)
