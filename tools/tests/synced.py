@@ -35,7 +35,7 @@ base, folder = pathlib.Path(asked.pop("base")), pathlib.Path(asked.pop("folder")
 try:
     sys.exit(sync(Sync(base, folder, **asked)))
 except Refusal as fault:
-    for line in str(fault).split("\n"):
+    for line in str(fault).splitlines():
         say(line)
     sys.exit(status_of(fault))
 """

@@ -1,0 +1,166 @@
+"""Changes of sources: what an edit, an undo or a redo makes of the files in which the lines stand. Each file is the same to the byte but for
+the requirements that are changed, or nothing is."""
+
+import difflib
+import re
+from collections.abc import Mapping, Sequence
+from dataclasses import dataclass
+from pathlib import Path
+
+from reqlock_tools.files import write_whole
+from reqlock_tools.requirements import need_of
+from reqlock_tools.rql.faults import SettingsFault
+from reqlock_tools.rql.sources import Gathered, gathered, told_lines
+from reqlock_tools.rql.sources_lines import changed_lines
+from reqlock_tools.rql.sources_read import Files, Line, Section, checked
+from reqlock_tools.rql.sources_splice import Splice
+from reqlock_tools.rql.sources_toml import changed_array
+from reqlock_tools.versions import is_name, normal
+
+BEGINNING = re.compile(r"[A-Za-z0-9._-]+(?:[ \t]*\[[^\]]*\])?")
+MODE = 0o644
+
+
+@dataclass(frozen=True)
+class Change:
+    """What files are to hold, and the lines that are gathered of them then. Nothing is written yet."""
+
+    files: Mapping[Path, bytes]
+    data: bytes
+
+    def write(self) -> None:
+        """Writes each file whole. Those that stand there keep their rights."""
+        for path, data in self.files.items():
+            write_whole(str(path), data, MODE)
+
+
+class Sources:
+    """The sources of a project. `top` is the top of its checkout, `base` the folder of its settings."""
+
+    def __init__(self, top: Path, base: Path, sources: Sequence[str]) -> None:
+        self.top, self.base, self.sources = top, base, sources
+        self.present = gathered(top, base, sources)
+
+    # What edits make of them
+
+    def edited(self, word: str, texts: Sequence[str]) -> Change:
+        """What an edit makes of the sources: add, remove or set of several texts, or constrain of a name with specifiers."""
+        found = Change({}, self.present.data)
+        for one in [texts] if word == "constrain" else [[text] for text in texts]:
+            now = gathered(self.top, self.base, self.sources, found.files)
+            found = self.changed(found, self.splice_of(now, word, one))
+        return found
+
+    def splice_of(self, now: Gathered, word: str, texts: Sequence[str]) -> Splice:
+        if word == "add":
+            return self.added(now, texts[0])
+        if word == "remove":
+            line = only_line(now, texts[0])
+            return Splice(line.section, line.place, line.text, None)
+        if word == "set":
+            text = checked_word(texts[0])
+            line = only_line(now, name_in(text))
+            return Splice(line.section, line.place, line.text, text)
+        line = only_line(now, texts[0])
+        return Splice(line.section, line.place, line.text, constrained(line.text, texts[1] if len(texts) > 1 else ""))
+
+    def added(self, now: Gathered, text: str) -> Splice:
+        """A line is added to the first source, behind the others."""
+        text = checked_word(text)
+        there = lines_of(now, name_in(text))
+        if there:
+            raise SettingsFault(f"{text!a}: {there[0].where} has a line of this name already: rql set, or rql constrain, changes it")
+        return Splice(self.first_section(), None, None, text)
+
+    def first_section(self) -> Section:
+        """The list of the first source, which may be empty."""
+        return self.present.sections[0]
+
+    def changed(self, so_far: Change, *splices: Splice) -> Change:
+        """The files with some changes. What then is gathered is what they must lead to."""
+        files = dict(so_far.files)
+        reader = Files(self.top, self.base, files)
+        for it in splices:
+            data = reader.text(it.section.path, it.section.label)
+            new = changed_array(data, it) if it.section.keys else changed_lines(data, it)
+            files[it.section.path] = new.encode()
+            reader.changed = files
+        return Change(files, gathered(self.top, self.base, self.sources, files).data)
+
+    # What undo and redo make of them
+
+    def followed(self, data: bytes) -> Change:
+        """What makes the sources have the lines that an undo or a redo leads to. Where nothing can, it is refused."""
+        found = Change({}, self.present.data)
+        wanted: dict[str, list[str]] = {}
+        for text, label in told_lines(data):
+            wanted.setdefault(label, []).append(text)
+        lists: dict[Section, list[Line]] = {it: [] for it in self.present.sections}
+        for line in self.present.lines:
+            lists[line.section].append(line)
+        for section, lines in lists.items():
+            found = self.changed(found, *splices_to(section, lines, wanted.get(section.label, [])))
+        if found.data != data:
+            raise SettingsFault(
+                "the lines from there can't be put into the sources as they are now, so nothing is changed: change the sources, and then rql lock"
+            )
+        return found
+
+
+def splices_to(section: Section, lines: Sequence[Line], wanted: Sequence[str]) -> list[Splice]:
+    """What makes of the lines of a list those that are wanted, from the last on, so that places stay as they are."""
+    found: list[Splice] = []
+    matcher = difflib.SequenceMatcher(None, [it.text for it in lines], wanted, autojunk=False)
+    for _, begin, end, new_begin, new_end in (it for it in matcher.get_opcodes() if it[0] != "equal"):
+        old, new = lines[begin:end], wanted[new_begin:new_end]
+        both = min(len(old), len(new))
+        found += [Splice(section, it.place, it.text, text) for it, text in zip(old, new)]
+        found += [Splice(section, it.place, it.text, None) for it in old[both:]]
+        place = lines[end].place if end < len(lines) else None
+        found += [Splice(section, place, None, text) for text in reversed(new[both:])] if place is not None else [
+            Splice(section, None, None, text) for text in new[both:]
+        ]
+    ends = [it for it in found if it.place is None]
+    # (of one place what is put in front of an item comes behind what changes the item itself)
+    return sorted((it for it in found if it.place is not None), key=lambda it: (-(it.place or 0), it.old is None)) + ends
+
+
+def lines_of(now: Gathered, name: str) -> list[Line]:
+    """The lines on a name."""
+    return [it for it in now.lines if (need := need_of(it.text)) is not None and need.name == normal(name)]
+
+
+def only_line(now: Gathered, name: str) -> Line:
+    """The one line on a name. None and several are refused with their places."""
+    if not is_name(name):
+        raise SettingsFault(f"{name!a}: it is no name")
+    found = lines_of(now, name)
+    if not found:
+        raise SettingsFault(f"{name}: no source has a line of this name: rql show tells what needs it")
+    if len(found) > 1:
+        raise SettingsFault(f"{name}: it stands in several places, of which rql doesn't choose: {', '.join(it.where for it in found)}")
+    return found[0]
+
+
+def checked_word(text: str) -> str:
+    """A requirement that was typed; a comment of it stays out of the sources' lists."""
+    return checked(re.sub(r"\s#.*", "", text), repr(text))
+
+
+def name_in(text: str) -> str:
+    need = need_of(text)
+    if need is None:
+        raise SettingsFault(f"{text!a}: it begins with no name")
+    return need.name
+
+
+def constrained(text: str, specifiers: str) -> str:
+    """A requirement with other specifiers; nothing else of it changes."""
+    head = BEGINNING.match(text)
+    if head is None:
+        raise SettingsFault(f"{text!a}: it begins with no name")
+    rest, mark, marker = text[head.end() :].partition(";")
+    has_some = rest.strip() != ""
+    before = rest[: len(rest) - len(rest.lstrip())] if has_some else ""
+    after = rest[len(rest.rstrip()) :] if has_some else rest
+    return checked(f"{head[0]}{before}{specifiers.strip()}{after}{mark}{marker}", repr(specifiers))
