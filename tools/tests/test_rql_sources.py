@@ -6,7 +6,9 @@ import tomllib
 import unittest
 from pathlib import Path
 
+from made.served_index import wheel_of
 from places import new_folder
+from rql_projects import ENVIRONMENT, Served
 from wanted_libraries import want_libraries
 
 from reqlock_tools.rql.faults import SettingsFault
@@ -269,6 +271,68 @@ class Changes(Sourced):
         self.write("base.in", "rich\nsix>=1\n")
         told = differences(gathered(self.top, self.top, self.ALL), data)
         self.assertEqual(told, ["requirements.txt: its lines have another order than those of the sources"])
+
+
+@want_libraries("tomlkit")
+class Calls(Served):
+    """Words of rql over the built program."""
+
+    P = "  # from pyproject.toml\n"
+
+    def setUp(self):
+        super().setUp()
+        for name, versions in {"six": "12", "rich": "1", "attrs": "1"}.items():
+            self.serve(**{name: [wheel_of(name, version) for version in versions]})
+        self.path = self.put("pyproject.toml", "[project]\nname = 'x'\ndependencies = [\n    'six',   # small\n]\n")
+        self.put("reqlock.toml", f'index = ["{self.index.url}"]\nsources = ["pyproject.toml", "more.in"]\n{ENVIRONMENT}')
+        self.put("more.in", "rich\n-c bounds.txt\n")
+        self.put("bounds.txt", "six<2\n")
+        self.put("requirements.txt", f"six{self.P}rich  # from more.in\n")
+        self.accepts("init", answer="ok 0\n")
+
+    def states(self):
+        return self.path.read_text(encoding="utf-8"), self.lines()
+
+    def test_edits_undo_and_redo_change_source_and_lock(self):
+        self.assertIn('version = "1"', (self.folder / "pylock.toml").read_text(encoding="utf-8"))  # (of six, by bounds.txt)
+        before = self.states()
+        self.accepts("add", "attrs>=1", answer="ok 1\n")
+        after = self.states()
+        self.assertEqual(after, (before[0].replace("# small\n", '# small\n    "attrs>=1",\n'), f"six{self.P}attrs>=1{self.P}rich  # from more.in\n"))
+        self.accepts("check", answer="ok 1\n")
+        self.accepts("undo", answer="ok 0\n")
+        self.assertEqual(self.states(), before)
+        self.accepts("redo", answer="ok 1\n")
+        self.assertEqual(self.states(), after)
+        self.accepts("remove", "rich", "attrs", answer="ok 2\n")
+        self.assertEqual(self.states(), (before[0], f"six{self.P}"))
+        self.assertEqual((self.folder / "more.in").read_bytes(), b"-c bounds.txt\n")
+
+    def test_what_is_refused_changes_nothing(self):
+        before = self.files()
+        for words, status in (
+            (("add", "attrs>=9"), 3), (("add", "none"), 3), (("remove", "none"), 2), (("add", "six"), 2), (("constrain", "six", ">=9"), 3),
+            (("undo",), 1), (("add", "attrs", "--dry-run"), 0),
+        ):
+            with self.subTest(words=words):
+                found, output, errors = self.rql(*words)
+                self.assertEqual(found, status, output + errors)
+                self.assertEqual(self.files(), before)
+
+    def test_what_came_apart_is_told_and_mended(self):
+        self.put("more.in", "rich\nattrs\n-c bounds.txt\n")
+        status, _, errors = self.rql("check")
+        self.assertEqual(status, 1)
+        self.assertIn("more.in: line 2: 'attrs' isn't in requirements.txt\n", errors)
+        self.assertIn("sources and lines came apart: rql lock takes the sources over", errors)
+        before = self.files()
+        for words in ("add", "zope"), ("undo",):
+            self.assertIn("rql lock takes the sources over", self.refuses(*words))
+        self.assertEqual(self.files(), before)
+        self.assertEqual(self.rql("lock", "--check")[0], 1)
+        self.accepts("lock", answer="ok 1\n")
+        self.assertEqual(self.lines(), f"six{self.P}rich  # from more.in\nattrs  # from more.in\n")
+        self.accepts("check", answer="ok 1\n")
 
 
 if __name__ == "__main__":

@@ -7,11 +7,13 @@ import resource
 import shutil
 import signal
 import subprocess
+import sys
 import time
 import unittest
 
 from made.journals import lock_text
 from made.served_index import MadeIndex, sdist_of, wheel_of
+from rql_projects import Served
 from synced import PYTHON, Synced, locked_entry, site_of, variables
 
 PROJECT = """
@@ -414,6 +416,24 @@ class Secrets(Synced):
         self.write_locks({"": (self.told, lock_text(self.told, entries))})
         self.refuses(r"the password for 127.0.0.1 is for http://127.0.0.1:[0-9]+ alone$", more=self.secret)
         self.assertEqual(other.counts(), {})
+
+
+class Calls(Served):
+    """The word sync of rql, over what the built program locks."""
+
+    def test_of_what_the_program_locked(self):
+        self.serve(a=[wheel_of("a", "1"), wheel_of("a", "2")], b=[wheel_of("b", "1", "a<2")])
+        self.put("requirements.txt", "b\n")
+        self.put("reqlock.toml", f'index = ["{self.index.url}"]\n')
+        self.accepts("init", answer="ok 0\n")
+        self.assertIn(f"{self.folder}/.venv: there is no environment, and none is active: python3 -m venv", self.refuses("sync"))
+        subprocess.run([sys.executable, "-m", "venv", "--without-pip", self.folder / ".venv"], check=True)
+        self.accepts("sync", "--dry-run", answer="+ a 1\n+ b 1\n")
+        told = self.accepts("-v", "sync", answer="+ a 1\n+ b 1\n")
+        self.assertRegex(told, r"(?m)^\+ .* -m pip --python \S+ install --require-hashes --no-deps .*--no-index")
+        shutil.rmtree(self.folder / ".reqlock")
+        self.index.close()
+        self.accepts("sync", answer="nothing to do\n")
 
 
 if __name__ == "__main__":

@@ -54,9 +54,9 @@ def named(target: str) -> str:
 
 def source_differences(project: Project) -> list[str]:
     """What the sources and the lines tell otherwise."""
-    from reqlock_tools.rql.locking import gathered
-
-    lines = gathered(project) if project.settings.sources else None
-    if lines is None or lines == content(project.folder / REQUIREMENTS):
+    if not project.settings.sources:
         return []
-    return [f"{typed_path(project.folder / REQUIREMENTS)}: the sources have other lines: rql lock takes them over"]
+    from reqlock_tools.rql.sources import differences, gathered
+
+    found = differences(gathered(project.top, project.base, project.settings.sources), content(project.folder / REQUIREMENTS))
+    return [*found, "sources and lines came apart: rql lock takes the sources over"] if found else []

@@ -24,10 +24,12 @@ say = speaker("rql")
 
 def run_edit(project: Project, request: EditRequest) -> int:
     """Makes an edit, or tells what it would change."""
-    if project.settings.sources and request.word in (*OF_LINES, "constrain"):
-        raise SettingsFault(f"{project.settings.file}: sources: the lines come from there: change them there, and then call rql lock")
     kept = Kept(project)
     with kept.locked():
+        if project.settings.sources and request.word in (*OF_LINES, "constrain"):
+            from reqlock_tools.rql.sources_calls import edit_sources
+
+            return edit_sources(project, kept, request)
         return Edit(project, kept, request).run()
 
 

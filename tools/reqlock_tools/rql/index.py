@@ -124,6 +124,16 @@ def is_choosy(settings: Settings) -> bool:
     return bool(settings.exclude_newer or settings.newest or settings.only_binary or not settings.pre_releases)
 
 
+def constraint_files(project: Project) -> list[tuple[str, Path]]:
+    """The files of constraints as they are told: those of the settings, and those that sources name."""
+    names = dict.fromkeys(project.settings.constraints)
+    if project.settings.sources:
+        from reqlock_tools.rql.sources import gathered
+
+        names |= dict.fromkeys(gathered(project.top, project.base, project.settings.sources).constraints)
+    return [(text, project.place(text, "constraints")) for text in names]
+
+
 def plan_of(project: Project, kept: Kept, wanted: Wanted) -> "Plan":
     """What the index is to be made of."""
     from reqlock_tools.rql.environments import environments, variables_of
@@ -134,14 +144,13 @@ def plan_of(project: Project, kept: Kept, wanted: Wanted) -> "Plan":
 
     settings = project.settings
     told = environments(settings)
-    bounds = [(text, project.place(text, "constraints")) for text in settings.constraints]
     locks = wanted.locks if wanted.locks is not None else tuple(locks_of(project))
     return Plan(
         indexes=addresses(project),
         names=followed_texts([*remembered(kept), *wanted.names]),
         lines=followed_texts([*lines_of(project.folder / REQUIREMENTS), *wanted.texts]),
         environments=tuple(environment_of(name, it, variables_of(it)) for name, it in told.items()),
-        constraints=tuple(replace(read_constraints(str(path), say), file=text) for text, path in bounds),
+        constraints=tuple(replace(read_constraints(str(path), say), file=text) for text, path in constraint_files(project)),
         keep=texts_of(with_pins(locked_versions(map(str, locks)), wanted.pins)) if is_choosy(settings) else (),
         options=Choices(
             only_binary=settings.only_binary, no_pre=not settings.pre_releases, newest=settings.newest,

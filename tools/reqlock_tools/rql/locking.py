@@ -40,8 +40,7 @@ def gathered(project: Project) -> bytes | None:
         return None
     from reqlock_tools.rql.sources import gather
 
-    found: bytes = gather(project.base, project.settings.sources)
-    return found
+    return gather(project.base, project.settings.sources, project.top)
 
 
 class Locking:

@@ -24,7 +24,7 @@ def run_passed(project: Project, request: PassedRequest) -> int:
         return caller.hand_over(*call)
     kept = Kept(project)
     if request.word in MOVING:
-        return moved(project, kept, caller, [*given, *call])
+        return moved(project, kept, caller, given, call)
     if request.word in READING:
         return caller.hand_over(*given, *index_words(kept.earlier()[:1]), *call)
     if request.word in ("outdated", "why"):
@@ -41,12 +41,17 @@ def index_words(indexes: list[Path]) -> list[str]:
     return [word for path in indexes for word in ("--index", typed_path(path))]
 
 
-def moved(project: Project, kept: Kept, caller: Caller, call: list[str]) -> int:
-    """Goes to another state, and has the exports follow."""
+def moved(project: Project, kept: Kept, caller: Caller, given: list[str], call: list[str]) -> int:
+    """Goes to another state, and has the sources and the exports follow."""
     from reqlock_tools.rql.edits import accepted
 
     with kept.locked():
-        status = caller.hand_over(*call)
+        if project.settings.sources:
+            from reqlock_tools.rql.sources_calls import moved_sources
+
+            status = moved_sources(project, kept, call, lambda: caller.hand_over(*given, *call))
+        else:
+            status = caller.hand_over(*given, *call)
         if status == 0 and "--dry-run" not in call:
             accepted(project, kept, caller, None)
     return status

@@ -13,7 +13,7 @@ from reqlock_tools.rql.faults import NETWORK, STOPPED, SettingsFault
 from reqlock_tools.rql.sync_installed import Environment, is_own, python_in, read_environment
 from reqlock_tools.rql.sync_locked import Locked, read_locked
 from reqlock_tools.rql.sync_netrc import known_credentials, netrc_file, netrc_text, refuse_elsewhere
-from reqlock_tools.rql.sync_pip import install, mended_end, pip_of, uninstall, variables_for
+from reqlock_tools.rql.sync_pip import Pip, mended_end, pip_of, variables_for
 from reqlock_tools.rql.sync_plan import Plan, is_as_locked, plan_of
 from reqlock_tools.rql.sync_targets import chosen_target
 from reqlock_tools.simple.plan import IndexAddress
@@ -41,6 +41,7 @@ class Sync:
     is_exact: bool = False
     is_dry: bool = False
     is_offline: bool = False
+    is_verbose: bool = False
     is_quiet: bool = False
 
 
@@ -50,7 +51,7 @@ def run_sync(project: "Project", request: "SyncRequest") -> int:
     return sync(Sync(
         base=project.base, folder=project.folder, indexes=tuple(IndexAddress(it.url, it.only) for it in settings.index),
         venv=request.venv, target=request.target, keep=request.keep, is_exact=request.is_exact, is_dry=request.is_dry,
-        is_offline=options.is_offline, is_quiet=options.is_quiet,
+        is_offline=options.is_offline, is_verbose=options.is_verbose, is_quiet=options.is_quiet,
     ))
 
 
@@ -115,15 +116,13 @@ def done(asked: Sync, environment: Environment, locked: dict[str, Locked], plan:
         say("--offline: nothing is changed, since pip asks the network for what is to be installed")
         return NETWORK
     tell_built(asked, installs)
-    pip = pip_of(environment)
+    words = pip_of(environment)
     with mended_end(), netrc_file(text_for(asked, environment, installs)) as netrc:
-        variables = variables_for(pip, netrc)
-        status = install(pip, installs, asked.indexes, variables) if installs else 0
+        pip = Pip(words, variables_for(words, netrc), asked.is_verbose)
+        status = pip.install(installs, asked.indexes)
         if status != 0:
             return left(environment, locked, status)
-        if not plan.removals:
-            return 0
-        status = uninstall(pip, [it.name for it in plan.removals], variables)
+        status = pip.uninstall([it.name for it in plan.removals]) if plan.removals else 0
     if status != 0:
         say("all that is locked is installed; not all that isn't could be taken out: rql sync goes on")
     return status and failed(status)

@@ -12,10 +12,12 @@ import sys
 import tempfile
 import urllib.parse
 from collections.abc import Iterable, Iterator, Mapping, Sequence
+from dataclasses import dataclass
 from fnmatch import fnmatchcase
 from pathlib import Path
 from types import FrameType
 
+from reqlock_tools.rql.calls import tell_call
 from reqlock_tools.rql.faults import STOPPED, SettingsFault
 from reqlock_tools.rql.sync_installed import Environment
 from reqlock_tools.rql.sync_locked import Locked
@@ -51,21 +53,6 @@ def mended_end() -> Iterator[None]:
             signal.signal(number, handler)
 
 
-def run(command: Sequence[str], variables: Mapping[str, str]) -> int:
-    """The status of a call that tells what it does on standard error. Ctrl-C reaches it too, and it is waited for."""
-    sys.stderr.flush()
-    child = subprocess.Popen(command, stdin=subprocess.DEVNULL, stdout=2, env=variables)
-    try:
-        return child.wait()
-    except KeyboardInterrupt:
-        child.wait()
-        return STOPPED
-    except Stopped:
-        child.terminate()
-        child.wait()
-        raise SystemExit(128 + signal.SIGTERM) from None
-
-
 def asked(command: Sequence[str]) -> str | None:
     """What a call prints; None where it fails."""
     try:
@@ -77,17 +64,17 @@ def asked(command: Sequence[str]) -> str | None:
     return done.stdout
 
 
-def pip_of(environment: Environment) -> list[str]:
+def pip_of(environment: Environment) -> tuple[str, ...]:
     """How pip is called: that of the environment, or where it has none that of this Python, which works in the environment. Neither takes
     modules of the folder in which the call is made."""
-    own = [str(environment.python), "-I", "-m", "pip"]
+    own = (str(environment.python), "-I", "-m", "pip")
     if "pip" in environment.installed or asked([*own, "--version"]) is not None:
         return own
-    other = [sys.executable, "-I", "-m", "pip"]
+    other = (sys.executable, "-I", "-m", "pip")
     told = re.match(r"pip ([0-9]+)\.([0-9]+)", asked([*other, "--version"]) or "")
     if told is None or (int(told[1]), int(told[2])) < FOREIGN:
         raise SettingsFault(f"{environment.place}: it has no pip: {environment.python} -m ensurepip puts it there")
-    return [*other, "--python", str(environment.python)]
+    return (*other, "--python", str(environment.python))
 
 
 def variables_for(pip: Sequence[str], netrc: Path) -> dict[str, str]:
@@ -135,28 +122,55 @@ def calls_for(locked: Sequence[Locked], indexes: Sequence[IndexAddress]) -> dict
     return found
 
 
+def quiet_words() -> list[str]:
+    """What has pip tell its progress at a terminal alone."""
+    return [] if sys.stderr.isatty() else ["--quiet"]
+
+
 def install_words(folder: Path, locked: Sequence[Locked], *others: str) -> list[str]:
     """The words that have pip install these packages. The lines and the links are put into a folder."""
     lines, page = folder / "locked.txt", folder / "links.html"
     lines.write_text("".join(f"{it.line()}\n" for it in locked), encoding="utf-8")
     page.write_text(page_of(locked), encoding="utf-8")
-    quiet = [] if sys.stderr.isatty() else ["--quiet"]
     # (each is installed anew: those that are as they should be aren't among them)
-    fixed = ["--require-hashes", "--no-deps", "--force-reinstall", "--no-input", "--no-warn-script-location", *quiet]
+    fixed = ["--require-hashes", "--no-deps", "--force-reinstall", "--no-input", "--no-warn-script-location", *quiet_words()]
     return ["install", *fixed, *others, "--find-links", str(page), "--requirement", str(lines)]
 
 
-def install(pip: Sequence[str], locked: Sequence[Locked], indexes: Sequence[IndexAddress], variables: Mapping[str, str]) -> int:
-    """The status of installing what is locked: that of the first call that fails, behind which nothing is installed."""
-    for words, several in calls_for(locked, indexes).items():
-        with tempfile.TemporaryDirectory(prefix="rql-") as name:
-            status = run([*pip, *install_words(Path(name), several, *words)], variables)
-        if status != 0:
-            return status
-    return 0
+@dataclass(frozen=True)
+class Pip:
+    """Calls of pip in an environment. With `is_told` each is told so that it can be typed."""
 
+    words: tuple[str, ...]
+    variables: Mapping[str, str]
+    is_told: bool
 
-def uninstall(pip: Sequence[str], names: Sequence[str], variables: Mapping[str, str]) -> int:
-    """The status of taking out what has these names."""
-    quiet = [] if sys.stderr.isatty() else ["--quiet"]
-    return run([*pip, "uninstall", "--yes", *quiet, *names], variables)
+    def run(self, *words: str) -> int:
+        """The status of a call, which tells what it does on standard error. Ctrl-C reaches it too, and it is waited for."""
+        command = [*self.words, *words]
+        if self.is_told:
+            tell_call(command)
+        sys.stderr.flush()
+        child = subprocess.Popen(command, stdin=subprocess.DEVNULL, stdout=2, env=self.variables)
+        try:
+            return child.wait()
+        except KeyboardInterrupt:
+            child.wait()
+            return STOPPED
+        except Stopped:
+            child.terminate()
+            child.wait()
+            raise SystemExit(128 + signal.SIGTERM) from None
+
+    def install(self, locked: Sequence[Locked], indexes: Sequence[IndexAddress]) -> int:
+        """The status of installing what is locked: that of the first call that fails, behind which nothing is installed."""
+        for words, several in calls_for(locked, indexes).items():
+            with tempfile.TemporaryDirectory(prefix="rql-") as name:
+                status = self.run(*install_words(Path(name), several, *words))
+            if status != 0:
+                return status
+        return 0
+
+    def uninstall(self, names: Sequence[str]) -> int:
+        """The status of taking out what has these names."""
+        return self.run("uninstall", "--yes", *quiet_words(), *names)
