@@ -14,6 +14,7 @@ VERSION_FILE = "crates/command_line/src/command_words.rt"
 OTHER = shutil.which("true")
 PAGES = (
     "man/man1/reqlock.1", "bash-completion/completions/reqlock", "zsh/site-functions/_reqlock", "fish/vendor_completions.d/reqlock.fish",
+    "man/man1/rql.1", "bash-completion/completions/rql", "zsh/site-functions/_rql", "fish/vendor_completions.d/rql.fish",
 )
 
 

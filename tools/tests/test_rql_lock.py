@@ -194,6 +194,21 @@ class Targets(Served):
         self.assertEqual(sorted(it for it in os.listdir(self.folder) if "pylock" in it), ["pylock.linux.toml"])
         self.accepts("check", answer="ok 0\n")
 
+    def test_what_a_name_means(self):
+        self.accepts("env", "add", "windows", answer="ok 0\n")
+        self.assertEqual([line.split() for line in self.rql("env", "list")[1].splitlines()[1:]], [
+            ["linux", "3.11", "linux-x86_64"], ["windows", "3.11", "windows-x86_64"],
+        ])
+        self.assertIn("which platform is it?", self.refuses("env", "add", "server"))
+        self.assertIn("--platform vax: one of linux-x86_64, ", self.refuses("env", "add", "server", "--platform", "vax"))
+
+    def test_exports_are_of_the_target_that_got_a_name(self):
+        path = self.folder / "reqlock.toml"
+        path.write_text('exports = [{ file = "out.txt" }]  # deployed\n' + path.read_text(encoding="utf-8"), encoding="utf-8")
+        self.accepts("env", "add", "windows")
+        self.assertIn('target = "linux"}]  # deployed\n', path.read_text(encoding="utf-8").replace(" }", "}"))
+        self.assertIn("rich==1", (self.folder / "out.txt").read_text(encoding="utf-8"))
+
     def test_versions_stay(self):
         self.accepts("constrain", "rich")
         self.accepts("env", "add", "windows", "--anew", *WINDOWS, answer="ok 0\n")

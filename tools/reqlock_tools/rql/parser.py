@@ -105,8 +105,8 @@ def add_env(words: "Subparsers") -> None:
     kinds = parser.add_subparsers(dest="kind", metavar="add|remove|list", required=True)
     add = kinds.add_parser("add", help="lock for one environment more", allow_abbrev=False)
     add.add_argument("name", metavar="NAME", help="the name of the target")
-    add.add_argument("--python", metavar="VERSION", required=True, help="the version of Python, as 3.11")
-    add.add_argument("--platform", metavar="NAME", required=True, help="the platform, as linux-x86_64")
+    add.add_argument("--python", metavar="VERSION", default="", help="the version of Python, as 3.11; else that of the first environment")
+    add.add_argument("--platform", metavar="NAME", default="", help="the platform, as linux-x86_64; else the first whose name begins so")
     remove = kinds.add_parser("remove", help="lock for one environment less", allow_abbrev=False)
     remove.add_argument("name", metavar="NAME", help="the name of the target")
     for it in add, remove:

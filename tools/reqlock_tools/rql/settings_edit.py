@@ -6,7 +6,7 @@ from collections.abc import Sequence
 from typing import TYPE_CHECKING, Any
 
 from reqlock_tools.rql.faults import SettingsFault
-from reqlock_tools.rql.settings import OWN_FILE, EnvironmentSetting, Settings
+from reqlock_tools.rql.settings import OWN_FILE, EnvironmentSetting, ExportSetting, Settings
 
 if TYPE_CHECKING:
     import tomlkit
@@ -20,11 +20,14 @@ def library() -> Any:
         raise SettingsFault(f"{sys.executable} lacks the library tomlkit, which writes settings: python3 -m pip install tomlkit") from None
 
 
-def with_environments(settings: Settings, environments: Sequence[EnvironmentSetting]) -> bytes:
-    """The file of the settings with other environments."""
+def with_environments(settings: Settings, environments: Sequence[EnvironmentSetting], exports: Sequence[ExportSetting]) -> bytes:
+    """The file of the settings with other environments, and with the targets of exports."""
     toml = library()
     document: "tomlkit.TOMLDocument" = toml.parse(settings.file.read_bytes().decode())
     table: Any = document if settings.file.name == OWN_FILE else document["tool"]["reqlock"]  # type: ignore[index]
+    for told, export in zip(table.get("exports", []), exports):
+        if export.target and "target" not in told:
+            told["target"] = export.target
     named = {it.name: it for it in environments}
     if "" in named:
         table["environment"] = inline(toml, named[""])

@@ -1,12 +1,14 @@
 """`rql env`: the environments that are locked for."""
 
+from collections.abc import Sequence
 from dataclasses import replace
 
+from reqlock_tools.environment import PLATFORMS
 from reqlock_tools.files import write_whole
 from reqlock_tools.merge_sides import Journal, digest_of, lock_name
 from reqlock_tools.refusal import speaker
 from reqlock_tools.rql.calls import Caller, typed_path
-from reqlock_tools.rql.defaults import family_name
+from reqlock_tools.rql.defaults import family_name, own_python
 from reqlock_tools.rql.edits import accepted
 from reqlock_tools.rql.environments import described, environments, label_of, place_of
 from reqlock_tools.rql.faults import SettingsFault
@@ -15,7 +17,7 @@ from reqlock_tools.rql.index import Wanted, made_index
 from reqlock_tools.rql.kept import MODE, Kept
 from reqlock_tools.rql.project import Project, project_of
 from reqlock_tools.rql.requests import EnvRequest
-from reqlock_tools.rql.settings import TARGET, EnvironmentSetting, Settings, read_settings
+from reqlock_tools.rql.settings import TARGET, EnvironmentSetting, ExportSetting, Settings, read_settings
 from reqlock_tools.rql.settings_edit import with_environments
 
 say = speaker("rql")
@@ -51,11 +53,12 @@ class Change:
     def run(self) -> int:
         before = self.project.settings
         changed = added(before, self.request) if self.request.word == "add" else removed(before, self.request.name)
-        text = with_environments(before, changed)
+        exports = renamed_exports(before, changed)
+        text = with_environments(before, changed, exports)
         journal = journal_of(self.project)
         if journal is not None:
             self.refuse_loss(journal)
-        settings = replace(before, environments=changed)
+        settings = replace(before, environments=changed, exports=exports)
         project = project_of(settings, self.project.options)
         status = self.begin_anew(project, journal) if journal is not None else 0
         if status == 0:
@@ -109,12 +112,34 @@ def added(settings: Settings, request: EnvRequest) -> tuple[EnvironmentSetting, 
     """The environments with one more. One without a name gets the name of its platform."""
     if not TARGET.fullmatch(request.name):
         raise SettingsFault(f"{request.name!a}: it is no name of a target: small letters, digits and -")
-    new = EnvironmentSetting(request.name, request.python, request.platform)
+    if request.platform and request.platform not in PLATFORMS:
+        raise SettingsFault(f"--platform {request.platform}: one of {', '.join(PLATFORMS)} is wanted")
+    new = EnvironmentSetting(request.name, request.python or own_version(settings), request.platform or platform_of(request.name))
     described(new, place_of(settings, new))
     others = [it if it.name else replace(it, name=family_name(it.platform)) for it in settings.environments]
     if request.name in [it.name for it in others]:
         raise SettingsFault(f"{place_of(settings, new)}: this target is there already")
     return (*others, new)
+
+
+def renamed_exports(settings: Settings, changed: Sequence[EnvironmentSetting]) -> tuple[ExportSetting, ...]:
+    """The exports, where the target without a name got one: they are of that one."""
+    if not any(it.name == "" for it in settings.environments):
+        return settings.exports
+    return tuple(it if it.target else replace(it, target=changed[0].name) for it in settings.exports)
+
+
+def own_version(settings: Settings) -> str:
+    """The version of Python of the first environment."""
+    return settings.environments[0].python if settings.environments else own_python()
+
+
+def platform_of(name: str) -> str:
+    """The platform that the name of a target means: the first of its family, as windows-x86_64 for windows."""
+    found = next((it for it in PLATFORMS if family_name(it) == name), None)
+    if found is None:
+        raise SettingsFault(f"{name}: which platform is it? --platform says it: {', '.join(PLATFORMS)}")
+    return found
 
 
 def removed(settings: Settings, name: str) -> tuple[EnvironmentSetting, ...]:
