@@ -67,13 +67,17 @@ def asked_index(project: Project, kept: Kept, request: PassedRequest) -> Path:
     return made_index(project, kept, Wanted(texts=tuple(it for it in request.words if fault_of(it) is None)))
 
 
-def run_tool(_: Options, request: PassedRequest) -> int:
-    """The status of another tool, which reads the words that were given."""
-    if request.word == "fleet" and request.words[:1] == ("show",):
+def run_tool(options: Options, request: PassedRequest) -> int:
+    """The status of another tool, which reads the words that were given. A fleet without an index of its own is one of rql's projects."""
+    words = request.words
+    if request.word == "fleet" and words[:1] == ("show",):
         from reqlock_tools.rql.fleet_table import run_table
 
-        found: int = run_table(request.words[1:])
-        return found
+        return run_table(words[1:])
+    if request.word == "fleet" and "--" in words and not any(it.startswith(("--index", "-h", "--help")) for it in words):
+        from reqlock_tools.rql.fleet_each import run_each
+
+        return run_each(options, words)
     module = importlib.import_module(f"reqlock_tools.{request.word.replace('-', '_')}")
-    status: int = module.main(list(request.words))
+    status: int = module.main(list(words))
     return status

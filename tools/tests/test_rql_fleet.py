@@ -1,0 +1,64 @@
+"""Tests of `rql fleet`: a call in each of many projects, and which version is locked where."""
+
+import unittest
+
+from made.served_index import wheel_of
+from rql_projects import ENVIRONMENT, Served
+
+NAMES = "a", "b", "c"
+
+
+class Fleets(Served):
+    def setUp(self):
+        super().setUp()
+        self.serve(urllib3=[wheel_of("urllib3", "1.26"), wheel_of("urllib3", "2.0")], rich=[wheel_of("rich", "1")])
+        for name, lines in zip(NAMES, ("urllib3\n", "urllib3<2\n", "rich\n")):
+            folder = self.folder / "services" / name
+            self.put("requirements.txt", lines, folder)
+            self.put("reqlock.toml", f'index = ["{self.index.url}"]\n{ENVIRONMENT}', folder)
+            self.assertEqual(self.rql("init", folder=folder)[:2], (0, "ok 0\n"))
+
+    def test_which_version_is_locked_where(self):
+        rows = (
+            (["urllib3"], ["services/a  -       2.0", "services/b  -       1.26"]), (["urllib3<2"], ["services/b  -       1.26"]),
+            (["urllib3", "services/a", "services/c"], ["services/a  -       2.0"]),
+        )
+        for words, wanted in rows:
+            status, output, errors = self.rql("fleet", "show", *words)
+            self.assertEqual((status, errors), (0, ""))
+            self.assertEqual(output.splitlines(), ["folder      target  version", *wanted])
+        self.assertEqual(self.rql("fleet", "show", "none"), (0, "", ""))
+        self.assertEqual(self.rql("fleet", "show", "<2")[0], 2)
+
+    def test_a_folder_that_cannot_be_read(self):
+        self.put("reqlock.journal", "{}", self.folder / "services" / "b")
+        status, output, errors = self.rql("fleet", "show", "urllib3")
+        self.assertEqual((status, len(output.splitlines())), (1, 2))
+        self.assertIn("services/b: reqlock.journal: it is no journal of reqlock", errors)
+
+    def test_a_release_in_each_project(self):
+        self.index.add("urllib3", wheel_of("urllib3", "2.1"))
+        status, output, errors = self.rql("fleet", "--", "upgrade", "urllib3")
+        self.assertEqual((status, errors), (0, ""))
+        self.assertEqual(output.splitlines(), ["services/a  ok 1", "services/b  ok 1", "services/c  refused not-locked", "3 folders, 0 refused"])
+        self.assertEqual(self.rql("fleet", "show", "urllib3>=2.1")[1].splitlines()[1:], ["services/a  -       2.1"])
+
+    def test_folders_that_are_named(self):
+        status, output, _ = self.rql("fleet", "services/a", "services/b", "--", "check")
+        self.assertEqual((status, output.splitlines()), (0, ["services/a  ok 0", "services/b  ok 0", "2 folders, 0 refused"]))
+
+    def test_with_an_index_it_is_the_tool(self):
+        status, output, _ = self.rql("fleet", "--index", "services/a/.reqlock/index.json", "services/a", "--", "relock")
+        self.assertEqual((status, output.splitlines()[0]), (0, "folder      reply  changed, or why not"))
+        self.assertIn("FOLDER [FOLDER ..] -- SUBCOMMAND", self.rql("fleet", "--help")[1])
+
+    def test_a_project_that_refuses(self):
+        status, output, errors = self.rql("fleet", "services/a", "services/b", "--", "add", "urllib3>=2")
+        self.assertEqual((status, output.splitlines()[-1]), (1, "2 folders, 2 refused"))
+        status, output, errors = self.rql("fleet", "services/a", "services/none", "--", "check")
+        self.assertEqual((status, output.splitlines()[-1]), (1, "2 folders, 1 refused"))
+        self.assertIn("services/none: ", errors)
+
+
+if __name__ == "__main__":
+    unittest.main()
