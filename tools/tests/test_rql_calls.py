@@ -8,7 +8,7 @@ import sys
 import time
 import unittest
 
-from places import PROGRAM
+from places import PROGRAM, TOOLS
 from program import Program
 from rql_projects import SCRIPT, Projects
 
@@ -75,6 +75,15 @@ class StandIn(Projects):
         os.killpg(done.pid, signal.SIGINT)
         self.assertEqual(done.stdout.read(), "ended\n")
         self.assertEqual(done.wait(timeout=60), 130)
+
+    def test_a_call_that_is_handed_on_waits_for_no_library(self):
+        code = "import sys; sys.argv[0] = 'rql.py'; from reqlock_tools.rql import main; main(['log']); print(*sys.modules, file=sys.stderr)"
+        done = subprocess.run(
+            [sys.executable, "-B", "-c", code], cwd=self.folder, env={**self.variables, "PYTHONPATH": str(TOOLS)}, capture_output=True,
+            encoding="utf-8", check=True,
+        )
+        loaded = {name.partition(".")[0] for name in done.stderr.split()}
+        self.assertEqual(loaded & {"packaging", "urllib3", "pip", "rich", "tomlkit", "platformdirs", "ssl", "http", "email"}, set())
 
     def test_words_that_are_none(self):
         for words in [], ["bogus"], ["add"], ["env"], ["--bogus", "log"], ["lock", "more"]:

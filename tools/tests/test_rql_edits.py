@@ -221,7 +221,22 @@ class Exports(Served):
 
 
 class Stranger(Projects):
-    """Settings without an index ask nobody."""
+    """Settings that ask nobody."""
+
+    def test_lines_of_another_file_are_told_to_no_index(self):
+        other = self.put("other.txt", "secret-token\n", self.outside)
+        (self.folder / "requirements.txt").symlink_to(other)
+        self.put("reqlock.toml", f'index = ["http://127.0.0.1:9/simple/"]\n{ENVIRONMENT}')
+        for words in ["add", "a"], ["relock"], ["init"], ["lock"]:
+            self.assertRegex(self.refuses(*words), "it is a link, which isn't followed|so there is no history")
+
+    def test_a_pipe_is_not_waited_for(self):
+        os.mkfifo(self.folder / "requirements.txt")
+        self.put("reqlock.toml", f'index = ["http://127.0.0.1:9/simple/"]\n{ENVIRONMENT}')
+        self.assertIn("requirements.txt: it is no file", self.refuses("relock"))
+        (self.folder / "reqlock.toml").unlink()
+        os.mkfifo(self.folder / "reqlock.toml")
+        self.assertIn("reqlock.toml: it is no file", self.refuses("relock"))
 
     def test_no_index_is_known(self):
         self.stand_in()
