@@ -29,7 +29,7 @@ class Command:
     inner: tuple["Command", ...]
 
     def options(self) -> list[argparse.Action]:
-        return [it for it in self.parser._actions if it.option_strings]
+        return [it for it in self.parser._actions if it.option_strings and it.help != argparse.SUPPRESS]
 
     def words(self) -> list[argparse.Action]:
         return [it for it in self.parser._actions if not it.option_strings and not isinstance(it, argparse._SubParsersAction)]
@@ -180,47 +180,54 @@ def zsh_arguments(command: Command, more: str) -> str:
     return " \\\n            ".join(["_arguments", *(text for it in command.options() for text in zsh_option(it)), more])
 
 
-def zsh(rql: Command) -> str:
-    """The completion of zsh."""
-    names = "\n".join(f"        '{it.name}:{zsh_text(it.told)}'" for it in rql.inner)
-    cases = []
-    for it in rql.inner:
-        if it.inner:
-            inner = " ".join(one.name for one in it.inner)
-            cases.append(f"        {it.name}) _arguments '1:command:({inner})' ;;\n")
-        elif it.options():
-            more = "'*:name:_rql_names'" if it.name in OF_NAMES else "'*:word:_files'"
-            cases.append(f"        {it.name})\n            {zsh_arguments(it, more)}\n            ;;\n")
-    return f"""#compdef rql
+ZSH = """#compdef rql
 # zsh completion for rql, made by tools/rql_pages.py
 
 # Offers the names of the lines in this folder.
-_rql_names() {{
+_rql_names() {
     local -a names
     [[ -f requirements.txt ]] || return
-    names=(${{(f)"$(LC_ALL=C sed -n 's/^[[:space:]]*\\([A-Za-z0-9][A-Za-z0-9._-]*\\).*/\\1/p' <requirements.txt)"}})
+    names=(${(f)"$(LC_ALL=C sed -n 's/^[[:space:]]*\\([A-Za-z0-9][A-Za-z0-9._-]*\\).*/\\1/p' <requirements.txt)"})
     compadd -a names
-}}
+}
 
-_rql() {{
+_rql() {
     local -a commands
     local state line
     commands=(
-{names}
+COMMANDS
     )
-    {zsh_arguments(rql, "'1: :->command' '*:: :->words'").replace(chr(10) + '            ', chr(10) + '        ')}
+    ARGUMENTS
     case $state in
     command) _describe command commands ;;
     words)
         case $line[1] in
-{''.join(cases)}        *) _files ;;
+CASES        *) _files ;;
         esac
         ;;
     esac
-}}
+}
 
 _rql "$@"
 """
+
+
+def zsh_case(command: Command) -> str:
+    """What is offered behind a command; nothing of its own where it has no options."""
+    if command.inner:
+        return f"        {command.name}) _arguments '1:command:({' '.join(it.name for it in command.inner)})' ;;\n"
+    if not command.options():
+        return ""
+    more = "'*:name:_rql_names'" if command.name in OF_NAMES else "'*:word:_files'"
+    return f"        {command.name})\n            {zsh_arguments(command, more)}\n            ;;\n"
+
+
+def zsh(rql: Command) -> str:
+    """The completion of zsh."""
+    names = "\n".join(f"        '{it.name}:{zsh_text(it.told)}'" for it in rql.inner)
+    arguments = zsh_arguments(rql, "'1: :->command' '*:: :->words'").replace("\n            ", "\n        ")
+    cases = "".join(map(zsh_case, rql.inner))
+    return ZSH.replace("COMMANDS", names).replace("ARGUMENTS", arguments).replace("CASES", cases)
 
 
 def fish_text(text: str) -> str:

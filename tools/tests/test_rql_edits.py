@@ -3,10 +3,15 @@ none, and a new index takes the old one's place only with an accepted reply."""
 
 import json
 import os
+import signal
+import subprocess
+import sys
+import threading
+import time
 import unittest
 
 from made.served_index import wheel_of
-from rql_projects import ENVIRONMENT, Projects, Served
+from rql_projects import ENVIRONMENT, SCRIPT, Projects, Served
 
 FLASK = (
     wheel_of("flask", "2.0", "werkzeug"),
@@ -130,6 +135,49 @@ class Edits(Served):
         self.assertIn("403", errors)
         self.assertEqual((self.files(), self.kept()), (before, kept))
 
+    def start_waiting(self, *words):
+        """A call that waits for an index which doesn't answer yet, and what has it answer."""
+        is_over = threading.Event()
+        self.addCleanup(is_over.set)
+        self.index.instead[f"{self.index.prefix}flask/"] = [lambda answer: is_over.wait(60)]
+        asked = len(self.index.asked)
+        done = subprocess.Popen(
+            [sys.executable, "-B", SCRIPT, *words], cwd=self.folder, env=self.variables, stdout=subprocess.DEVNULL, stderr=subprocess.PIPE,
+            encoding="utf-8",
+        )
+        self.addCleanup(done.stderr.close)
+        while (f"{self.index.prefix}flask/") not in [path for _, path in self.index.asked[asked:]]:
+            self.assertIsNone(done.poll())
+            time.sleep(0.05)
+        return done
+
+    def test_a_call_that_is_stopped_changes_nothing(self):
+        self.begin("rich<2\n")
+        before, kept = self.files(), self.kept()
+        for number, status in (signal.SIGINT, 130), (signal.SIGKILL, -signal.SIGKILL):
+            with self.subTest(number=number):
+                done = self.start_waiting("add", "flask")
+                done.send_signal(number)
+                self.assertEqual(done.wait(60), status)
+                self.assertNotIn("Traceback", done.stderr.read())
+                self.assertEqual((self.files(), self.kept()), (before, kept))
+        del self.index.instead[f"{self.index.prefix}flask/"]
+        self.accepts("add", "flask", answer="ok 1\n")
+
+    def test_calls_in_one_project_wait_for_each_other(self):
+        self.begin("")
+        names = "rich", "flask", "asgiref"
+        calls = [
+            subprocess.Popen(
+                [sys.executable, "-B", SCRIPT, "add", name], cwd=self.folder, env=self.variables, stdout=subprocess.PIPE, encoding="utf-8",
+            )
+            for name in names
+        ]
+        self.assertEqual(sorted(call.communicate(timeout=120)[0] for call in calls), ["ok 1\n", "ok 2\n", "ok 3\n"])
+        self.assertEqual(sorted(self.lines().split()), sorted(names))
+        self.accepts("check", answer="ok 3\n")
+        self.assertEqual(self.named(), ["asgiref", "flask", "rich", "werkzeug"])
+
     def test_offline_asks_nobody(self):
         self.begin("rich\n")
         asked = len(self.index.asked)
@@ -152,6 +200,7 @@ class Edits(Served):
         counts = r"(?m)^1 package, 2 releases, [0-9]+ requests?, [0-9.]+ kB, [0-9.]+ s$"
         self.assertNotRegex(self.accepts("add", "--dry-run", "rich"), counts)
         self.assertRegex(self.accepts("-v", "add", "--dry-run", "rich"), counts)
+        self.assertRegex(self.accepts("add", "--dry-run", "rich", "-v"), counts)
         self.assertRegex(self.rql("add", "--dry-run", "rich", CI="1")[2], counts)
         self.assertNotIn("package", self.rql("-q", "add", "--dry-run", "rich", CI="1")[2])
 

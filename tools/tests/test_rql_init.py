@@ -1,10 +1,15 @@
 """Tests of `rql init`: in an empty folder, over lines, and beside the locks of other tools, whose pins are kept."""
 
 import os
+import re
 import unittest
+from unittest import mock
 
 from made.served_index import wheel_of
 from rql_projects import ENVIRONMENT, Projects, Served
+
+from reqlock_tools.rql.defaults import VARIABLES_OF_INDEXES, index_of_pip, pip_told
+from reqlock_tools.rql.poetry import line_of, specifiers_of
 
 UV = """version = 1
 requires-python = ">=3.8"
@@ -238,6 +243,45 @@ class Indexes(Projects):
         self.assertIn("user and password aren't written into settings", told)
         self.assertNotIn("secret", told)
         self.assertFalse(any(b"secret" in data for data in self.files(self.outside).values()))
+
+    def test_of_pips_configuration(self):
+        path = self.put("pip.conf", "[global]\nindex-url = http://127.0.0.1:9/team/simple\n", self.outside)
+        told = self.told(PIP_CONFIG_FILE=str(path))
+        self.assertIn("index http://127.0.0.1:9/team/simple/, as pip's configuration says\n", told)
+
+    def test_that_pip_asks_by_itself(self):
+        with mock.patch.dict(os.environ, {"PIP_CONFIG_FILE": os.devnull, "HOME": str(self.home)}):
+            for variable in VARIABLES_OF_INDEXES:
+                os.environ.pop(variable, None)
+            if not pip_told("--version"):
+                self.skipTest("there is no pip: apt-get install python3-pip")
+            url, origin = index_of_pip()
+        self.assertEqual(origin, "pip install --help")
+        self.assertIsNotNone(re.fullmatch("https://[a-z.]+/simple/?", url), url)
+
+
+class OfPoetry(unittest.TestCase):
+    """Constraints as the pages of Poetry tell what they mean."""
+
+    def test_versions(self):
+        rows = (
+            ("^1.2.3", ">=1.2.3,<2"), ("^1.2", ">=1.2,<2"), ("^1", ">=1,<2"), ("^0.2.3", ">=0.2.3,<0.3"), ("^0.0.3", ">=0.0.3,<0.0.4"),
+            ("^0.0", ">=0.0,<0.1"), ("^0", ">=0,<1"), ("~1.2.3", ">=1.2.3,<1.3"), ("~1.2", ">=1.2,<1.3"), ("~1", ">=1,<2"), ("*", ""),
+            ("1.*", "==1.*"), ("1.2.3", "==1.2.3"), (">= 1.2, <1.5", ">=1.2,<1.5"), ("!=1.5", "!=1.5"), ("~=1.5", "~=1.5"),
+            ("^1 || ^2", None), ("^1.0rc1", None), ("latest", None), ("", None), (">=*", None),
+        )
+        for text, wanted in rows:
+            self.assertEqual(specifiers_of(text), wanted, text)
+
+    def test_lines(self):
+        rows = (
+            ({"version": "^1", "extras": ["a", "b"]}, "x[a,b]>=1,<2"), ({"version": "*", "markers": "os_name == 'nt'"}, "x ; os_name == 'nt'"),
+            ({"git": "https://git.example/x"}, None), ({"version": "1", "source": "team"}, None), ({"version": "1", "python": "^3.9"}, None),
+            ({"version": 1}, None), ({"version": "1", "extras": ["a]b"]}, None), ({"version": "1", "markers": "a\nb"}, None),
+            ([{"version": "1"}], None),
+        )
+        for value, wanted in rows:
+            self.assertEqual(line_of("x", value), wanted, value)
 
 
 if __name__ == "__main__":

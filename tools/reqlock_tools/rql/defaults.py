@@ -1,5 +1,6 @@
 """What `rql init` takes where no word tells it: the index that pip asks, and this machine's platform."""
 
+import ast
 import os
 import re
 import subprocess
@@ -26,12 +27,21 @@ def pip_told(*words: str) -> str:
     return done.stdout if done.returncode == 0 else ""
 
 
+def configured(key: str) -> str | None:
+    """What pip's configuration has at a key, as index-url; None where it has nothing."""
+    found = re.findall(rf"(?m)^(?:global|install)\.{key}=(.*)$", pip_told("config", "list"))
+    try:
+        return str(ast.literal_eval(found[-1])) if found else None
+    except (SyntaxError, ValueError):
+        return None
+
+
 def index_of_pip() -> tuple[str, str]:
     """The index that pip asks, and what says so."""
     for variable in VARIABLES_OF_INDEXES:
         if os.environ.get(variable):
             return os.environ[variable], variable
-    told = pip_told("config", "get", "global.index-url").strip()
+    told = configured("index-url")
     if told:
         return told, "pip's configuration"
     found = DEFAULT.search(" ".join(pip_told("install", "--help").split()))
@@ -64,7 +74,7 @@ def indexes(given: tuple[str, ...]) -> tuple[str, ...]:
     url, origin = index_of_pip()
     found = plain_index(url, origin)
     say(f"index {found}, as {origin} says")
-    if os.environ.get("PIP_EXTRA_INDEX_URL") or pip_told("config", "get", "global.extra-index-url").strip():
+    if os.environ.get("PIP_EXTRA_INDEX_URL") or configured("extra-index-url"):
         say("pip's extra index isn't taken over, since pip mixes what indexes have: give all by --index URL, in order")
     return (found,)
 

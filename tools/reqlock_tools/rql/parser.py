@@ -32,6 +32,13 @@ EDITS: dict[str, tuple[str, str, str, str]] = {
     "set": ("put texts in the place of the lines of their names: all or none", "TEXT", "+", "a line, as 'flask[async]>=2'"),
     "upgrade": ("lock again without the locked versions of these names", "NAME", "*", "a locked name; without any, all of them"),
 }
+# The options of each call, in front of the command or behind it.
+FLAGS = {
+    ("--offline",): "ask nobody: take all from the cache",
+    ("--refresh",): "ask also for pages that are said to be fresh yet",
+    ("-v", "--verbose"): "print each call of reqlock so that it can be typed",
+    ("-q", "--quiet"): "tell nothing beside the answer",
+}
 if TYPE_CHECKING:
     Subparsers = argparse._SubParsersAction[argparse.ArgumentParser]
 
@@ -44,6 +51,8 @@ def parser_of() -> argparse.ArgumentParser:
     add_edits(words)
     add_own(words)
     add_env(words)
+    for own in words.choices.values():
+        add_telling(own)
     for name, told in {**PASSED, **TOOLS}.items():
         whose = "the program" if name in PASSED else f"reqlock-{name}"
         words.add_parser(name, help=told, description=f"{told}; the words behind it are those of {whose}", add_help=False)
@@ -52,11 +61,15 @@ def parser_of() -> argparse.ArgumentParser:
 
 def add_options(parser: argparse.ArgumentParser) -> None:
     parser.add_argument("-C", metavar="DIR", dest="start", default=".", help="look for the project's settings in DIR and above")
-    parser.add_argument("--offline", action="store_true", help="ask nobody: take all from the cache")
-    parser.add_argument("--refresh", action="store_true", help="ask also for pages that are said to be fresh yet")
-    parser.add_argument("-v", "--verbose", action="store_true", help="print each call of reqlock so that it can be typed")
-    parser.add_argument("-q", "--quiet", action="store_true", help="tell nothing beside the answer")
+    for forms, told in FLAGS.items():
+        parser.add_argument(*forms, action="store_true", help=told)
     parser.add_argument("--program", metavar="FILE", help="reqlock, where it isn't on the PATH")
+
+
+def add_telling(parser: argparse.ArgumentParser) -> None:
+    """The options that may stand behind a command of rql too. Its help doesn't repeat them."""
+    for forms in FLAGS:
+        parser.add_argument(*forms, action="store_true", default=argparse.SUPPRESS, help=argparse.SUPPRESS)
 
 
 def add_init(words: "Subparsers") -> None:
