@@ -11,6 +11,7 @@ import tempfile
 import unittest
 from functools import cache
 from pathlib import Path
+from urllib.parse import urljoin
 
 from made.journals import journal_of_targets, lock_text
 from made.served_index import MadeIndex, wheel_of
@@ -72,7 +73,7 @@ def site_of(venv):
 
 def locked_entry(index, name, version, *files, dependencies=()):
     """The entry of a lock with these files of an index."""
-    told = [{"name": it.name, "sha256": it.sha256, "size": len(it.data), "url": f"{index.url}../files/{it.name}"} for it in files]
+    told = [{"name": it.name, "sha256": it.sha256, "size": len(it.data), "url": urljoin(index.url, f"../files/{it.name}")} for it in files]
     wheels = [it for it in told if it["name"].endswith(".whl")]
     sdist = next((it for it in told if not it["name"].endswith(".whl")), None)
     return {"dependencies": list(dependencies), "requires_python": None, "sdist": sdist, "version": version, "wheels": wheels}
@@ -121,7 +122,7 @@ class Synced(unittest.TestCase):
         own = variables(HOME=str(self.home), **(more or {}))
         return subprocess.Popen(
             [python, "-B", "-c", CALL, TOOLS, json.dumps(told)], env=own, cwd=self.project, stdin=subprocess.DEVNULL,
-            stdout=subprocess.PIPE, stderr=subprocess.PIPE, encoding="utf-8",
+            stdout=subprocess.PIPE, stderr=subprocess.PIPE, encoding="utf-8", start_new_session=True,
         )
 
     def call(self, more=None, **asked):

@@ -140,6 +140,12 @@ class Stays(Synced):
         self.syncs(f"a 1.0 of {(self.project / 'a').as_uri()} -> 1 as locked")
         self.syncs("nothing to do")
 
+    def test_a_checkout_that_an_older_setuptools_linked_stays(self):
+        place = self.project / "old"
+        (site_of(self.venv) / "old.egg-link").write_text(f"{place}\n.", encoding="utf-8")
+        self.lock({})
+        self.syncs("nothing to do", told=[f"old stays: it comes from file://{place}; --exact takes it out"])
+
     def test_what_a_checkout_of_git_gave_stays_and_what_an_archive_gave_goes(self):
         vcs = {"url": "https://git.example/c.git", "vcs_info": {"vcs": "git", "commit_id": "0" * 40}}
         self.put("c", "1", origin=vcs)
@@ -399,14 +405,42 @@ class Secrets(Synced):
             end = time.monotonic() + 30
             while not begun and time.monotonic() < end:
                 time.sleep(0.02)
-            found = list((self.project / "tmp").glob("*/netrc"))
+            found = list((self.project / "tmp").glob("*/.netrc"))
             modes = [(os.stat(it).st_mode & 0o777, os.stat(it.parent).st_mode & 0o777) for it in found]
             child.send_signal(signal.SIGTERM)
             child.communicate(timeout=60)
         self.assertEqual(modes, [(0o600, 0o700)])
         self.assertEqual(child.returncode, 128 + signal.SIGTERM)
-        self.assertEqual(list((self.project / "tmp").glob("*/netrc")), [])
+        self.assertEqual(list((self.project / "tmp").glob("*/.netrc")), [])
         self.assertEqual(self.installed(), {})
+
+    def test_of_keyring_reach_pip(self):
+        program = self.project / "bin" / "keyring"
+        program.parent.mkdir()
+        program.write_text(f"#!/bin/sh\ncat <<'END'\nme\n{self.SECRET}\nEND\n", encoding="utf-8")
+        program.chmod(0o755)
+        self.syncs("+ a 1", more={"PATH": f"{program.parent}:{os.environ['PATH']}"})
+
+    def test_ctrl_c_leaves_what_was_there(self):
+        begun = []
+
+        def wait(to):
+            begun.append(1)
+            time.sleep(3)
+            self.guarded(to)
+
+        self.put("left", "1")
+        self.index.instead[f"/files/{self.files['a', '1'].name}"] = [wait]
+        with self.start(self.secret) as child:
+            end = time.monotonic() + 30
+            while not begun and time.monotonic() < end:
+                time.sleep(0.02)
+            os.killpg(child.pid, signal.SIGINT)
+            errors = child.communicate(timeout=60)[1]
+        self.assertEqual(child.returncode, 130, errors)
+        self.assertIn("0 of 1 packages are as locked, and nothing is taken out; rql sync goes on", errors)
+        self.assertEqual(list((self.project / "tmp").iterdir()), [])
+        self.assertEqual(self.installed(), {"left": "1"})
 
     def test_are_told_to_no_other_port_of_the_host(self):
         other = MadeIndex()

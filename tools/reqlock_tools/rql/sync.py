@@ -118,7 +118,7 @@ def done(asked: Sync, environment: Environment, locked: dict[str, Locked], plan:
     tell_built(asked, installs)
     words = pip_of(environment)
     with mended_end(), netrc_file(text_for(asked, environment, installs)) as netrc:
-        pip = Pip(words, variables_for(words, netrc), asked.is_verbose)
+        pip = Pip(words, variables_for(words, environment, netrc), asked.is_verbose)
         status = pip.install(installs, asked.indexes)
         if status != 0:
             return left(environment, locked, status)

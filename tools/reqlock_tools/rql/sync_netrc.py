@@ -74,7 +74,7 @@ def netrc_text(known: dict[str, tuple[str, str]], version: tuple[int, ...]) -> s
 def netrc_file(text: str) -> Iterator[Path]:
     """A netrc file of this text, for as long as it is needed."""
     with tempfile.TemporaryDirectory(prefix="rql-") as folder:  # (others can't enter it)
-        path = Path(folder) / "netrc"
+        path = Path(folder) / ".netrc"
         number = os.open(path, os.O_WRONLY | os.O_CREAT | os.O_EXCL, 0o600)
         with open(number, "w", encoding="utf-8") as file:
             file.write(text)

@@ -22,6 +22,7 @@ from reqlock_tools.rql.faults import STOPPED, SettingsFault
 from reqlock_tools.rql.sync_installed import Environment
 from reqlock_tools.rql.sync_locked import Locked
 from reqlock_tools.simple.plan import IndexAddress
+from reqlock_tools.versions import read_version, version_of
 
 # The options of pip that tell how the index is reached, which stay as they are configured.
 WAYS = (
@@ -32,14 +33,16 @@ CONFIGURED = re.compile(r"(?:global|install|:env:)\.([a-z-]+)=(.*)")
 SECONDS = 60
 # From this pip on, one can work in the environment of another Python.
 FOREIGN = 22, 3
+# From this pip on, a variable tells where a netrc file is.
+HEEDING = "20.3"
 
 
-class Stopped(BaseException):
+class Stopped(SystemExit):
     """The process was told to end by a signal."""
 
 
 def end(number: int, frame: FrameType | None) -> None:
-    raise Stopped
+    raise Stopped(128 + number)
 
 
 @contextlib.contextmanager
@@ -77,7 +80,14 @@ def pip_of(environment: Environment) -> tuple[str, ...]:
     return (*other, "--python", str(environment.python))
 
 
-def variables_for(pip: Sequence[str], netrc: Path) -> dict[str, str]:
+def heeds_netrc(environment: Environment) -> bool:
+    """Whether the pip that is called takes the place of a netrc file from a variable. An older one looks into the home alone."""
+    pip = environment.installed.get("pip")
+    version = read_version(pip.version) if pip is not None else None
+    return version is None or version >= version_of(HEEDING)
+
+
+def variables_for(pip: Sequence[str], environment: Environment, netrc: Path) -> dict[str, str]:
     """The variables of a call of pip. Of its configuration the way to the index alone is taken over."""
     found = {name: value for name, value in os.environ.items() if not name.startswith(("PIP_", "PYTHON"))}
     for line in (asked([*pip, "config", "list"]) or "").splitlines():
@@ -85,6 +95,9 @@ def variables_for(pip: Sequence[str], netrc: Path) -> dict[str, str]:
         if told is not None and told[1] in WAYS:
             with contextlib.suppress(ValueError, SyntaxError):
                 found[f"PIP_{told[1].upper().replace('-', '_')}"] = str(ast.literal_eval(told[2]))
+    if not heeds_netrc(environment):
+        found.setdefault("XDG_CACHE_HOME", os.path.expanduser("~/.cache"))
+        found["HOME"] = str(netrc.parent)
     return found | {"PIP_CONFIG_FILE": os.devnull, "PIP_DISABLE_PIP_VERSION_CHECK": "1", "PIP_NO_INPUT": "1", "NETRC": str(netrc)}
 
 
@@ -160,7 +173,7 @@ class Pip:
         except Stopped:
             child.terminate()
             child.wait()
-            raise SystemExit(128 + signal.SIGTERM) from None
+            raise
 
     def install(self, locked: Sequence[Locked], indexes: Sequence[IndexAddress]) -> int:
         """The status of installing what is locked: that of the first call that fails, behind which nothing is installed."""
