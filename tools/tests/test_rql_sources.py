@@ -293,26 +293,20 @@ class Calls(Served):
     def states(self):
         return self.path.read_text(encoding="utf-8"), self.lines()
 
-    def test_edits_undo_and_redo_change_source_and_lock(self):
-        self.assertIn('version = "1"', (self.folder / "pylock.toml").read_text(encoding="utf-8"))  # (of six, by bounds.txt)
+    def test_several_sources_change_together(self):
         before = self.states()
-        self.accepts("add", "attrs>=1", answer="ok 1\n")
-        after = self.states()
-        self.assertEqual(after, (before[0].replace("# small\n", '# small\n    "attrs>=1",\n'), f"six{self.P}attrs>=1{self.P}rich  # from more.in\n"))
-        self.accepts("check", answer="ok 1\n")
-        self.accepts("undo", answer="ok 0\n")
-        self.assertEqual(self.states(), before)
-        self.accepts("redo", answer="ok 1\n")
-        self.assertEqual(self.states(), after)
-        self.accepts("remove", "rich", "attrs", answer="ok 2\n")
-        self.assertEqual(self.states(), (before[0], f"six{self.P}"))
+        self.accepts("remove", "six", "rich", answer="ok 1\n")
+        self.assertEqual(self.states(), ("[project]\nname = 'x'\ndependencies = [\n]\n", ""))
         self.assertEqual((self.folder / "more.in").read_bytes(), b"-c bounds.txt\n")
+        self.accepts("undo", answer="ok 0\n")
+        self.assertEqual(self.lines(), before[1])
+        self.assertEqual((self.folder / "more.in").read_bytes(), b"-c bounds.txt\nrich\n")
+        self.accepts("check", answer="ok 0\n")
 
     def test_what_is_refused_changes_nothing(self):
         before = self.files()
         for words, status in (
-            (("add", "attrs>=9"), 3), (("add", "none"), 3), (("remove", "none"), 2), (("add", "six"), 2), (("constrain", "six", ">=9"), 3),
-            (("undo",), 1), (("add", "attrs", "--dry-run"), 0),
+            (("add", "none"), 3), (("remove", "none"), 2), (("remove", "six", "none"), 2), (("constrain", "six", ">=9"), 3), (("undo",), 1),
         ):
             with self.subTest(words=words):
                 found, output, errors = self.rql(*words)
@@ -326,13 +320,23 @@ class Calls(Served):
         self.assertIn("more.in: line 2: 'attrs' isn't in requirements.txt\n", errors)
         self.assertIn("sources and lines came apart: rql lock takes the sources over", errors)
         before = self.files()
-        for words in ("add", "zope"), ("undo",):
+        for words in ("add", "zope"), ("upgrade",), ("undo",):
             self.assertIn("rql lock takes the sources over", self.refuses(*words))
+        self.assertIn("the sources have other lines than those that are locked: rql check tells which", self.refuses("sync"))
         self.assertEqual(self.files(), before)
         self.assertEqual(self.rql("lock", "--check")[0], 1)
         self.accepts("lock", answer="ok 1\n")
         self.assertEqual(self.lines(), f"six{self.P}rich  # from more.in\nattrs  # from more.in\n")
         self.accepts("check", answer="ok 1\n")
+
+    def test_a_group_in_a_folder_of_its_own_is_bound_to_the_other(self):
+        (self.folder / ".git").mkdir()
+        self.serve(six=[wheel_of("six", "1.5")])
+        self.put("dev/reqlock.toml", f'index = ["{self.index.url}"]\nsources = ["dev.in"]\nconstraints = ["../pylock.toml"]\n{ENVIRONMENT}')
+        self.put("dev/dev.in", "six\n")
+        for words, version in (("init",), "1"), (("upgrade",), "1"):
+            self.assertEqual(self.rql(*words, folder=self.folder / "dev")[0], 0)
+            self.assertIn(f'version = "{version}"\n', (self.folder / "dev" / "pylock.toml").read_text(encoding="utf-8"))
 
 
 if __name__ == "__main__":

@@ -26,10 +26,12 @@ def run_edit(project: Project, request: EditRequest) -> int:
     """Makes an edit, or tells what it would change."""
     kept = Kept(project)
     with kept.locked():
-        if project.settings.sources and request.word in (*OF_LINES, "constrain"):
-            from reqlock_tools.rql.sources_calls import edit_sources
+        if project.settings.sources:
+            from reqlock_tools.rql.sources_calls import edit_sources, sources_of
 
-            return edit_sources(project, kept, request)
+            if request.word in (*OF_LINES, "constrain"):
+                return edit_sources(project, kept, request)
+            sources_of(project)  # (which refuses those that came apart from the lines)
         return Edit(project, kept, request).run()
 
 

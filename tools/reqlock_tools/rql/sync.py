@@ -8,7 +8,7 @@ from dataclasses import dataclass
 from pathlib import Path
 from typing import TYPE_CHECKING
 
-from reqlock_tools.refusal import shown, speaker
+from reqlock_tools.refusal import Refusal, shown, speaker
 from reqlock_tools.rql.faults import NETWORK, STOPPED, SettingsFault
 from reqlock_tools.rql.sync_installed import Environment, is_own, python_in, read_environment
 from reqlock_tools.rql.sync_locked import Locked, read_locked
@@ -48,11 +48,24 @@ class Sync:
 def run_sync(project: "Project", request: "SyncRequest") -> int:
     """Has a virtual environment hold what a project has locked."""
     options, settings = project.options, project.settings
+    if settings.sources and not options.is_quiet:
+        tell_apart(project)
     return sync(Sync(
         base=project.base, folder=project.folder, indexes=tuple(IndexAddress(it.url, it.only) for it in settings.index),
         venv=request.venv, target=request.target, keep=request.keep, is_exact=request.is_exact, is_dry=request.is_dry,
         is_offline=options.is_offline, is_verbose=options.is_verbose, is_quiet=options.is_quiet,
     ))
+
+
+def tell_apart(project: "Project") -> None:
+    """Tells where the lock isn't of what the sources have now. They need not be there, as in an image."""
+    from reqlock_tools.rql.history import content
+    from reqlock_tools.rql.sources import differences, gathered
+
+    with contextlib.suppress(Refusal, OSError):
+        present = gathered(project.top, project.base, project.settings.sources)
+        if differences(present, content(project.folder / "requirements.txt")):
+            say("the sources have other lines than those that are locked: rql check tells which, rql lock takes them over")
 
 
 def sync(asked: Sync) -> int:
