@@ -1,11 +1,11 @@
 """Calls of the program whose answers the rules give, in sessions over copies of the examples: those that the pages show, and others. Each
 subcommand and each status is among them."""
 
-import json
 import re
 import shlex
 from typing import NamedTuple
 
+from made.environments import LINUX
 from places import TOP
 from shown import typed_blocks
 
@@ -59,8 +59,7 @@ def call(words: str, status: int, *lines: str, text: str = "") -> Call:
 
 def exported_lines() -> list[str]:
     """What `export` prints of the lock of flask: for what it is, and each release with its hash."""
-    variables = json.loads((TOP / "examples" / "web" / "environment.json").read_text(encoding="utf-8"))
-    lines = ["# for " + " and ".join(f'{name} == "{value}"' for name, value in sorted(variables.items()))]
+    lines = ["# for " + " and ".join(f'{name} == "{value}"' for name, value in sorted(LINUX.items()))]
     for release, ask in ("flask==2.3.3", []), ("jinja2==3.1.4", ["flask"]), ("werkzeug==3.0.4", ["flask"]):
         lines += [f"{release} \\", f"    --hash=sha256:{64 * '0'}", *(f"    # via {name}" for name in ask)]
     return lines
