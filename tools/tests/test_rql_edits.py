@@ -220,6 +220,57 @@ class Edits(Served):
         self.assertEqual(call, "+ reqlock -v --dir . --index .reqlock/index.asked.json --dry-run add rich")
 
 
+class Words(Served):
+    """The words that the program gets, which a stand-in prints."""
+
+    def setUp(self):
+        super().setUp()
+        self.serve(rich=[wheel_of("rich", "1")])
+        self.put("requirements.txt", "rich\n")
+        self.put("reqlock.toml", f'index = ["{self.index.url}"]\n{ENVIRONMENT}')
+        self.stand_in()
+
+    def given(self, *words, status=0):
+        """The words of the call, without those that tell of the folder; the index is an asked one, or the kept one."""
+        found, output, errors = self.rql(*words, STATUS=str(status))
+        self.assertEqual(found, status, errors)
+        self.assertIn("told\n", errors)
+        words = output.splitlines()
+        self.assertEqual(words[:3], ["--dir", ".", "--index"])
+        self.assertIn(words[3], (".reqlock/index.asked.json", ".reqlock/index.json"))
+        return words[4:]
+
+    def test_of_each_edit(self):
+        rows = (
+            (["add", "rich>=1  # a b"], ["add", "rich>=1  # a b"]), (["add", "--", "-x"], ["add", "--", "-x"]),
+            (["add", "--keep-locked", "--dry-run", "rich"], ["--keep-locked", "--dry-run", "add", "rich"]), (["remove", "rich"], ["remove", "rich"]),
+            (["constrain", "rich", ">=1,<2"], ["constrain", "rich", ">=1,<2"]), (["constrain", "rich"], ["constrain", "rich"]),
+            (["set", "Rich[a]<2"], ["replace", "--line", "rich", "Rich[a]<2"]), (["upgrade", "a", "b"], ["upgrade", "a", "b"]),
+            (["upgrade"], ["upgrade"]), (["relock"], ["relock"]), (["check", "--current", "--json"], ["check", "--json", "--current"]),
+            (["outdated", "--json"], ["outdated", "--json"]), (["why", "--explain", "rich<1"], ["why", "--explain", "rich<1"]),
+        )
+        for words, wanted in rows:
+            with self.subTest(words=words):
+                self.assertEqual(self.given(*words), wanted)
+
+    def test_of_init(self):
+        words = self.given("init")
+        self.assertEqual(words, ["--env", ".reqlock/environment.json", "init"])
+
+    def test_a_status_is_handed_on_and_accepts_nothing(self):
+        for status in 1, 3, 4, 5:
+            self.given("add", "rich", status=status)
+        self.assertIsNone(self.kept("index.json"))
+        self.given("add", "--dry-run", "rich")
+        self.assertIsNone(self.kept("index.json"))
+        self.given("add", "rich")
+        self.assertIsNotNone(self.kept("index.json"))
+
+    def kept(self, name):
+        path = self.folder / ".reqlock" / name
+        return path.read_bytes() if path.exists() else None
+
+
 class Exports(Served):
     def setUp(self):
         super().setUp()
