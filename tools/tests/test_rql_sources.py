@@ -150,6 +150,7 @@ class Lines(Sourced):
             ("-r base.in\n", r"line 1: it leads to itself: base.in -> base.in$"),
             ("-r sub\n", "line 1: .*sub: Is a directory"),
             ("a\x1b[31m\n", "line 1: .*visible characters"),
+            ("-r a\x1b[31m.in\n", "line 1: .*visible characters"),
         ):
             with self.subTest(text=text):
                 (self.top / "sub").mkdir(exist_ok=True)

@@ -219,6 +219,28 @@ class Which(Synced):
         (fake / "bin" / "python").chmod(0o755)
         self.refuses("/fake: its Python is that of .*/.venv: python3 -m venv --clear", venv=str(fake))
 
+    def test_a_link_of_a_stranger_leads_to_no_other_environment(self):
+        other = self.other("other")
+        self.lock({"a": "1"})
+        shutil.rmtree(self.venv)
+        self.venv.symlink_to(other)
+        self.refuses(f"{self.venv}: it is a link, which isn't followed: rql sync --venv {other} says that it is meant$")
+        self.venv.unlink()
+        shutil.copytree(self.template, self.venv, symlinks=True)
+        for place in site_of(self.venv), self.venv / "bin":
+            place.rename(place.with_name("moved"))
+            place.symlink_to(place.with_name("moved"))
+            self.syncs("+ a 1", is_dry=True)
+            place.unlink()
+            place.symlink_to(site_of(other) if place.name != "bin" else other / "bin")
+            with self.subTest(place=place.name):
+                status, output, errors = self.call()
+                self.assertEqual((status, output), (2, []))
+                self.assertRegex(errors[0], f"^{self.venv}: a link leads from it to {other}/")
+            place.unlink()
+            place.with_name("moved").rename(place)
+        self.assertEqual(self.installed(other), {})
+
     def test_the_one_in_which_rql_runs_is_meant_only_where_it_is_named(self):
         (site_of(self.venv) / "system.pth").write_text("/usr/lib/python3/dist-packages\n", encoding="utf-8")
         self.put("left", "1")

@@ -8,7 +8,7 @@ from reqlock_tools.rql.faults import SettingsFault
 from reqlock_tools.rql.sources_read import Files, Line, Section, Taken, checked
 
 OPTION = re.compile(r"(-r|-c|--requirement|--constraint)(?:\s*=\s*|\s+|(?<=-[rc]))(\S.*)")
-COMMENT = re.compile(r"(^|\s+)#.*")
+COMMENT = re.compile(r"(^|\s)#.*")
 # What pip takes behind a requirement, as in a compiled file.
 BEHIND = re.compile(r"\s--?[a-z]")
 FOLLOWED = {"-r": True, "--requirement": True, "-c": False, "--constraint": False}

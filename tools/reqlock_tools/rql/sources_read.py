@@ -76,6 +76,8 @@ class Files:
 
     def place(self, text: str, key: str, base: Path | None = None) -> Path:
         """The place of a file that is named from a folder, which is that of the settings where none is given."""
+        if not text.isprintable():
+            raise SettingsFault(f"{key}: {text!a}: a path of visible characters is wanted")
         return place_in(self.top, base or self.base, text, key)
 
     def label(self, path: Path) -> str:

@@ -96,6 +96,8 @@ def venv_of(asked: Sync) -> Path:
     place = Path(active) if active else asked.base / VENV
     if not active and not place.exists():
         raise SettingsFault(f"{place}: there is no environment, and none is active: python3 -m venv {place} makes one")
+    if not active and place.is_symlink():
+        raise SettingsFault(f"{place}: it is a link, which isn't followed: rql sync --venv {os.path.realpath(place)} says that it is meant")
     if is_own(place):
         raise SettingsFault(f"{place}: rql itself runs in it: rql sync --venv {place} says that it is meant")
     return place

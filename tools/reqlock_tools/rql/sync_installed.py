@@ -81,11 +81,14 @@ def read_environment(place: Path) -> Environment:
         told = Node(str(python), json.loads(done.stdout))
         prefix = told.member("prefix").text()
         found = [installed_of(it) for it in told.member("distributions").items()]
-        environment = told.member("environment").object()
+        environment, places = told.member("environment").object(), told.member("places").texts()
     except (OSError, ValueError, Refusal, subprocess.SubprocessError):
         raise SettingsFault(f"{python}: it is no Python of version 3.6 or later that tells what it is") from None
     if prefix != os.path.realpath(place):
         raise SettingsFault(f"{place}: its Python is that of {prefix}: python3 -m venv --clear {place} makes it anew")
+    for it in places:
+        if not it.startswith(prefix + os.sep):
+            raise SettingsFault(f"{place}: a link leads from it to {it}: python3 -m venv --clear {place} makes it anew")
     # (of two of one name the first is the one that is imported)
     return Environment(place, python, environment, {it.name: it for it in reversed(found)})
 

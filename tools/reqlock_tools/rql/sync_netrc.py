@@ -31,7 +31,7 @@ def word(text: str, version: tuple[int, ...], host: str) -> str:
 def known_credentials(urls: Iterable[str], say: Say) -> dict[str, tuple[str, str]]:
     """User and password by index, of variables, netrc or keyring, for the indexes that have some."""
     urls = list(urls)
-    credentials = Credentials(urls, say)
+    credentials = Credentials(urls, say, are_typed=False)
     found = {}
     for url in urls:
         address = address_of(url)

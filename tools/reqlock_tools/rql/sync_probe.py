@@ -6,6 +6,7 @@ import os
 import re
 import runpy
 import sys
+import sysconfig
 from typing import Any, Dict, Iterator, List, Optional
 
 HEADER = re.compile(r"(Name|Version|Requires-Dist): *(.*)")
@@ -75,7 +76,10 @@ def distributions() -> Iterator[Dict[str, Any]]:
 
 def main() -> None:
     describe = runpy.run_path(sys.argv[1])["own_environment"]
-    told = {"prefix": os.path.realpath(sys.prefix), "environment": describe(), "distributions": list(distributions())}
+    told = {
+        "prefix": os.path.realpath(sys.prefix), "environment": describe(), "distributions": list(distributions()),
+        "places": [os.path.realpath(sysconfig.get_path(it)) for it in ("purelib", "platlib", "scripts")],
+    }
     print(json.dumps(told, sort_keys=True))
 
 
