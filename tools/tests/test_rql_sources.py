@@ -2,6 +2,7 @@
 pyproject.toml means is told by PEP 621, 685 and 735, and what files of lines mean by pip."""
 
 import os
+import random
 import tomllib
 import unittest
 from pathlib import Path
@@ -252,11 +253,26 @@ class Changes(Sourced):
                 if place < len(states) - 1 and place > 0:
                     self.assertEqual(self.path.read_bytes(), states[place][0])
 
+    def test_drawn_lists_lead_to_each_other(self):
+        chance = random.Random(7)
+        for _ in range(60):
+            old, new = (chance.sample("abcdefgh", chance.randrange(8)) for _ in "12")
+            for name, text in ("base.in", "# of all\n{}# end\n"), ("pyproject.toml", "[project]\nname = 'x'\ndependencies = [{}]\n"):
+                form = "{}\n" if name == "base.in" else "'{}', "
+                self.write(name, text.format("".join(map(form.format, old))))
+                data = "".join(f"{it}  # from {name}\n" for it in new).encode()
+                with self.subTest(name=name, old=old, new=new):
+                    change = Sources(self.top, self.top, [name]).followed(data)
+                    change.write()
+                    self.assertEqual(gather(self.top, [name]), data)
+                    if name == "base.in":
+                        self.assertEqual(sorted(self.base.read_text(encoding="utf-8").split("\n")), sorted(["# of all", *new, "# end", ""]))
+
     def test_undo_that_does_not_fit_is_refused(self):
         sources = Sources(self.top, self.top, self.ALL)
         for data, pattern in (
             (b"six\n", "line 1: 'six': it doesn't tell from which source it came"),
-            (b"six  # from gone.in\n", "can't be put into the sources as they are now, so nothing is changed"),
+            (b"six  # from gone.in\n", "the sources as they are now can't have the lines from there, so nothing is changed"),
             (sources.present.data.replace(b"pytest>=8", b"six>>1"), "six>>1"),
         ):
             with self.subTest(data=data), self.assertRaisesRegex(SettingsFault, pattern):

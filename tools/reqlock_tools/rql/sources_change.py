@@ -101,28 +101,28 @@ class Sources:
         for section, lines in lists.items():
             found = self.changed(found, *splices_to(section, lines, wanted.get(section.label, [])))
         if found.data != data:
-            raise SettingsFault(
-                "the lines from there can't be put into the sources as they are now, so nothing is changed: change the sources, and then rql lock"
-            )
+            raise SettingsFault("the sources as they are now can't have the lines from there, so nothing is changed: change them, and then rql lock")
         return found
 
 
 def splices_to(section: Section, lines: Sequence[Line], wanted: Sequence[str]) -> list[Splice]:
-    """What makes of the lines of a list those that are wanted, from the last on, so that places stay as they are."""
+    """What makes of the lines of a list those that are wanted, from the last on, so that the places of earlier ones stay as they are."""
     found: list[Splice] = []
     matcher = difflib.SequenceMatcher(None, [it.text for it in lines], wanted, autojunk=False)
-    for _, begin, end, new_begin, new_end in (it for it in matcher.get_opcodes() if it[0] != "equal"):
-        old, new = lines[begin:end], wanted[new_begin:new_end]
-        both = min(len(old), len(new))
-        found += [Splice(section, it.place, it.text, text) for it, text in zip(old, new)]
-        found += [Splice(section, it.place, it.text, None) for it in old[both:]]
-        place = lines[end].place if end < len(lines) else None
-        found += [Splice(section, place, None, text) for text in reversed(new[both:])] if place is not None else [
-            Splice(section, None, None, text) for text in new[both:]
-        ]
-    ends = [it for it in found if it.place is None]
-    # (of one place what is put in front of an item comes behind what changes the item itself)
-    return sorted((it for it in found if it.place is not None), key=lambda it: (-(it.place or 0), it.old is None)) + ends
+    for kind, begin, end, new_begin, new_end in reversed(matcher.get_opcodes()):
+        if kind != "equal":
+            behind = lines[end].place if end < len(lines) else None
+            found += splices_of(section, lines[begin:end], wanted[new_begin:new_end], behind)
+    return found
+
+
+def splices_of(section: Section, old: Sequence[Line], new: Sequence[str], behind: int | None) -> list[Splice]:
+    """What puts texts in the place of lines that stand together, in front of the item `behind` or at the end."""
+    both = min(len(old), len(new))
+    more = new[both:] if behind is None else new[both:][::-1]
+    found = [Splice(section, behind, None, text) for text in more]
+    found += [Splice(section, it.place, it.text, None) for it in reversed(old[both:])]
+    return found + [Splice(section, it.place, it.text, text) for it, text in zip(old, new)]
 
 
 def lines_of(now: Gathered, name: str) -> list[Line]:
