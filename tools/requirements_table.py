@@ -20,12 +20,12 @@ from packaging.requirements import InvalidRequirement, Requirement
 from packaging.specifiers import InvalidSpecifier, Specifier
 from packaging.utils import canonicalize_name
 from packaging.version import InvalidVersion, Version
-from reqlock_tools.environment import VARIABLES
+from reqlock_tools import environment
 
 LARGEST = 2**64 - 1
 ASKED = "foo-bar"
 EXAMPLE = Path(__file__).resolve().parent.parent / "examples" / "web" / "environment.json"
-ENVIRONMENT = {name: value for name, value in json.loads(EXAMPLE.read_text()).items() if name in VARIABLES}
+ENVIRONMENT = {name: value for name, value in json.loads(EXAMPLE.read_text()).items() if name in environment.VARIABLES}
 VERSIONS = "0.9 1.0.dev1 1.0a1 1.0rc1 1.0 1.0.post1 1.0.1 1.1 1.9 2.0rc1 2.0 2.1 10".split()
 
 MARKERS = [
