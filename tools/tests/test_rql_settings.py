@@ -2,9 +2,18 @@
 
 import os
 import unittest
+import unittest.mock
 
+from places import new_folder
 from program import NOBODY
 from rql_projects import ENVIRONMENT, Projects
+
+from reqlock_tools.refusal import Refusal
+from reqlock_tools.rql.faults import IndexFault
+from reqlock_tools.rql.index import asking_of, index_bytes
+from reqlock_tools.rql.requests import Options
+from reqlock_tools.simple import plan as plans
+from reqlock_tools.simple.addresses import address_of
 
 URL = "https://index.example/simple/"
 FORMS = (
@@ -173,6 +182,23 @@ class Finding(Projects):
         self.assertIn("it belongs to another user", self.refuses("log", folder=self.deep))
         os.chown(self.deep, NOBODY, NOBODY)
         self.assertEqual(self.folder_from(self.deep), str(self.folder))
+
+
+class Passwords(unittest.TestCase):
+    def told(self, url):
+        """What an index of the settings is told of user and password, where netrc has them."""
+        netrc = new_folder(self.addCleanup) / "netrc"
+        netrc.write_text("machine index.example login u password p\n", encoding="utf-8")
+        plan = plans.Plan((plans.IndexAddress(url),), (), (), (), (), (), plans.Options())
+        options = Options(".", is_offline=True, is_refreshed=False, is_verbose=False, is_quiet=True, program=None)
+        run = unittest.mock.patch("reqlock_tools.simple.run.Run", side_effect=Refusal("nobody is asked"))
+        with unittest.mock.patch.dict(os.environ, NETRC=str(netrc)), run as asked, self.assertRaises(IndexFault):
+            index_bytes(plan, asking_of(options, False), options)
+        return asked.call_args.args[2].get(address_of(url))
+
+    def test_none_goes_over_plain_http(self):
+        self.assertIsNotNone(self.told(URL))
+        self.assertIsNone(self.told(URL.replace("https", "http")))
 
 
 if __name__ == "__main__":

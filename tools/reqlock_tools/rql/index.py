@@ -179,7 +179,8 @@ def index_bytes(plan: "Plan", asking: "Asking", options: Options) -> bytes:
 
     try:
         with telling(options):
-            credentials = Credentials((it.url for it in plan.indexes), say_index)
+            # (settings are a file, which may be a stranger's)
+            credentials = Credentials((it.url for it in plan.indexes), say_index, are_typed=False)
             return snapshot_text(Run(plan, asking, credentials).snapshot()).encode()
     except (Refusal, OSError) as fault:
         from reqlock_tools.simple.addresses import hidden
