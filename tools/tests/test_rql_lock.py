@@ -109,6 +109,26 @@ class Merges(Served):
         self.assertEqual(self.git("status", "--short"), "")
         self.accepts("add", "tool", answer="ok 3\n")
 
+    def test_sides_of_other_histories(self):
+        self.git("checkout", "--quiet", "-b", "other")
+        self.put("requirements.txt", "rich\nflask\n")
+        for name in "reqlock.journal", "pylock.toml":
+            (self.folder / name).unlink()
+        self.accepts("init", answer="ok 0\n")
+        self.commit("anew")
+        self.git("checkout", "--quiet", "main")
+        self.accepts("constrain", "rich", "<2")
+        self.commit("bound")
+        self.git("merge", "other", fails=True)
+        self.put("requirements.txt", "rich<2\nflask\n")
+        found, output, errors = self.rql("lock")
+        self.assertEqual((found, output), (1, ""))
+        self.assertRegex(errors, r"the other side began another history, by reqlock init; type (rql\.py )?merge --ours")
+        self.accepts("merge", "--ours", "--dry-run")
+        self.assertEqual(self.rql("lock", "--check")[0], 1)
+        self.accepts("merge", "--ours", answer="ok 2\nother side: flask 2\nthis side: rich 1 (there 2)\n")
+        self.accepts("lock", "--check", answer="ok 2\n")
+
     def test_a_rebase(self):
         self.diverge()
         self.git("checkout", "--quiet", "other")

@@ -77,12 +77,17 @@ def asking_of(options: Options, is_asked: bool) -> "Asking":
 
 
 def lines_of(path: Path) -> list[str]:
-    """The requirements of a file. What is none is left to the program, which says so. Through a link a stranger could have lines of another
-    file told to an index of his."""
-    from reqlock_tools.requirements import fault_of
+    """The requirements of a file. Through a link a stranger could have lines of another file told to an index of his."""
     from reqlock_tools.rql.history import content
 
-    texts = (line.partition(" #")[0].strip() for line in content(path).decode(errors="replace").splitlines())
+    return requirements_in(content(path))
+
+
+def requirements_in(lines: bytes) -> list[str]:
+    """The requirements of lines. What is none is left to the program, which says so."""
+    from reqlock_tools.requirements import fault_of
+
+    texts = (line.partition(" #")[0].strip() for line in lines.decode(errors="replace").splitlines())
     return [text for text in texts if text and not text.startswith("#") and fault_of(text) is None]
 
 

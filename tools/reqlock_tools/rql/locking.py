@@ -1,6 +1,7 @@
 """`rql lock`: the lock fits the lines again, whoever changed them."""
 
 import tempfile
+from collections.abc import Sequence
 from pathlib import Path
 
 from reqlock_tools.files import write_whole
@@ -11,7 +12,7 @@ from reqlock_tools.rql.calls import Caller, tell_call, typed_path
 from reqlock_tools.rql.edits import accepted
 from reqlock_tools.rql.faults import FOUND, SettingsFault
 from reqlock_tools.rql.history import content, is_whole, wanted_journal
-from reqlock_tools.rql.index import Wanted, made_index
+from reqlock_tools.rql.index import Wanted, made_index, requirements_in
 from reqlock_tools.rql.kept import MODE, Kept
 from reqlock_tools.rql.project import JOURNAL, REQUIREMENTS, Project
 from reqlock_tools.rql.requests import LockRequest
@@ -24,6 +25,15 @@ def run_lock(project: Project, request: LockRequest) -> int:
     kept = Kept(project)
     with kept.locked():
         return Locking(project, kept, request).run()
+
+
+def run_merge(project: Project, words: Sequence[str]) -> int:
+    """`rql merge`: what reqlock-merge does with these words, with folder and index filled in."""
+    kept = Kept(project)
+    with kept.locked():
+        locking = Locking(project, kept, LockRequest(is_check=False))
+        sides = locking.checkout.sides([REQUIREMENTS, JOURNAL]) if locking.checkout else None
+        return locking.merge(sides, gathered(project) if sides else None, words)
 
 
 def checkout_of(project: Project) -> Checkout | None:
@@ -55,7 +65,7 @@ class Locking:
         lines = gathered(self.project)
         sides = self.checkout.sides([REQUIREMENTS, JOURNAL]) if self.checkout else None
         if self.checkout is not None and sides is not None:
-            return self.merge(self.checkout, sides, lines)
+            return self.check_merge(self.checkout) if self.request.is_check else self.merge(sides, lines)
         journal = wanted_journal(self.project)
         are_same = lines is None or lines == content(self.project.folder / REQUIREMENTS)
         if is_whole(self.project, journal) and are_same:
@@ -81,7 +91,7 @@ class Locking:
         return self.replaced(content(self.project.folder / REQUIREMENTS), "--was", typed_path(old))
 
     def replaced(self, lines: bytes, *words: str) -> int:
-        index = made_index(self.project, self.kept, Wanted(texts=texts_in(lines)))
+        index = made_index(self.project, self.kept, Wanted(texts=tuple(requirements_in(lines))))
         place = ["--dir", typed_path(self.project.folder), "--index", typed_path(index)]
         status = self.caller.hand_over(*place, "replace", *words)
         if status == 0:
@@ -102,21 +112,20 @@ class Locking:
 
     # What git merges
 
-    def merge(self, checkout: Checkout, sides: Sides, lines: bytes | None) -> int:
-        """Locks what is in progress as reqlock-merge does, over an index that has what both sides have locked."""
+    def merge(self, sides: Sides | None, lines: bytes | None, more: Sequence[str] = ()) -> int:
+        """Does what reqlock-merge does with these words, over an index that has what both sides have locked."""
         from reqlock_tools import merge
 
-        if self.request.is_check:
-            return self.check_merge(checkout)
         if lines is not None:
             write_whole(str(self.project.folder / REQUIREMENTS), lines, MODE)
         with tempfile.TemporaryDirectory() as name:
-            index = made_index(self.project, self.kept, Wanted(locks=both_locks(checkout, sides, Path(name))))
-        words = ["--dir", typed_path(self.project.folder), "--index", typed_path(index)]
+            locks = both_locks(self.checkout, sides, Path(name)) if self.checkout and sides else None
+            index = made_index(self.project, self.kept, Wanted(locks=locks))
+        words = ["--dir", typed_path(self.project.folder), "--index", typed_path(index), *more]
         if self.project.options.is_verbose:
             tell_call(["reqlock-merge", *words])
         status = merge.main([*words, "--program", self.caller.program])
-        if status == 0:
+        if status == 0 and "--dry-run" not in more:
             accepted(self.project, self.kept, self.caller, index)
         return status
 
@@ -126,16 +135,6 @@ class Locking:
         if checkout.unmerged(names) or b"<<<<<<<" in journal or not is_whole(self.project, wanted_journal(self.project)):
             return self.differs()
         return self.caller.hand_over("--dir", typed_path(self.project.folder), "check")
-
-
-def texts_in(lines: bytes) -> tuple[str, ...]:
-    """The requirements of lines."""
-    with tempfile.NamedTemporaryFile(suffix=".txt") as file:
-        file.write(lines)
-        file.flush()
-        from reqlock_tools.rql.index import lines_of
-
-        return tuple(lines_of(Path(file.name)))
 
 
 def both_locks(checkout: Checkout, sides: Sides, place: Path) -> tuple[Path, ...]:

@@ -37,7 +37,7 @@ FLAGS = {
     ("--offline",): "ask nobody: take all from the cache",
     ("--refresh",): "ask also for pages that are said to be fresh yet",
     ("-v", "--verbose"): "print each call of reqlock so that it can be typed",
-    ("-q", "--quiet"): "tell nothing beside the answer",
+    ("-q", "--quiet"): "tell nothing of what the index is asked; reqlock tells nothing beside its answer",
 }
 if TYPE_CHECKING:
     Subparsers = argparse._SubParsersAction[argparse.ArgumentParser]

@@ -78,6 +78,11 @@ def run_tool(options: Options, request: PassedRequest) -> int:
         from reqlock_tools.rql.fleet_each import run_each
 
         return run_each(options, words)
+    if request.word == "merge" and not any(it.startswith(("--index", "-h", "--help")) for it in words):
+        from reqlock_tools.rql.locking import run_merge
+        from reqlock_tools.rql.project import find_project
+
+        return run_merge(find_project(options), words)
     module = importlib.import_module(f"reqlock_tools.{request.word.replace('-', '_')}")
     status: int = module.main(list(words))
     return status
