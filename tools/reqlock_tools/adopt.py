@@ -19,6 +19,7 @@ import os
 import re
 import subprocess
 import tempfile
+from dataclasses import dataclass
 from pathlib import Path
 from typing import Any, NamedTuple
 
@@ -147,10 +148,22 @@ def fits(pin: Pin, packages: Packages) -> bool:
 # reqlock's commands
 
 
+@dataclass(frozen=True)
+class AdoptRequest:
+    """The files of pip-tools that are taken over, what they are locked with, and the folder of the new history."""
+
+    source: str
+    compiled: str
+    index: str
+    env: str
+    dir: str
+    program: str
+
+
 class Folder:
     """A temporary folder in which reqlock works."""
 
-    def __init__(self, path: Path, options: argparse.Namespace) -> None:
+    def __init__(self, path: Path, options: AdoptRequest) -> None:
         self.path, self.options, self.asked = path, options, 0
 
     def run(self, *words: str) -> tuple[int, str]:
@@ -253,7 +266,7 @@ def check_place(folder: str, source: str) -> None:
             raise Refusal(f"{path}: it stands there already and would be lost: {next_step} a new folder by --dir")
 
 
-def run(options: argparse.Namespace) -> int:
+def run(options: AdoptRequest) -> int:
     source = read_text(options.source)
     check_place(options.dir, source)
     pins, is_whole = read_compiled(options.compiled)
@@ -283,10 +296,10 @@ def main(words: list[str]) -> int:
     parser.add_argument("--env", metavar="FILE", required=True, help=called("the environment, as tools/environment.py prints it"))
     parser.add_argument("--dir", metavar="DIR", default=".", help="the folder of the new history")
     parser.add_argument("--program", metavar="FILE", help="reqlock, where it isn't on the PATH")
-    options = parser.parse_args(words)
-    options.program = program_path(options.program)
+    told = parser.parse_args(words)
+    program = program_path(told.program)
     try:
-        return run(options)
+        return run(AdoptRequest(told.source, told.compiled, told.index, told.env, told.dir, program))
     except (Refusal, OSError) as refusal:
         for line in str(refusal).split("\n"):
             say(line)

@@ -26,7 +26,7 @@ from collections.abc import Callable
 
 from reqlock_tools.fleet_dask import Dask
 from reqlock_tools.fleet_output import report_json, report_text
-from reqlock_tools.fleet_request import Request, Task, Usage, check_request, folders_of, request_of
+from reqlock_tools.fleet_request import FleetOptions, Request, Task, Usage, check_request, folders_of, request_of
 from reqlock_tools.fleet_row import BROKEN, REFUSED, WAITING, Row
 from reqlock_tools.fleet_run import Here, Rows, Run, Stop
 from reqlock_tools.names import called, tool
@@ -77,7 +77,7 @@ def shower(progress: Progress, count: int) -> Callable[[Rows], None]:
     return show
 
 
-def rows_of(tasks: list[Task], request: Request, options: argparse.Namespace, stop: Stop) -> list[Row]:
+def rows_of(tasks: list[Task], request: Request, options: FleetOptions, stop: Stop) -> list[Row]:
     """Makes the calls, here or at workers."""
     progress = Progress()
     show = shower(progress, len(tasks))
@@ -113,7 +113,7 @@ def status_of(rows: list[Row], stop: Stop) -> int:
     return FAULT if kinds & {BROKEN, WAITING} else SOME if REFUSED in kinds else 0
 
 
-def run(options: argparse.Namespace, words: list[str]) -> int:
+def run(options: FleetOptions, words: list[str]) -> int:
     request = request_of(options, words)
     folders = folders_of(options.folders, say)
     with Stop() as stop:
@@ -121,15 +121,18 @@ def run(options: argparse.Namespace, words: list[str]) -> int:
         paths = [os.path.abspath(folder) if options.dask else folder for folder in folders]
         tasks = [request.task(place, folder, path) for place, (folder, path) in enumerate(zip(folders, paths))]
         rows = rows_of(tasks, request, options, stop)
-        write((report_json if options.json else report_text)(rows))
+        write((report_json if options.is_json else report_text)(rows))
     return status_of(rows, stop)
 
 
 def main(words: list[str]) -> int:
     parser = parser_of()
     place = words.index("--") if "--" in words else len(words)
-    options = parser.parse_intermixed_args(words[:place])
-    options.program = program_path(options.program)
+    told = parser.parse_intermixed_args(words[:place])
+    options = FleetOptions(
+        folders=told.folders, index=told.index, environments=told.env, program=program_path(told.program), jobs=told.jobs, dask=told.dask,
+        explains=told.explain, is_json=told.json,
+    )
     try:
         return run(options, words[place + 1 :])
     except Usage as fault:

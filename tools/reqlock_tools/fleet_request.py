@@ -1,6 +1,5 @@
 """What a fleet is asked: the folders, the words of the program, and the tests that are made before any folder is touched."""
 
-import argparse
 import os
 import tempfile
 from dataclasses import dataclass
@@ -142,16 +141,31 @@ class Request:
         return Task(place, folder, path, [*start, *self.words.of_call()], why, self.words.subcommand == "init")
 
 
-def request_of(options: argparse.Namespace, words: list[str]) -> Request:
+@dataclass(frozen=True)
+class FleetOptions:
+    """What is typed beside the subcommand: the folders, what each call is given, how many calls are made at once and where, and how they
+    are told."""
+
+    folders: list[str]
+    index: str | None
+    environments: list[str]
+    program: str
+    jobs: int | None
+    dask: str | None
+    explains: bool
+    is_json: bool
+
+
+def request_of(options: FleetOptions, words: list[str]) -> Request:
     """The request of the options. For workers all paths are whole."""
-    index, environments, program = options.index or os.environ.get("REQLOCK_INDEX") or None, options.env, options.program
+    index, environments, program = options.index or os.environ.get("REQLOCK_INDEX") or None, options.environments, options.program
     if options.dask:
         index = index and os.path.abspath(index)
         environments = [f"{name}={os.path.abspath(file)}" for name, file in map(divided, environments)]
         program = os.path.abspath(program)
     elif os.path.exists(program):
         program = os.path.abspath(program)
-    return Request(read_words(words), program, index, environments, options.explain)
+    return Request(read_words(words), program, index, environments, options.explains)
 
 
 def divided(environment: str) -> tuple[str, str]:

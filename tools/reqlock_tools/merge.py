@@ -22,6 +22,7 @@ import re
 import shlex
 import subprocess
 import tempfile
+from dataclasses import dataclass
 from pathlib import Path
 
 from reqlock_tools.files import refuse_no_file
@@ -42,10 +43,23 @@ OURS, THEIRS, FOLDER = "this side", "the other side", "the folder"
 say = speaker("merge")
 
 
-class Folder:
-    """The folder as it stands, and the words that were given."""
+@dataclass(frozen=True)
+class MergeRequest:
+    """What is asked for: in which folder, over which index, by which program, and whose history goes on where there are two."""
 
-    def __init__(self, options: argparse.Namespace) -> None:
+    dir: str
+    index: str
+    program: str
+    dry_run: bool
+    keep_locked: bool
+    ours: bool
+    theirs: bool
+
+
+class Folder:
+    """The folder as it stands, and what is asked for."""
+
+    def __init__(self, options: MergeRequest) -> None:
         self.options, self.path = options, Path(options.dir)
         self.checkout = Checkout(options.dir)
 
@@ -144,7 +158,7 @@ def refuse_others(one: Side, other: Side | None) -> None:
 # The call of reqlock
 
 
-def answered(options: argparse.Namespace, words: list[str]) -> tuple[int, str]:
+def answered(options: MergeRequest, words: list[str]) -> tuple[int, str]:
     """The status and the standard output of a call of reqlock. A fault of it is a refusal."""
     try:
         done = subprocess.run(
@@ -158,7 +172,7 @@ def answered(options: argparse.Namespace, words: list[str]) -> tuple[int, str]:
     raise Refusal(told_fault(options, told))
 
 
-def told_fault(options: argparse.Namespace, fault: str) -> str:
+def told_fault(options: MergeRequest, fault: str) -> str:
     """A fault of reqlock with the names that are known here."""
     file, colon, word = fault.removeprefix("reqlock: ").partition(": ")
     if file == "pins" or file.startswith("pins "):
@@ -169,7 +183,7 @@ def told_fault(options: argparse.Namespace, fault: str) -> str:
 class Trial:
     """A folder of its own, in which reqlock does what is then put into the folder."""
 
-    def __init__(self, path: Path, options: argparse.Namespace, one: Side, old: Found, requirements: bytes) -> None:
+    def __init__(self, path: Path, options: MergeRequest, one: Side, old: Found, requirements: bytes) -> None:
         self.path, self.options = path, options
         self.made, self.others = path / "made", path / "others"
         for folder in self.made, self.others:
@@ -248,7 +262,7 @@ def lock(folder: Folder, one: Side, other: Side | None, place: Path) -> int:
     return DONE
 
 
-def run(options: argparse.Namespace) -> int:
+def run(options: MergeRequest) -> int:
     folder = Folder(options)
     with locked(options.dir), tempfile.TemporaryDirectory() as name:
         sides = chosen(folder)
@@ -272,12 +286,14 @@ def main(words: list[str]) -> int:
     histories = parser.add_mutually_exclusive_group()
     histories.add_argument("--ours", action="store_true", help="go on with the history of this side, though the other has another")
     histories.add_argument("--theirs", action="store_true", help="go on with the history of the other side")
-    options = parser.parse_args(words)
-    options.index = options.index or os.environ.get("REQLOCK_INDEX")
-    options.dir = options.dir or os.environ.get("REQLOCK_DIR") or "."
-    options.program = program_path(options.program)
-    if not options.index:
+    told = parser.parse_args(words)
+    index = told.index or os.environ.get("REQLOCK_INDEX")
+    if not index:
         parser.error("--index is needed")
+    options = MergeRequest(
+        dir=told.dir or os.environ.get("REQLOCK_DIR") or ".", index=index, program=program_path(told.program), dry_run=told.dry_run,
+        keep_locked=told.keep_locked, ours=told.ours, theirs=told.theirs,
+    )
     try:
         return run(options)
     except (Refusal, OSError) as fault:
