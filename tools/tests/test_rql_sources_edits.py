@@ -97,6 +97,29 @@ class Sources(Served):
         self.accepts("add", "tool")
         self.assertEqual(self.source("requirements.in"), "flask\nrich\ntool\n")
 
+    def test_init_over_a_compiled_file_without_comments(self):
+        self.put("requirements.in", "flask\n")
+        self.put("requirements.txt", "flask==1\n")
+        found, _, errors = self.rql("init", "--index", self.index.url)
+        self.assertEqual(found, 0, errors)
+        self.assertIn("1 of 1 pins are taken over", errors)
+        self.assertIn("flask==1 \\", self.lines())
+
+    def test_init_takes_the_place_of_no_file_that_somebody_wrote(self):
+        self.put("requirements.in", "flask\n")
+        self.put("requirements.txt", "flask==1\nrich>=1\n")
+        found, _, errors = self.rql("init", "--index", self.index.url)
+        self.assertEqual(found, 0, errors)
+        self.assertEqual(self.lines(), "flask==1\nrich>=1\n")
+        self.assertNotIn("exports", self.source("reqlock.toml"))
+        self.assertEqual(self.texts(), ["flask"])
+
+    def test_init_beside_lines_that_were_not_compiled_yet(self):
+        self.put("requirements.in", "flask\n")
+        found, _, errors = self.rql("init", "--index", self.index.url)
+        self.assertEqual(found, 0, errors)
+        self.assertIn("flask==2 \\", self.lines())
+
     def test_init_in_a_project_of_uv(self):
         self.put("pyproject.toml", PYPROJECT.replace("rich<2", "rich"))
         self.put("uv.lock", '[[package]]\nname = "rich"\nversion = "1"\nsource = { registry = "https://index.example/simple" }\n')

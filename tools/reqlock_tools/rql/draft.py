@@ -8,7 +8,7 @@ from typing import Any
 from reqlock_tools.adopt import read_text
 from reqlock_tools.refusal import Refusal, speaker
 from reqlock_tools.rql.faults import SettingsFault
-from reqlock_tools.rql.pins import is_compiled
+from reqlock_tools.rql.pins import has_pins_alone, is_compiled
 from reqlock_tools.rql.project import JOURNAL, REQUIREMENTS
 from reqlock_tools.rql.settings import PROJECT_FILE
 from reqlock_tools.toml import read_toml
@@ -60,17 +60,24 @@ def locks_of_others(base: Path) -> tuple[Path, ...]:
     return tuple(found)
 
 
+def is_output(path: Path, has_lines: bool) -> bool:
+    """Whether a requirements file was compiled: it says so, or it has pins alone and stands beside the lines of pip-tools."""
+    return is_compiled(path) or (has_lines and path.is_file() and has_pins_alone(path))
+
+
 def draft_of(base: Path, given: tuple[str, ...]) -> Draft:
     """What a project in a folder begins with; `given` are the files whose pins are kept, if they were named."""
     table = project_table(base)
     is_there = os.path.lexists(base / JOURNAL)
     named = tuple(base / name for name in given)
-    compiled = REQUIREMENTS if not is_there and is_compiled(base / REQUIREMENTS) else None
+    has_lines = (base / LINES_OF_PIP_TOOLS).is_file() and not is_there
+    compiled = REQUIREMENTS if not is_there and is_output(base / REQUIREMENTS, has_lines) else None
     pinned = named or (() if is_there else locks_of_others(base)) or tuple(base / name for name in [compiled] if name)
     taken = compiled is not None or (not is_there and (base / "pylock.toml").is_file())
     folder = BESIDE if taken else "."
-    if (base / LINES_OF_PIP_TOOLS).is_file() and not is_there:
-        return Draft(BESIDE, (LINES_OF_PIP_TOOLS,), compiled or REQUIREMENTS, pinned)
+    if has_lines:
+        is_free = not os.path.lexists(base / REQUIREMENTS)
+        return Draft(BESIDE, (LINES_OF_PIP_TOOLS,), REQUIREMENTS if is_free else compiled, pinned)
     if (base / REQUIREMENTS).is_file() and compiled is None:
         return Draft(folder, (REQUIREMENTS,) if taken else (), None, pinned)
     if inner(table, "project", "dependencies") is not None:

@@ -5,7 +5,7 @@ from collections.abc import Iterable
 from pathlib import Path
 from typing import Any
 
-from reqlock_tools.adopt import Pin, read_compiled, read_text
+from reqlock_tools.adopt import PIN, Pin, joined_lines, read_compiled, read_text
 from reqlock_tools.refusal import Refusal, speaker
 from reqlock_tools.rql.faults import SettingsFault
 from reqlock_tools.toml import read_toml
@@ -22,6 +22,13 @@ say = speaker("rql")
 def is_compiled(path: Path) -> bool:
     """Whether a requirements file was compiled of other lines."""
     return path.is_file() and COMPILED.search(read_text(str(path))) is not None
+
+
+def has_pins_alone(path: Path) -> bool:
+    """Whether each line of a file pins a version, as those of a compiled file without comments do."""
+    texts = [re.sub(r"(^|\s)#.*", "", line).strip() for _, line in joined_lines(read_text(str(path)))]
+    lines = [re.split(r"\s--", it)[0].strip() for it in texts if it and not it.startswith("-")]
+    return bool(lines) and all(PIN.fullmatch(it) for it in lines)
 
 
 def read_pins(path: Path) -> list[Pin]:
