@@ -4,9 +4,13 @@
 #![tactic(auto)]
 
 mod changed_lines;
+mod given_way;
 mod shown;
 mod told;
+mod with_release;
 
 pub use crate::changed_lines::{changed_by, lines_of};
+pub use crate::given_way::kept_longest;
 pub use crate::shown::{Shown, first_refuted, refuted_by_sets};
 pub use crate::told::{explained_text, listed_text, told_refutation};
+pub use crate::with_release::best_keeping;

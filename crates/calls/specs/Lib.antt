@@ -1,3 +1,1 @@
-pub mod Printed
-pub mod Statuses
 pub mod Stops

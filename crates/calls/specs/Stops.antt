@@ -1,38 +1,11 @@
--- How a call stops at a fault of its files. All of it is reqlock's own rule.
-use Rattle.std.specs.Prelude.{◌≡◌, ◌⊎◌, ℕ, ◌<◌, ◌≤◌, length, Result, Ok, Err}
-use Rattle.command_line.specs.declared.usage.RequestFault.{RequestFault}
-use Rattle.command_line.specs.declared.usage.RequestFault.TheVariants as requests
+-- How a call stops between two places of a history. All of it is reqlock's own rule.
+use Rattle.std.specs.Prelude.{◌≡◌, ◌⊎◌, ℕ, ◌<◌, ◌≤◌, length}
 use Rattle.commands.specs.declared.batch.BatchFault.TheVariants as batches
-use Rattle.inputs.specs.Faults.{fault_of}
-use Rattle.inputs.specs.declared.fault.Fault.{Fault}
-use Rattle.inputs.specs.declared.fault.Fault.TheVariants as faults
 use Rattle.journal.specs.Past.{Past}
-use Rattle.journal.specs.declared.commands.Reply.{Reply}
-use Rattle.journal.specs.declared.commands.Reply.TheVariants.{Done, Same, Refused}
-use Rattle.calls.specs.declared.stop.Stop.{Stop}
-use Rattle.calls.specs.declared.stop.Stop.TheVariants as stops
+use Rattle.reports.specs.declared.stop.Stop.{Stop}
+use Rattle.reports.specs.declared.stop.Stop.TheVariants as stops
 
--- how a call stops at a fault of the files
-abbrev pub stop_of : Fault → Stop
-stop_of (faults.Input file fault) = stops.Input file fault
-stop_of (faults.Unwritten file) = stops.Unwritten file
-stop_of (faults.Refused refusal) = stops.Refused refusal
-stop_of (faults.NoTarget name) = stops.NoTarget name
-stop_of faults.OutOfMemory = stops.Fault batches.OutOfMemory
-
--- how a call goes on from the reply to its command: with the reply, unless it is a refusal
-abbrev pub unless_refused : Reply → Result Reply Stop
-unless_refused (Refused refusal) = Err (stop_of (fault_of refusal))
-unless_refused Same = Ok Same
-unless_refused (Done cursor) = Ok (Done cursor)
-
--- how a call stops at words that are no request
-abbrev pub stop_of_request : RequestFault → Stop
-stop_of_request (requests.Usage error) = stops.Usage error
-stop_of_request (requests.Needed option) = stops.Needed option
-stop_of_request requests.OutOfMemory = stops.Fault batches.OutOfMemory
-
--- how a call stops between two places of a history: at the first that the history hasn't, or for want of memory
+-- at the first place that the history hasn't, or for want of memory
 abbrev pub StopsBetween : Past → ℕ → ℕ → Stop → Type 0
 StopsBetween past from to stop =
     ((stop ≡ stops.NoPlace from) × (length past.states ≤ from)) ⊎ ((stop ≡ stops.NoPlace to) × (from < length past.states) × (length past.states ≤ to)) ⊎ (stop ≡ stops.Fault batches.OutOfMemory)

@@ -4,9 +4,9 @@ ghost use Rattle.std.specs.Prelude.{IfErr, IfOk};
 ghost use Rattle.calls.specs.Stops.{StopsBetween};
 ghost use Rattle.journal.specs.Places.{IsBetween};
 
-use crate::stop::Stop;
 use edits::Change;
 use journal::Session;
+use reports::Stop;
 use std::alloc::Global;
 
 /// The change that leads from one place of the history to another. The first place behind its last one is refused.

@@ -1,8 +1,7 @@
 // What `replace` reads, and the edit that it is.
 
-use crate::stop::Stop;
 use command_line::request::{EditInputs, NewLines, Replacement};
-use edits::{Edit, ReqFile, Target, TargetPins, with_line_exchanged};
+use edits::{Edit, Refusal, ReqFile, Target, TargetPins, with_line_exchanged};
 use files::SavedFiles;
 use files::hand_changed::open_old_to_save;
 use files::saved_history::{SavedHistory, saved_files};
@@ -11,6 +10,7 @@ use inputs::pins_files::{PinsBytes, PinsTarget, pins_of, pins_paths, read_pins};
 use inputs::{Fault, InputFile, LockFile, in_file, read_bytes, read_index, read_requirements};
 use journal::Session;
 use lists::{Seq, Text};
+use reports::Stop;
 use std::alloc::Global;
 use std::io::Read;
 use std::rt::Files;
@@ -109,7 +109,7 @@ fn made_of(
     let snapshot = in_file(InputFile::Index, read_index(alloc, index.as_slice()))?;
     let lines = new_lines(alloc, &files, &session, &lines)?;
     let pins = pins_for_targets(alloc, session.state().targets(), pins)?;
-    let edit = Edit::Replace(lines, pins);
+    let edit = Edit::Replace(lines?, pins);
     let history = SavedHistory {
         files,
         session,
@@ -118,26 +118,27 @@ fn made_of(
     Ok(ReplacedHistory { history, edit })
 }
 
-/// The new lines. Where the folder's file was changed, it has them.
+/// The new lines, or why a line isn't exchanged, which is told behind the faults of all files. Where the folder's file
+/// was changed, it has them.
 fn new_lines(
     alloc: Global,
     files: &SavedFiles,
     session: &Session,
     lines: &LinesRead<'_>,
-) -> Result<ReqFile, Stop> {
+) -> Result<Result<ReqFile, Refusal>, Fault> {
     match lines {
         LinesRead::New(bytes) => {
             let read = read_requirements(alloc, bytes.as_slice());
-            Ok(in_file(InputFile::NewRequirements, read)?)
+            Ok(Ok(in_file(InputFile::NewRequirements, read)?))
         }
         LinesRead::Old(_) => {
             let read = read_requirements(alloc, files.requirements());
-            Ok(in_file(InputFile::Requirements, read)?)
+            Ok(Ok(in_file(InputFile::Requirements, read)?))
         }
         LinesRead::Line(name, text) => {
             let name = Text::copy_of(alloc, name)?;
             let text = Text::copy_of(alloc, text)?;
-            Ok(with_line_exchanged(alloc, session.state().lines(), &name, &text)?)
+            Ok(with_line_exchanged(alloc, session.state().lines(), &name, &text))
         }
     }
 }

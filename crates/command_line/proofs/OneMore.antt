@@ -3,7 +3,7 @@ use Rattle.std.proofs.Common.{◌≡◌, ◌∙◌, ◌+◌, ◌<◌, ℕ, List,
 use Rattle.std.proofs.lemmas.List.{at_drop_more}
 use Rattle.clap.specs.Words.{App, with_subcommand}
 use Rattle.command_line.specs.CommandWords.{with_subcommands}
-use Rattle.command_line.specs.Tables.{shape_of_words}
+use Rattle.command_line.specs.Tied.Tables.{shape_of_words}
 use Rattle.command_line.specs.declared.descriptions.SubcommandWords.{SubcommandWords}
 
 pub one_more : (old new whole : App) (all : List SubcommandWords) (i : ℕ) (other : SubcommandWords) → i < length all → new ≡ with_subcommand old (shape_of_words (get_or all i other))

@@ -6,7 +6,7 @@ use Rattle.clap.specs.Walk.{is_empty, is_simple_arg}
 use Rattle.clap.specs.Words.{Rule, rule_of}
 use Rattle.clap.specs.declared.builder.arg.Arg.{Arg}
 use Rattle.command_line.specs.CommandWords.{option_rules, telling_rules}
-use Rattle.command_line.specs.Tables.{rule_of_words}
+use Rattle.command_line.specs.Tied.Tables.{rule_of_words}
 use Rattle.command_line.specs.declared.descriptions.ArgWords.{ArgWords}
 use Rattle.command_line.specs.declared.descriptions.ArgWords.TheVariants.{Flag, Lettered, Needed, Ranged, Repeated, Several, Text, Texts, Valued}
 

@@ -41,7 +41,7 @@ needed_rule name = record (text_rule name) { required = true }
 abbrev pub texts_rule : Text → Rule
 texts_rule name = record (text_rule name) { range = Some (record { start_inclusive = 0; end_inclusive = usize_max }) }
 
--- the options of what is saved, those of an edit that is saved, and those of what is printed
+-- the options of what is saved, those of an edit that is saved, those of what is printed, and those in front of a subcommand
 abbrev pub saving_rules : List Rule
 saving_rules = flag_rule (codes "dry-run") ∷ []
 
@@ -49,10 +49,13 @@ abbrev pub keeping_rule : Rule
 keeping_rule = flag_rule (codes "keep-locked")
 
 abbrev pub edit_rules : List Rule
-edit_rules = keeping_rule ∷ saving_rules
+edit_rules = keeping_rule ∷ flag_rule (codes "if-needed") ∷ saving_rules
 
 abbrev pub json_rules : List Rule
 json_rules = flag_rule (codes "json") ∷ []
+
+abbrev pub front_rules : List Rule
+front_rules = keeping_rule ∷ (saving_rules ++ json_rules)
 
 -- the options of new lines, [--was OLD] [--line NAME TEXT], and of versions to keep, [--pins FILE]...
 abbrev pub pins_rule : Rule
@@ -77,7 +80,7 @@ shape_with name rules = record (new_shape name) { rules = option_rules ++ (rules
 abbrev pub options_app : App
 options_app = record {
   top = record (new_shape (codes "reqlock")) {
-    rules = option_rules ++ (edit_rules ++ json_rules ++ telling_rules);
+    rules = option_rules ++ (front_rules ++ telling_rules);
     has_version = true;
     subcommand_required = true;
   };
@@ -87,7 +90,7 @@ options_app = record {
 -- the subcommands that begin a history and edit the requirements file
 abbrev pub edit_shapes : List Shape
 edit_shapes =
-    shape_with (codes "init") (pins_rule ∷ [])
+    shape_with (codes "init") (pins_rule ∷ saving_rules)
     ∷ shape_with (codes "add") (needed_rule (codes "text") ∷ edit_rules)
     ∷ shape_with (codes "remove") (needed_rule (codes "name") ∷ edit_rules)
     ∷ shape_with (codes "constrain") (needed_rule (codes "name") ∷ text_rule (codes "specifiers") ∷ edit_rules)
@@ -101,7 +104,7 @@ abbrev pub step_shapes : List Shape
 step_shapes =
     shape_with (codes "undo") saving_rules
     ∷ shape_with (codes "redo") saving_rules
-    ∷ shape_with (codes "batch") (keeping_rule ∷ [])
+    ∷ shape_with (codes "batch") (flag_rule (codes "all-or-none") ∷ keeping_rule ∷ [])
     ∷ shape_with (codes "try") []
     ∷ []
 

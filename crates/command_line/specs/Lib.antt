@@ -5,5 +5,5 @@ pub mod Options
 pub mod Questions
 pub mod Requests
 pub mod Subcommands
-pub mod Tables
 pub mod UsageFaults
+pub mod Tied

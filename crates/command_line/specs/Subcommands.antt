@@ -53,9 +53,11 @@ HasInputs before behind inputs =
     (index_of before behind ≡ Some inputs.index.now) × (inputs.environments ≡ environments_of before behind) × (environments_of before behind ≢ [])
     × (inputs.pins ≡ pins_of behind)
 
--- the index that an edit is made over, and whether it keeps what is locked
+-- the index that an edit is made over, whether it keeps what is locked, and whether it is made only if it is needed
 abbrev pub HasEditInputs : List Row → List Row → EditInputs → Type 0
-HasEditInputs before behind inputs = (index_of before behind ≡ Some inputs.index.now) × (inputs.keeps_locked ≡ is_flagged before behind (codes "keep-locked"))
+HasEditInputs before behind inputs =
+    (index_of before behind ≡ Some inputs.index.now) × (inputs.keeps_locked ≡ is_flagged before behind (codes "keep-locked"))
+    × (inputs.only_if_needed ≡ has_flag behind (codes "if-needed"))
 
 -- the new lines: those of the file NEW, which the argument `new` names; else those that the file in the folder has now, with what it
 -- was; else one line
@@ -151,13 +153,13 @@ IsQuestion before behind (questions.Edit edit inputs) =
 
 -- a subcommand of this name
 abbrev pub IsSubcommand : List Row → List Row → Text → Subcommand → Type 0
-IsSubcommand before behind name (Init inputs) = (name ≡ codes "init") × HasInputs before behind inputs
+IsSubcommand before behind name (Init inputs saving) = (name ≡ codes "init") × HasInputs before behind inputs × (saving ≡ saving_of before behind)
 IsSubcommand before behind name (Edit edit inputs saving) = (edit_of name behind ≡ Some edit) × HasEditInputs before behind inputs × (saving ≡ saving_of before behind)
 IsSubcommand before behind name (Replace replacement inputs saving) =
     (name ≡ codes "replace") × IsReplacement (codes "new") behind replacement × HasEditInputs before behind inputs × (saving ≡ saving_of before behind)
 IsSubcommand before behind name (Undo saving) = (name ≡ codes "undo") × (saving ≡ saving_of before behind)
 IsSubcommand before behind name (Redo saving) = (name ≡ codes "redo") × (saving ≡ saving_of before behind)
-IsSubcommand before behind name (Batch inputs) = (name ≡ codes "batch") × HasEditInputs before behind inputs
+IsSubcommand before behind name (Batch inputs all) = (name ≡ codes "batch") × HasEditInputs before behind inputs × (all ≡ has_flag behind (codes "all-or-none"))
 IsSubcommand before behind name (Try inputs) = (name ≡ codes "try") × HasInputs before behind inputs
 IsSubcommand before behind name (Show shown format) = (name ≡ codes "show") × IsShown before behind shown × (format ≡ format_of before behind)
 IsSubcommand before behind name (Log long format) = (name ≡ codes "log") × (long ≡ has_flag behind (codes "long")) × (format ≡ format_of before behind)

@@ -3,7 +3,7 @@
 ghost use Rattle.std.specs.Prelude.{◌≡◌, ◌++◌, map, IfOk};
 ghost use Rattle.clap.specs.Words.{rule_of};
 ghost use Rattle.command_line.specs.CommandWords.{flag_rule, option_rule, text_rule};
-ghost use Rattle.command_line.specs.Tables.{rule_of_words};
+ghost use Rattle.command_line.specs.Tied.Tables.{rule_of_words};
 
 use crate::descriptions::ArgWords;
 use clap::{Arg, ArgAction};

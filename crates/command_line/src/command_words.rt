@@ -3,7 +3,7 @@
 ghost use Rattle.std.specs.Prelude.{◌≡◌, map, IfOk};
 ghost use Rattle.clap.specs.Words.{app_of, rule_of};
 ghost use Rattle.command_line.specs.CommandWords.{option_rules, options_app, reqlock_app, with_subcommands};
-ghost use Rattle.command_line.specs.Tables.{app_of_words, shape_of_words};
+ghost use Rattle.command_line.specs.Tied.Tables.{app_of_words, shape_of_words};
 
 use crate::arguments::{argument, with_arguments};
 use crate::descriptions::{ArgWords, SubcommandWords};

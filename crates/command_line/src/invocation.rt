@@ -36,15 +36,15 @@ pub enum ColorChoice {
 #[derive(Drop)]
 pub enum Subcommand<'a> {
     /// Locks the requirements file, and begins a history.
-    Init(Inputs<'a>),
+    Init(Inputs<'a>, Saving),
     /// Makes an edit over an index.
     Edit(Edit, EditInputs<'a>, Saving),
     /// Puts other lines in the place of those of the file, over an index.
     Replace(Replacement<'a>, EditInputs<'a>, Saving),
     Undo(Saving),
     Redo(Saving),
-    /// Does the commands of standard input over an index, and saves.
-    Batch(EditInputs<'a>),
+    /// Does the commands of standard input over an index, and saves; all of them or none, or each by itself.
+    Batch(EditInputs<'a>, bool),
     /// Does them on the state that `Init` would begin with, and saves nothing.
     Try(Inputs<'a>),
     /// Prints the lock, or a part of it.
@@ -54,7 +54,7 @@ pub enum Subcommand<'a> {
     /// Prints what changed between two places of the history.
     Diff(DiffRange, Format),
     /// Tells whether the three files belong together; with an index, also whether a relock over it
-    /// would change something.
+    /// would change an entry.
     Check(Option<&'a str>, Format),
     /// Prints which locked releases have newer ones in this index.
     Outdated(&'a str, Format),
@@ -101,9 +101,11 @@ pub struct EditInputs<'a> {
     pub index: &'a str,
     /// Whether each locked version that is still needed has to stay.
     pub keeps_locked: bool,
+    /// Whether an edit that changes the index alone is left. `batch` and `why` don't take it.
+    pub only_if_needed: bool,
 }
 
-/// Whether an edit or a step is saved.
+/// Whether a first lock, an edit or a step is saved.
 #[derive(Clone, Copy, Debug, PartialEq, Eq)]
 pub enum Saving {
     Save,

@@ -152,7 +152,7 @@ fn takes_dry_run(subcommand: &str) -> bool
 {
     matches!(
         subcommand,
-        "add" | "remove" | "constrain" | "upgrade" | "relock" | "replace" | "undo" | "redo"
+        "init" | "add" | "remove" | "constrain" | "upgrade" | "relock" | "replace" | "undo" | "redo"
     )
 }
 

@@ -39,9 +39,15 @@ pub(crate) fn read_subcommand<'a>(
         return Ok(view);
     }
     match name {
-        "init" => Ok(Subcommand::Init(needed_inputs(alloc, before, behind)?)),
+        "init" => Ok(Subcommand::Init(
+            needed_inputs(alloc, before, behind)?,
+            saving(before, behind),
+        )),
         "try" => Ok(Subcommand::Try(needed_inputs(alloc, before, behind)?)),
-        "batch" => Ok(Subcommand::Batch(needed_edit_inputs(before, behind)?)),
+        "batch" => Ok(Subcommand::Batch(
+            needed_edit_inputs(before, behind)?,
+            has_flag(behind, "all-or-none"),
+        )),
         "skipped" => Ok(Subcommand::Skipped(needed_index(before, behind)?)),
         "why" => {
             let question = read_question(alloc, before, behind)?;
@@ -217,7 +223,7 @@ pub(crate) fn needed_index<'a>(
     }
 }
 
-/// The index that was given, and whether what is locked is to be kept.
+/// The index that was given, whether what is locked is to be kept, and whether an edit is made only if it is needed.
 pub(crate) fn needed_edit_inputs<'a>(
     before: &ArgMatches<'a>,
     behind: &ArgMatches<'a>,
@@ -229,9 +235,11 @@ pub(crate) fn needed_edit_inputs<'a>(
 {
     let index = needed_index(before, behind)?;
     let keeps_locked = is_flagged(before, behind, "keep-locked");
+    let only_if_needed = has_flag(behind, "if-needed");
     Ok(EditInputs {
         index,
         keeps_locked,
+        only_if_needed,
     })
 }
 

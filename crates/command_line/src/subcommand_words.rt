@@ -15,7 +15,13 @@ const KEEP_LOCKED: ArgWords<'static> = Flag(
     "Move no locked version that is still needed, but for names to upgrade",
 );
 
-// Of an edit or a step.
+// Of an edit.
+const IF_NEEDED: ArgWords<'static> = Flag(
+    "if-needed",
+    "Answer same, and save nothing, where only the index would change",
+);
+
+// Of a first lock, an edit or a step.
 const DRY_RUN: ArgWords<'static> = Flag("dry-run", "Save nothing; print what would change");
 
 // Of what is printed.
@@ -67,7 +73,7 @@ pub(crate) const SUBCOMMANDS: [SubcommandWords<'static>; 19] = [
     SubcommandWords {
         name: "init",
         help: INIT,
-        args: &[PINS],
+        args: &[PINS, DRY_RUN],
     },
     SubcommandWords {
         name: "add",
@@ -75,13 +81,14 @@ pub(crate) const SUBCOMMANDS: [SubcommandWords<'static>; 19] = [
         args: &[
             Needed("text", "TEXT", "The line, such as 'flask>=2  # the server'"),
             KEEP_LOCKED,
+            IF_NEEDED,
             DRY_RUN,
         ],
     },
     SubcommandWords {
         name: "remove",
         help: REMOVE,
-        args: &[NAME, KEEP_LOCKED, DRY_RUN],
+        args: &[NAME, KEEP_LOCKED, IF_NEEDED, DRY_RUN],
     },
     SubcommandWords {
         name: "constrain",
@@ -94,6 +101,7 @@ pub(crate) const SUBCOMMANDS: [SubcommandWords<'static>; 19] = [
                 "The specifiers, such as '>=2,<3'; without them any version will do",
             ),
             KEEP_LOCKED,
+            IF_NEEDED,
             DRY_RUN,
         ],
     },
@@ -107,13 +115,14 @@ pub(crate) const SUBCOMMANDS: [SubcommandWords<'static>; 19] = [
                 "Names in the lock; without any, all of them",
             ),
             KEEP_LOCKED,
+            IF_NEEDED,
             DRY_RUN,
         ],
     },
     SubcommandWords {
         name: "relock",
         help: RELOCK,
-        args: &[KEEP_LOCKED, DRY_RUN],
+        args: &[KEEP_LOCKED, IF_NEEDED, DRY_RUN],
     },
     SubcommandWords {
         name: "replace",
@@ -128,6 +137,7 @@ pub(crate) const SUBCOMMANDS: [SubcommandWords<'static>; 19] = [
             LINE,
             PINS,
             KEEP_LOCKED,
+            IF_NEEDED,
             DRY_RUN,
         ],
     },
@@ -144,7 +154,13 @@ pub(crate) const SUBCOMMANDS: [SubcommandWords<'static>; 19] = [
     SubcommandWords {
         name: "batch",
         help: BATCH,
-        args: &[KEEP_LOCKED],
+        args: &[
+            Flag(
+                "all-or-none",
+                "Save nothing where a command is refused, and end with its status",
+            ),
+            KEEP_LOCKED,
+        ],
     },
     SubcommandWords {
         name: "try",
@@ -197,7 +213,7 @@ pub(crate) const SUBCOMMANDS: [SubcommandWords<'static>; 19] = [
         args: &[
             Flag(
                 "current",
-                "Tell whether a relock over the index would change something",
+                "Tell whether a relock over the index would change an entry",
             ),
             JSON,
         ],

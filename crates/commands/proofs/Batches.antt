@@ -1,14 +1,12 @@
 -- Lemmas on runs that are written piece by piece.
-use Rattle.std.proofs.Common.{◌≡◌, ◌∙◌, ℕ, ◌<◌, ◌==◌, ◌||◌, Bool, length, take, true, false, List, [], ◌∷◌, ◌++◌, refl, sym, subst, ap, arith, inl, append_assoc, append-nil, Option, Some, None}
+use Rattle.std.proofs.Common.{◌≡◌, ◌∙◌, ℕ, ◌<◌, ◌==◌, Bool, length, take, true, false, List, [], ◌∷◌, ◌++◌, refl, sym, subst, ap, arith, inl, append_assoc, append-nil, Option, Some, None}
 use Rattle.std.specs.Io.KnownBytes.{Appends, Consumes, IsAtEnd, Keeps}
 use Rattle.std.specs.Prelude.{IfSome, OnErr, OnOk, Result, Ok, Err}
-use Rattle.std.specs.List.{filter_map, list_any}
+use Rattle.std.specs.List.{filter_map}
 use Rattle.std.specs.Option.{option_to_list}
-use Rattle.std.proofs.Math.Bool.{or_assoc}
 use Rattle.std.proofs.lemmas.Bool.{eqb-false}
 use Rattle.std.proofs.lemmas.Grind.{flat_map-append}
 use Rattle.std.proofs.lemmas.List.Elements.{filter_map-append}
-use Rattle.std.proofs.lemmas.List.Folds.{list_any-append}
 use Rattle.states.specs.declared.pool.Pool.{Pool}
 use Rattle.journal.specs.declared.commands.Reply.{Reply}
 use Rattle.journal.specs.declared.commands.Reply.TheVariants.{Refused}
@@ -21,12 +19,16 @@ use Rattle.journal.specs.Steps.{Step}
 use Rattle.commands.specs.declared.batch_line.Item.{Item}
 use Rattle.commands.specs.declared.batch_line.Item.TheVariants.{Edit, Undo, Redo, BadCommand}
 use Rattle.commands.specs.BatchLine.{Line, item_of, ended_item_of, commands_of, ended_commands_of, input_lines_of, IsUnbroken, IsEdit}
-use Rattle.commands.specs.Replies.{text_of_reply, reply_text, is_accepted}
+use Rattle.commands.specs.Replies.{text_of_reply, reply_text}
 use Rattle.commands.specs.declared.batch.BatchFault.{BatchFault}
 use Rattle.commands.specs.declared.batch.BatchFault.TheVariants.{OutOfMemory}
 use Rattle.commands.specs.Faults.{IsOfSink}
-use Rattle.commands.specs.Runs.{command_in, replies_of, Replied, Answered, AnsweredWith, IsCutOff, BreaksOff, Ends, EndsAt, SomeDone, SomeDoneWith, EndsInReading, EndsInWriting}
-use Rattle.commands.specs.Standings.{Standing, Advances, Answers, AnswersAllBut, ReadsOf, Reads, Breaks, SomeAdvance}
+use Rattle.commands.specs.Runs.{command_in, replies_of, Replied, Answered, AnsweredTo, IsCutOff, BreaksOff, Ends, EndsAt, SomeDone, SomeDoneTo, EndsInReading, EndsInWriting}
+use Rattle.commands.specs.Tied.Standings.{Standing, Advances, Answers, AnswersAllBut, ReadsOf, Reads, Breaks, SomeAdvance}
+use Rattle.commands.specs.Tied.Tallies.{end_of, no_replies, with_reply, with_replies}
+use Rattle.commands.specs.declared.batch_end.BatchEnd.{BatchEnd}
+use Rattle.commands.specs.declared.batch_end.Tally.{Tally}
+use Rattle.commands.proofs.BatchEnds.{end_of_replies}
 use Rattle.commands.proofs.Lines.{items_alike, ended_items_alike, items_kept, items_of_line, none_ended, commands_last, unbroken_append}
 
 -- ---- runs
@@ -134,15 +136,13 @@ long_line xs ys same more = let P : List ℕ → Type 0 = λ zs. 0 < length zs i
 
 -- ---- answers
 
--- whether one of the replies in front or of those behind is `ok`
-accepted_append : (old next new : Bool) (rs ts : List Reply) → next ≡ (old || list_any is_accepted rs) → new ≡ (next || list_any is_accepted ts) → new ≡ (old || list_any is_accepted (rs ++ ts))
-accepted_append old next new rs ts first second =
-    second ∙ ap (λ b. b || list_any is_accepted ts) first ∙ or_assoc old (list_any is_accepted rs) (list_any is_accepted ts)
-    ∙ ap (λ b. old || b) (sym (list_any-append is_accepted rs ts))
+-- what is known of the replies in front and of those behind
+tally_append : (tally : Tally) (rs ts : List Reply) → with_replies tally (rs ++ ts) ≡ with_replies (with_replies tally rs) ts
+tally_append tally [] ts = refl
+tally_append tally (r ∷ rs) ts = tally_append (with_reply tally r) rs ts
 
-or_none : (b : Bool) → b ≡ (b || false)
-or_none true = refl
-or_none false = refl
+tallies_append : (old next new : Tally) (rs ts : List Reply) → next ≡ with_replies old rs → new ≡ with_replies next ts → new ≡ with_replies old (rs ++ ts)
+tallies_append old next new rs ts first second = second ∙ ap (λ (t : Tally). with_replies t ts) first ∙ sym (tally_append old rs ts)
 
 -- answers behind answers
 pub advances_append : (pool : Pool) (xs ys : List Item) (old next new : Standing) → Advances pool xs old next → Advances pool ys next new → Advances pool (xs ++ ys) old new
@@ -151,25 +151,25 @@ advances_append pool xs ys old next new first second =
       first.0 ++ second.0,
       replied_append pool xs ys first.0 second.0 old.history next.history new.history first.1 second.1,
       subst P (sym (flat_map-append text_of_reply first.0 second.0)) (appends_append old.written next.written new.written (reply_text first.0) (reply_text second.0) first.2 second.2),
-      accepted_append old.has_accepted next.has_accepted new.has_accepted first.0 second.0 first.3 second.3,
+      tallies_append old.tally next.tally new.tally first.0 second.0 first.3 second.3,
     )
 
 -- nothing to answer
 pub advances_none : (pool : Pool) (old : Standing) → Advances pool [] old old
-advances_none pool old = ([], replied_none pool old.history, appends_none old.written, or_none old.has_accepted)
+advances_none pool old = ([], replied_none pool old.history, appends_none old.written, refl)
 
 -- a reply to one line, where both were written as they should
-advances_line : {T E : Type 0} (result : Result T E) (pool : Pool) (items : List Item) (reply : Reply) (old new : HistoryParts) (before after : Option (List ℕ)) (had has : Bool)
-    → Replied pool items (reply ∷ []) old new → OnOk result (Appends before after (text_of_reply reply)) → OnOk result (has ≡ (had || is_accepted reply))
-    → OnOk result (Advances pool items (record { history = old; written = before; has_accepted = had }) (record { history = new; written = after; has_accepted = has }))
-advances_line (Ok u) pool items reply old new before after had has replied written accepted =
+advances_line : {T E : Type 0} (result : Result T E) (pool : Pool) (items : List Item) (reply : Reply) (old new : HistoryParts) (before after : Option (List ℕ)) (had has : Tally)
+    → Replied pool items (reply ∷ []) old new → OnOk result (Appends before after (text_of_reply reply)) → OnOk result (has ≡ with_reply had reply)
+    → OnOk result (Advances pool items (record { history = old; written = before; tally = had }) (record { history = new; written = after; tally = has }))
+advances_line (Ok u) pool items reply old new before after had has replied written counted =
     let P : List ℕ → Type 0 = λ text. Appends before after text in (
       reply ∷ [],
       replied,
       subst P (sym (append-nil (text_of_reply reply))) written,
-      accepted ∙ ap (λ b. had || b) (or_none (is_accepted reply)),
+      counted,
     )
-advances_line (Err e) pool items reply old new before after had has replied written accepted = tt
+advances_line (Err e) pool items reply old new before after had has replied written counted = tt
 
 -- a reply that was cut off
 breaks_line : {T E : Type 0} (result : Result T E) (pool : Pool) (items : List Item) (reply : Reply) (old new : HistoryParts) (before after : Option (List ℕ))
@@ -179,12 +179,12 @@ breaks_line (Err e) pool items reply old new before after replied cut =
     record { told = []; last = reply; replied = replied; front = cut.front; missing = cut.missing; last_is = cut.text_is; is_missing = cut.is_missing; written = cut.written }
 
 -- a reply to one line, written whole or in part
-pub answers_sent : {T : Type 0} (result : Result T BatchFault) (pool : Pool) (items : List Item) (reply : Reply) (old new : HistoryParts) (before after : Option (List ℕ)) (had has failed : Bool)
-    → Replied pool items (reply ∷ []) old new → OnOk result (Appends before after (text_of_reply reply)) → OnOk result (has ≡ (had || is_accepted reply)) → OnErr result (IsCutOff (text_of_reply reply) before after) → IsOfSink result failed
-    → Answers result pool items (record { history = old; written = before; has_accepted = had }) (record { history = new; written = after; has_accepted = has }) failed
-answers_sent result pool items reply old new before after had has failed replied written accepted cut sink =
+pub answers_sent : {T : Type 0} (result : Result T BatchFault) (pool : Pool) (items : List Item) (reply : Reply) (old new : HistoryParts) (before after : Option (List ℕ)) (had has : Tally) (failed : Bool)
+    → Replied pool items (reply ∷ []) old new → OnOk result (Appends before after (text_of_reply reply)) → OnOk result (has ≡ with_reply had reply) → OnErr result (IsCutOff (text_of_reply reply) before after) → IsOfSink result failed
+    → Answers result pool items (record { history = old; written = before; tally = had }) (record { history = new; written = after; tally = has }) failed
+answers_sent result pool items reply old new before after had has failed replied written counted cut sink =
     record {
-      advances = advances_line result pool items reply old new before after had has replied written accepted;
+      advances = advances_line result pool items reply old new before after had has replied written counted;
       breaks = breaks_line result pool items reply old new before after replied cut;
       sink = sink;
     }
@@ -333,10 +333,10 @@ reads_done pool had now pending old new reads =
     (some.0, some.1.0, some.1.1)
 
 -- the same, of the parts of both standings
-pub parts_done : (pool : Pool) (had now : Option (List ℕ)) (pending : List ℕ) (old new : HistoryParts) (before after : Option (List ℕ)) (was has : Bool)
-    → Reads pool had pending now (record { history = old; written = before; has_accepted = was }) (record { history = new; written = after; has_accepted = has }) → SomeDone pool old new
+pub parts_done : (pool : Pool) (had now : Option (List ℕ)) (pending : List ℕ) (old new : HistoryParts) (before after : Option (List ℕ)) (was has : Tally)
+    → Reads pool had pending now (record { history = old; written = before; tally = was }) (record { history = new; written = after; tally = has }) → SomeDone pool old new
 parts_done pool had now pending old new before after was has reads =
-    reads_done pool had now pending (record { history = old; written = before; has_accepted = was }) (record { history = new; written = after; has_accepted = has }) reads
+    reads_done pool had now pending (record { history = old; written = before; tally = was }) (record { history = new; written = after; tally = has }) reads
 
 done_append : (pool : Pool) (old next new : HistoryParts) → SomeDone pool old next → SomeDone pool next new → SomeDone pool old new
 done_append pool old next new first second = (first.0 ++ second.0, first.1 ++ second.1, replied_append pool first.0 second.0 first.1 second.1 old next new first.2 second.2)
@@ -355,12 +355,12 @@ advances_some pool had now pending items old next new reads last =
     let some = reads_some pool had now pending old next reads in
     (some.0 ++ items, advances_append pool some.0 items old next new some.1 last)
 
--- from where no reply was `ok`
-pub done_with : (pool : Pool) (old new : HistoryParts) (before after : Option (List ℕ)) (was now accepted : Bool) → was ≡ false → accepted ≡ now
-    → SomeAdvance pool (record { history = old; written = before; has_accepted = was }) (record { history = new; written = after; has_accepted = now })
-    → SomeDoneWith accepted pool old new
-done_with pool old new before after was now accepted was_is is some =
-    (some.0, some.1.0, some.1.1, is ∙ some.1.3 ∙ ap (λ b. b || list_any is_accepted some.1.0) was_is)
+-- what is to be done at the end of all replies, where none came before the first of them
+pub done_to : (pool : Pool) (old new : HistoryParts) (before after : Option (List ℕ)) (is_all_or_none : Bool) (number : ℕ) (was now : Tally) (end : BatchEnd) → was ≡ no_replies → end ≡ end_of is_all_or_none now number
+    → SomeAdvance pool (record { history = old; written = before; tally = was }) (record { history = new; written = after; tally = now })
+    → SomeDoneTo is_all_or_none end pool old new
+done_to pool old new before after is_all_or_none number was now end was_is is some =
+    (some.0, some.1.0, some.1.1, end_of_replies is_all_or_none some.1.0 number was now end was_is some.1.3 is)
 
 -- a read that failed
 pub ends_in_reading : (pool : Pool) (had now then : Option (List ℕ)) (pending : List ℕ) (old new : Standing) → Reads pool had pending now old new → Keeps now then
@@ -458,19 +458,20 @@ pub ends_at_once : {T : Type 0} (pool : Pool) (had : Option (List ℕ)) (old : H
 ends_at_once pool had old before source sink =
     record { done = ([], [], replied_none pool old); end = tt; source = source; sink = sink; left = left_at_once pool had old before }
 
--- all that was answered, from where no reply was `ok`
-pub answered_with : (pool : Pool) (had : Option (List ℕ)) (old new : HistoryParts) (before after : Option (List ℕ)) (was now accepted : Bool) → was ≡ false → accepted ≡ now
-    → IfSome had (λ input. Advances pool (commands_of input) (record { history = old; written = before; has_accepted = was }) (record { history = new; written = after; has_accepted = now }))
-    → IfSome had (λ input. AnsweredWith accepted pool (commands_of input) old new before after)
-answered_with pool None old new before after was now accepted was_is is advances = tt
-answered_with pool (Some input) old new before after was now accepted was_is is advances =
-    (advances.0, advances.1, advances.2, is ∙ advances.3 ∙ ap (λ b. b || list_any is_accepted advances.0) was_is)
+-- all that was answered, where no reply came before the first
+pub answered_to : (pool : Pool) (had : Option (List ℕ)) (old new : HistoryParts) (before after : Option (List ℕ)) (is_all_or_none : Bool) (number : ℕ) (was now : Tally) (end : BatchEnd)
+    → was ≡ no_replies → end ≡ end_of is_all_or_none now number
+    → IfSome had (λ input. Advances pool (commands_of input) (record { history = old; written = before; tally = was }) (record { history = new; written = after; tally = now }))
+    → IfSome had (λ input. AnsweredTo is_all_or_none end pool (commands_of input) old new before after)
+answered_to pool None old new before after is_all_or_none number was now end was_is is advances = tt
+answered_to pool (Some input) old new before after is_all_or_none number was now end was_is is advances =
+    (advances.0, advances.1, advances.2, end_of_replies is_all_or_none advances.0 number was now end was_is advances.3 is)
 
--- the same, where nobody asks whether a command was accepted
-pub answered_of : (pool : Pool) (had : Option (List ℕ)) (old new : HistoryParts) (before after : Option (List ℕ)) (accepted : Bool)
-    → IfSome had (λ input. AnsweredWith accepted pool (commands_of input) old new before after) → IfSome had (λ input. Answered pool (commands_of input) old new before after)
-answered_of pool None old new before after accepted answered = tt
-answered_of pool (Some input) old new before after accepted answered = (answered.0, answered.1, answered.2)
+-- the same, where nobody asks what is to be done at the end
+pub answered_of : (pool : Pool) (had : Option (List ℕ)) (old new : HistoryParts) (before after : Option (List ℕ)) (is_all_or_none : Bool) (end : BatchEnd)
+    → IfSome had (λ input. AnsweredTo is_all_or_none end pool (commands_of input) old new before after) → IfSome had (λ input. Answered pool (commands_of input) old new before after)
+answered_of pool None old new before after is_all_or_none end answered = tt
+answered_of pool (Some input) old new before after is_all_or_none end answered = (answered.0, answered.1, answered.2)
 
 -- no last line
 pub advances_empty : (pool : Pool) (pending : List ℕ) (old : Standing) → length pending ≡ 0 → Advances pool (commands_of pending) old old

@@ -1,4 +1,6 @@
 pub mod Lines
+pub mod IfNeeded
 pub mod Texts
+pub mod BatchEnds
 pub mod Batches
 pub mod WorkedRows

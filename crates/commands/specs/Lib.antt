@@ -1,6 +1,8 @@
+pub mod BatchEnds
 pub mod BatchLine
 pub mod Faults
+pub mod Needed
 pub mod Replies
 pub mod Runs
-pub mod Standings
 pub mod Streams
+pub mod Tied

@@ -1,6 +1,6 @@
 -- A batch of commands on a history. All of it is reqlock's own rule.
 use Rattle.std.specs.Prelude.{ℕ, ◌≡◌, ◌<◌, Bool, List, [], ◌∷◌, ◌++◌, Option, None, Some, Result, OnOk, IfErr, IfSome, length}
-use Rattle.std.specs.List.{filter_map, list_any}
+use Rattle.std.specs.List.{filter_map}
 use Rattle.std.specs.Io.KnownBytes.{Appends, Consumes, IsAtEnd}
 use Rattle.states.specs.declared.pool.Pool.{Pool}
 use Rattle.states.specs.declared.refusal.Refusal.TheVariants as refusals
@@ -11,11 +11,13 @@ use Rattle.journal.specs.Commands.{Asked, Editing, Undoing, Redoing}
 use Rattle.journal.specs.Histories.{RunWithChanges}
 use Rattle.commands.specs.declared.batch.BatchFault.{BatchFault}
 use Rattle.commands.specs.declared.batch.BatchFault.TheVariants.{Read, Write, OutOfMemory}
+use Rattle.commands.specs.declared.batch_end.BatchEnd.{BatchEnd}
 use Rattle.commands.specs.declared.batch_line.Item.{Item}
 use Rattle.commands.specs.declared.batch_line.Item.TheVariants.{Edit, Undo, Redo, BadCommand}
+use Rattle.commands.specs.BatchEnds.{IsEnd}
 use Rattle.commands.specs.BatchLine.{commands_of, ended_commands_of}
 use Rattle.commands.specs.Faults.{is_failed_read, is_failed_write}
-use Rattle.commands.specs.Replies.{text_of_reply, reply_text, is_accepted}
+use Rattle.commands.specs.Replies.{text_of_reply, reply_text}
 
 -- the command of an item on a history: a bad command has none
 abbrev pub command_in : Pool → Item → Option Asked
@@ -43,17 +45,18 @@ Replied pool items replies old new = (answers : List Reply) × RunWithChanges ol
 abbrev pub SomeDone : Pool → HistoryParts → HistoryParts → Type 0
 SomeDone pool old new = (items : List Item) × (replies : List Reply) × Replied pool items replies old new
 
--- the same, and whether one of the replies tells of an accepted command
-abbrev pub SomeDoneWith : Bool → Pool → HistoryParts → HistoryParts → Type 0
-SomeDoneWith accepted pool old new = (items : List Item) × (replies : List Reply) × Replied pool items replies old new × (accepted ≡ list_any is_accepted replies)
+-- the same, and what is to be done at the end, where all or none are to be done or each by itself
+abbrev pub SomeDoneTo : Bool → BatchEnd → Pool → HistoryParts → HistoryParts → Type 0
+SomeDoneTo is_all_or_none end pool old new = (items : List Item) × (replies : List Reply) × Replied pool items replies old new × IsEnd is_all_or_none replies end
 
 -- a run over these items, whose replies were written where the bytes before and after are known
 abbrev pub Answered : Pool → List Item → HistoryParts → HistoryParts → Option (List ℕ) → Option (List ℕ) → Type 0
 Answered pool items old new before after = (replies : List Reply) × Replied pool items replies old new × Appends before after (reply_text replies)
 
--- the same, and whether some command was accepted
-abbrev pub AnsweredWith : Bool → Pool → List Item → HistoryParts → HistoryParts → Option (List ℕ) → Option (List ℕ) → Type 0
-AnsweredWith accepted pool items old new before after = (replies : List Reply) × Replied pool items replies old new × Appends before after (reply_text replies) × (accepted ≡ list_any is_accepted replies)
+-- the same, and what is to be done at the end
+abbrev pub AnsweredTo : Bool → BatchEnd → Pool → List Item → HistoryParts → HistoryParts → Option (List ℕ) → Option (List ℕ) → Type 0
+AnsweredTo is_all_or_none end pool items old new before after =
+    (replies : List Reply) × Replied pool items replies old new × Appends before after (reply_text replies) × IsEnd is_all_or_none replies end
 
 -- of a text a front was written, and something is missing
 pub record IsCutOff (text : List ℕ) (before after : Option (List ℕ)) : Type 0 where

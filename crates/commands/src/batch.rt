@@ -1,18 +1,20 @@
 // Commands read from a source, and their replies written to a sink.
 
-ghost use Rattle.std.specs.Prelude.{◌≡◌, ◌≢◌, ◌≤◌, ◌<◌, ◌+◌, ◌||◌, ◌++◌, [], ◌∷◌, true, false, length, take, drop, OnOk, OnErr, IfOk, IfErr, IfSome, IfNone, is_err};
+ghost use Rattle.std.specs.Prelude.{◌≡◌, ◌≢◌, ◌≤◌, ◌<◌, ◌+◌, ◌++◌, [], ◌∷◌, true, false, length, take, drop, OnOk, OnErr, IfOk, IfErr, IfSome, IfNone, is_err};
 ghost use Rattle.std.specs.Io.KnownBytes.{Appends, Consumes, IsAtEnd, Keeps};
 ghost use Rattle.std.specs.Option.{option_to_list};
 ghost use Rattle.commands.specs.BatchLine.{commands_of, item_of, IsUnbroken};
 ghost use Rattle.commands.specs.Faults.{IsOfSink};
-ghost use Rattle.commands.specs.Replies.{is_accepted, text_of_reply};
-ghost use Rattle.commands.specs.Runs.{Answered, AnsweredWith, Ends, IsCutOff, Replied, SomeDoneWith};
-ghost use Rattle.commands.specs.Standings.{Advances, Answers, AnswersAllBut, Breaks, Reads, SomeAdvance, standing};
+ghost use Rattle.commands.specs.Replies.{text_of_reply};
+ghost use Rattle.commands.specs.Runs.{Answered, AnsweredTo, Ends, IsCutOff, Replied, SomeDoneTo};
+ghost use Rattle.commands.specs.Tied.Standings.{Advances, Answers, AnswersAllBut, Breaks, Reads, SomeAdvance, standing};
+ghost use Rattle.commands.specs.Tied.Tallies.{with_reply};
 ghost use Rattle.commands.specs.declared.batch.BatchFault.TheVariants.{OutOfMemory};
 
+use crate::batch_end::{BatchEnd, Tally};
 use crate::batch_line::{Item, read_item};
 use crate::pending_line::PendingLine;
-use crate::reply_text::{ReplyText, is_accepted};
+use crate::reply_text::ReplyText;
 use crate::sink::Sink;
 use crate::source::Source;
 use edits::Refusal;
@@ -50,8 +52,9 @@ struct BatchState {
     pending: PendingLine,
     /// The text of the last reply.
     text: ReplyText,
-    /// Whether one of the replies so far was `ok`.
-    has_accepted: bool,
+    tally: Tally,
+    /// How many lines there were, up to the first whose command was refused.
+    lines: usize,
 }
 
 /// Does the commands that `source` gives, one a line, and writes the reply to each to `sink`. A
@@ -78,29 +81,31 @@ pub fn batch<S: Source, K: Sink>(
     ensures memory { result ≡ Err BatchFault.OutOfMemory
         → (session.new ≡ session.old) × (sink.new ≡ sink.old) × (source.new ≡ source.old) }
 {
-    match accepted_in(alloc, source, sink, session, pool) {
+    match batch_to_its_end(alloc, source, sink, session, pool, false) {
         Ok(_) => Ok(()),
         Err(fault) => Err(fault),
     }
 }
 
-/// As `batch`. It answers whether some command was accepted; where none was, the session is as it
-/// was.
-pub fn accepted_in<S: Source, K: Sink>(
+/// As `batch`. It answers what is to be done at the end: something is to be saved where some command was
+/// accepted, and, where all or none are to be done, no reply is a refusal.
+pub fn batch_to_its_end<S: Source, K: Sink>(
     alloc: Global,
     source: &mut S,
     sink: &mut K,
     session: &mut Session,
     pool: &Pool<'_>,
-) -> Result<bool, BatchFault>
+    is_all_or_none: bool,
+) -> Result<BatchEnd, BatchFault>
     requires source { S.has_failed source.old ≡ false }
     requires sink { K.has_failed sink.old ≡ false }
-    ensures answered { IfOk result (λ accepted. IfSome (S.remaining source.old) (λ input.
-        AnsweredWith accepted pool.now (commands_of input) session.old session.new
+    ensures answered { IfOk result (λ end. IfSome (S.remaining source.old) (λ input.
+        AnsweredTo is_all_or_none end pool.now (commands_of input) session.old session.new
         (K.contents sink.old) (K.contents sink.new))) }
-    // Whatever the streams hold: something is to be saved where a reply was `ok`, and nowhere else.
+    // Whatever the streams hold: something is to be saved where a reply was `ok`, and nowhere else; and
+    // where all or none are to be done, where no reply is a refusal.
     ensures done { IfOk result
-        (λ accepted. SomeDoneWith accepted pool.now session.old session.new) }
+        (λ end. SomeDoneTo is_all_or_none end pool.now session.old session.new) }
     ensures ends { Ends result pool.now (S.remaining source.old) (S.remaining source.new)
         (S.has_failed source.new) session.old session.new
         (K.contents sink.old) (K.contents sink.new) (K.has_failed sink.new) }
@@ -110,11 +115,13 @@ pub fn accepted_in<S: Source, K: Sink>(
     let text = ReplyText::new(alloc)?;
     let mut piece = vec![in alloc; 0u8; PIECE]?;
     let pending = PendingLine::new(alloc)?;
+    let tally = Tally::new();
     let mut batch = BatchState {
         alloc,
         pending,
         text,
-        has_accepted: false,
+        tally,
+        lines: 0,
     };
     answer_all(
         &mut batch,
@@ -124,7 +131,14 @@ pub fn accepted_in<S: Source, K: Sink>(
         session,
         pool,
     )?;
-    Ok(batch.has_accepted)
+    let BatchState {
+        alloc: _,
+        pending: _,
+        text: _,
+        tally,
+        lines,
+    } = batch;
+    Ok(tally.end(is_all_or_none, lines))
 }
 
 /// Answers each line of the input.
@@ -142,11 +156,11 @@ fn answer_all<S: Source, K: Sink>(
     requires sink { K.has_failed sink.old ≡ false }
     ensures advances { OnOk result (IfSome (S.remaining source.old) (λ input.
         Advances pool.now (commands_of input)
-        (standing session.old (K.contents sink.old) batch.old.has_accepted)
-        (standing session.new (K.contents sink.new) batch.new.has_accepted))) }
+        (standing session.old (K.contents sink.old) batch.old.tally)
+        (standing session.new (K.contents sink.new) batch.new.tally))) }
     ensures done { OnOk result (SomeAdvance pool.now
-        (standing session.old (K.contents sink.old) batch.old.has_accepted)
-        (standing session.new (K.contents sink.new) batch.new.has_accepted)) }
+        (standing session.old (K.contents sink.old) batch.old.tally)
+        (standing session.new (K.contents sink.new) batch.new.tally)) }
     ensures ends { Ends result pool.now (S.remaining source.old) (S.remaining source.new)
         (S.has_failed source.new) session.old session.new
         (K.contents sink.old) (K.contents sink.new) (K.has_failed sink.new) }
@@ -165,8 +179,8 @@ fn answer_last<K: Sink>(
 ) -> Result<(), BatchFault>
     requires { K.has_failed sink.old ≡ false }
     ensures { Answers result pool.now (commands_of batch.old.pending)
-        (standing session.old (K.contents sink.old) batch.old.has_accepted)
-        (standing session.new (K.contents sink.new) batch.new.has_accepted)
+        (standing session.old (K.contents sink.old) batch.old.tally)
+        (standing session.new (K.contents sink.new) batch.new.tally)
         (K.has_failed sink.new) }
 {
     let line = batch.pending.as_bytes();
@@ -191,8 +205,8 @@ fn answer_lines<S: Source, K: Sink>(
     requires sink { K.has_failed sink.old ≡ false }
     ensures reads { OnOk result (Reads pool.now
         (S.remaining source.old) batch.new.pending (S.remaining source.new)
-        (standing session.old (K.contents sink.old) batch.old.has_accepted)
-        (standing session.new (K.contents sink.new) batch.new.has_accepted)) }
+        (standing session.old (K.contents sink.old) batch.old.tally)
+        (standing session.new (K.contents sink.new) batch.new.tally)) }
     ensures ends { Ends result pool.now (S.remaining source.old) (S.remaining source.new)
         (S.has_failed source.new) session.old session.new
         (K.contents sink.old) (K.contents sink.new) (K.has_failed sink.new) }
@@ -239,12 +253,12 @@ fn answer_piece<K: Sink>(
     requires { K.has_failed sink.old ≡ false }
     ensures answers { OnOk result (AnswersAllBut pool.now
         (batch.old.pending ++ piece.now) batch.new.pending
-        (standing session.old (K.contents sink.old) batch.old.has_accepted)
-        (standing session.new (K.contents sink.new) batch.new.has_accepted)) }
+        (standing session.old (K.contents sink.old) batch.old.tally)
+        (standing session.new (K.contents sink.new) batch.new.tally)) }
     ensures unbroken { OnOk result (IsUnbroken batch.new.pending) }
     ensures breaks { OnErr result (Breaks pool.now (batch.old.pending ++ piece.now)
-        (standing session.old (K.contents sink.old) batch.old.has_accepted)
-        (standing session.new (K.contents sink.new) batch.new.has_accepted)) }
+        (standing session.old (K.contents sink.old) batch.old.tally)
+        (standing session.new (K.contents sink.new) batch.new.tally)) }
     ensures sink { IsOfSink result (K.has_failed sink.new) }
 {
     let mut rest = piece;
@@ -280,7 +294,7 @@ fn line_end(bytes: &[u8]) -> Option<usize>
     memchr::memchr(b'\n', bytes)
 }
 
-/// Does the command of the line, and writes the reply. A blank line has none.
+/// Does the command of the line, and writes the reply. A blank line has none, but counts.
 fn answer_line<K: Sink>(
     batch: &mut BatchState,
     is_ended: bool,
@@ -291,31 +305,40 @@ fn answer_line<K: Sink>(
     requires { K.has_failed sink.old ≡ false }
     ensures { Answers result pool.now
         (option_to_list (item_of (record { bytes = batch.old.pending; is_ended = is_ended })))
-        (standing session.old (K.contents sink.old) batch.old.has_accepted)
-        (standing session.new (K.contents sink.new) batch.new.has_accepted)
+        (standing session.old (K.contents sink.old) batch.old.tally)
+        (standing session.new (K.contents sink.new) batch.new.tally)
         (K.has_failed sink.new) }
 {
     let alloc = batch.alloc;
+    batch.lines = next_line(batch);
     match read_item(alloc, batch.pending.as_bytes(), is_ended) {
         Ok(None) => Ok(()),
-        Ok(Some(item)) => send(batch, &reply_to(alloc, item, session, pool), sink),
-        Err(AllocError) => send(batch, &Reply::Refused(Refusal::OutOfMemory), sink),
+        Ok(Some(item)) => send(batch, reply_to(alloc, item, session, pool), sink),
+        Err(AllocError) => send(batch, Reply::Refused(Refusal::OutOfMemory), sink),
+    }
+}
+
+/// The number of the line that is read now. Behind a refusal it stays.
+fn next_line(batch: &BatchState) -> usize {
+    if batch.tally.has_refused() {
+        batch.lines
+    } else {
+        batch.lines.saturating_add(1)
     }
 }
 
 /// Writes a reply.
-fn send<K: Sink>(batch: &mut BatchState, reply: &Reply, sink: &mut K) -> Result<(), BatchFault>
+fn send<K: Sink>(batch: &mut BatchState, reply: Reply, sink: &mut K) -> Result<(), BatchFault>
     requires { K.has_failed sink.old ≡ false }
     ensures reply { OnOk result
-        (Appends (K.contents sink.old) (K.contents sink.new) (text_of_reply reply.now)) }
-    ensures accepted { OnOk result
-        (batch.new.has_accepted ≡ (batch.old.has_accepted || is_accepted reply.now)) }
+        (Appends (K.contents sink.old) (K.contents sink.new) (text_of_reply reply)) }
+    ensures tally { OnOk result (batch.new.tally ≡ with_reply batch.old.tally reply) }
     ensures cut_off { OnErr result
-        (IsCutOff (text_of_reply reply.now) (K.contents sink.old) (K.contents sink.new)) }
+        (IsCutOff (text_of_reply reply) (K.contents sink.old) (K.contents sink.new)) }
     ensures sink { IsOfSink result (K.has_failed sink.new) }
 {
-    batch.has_accepted = batch.has_accepted || is_accepted(reply);
-    batch.text.set(reply);
+    batch.text.set(&reply);
+    batch.tally.count(reply);
     write_all(sink, batch.text.as_bytes())
 }
 

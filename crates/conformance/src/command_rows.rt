@@ -111,6 +111,9 @@ fn push_edit_inputs(text: &mut GrowingText, inputs: EditInputs<'_>) {
     if inputs.keeps_locked {
         text.push_str(" kept");
     }
+    if inputs.only_if_needed {
+        text.push_str(" if needed");
+    }
 }
 
 /// Pushes the question of `why`.
@@ -137,7 +140,10 @@ fn push_question(text: &mut GrowingText, question: &Question<'_>) {
 /// Pushes what words ask for.
 fn push_subcommand(text: &mut GrowingText, subcommand: Subcommand<'_>) {
     match subcommand {
-        Subcommand::Init(inputs) => push_inputs(text, "init", &inputs),
+        Subcommand::Init(inputs, saving) => {
+            push_inputs(text, "init", &inputs);
+            push_saving(text, saving);
+        }
         Subcommand::Edit(edit, inputs, saving) => {
             push_edit(text, &edit);
             push_edit_inputs(text, inputs);
@@ -156,8 +162,12 @@ fn push_subcommand(text: &mut GrowingText, subcommand: Subcommand<'_>) {
             text.push_str("redo");
             push_saving(text, saving);
         }
-        Subcommand::Batch(inputs) => {
-            text.push_str("batch");
+        Subcommand::Batch(inputs, is_all_or_none) => {
+            text.push_str(if is_all_or_none {
+                "batch all or none"
+            } else {
+                "batch"
+            });
             push_edit_inputs(text, inputs);
         }
         Subcommand::Try(inputs) => push_inputs(text, "try", &inputs),
@@ -220,12 +230,12 @@ fn push_view(text: &mut GrowingText, view: Subcommand<'_>) {
             push_format(text, format);
         }
         // these are pushed before
-        Subcommand::Init(_)
+        Subcommand::Init(_, _)
         | Subcommand::Edit(_, _, _)
         | Subcommand::Replace(_, _, _)
         | Subcommand::Undo(_)
         | Subcommand::Redo(_)
-        | Subcommand::Batch(_)
+        | Subcommand::Batch(_, _)
         | Subcommand::Try(_)
         | Subcommand::Skipped(_)
         | Subcommand::Why(_, _) => {}

@@ -10,17 +10,17 @@ use Rattle.states.specs.declared.refusal.Refusal.{Refusal}
 use Rattle.states.specs.declared.refusal.Refusal.TheVariants.{NothingChanges, OutOfMemory}
 use Rattle.states.specs.declared.target.Target.{Target}
 use Rattle.edits.specs.Edits.{EditResult, Locks, lines_after, problem_for, problems_after, refusal_of}
-use Rattle.edits.specs.KeptVersions.{kept_for, kept_of}
+use Rattle.edits.specs.Tied.KeptVersions.{kept_for, kept_of}
 use Rattle.edits.specs.Refused.{or_refused, refused_by_lines, refused_by_locks}
 use Rattle.edits.specs.declared.request.Edit.{Edit}
 use Rattle.edits.proofs.KeepFacts.{givens-after}
 use Rattle.edits.proofs.Refusals.{accepted}
 
 -- the edit is not refused, these are its lines, and these its targets before they are locked
-pub record IsAccepted (state : StateParts) (edit : Edit) (lines : List (List ℕ)) (all : List Unlocked) : Type 0 where
+pub record IsAccepted (state : StateParts) (edit : Edit) (pool : PoolParts) (lines : List (List ℕ)) (all : List Unlocked) : Type 0 where
   pub lines_are : or_refused (refused_by_lines state.lines edit) (lines_after state.lines edit) ≡ Ok lines
   pub locks : refused_by_locks state.targets edit ≡ None
-  pub kept : map kept_of all ≡ map (kept_for edit) state.targets
+  pub kept : map kept_of all ≡ map (kept_for pool.index edit) state.targets
 
 from-locked : (lines : List (List ℕ)) (edit : Edit) (pool : PoolParts) (old new : List Target) → AllZip IsTargetLocked (map (problem_for lines edit pool) old) new
     → AllZip IsSameTarget old new
@@ -29,7 +29,7 @@ from-locked lines edit pool [] (y ∷ ys) zip = zip
 from-locked lines edit pool (x ∷ xs) [] zip = zip
 from-locked lines edit pool (x ∷ xs) (y ∷ ys) zip = (record { name = zip.0.name; environment = zip.0.environment }, from-locked lines edit pool xs ys zip.1)
 
-module _ (state : StateParts) (edit : Edit) (pool : PoolParts) (lines : List (List ℕ)) (all : List Unlocked) (a : IsAccepted state edit lines all) where
+module _ (state : StateParts) (edit : Edit) (pool : PoolParts) (lines : List (List ℕ)) (all : List Unlocked) (a : IsAccepted state edit pool lines all) where
   -- its problems are those of the definition
   pub problems-so : (refusal_of state edit ≡ None) × (map (given_for lines pool) all ≡ problems_after state edit pool)
   problems-so =

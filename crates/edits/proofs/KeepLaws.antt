@@ -26,19 +26,19 @@ locked-targets (Some refusal) state new edit index result = absurd cc
 locked-targets None state new edit index result = result.0.targets
 
 module _ (keep : SolutionsKeepAll) (spelled : AKeptVersionIsThatOfItsRelease) where
-  target-keeps : (lines : List (List ℕ)) (edit : Edit) (index : Index) (old new : Target) → IsTargetLocked (problem_for lines edit (kept_alone index) old) new → KeepsPins edit old new
+  target-keeps : (lines : List (List ℕ)) (edit : Edit) (index : Index) (old new : Target) → IsTargetLocked (problem_for lines edit (kept_alone index) old) new → KeepsPins index edit old new
   target-keeps lines edit index old new locked =
       let given : ProblemParts = (problem_for lines edit (kept_alone index) old).1 in
       let keeps : KeepsAll given (version_for (versions_of new.lock.entries)) = ((keep given (version_for (versions_of new.lock.entries))).0 locked.lock.best.solution).1 in
       λ name kept version there has. spelled given name kept version there (keeps name version has (rw there refl))
 
-  targets-keep : (lines : List (List ℕ)) (edit : Edit) (index : Index) (old new : List Target) → AllZip IsTargetLocked (map (problem_for lines edit (kept_alone index)) old) new → AllZip (KeepsPins edit) old new
+  targets-keep : (lines : List (List ℕ)) (edit : Edit) (index : Index) (old new : List Target) → AllZip IsTargetLocked (map (problem_for lines edit (kept_alone index)) old) new → AllZip (KeepsPins index edit) old new
   targets-keep lines edit index [] [] zip = zip
   targets-keep lines edit index [] (y ∷ ys) zip = zip
   targets-keep lines edit index (x ∷ xs) [] zip = zip
   targets-keep lines edit index (x ∷ xs) (y ∷ ys) zip = (target-keeps lines edit index x y zip.0, targets-keep lines edit index xs ys zip.1)
 
-  pub pins-kept : (state new : StateParts) (edit : Edit) (index : Index) → EditResult state edit (kept_alone index) (Ok new) → AllZip (KeepsPins edit) state.targets new.targets
+  pub pins-kept : (state new : StateParts) (edit : Edit) (index : Index) → EditResult state edit (kept_alone index) (Ok new) → AllZip (KeepsPins index edit) state.targets new.targets
   pins-kept state new edit index result = targets-keep (lines_after state.lines edit) edit index state.targets new.targets (locked-targets (refusal_of state edit) state new edit index result)
 
 -- ---- what keeps all is found

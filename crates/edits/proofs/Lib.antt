@@ -1,6 +1,7 @@
 pub mod Additions
 pub mod ChangedLines
 pub mod EditFacts
+pub mod GreatestPins
 pub mod KeepFacts
 pub mod KeepLaws
 pub mod KeptStay

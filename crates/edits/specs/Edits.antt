@@ -37,7 +37,7 @@ Locks old givens lines (Err refusal) =
 
 -- the problem that a history begins with in a named environment: the versions that are handed in for its target are kept
 abbrev pub first_problem : List (List ℕ) → List TargetPins → Index → List ℕ × Texts → List ℕ × ProblemParts
-first_problem lines pins index target = (target.0, given_of lines target.1 (whole index) (newer_of [] (pins_for pins target.0)))
+first_problem lines pins index target = (target.0, given_of lines target.1 (whole index) (newer_of index [] (pins_for pins target.0)))
 
 -- what a history of these lines begins with in named environments, where these versions are handed in: there is no old state
 abbrev pub FirstResult : List (List ℕ) → List (List ℕ × Texts) → List TargetPins → Index → Result StateParts Refusal → Type 0
@@ -63,18 +63,18 @@ lines_after lines edit = lines
 abbrev pub without_pins : List (List ℕ) → List (List ℕ × VersionParts) → List (List ℕ × VersionParts)
 without_pins names pins = filter (λ pin. not (list_any (bytes_eq pin.0) names)) pins
 
--- the versions that an edit keeps for a target: those of its lock, without those that an upgrade drops, or with newer ones that are
--- handed in for it
-abbrev pub kept_pins : Target → Edit → List (List ℕ × VersionParts)
-kept_pins target (Upgrade names) = without_pins (map normal_of names) (versions_of target.lock.entries)
-kept_pins target UpgradeAll = []
-kept_pins target (Replace lines pins) = newer_of (versions_of target.lock.entries) (pins_for pins target.name)
-kept_pins target edit = versions_of target.lock.entries
+-- the versions that an edit over an index keeps for a target: those of its lock, without those that an upgrade drops, or with newer
+-- ones that are handed in for it
+abbrev pub kept_pins : Index → Target → Edit → List (List ℕ × VersionParts)
+kept_pins index target (Upgrade names) = without_pins (map normal_of names) (versions_of target.lock.entries)
+kept_pins index target UpgradeAll = []
+kept_pins index target (Replace lines pins) = newer_of index (versions_of target.lock.entries) (pins_for pins target.name)
+kept_pins index target edit = versions_of target.lock.entries
 
 -- the problem whose best solution an edit locks for a target, under its name: that of the lines after the edit in the target's
 -- environment over the index, with the versions that the edit keeps for the target, alone or before others
 abbrev pub problem_for : List (List ℕ) → Edit → PoolParts → Target → List ℕ × ProblemParts
-problem_for lines edit pool target = (target.name, given_of lines target.environment pool (kept_pins target edit))
+problem_for lines edit pool target = (target.name, given_of lines target.environment pool (kept_pins pool.index target edit))
 
 -- the problems of an edit, one for each target
 abbrev pub problems_after : StateParts → Edit → PoolParts → List (List ℕ × ProblemParts)

@@ -5,7 +5,7 @@ pub mod Refused
 pub mod ExchangedLine
 pub mod Pins
 pub mod Edits
-pub mod KeptVersions
 pub mod Questions
 pub mod Laws
 pub mod ReplaceLaws
+pub mod Tied

@@ -89,7 +89,7 @@ pub fn init_keeping<R: Resolver>(
     ensures err { IfErr result (λ refusal. (refusal ≡ OutOfMemory)
         ⊎ FirstResult lines first.targets first.pins snapshot.now (Err refusal)) }
 {
-    let targets = all_first(alloc, first)?;
+    let targets = all_first(alloc, first, snapshot)?;
     with_locks(alloc, lines, targets, &Pool::whole(snapshot), resolver)
 }
 
@@ -153,7 +153,7 @@ pub fn problem_after<'a>(
         ⊎ (refusal_of state.now edit.now ≡ Some refusal)) }
 {
     let after = lines_after(alloc, state.lines(), edit)?;
-    let targets = unlocked(alloc, state, edit)?;
+    let targets = unlocked(alloc, state, edit, pool)?;
     let problems = problems_for(alloc, &after, targets, pool)?;
     Ok(problems)
 }
@@ -176,7 +176,7 @@ pub fn edit<R: Resolver>(
         ⊎ EditResult state.now edit.now pool.now (Err refusal)) }
 {
     let lines = lines_after(alloc, state.lines(), edit)?;
-    let targets = unlocked(alloc, state, edit)?;
+    let targets = unlocked(alloc, state, edit, pool)?;
     let edited = with_locks(alloc, lines, targets, pool, resolver)?;
     let change = change_between(alloc, state, &edited)?;
     if change.is_empty() {

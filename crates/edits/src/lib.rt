@@ -29,7 +29,7 @@ pub use crate::edit_result::{edit, init, init_keeping, problem_after};
 pub use crate::exchanged_line::with_line_exchanged;
 pub use crate::first_targets::FirstTargets;
 pub use crate::pins::TargetPins;
-pub use crate::questions::{problems_of_init, problems_with};
+pub use crate::questions::{problem_keeping, problems_of_init, problems_with};
 pub use crate::request::{Edit, Edited};
 pub use changes::{Change, DigestChange, EntryChange, Splice, difference};
 pub use pep508::{Cause, Environment, Fault, Line, Name, ReqFile, Requirement};

@@ -14,10 +14,11 @@ use crate::first_targets::FirstTargets;
 use crate::kept_versions::{all_first, unlocked};
 use crate::request::Edit;
 use lists::{Seq, Text};
-use pep508::ReqFile;
+use pep440::Version;
+use pep508::{Name, ReqFile};
 use resolve::Problem;
 use snapshot::Snapshot;
-use states::{Pool, Refusal, State, TargetName};
+use states::{Pool, Refusal, State, Target, TargetName};
 use std::alloc::Global;
 
 /// The problems whose best solutions `init` would lock for the lines after the edit, over the snapshot:
@@ -37,7 +38,7 @@ pub fn problems_of_init<'a>(
         ⊎ (refused_by_lines lines.now edit.now ≡ Some refusal)) }
 {
     let after = lines_after(alloc, lines, edit)?;
-    let targets = all_first(alloc, first)?;
+    let targets = all_first(alloc, first, snapshot)?;
     let problems = problems_for(alloc, &after, targets, &Pool::whole(snapshot))?;
     Ok(problems)
 }
@@ -72,7 +73,30 @@ pub fn problems_with<'a>(
         ⊎ (spec.refused_requirement (requirement_in requirement.now) ≡ Some refusal)) }
 {
     let more = with_requirement(alloc, state.lines(), requirement)?;
-    let targets = unlocked(alloc, state, &Edit::Relock)?;
-    let problems = problems_for(alloc, &more, targets, &Pool::whole(snapshot))?;
+    let pool = Pool::whole(snapshot);
+    let targets = unlocked(alloc, state, &Edit::Relock, &pool)?;
+    let problems = problems_for(alloc, &more, targets, &pool)?;
     Ok(problems)
+}
+
+/// The problem of a relock of a target that keeps a release in the place of what its lock has of the name, over the
+/// snapshot. The lines are those of the state: so the release is taken where the walk comes to its name, as an
+/// upgrade takes one, and what is taken before it is kept first.
+pub fn problem_keeping<'a>(
+    alloc: Global,
+    state: &State,
+    target: &Target,
+    name: &Name,
+    version: &Version,
+    snapshot: &'a Snapshot,
+) -> Result<Problem<'a>, Refusal>
+    ensures ok { IfOk result (λ problem. problem
+        ≡ spec.problem_keeping state.now target.now name.now version.now snapshot.now) }
+    ensures err { IfErr result (λ refusal. refusal ≡ OutOfMemory) }
+{
+    let mut kept = target.kept(alloc)?;
+    let own = name.clone()?;
+    kept.insert(own, version.clone()?)?;
+    let problem = Problem::new(alloc, state.lines(), &target.environment, snapshot, kept)?;
+    Ok(problem)
 }

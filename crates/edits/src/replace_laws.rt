@@ -17,7 +17,7 @@ pub fn replacing_lines_by_themselves_is_a_relock()
     ensures { ReplacingLinesByThemselvesIsARelock }
 {}
 
-/// Nothing newer comes in unasked: where versions that are kept are a solution, the lock has these and no others.
+/// Where versions that are kept are a solution, the lock has these and no others.
 pub fn kept_versions_that_fit_stay()
     ensures { KeptVersionsThatFitStay }
 {}

@@ -24,8 +24,9 @@ pub enum Edit {
     UpgradeAll,
     /// Resolves again.
     Relock,
-    /// Puts the lines of another file in the place of all lines. Of the versions that a target's lock has
-    /// and of those that are handed in for the target the newer ones are kept.
+    /// Puts the lines of another file in the place of all lines. Of the versions that a target's lock has and
+    /// of those that are handed in for the target, of each name, the newest that the index has is kept, or
+    /// else the newest.
     Replace(ReqFile, Seq<TargetPins>),
 }
 

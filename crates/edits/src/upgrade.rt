@@ -4,7 +4,7 @@ ghost use Rattle.lists.specs.Answers.{Answers};
 ghost use Rattle.std.specs.Prelude.{◌≡◌, ◌⊎◌, not, find, map, IfOk, IfErr, None, Some, Ok, Err, if◌then◌else◌};
 ghost use Rattle.std.specs.List.{list_all};
 ghost use Rattle.std.specs.Option.{option_copied};
-ghost use Rattle.edits.specs.KeptVersions.{named_in};
+ghost use Rattle.edits.specs.Tied.KeptVersions.{named_in};
 ghost use Rattle.edits.specs.Refused.{is_locked_for, refused_by_locks, refused_upgrade};
 ghost use Rattle.states.specs.declared.refusal.Refusal.TheVariants.{BadText, OutOfMemory};
 ghost use Rattle.markers.specs.Names.{is_name, normal_of};

@@ -1,6 +1,6 @@
 -- The rules are the same where the answers are.
 use Rattle.std.proofs.Common.{◌≡◌, ◌∙◌, ◌&&◌, ◌||◌, ◌⊎◌, not, inl, inr, ℕ, Bool, true, false, List, [], ◌∷◌, ◌++◌, Option, Some, None, Result, Ok, Err, find, filter, refl, ap, subst, sym, if◌then◌else◌}
-use Rattle.std.specs.List.{AllByRecursion, list_any}
+use Rattle.std.specs.List.{AllByRecursion, Contains, list_any}
 use Rattle.std.specs.Option.{option_map_or}
 use Rattle.std.specs.Str.{bytes_eq}
 use Rattle.std.proofs.lemmas.Bool.{cases_Bool}
@@ -12,14 +12,16 @@ use Rattle.pep440.specs.Matching.{matches, names_pre, pins}
 use Rattle.pep440.specs.Version.{VersionParts, is_pre}
 use Rattle.pep440.specs.declared.specifier.Clause.{Clause}
 use Rattle.pep508.specs.Requirement.{RequirementParts, applies, requirement_of}
-use Rattle.problems.specs.Admission.{admits, admits_release, fits, has_final, has_version, is_final, is_said}
-use Rattle.problems.specs.Problem.{active_in, requirements}
+use Rattle.problems.specs.Admission.{admits, admits_release, fits, has_final, has_version, is_final, is_said, release_at}
+use Rattle.problems.specs.Problem.{ProblemParts, active_in, requirements}
 use Rattle.problems.specs.Rules.{candidates, counts, nodes_of, rules_of, wants, wants_of}
 use Rattle.problems.specs.declared.node.Node.{Node}
 use Rattle.search.specs.Rules.{Rules}
-use Rattle.search.specs.Solutions.{IsBest}
+use Rattle.pylock.specs.Packages.{EntryParts}
+use Rattle.search.specs.Solutions.{IsBest, Needed}
 use Rattle.snapshot.specs.Packages.{Index, is_named, releases_of}
 use Rattle.snapshot.specs.Release.{Release}
+use Rattle.states.specs.Locks.{IsDependency, IsEntry, python_text, sdist_of, wheels_of}
 use Rattle.snapshot.specs.declared.package.Package.{Package}
 use Rattle.exports.specs.Alike.{AnswersAlike, LineAlike, MarkerAlike, ReleaseAlike, WantedAlike, marker_in}
 use Rattle.exports.specs.Laws.{Asking, HasSameBest, problem_in}
@@ -114,12 +116,45 @@ rules-same asking environment other h = λ i. record {
   compare = (rules_of (problem_in asking environment)).compare;
 }
 
+-- ---- what is locked
+
+dependency-moves : (given other : ProblemParts) (s : List ℕ → Option VersionParts) (own name : List ℕ) → rules_of given ≡ rules_of other → IsDependency given s own name → IsDependency other s own name
+dependency-moves given other s own name same d = record {
+  other = d.other;
+  node = d.node;
+  on = d.on;
+  needed = subst (λ (rules : Rules (List ℕ) Node VersionParts RequirementParts). Needed rules s d.node) same d.needed;
+  version = d.version;
+  picked = d.picked;
+  wanted = d.wanted;
+  counts = subst (λ (rules : Rules (List ℕ) Node VersionParts RequirementParts). Contains (rules.wants d.node d.version) d.wanted) same d.counts;
+  named = d.named;
+}
+
+entry-moves : (given other : ProblemParts) (s : List ℕ → Option VersionParts) (e : EntryParts) → given.index ≡ other.index → rules_of given ≡ rules_of other → IsEntry given s e → IsEntry other s e
+entry-moves given other s e indexes same k =
+    let release : release_at given e.name e.version ≡ release_at other e.name e.version = ap (λ (index : Index). find (has_version e.version) (releases_of e.name index.packages)) indexes in record {
+      python = k.python ∙ ap python_text release;
+      sdist = k.sdist ∙ ap sdist_of release;
+      wheels = k.wheels ∙ ap wheels_of release;
+      rising = k.rising;
+      dependencies = λ name. (
+        λ has. dependency-moves given other s e.name name same ((k.dependencies name).0 has),
+        λ is. (k.dependencies name).1 (dependency-moves other given s e.name name (sym same) is),
+      );
+    }
+
 pub best-same : (lines : List (List ℕ)) (index : Index) (environment other : Texts) → AnswersAlike lines index environment other → HasSameBest lines index environment other
 best-same lines index environment other h kept only s =
     let asking : Asking = record { lines = lines; index = index; kept = kept; only_kept = only } in
-    let same : rules_of (problem_in asking environment) ≡ rules_of (problem_in asking other) = rules-same asking environment other h in (
-      λ best. subst (λ (rules : Rules (List ℕ) Node VersionParts RequirementParts). IsBest rules s) same best,
-      λ best. subst (λ (rules : Rules (List ℕ) Node VersionParts RequirementParts). IsBest rules s) (sym same) best,
+    let here : ProblemParts = problem_in asking environment in
+    let there : ProblemParts = problem_in asking other in
+    let same : rules_of here ≡ rules_of there = rules-same asking environment other h in (
+      (
+        λ best. subst (λ (rules : Rules (List ℕ) Node VersionParts RequirementParts). IsBest rules s) same best,
+        λ best. subst (λ (rules : Rules (List ℕ) Node VersionParts RequirementParts). IsBest rules s) (sym same) best,
+      ),
+      λ e. (λ k. entry-moves here there s e refl same k, λ k. entry-moves there here s e refl (sym same) k),
     )
 
 -- ---- the releases of a name are those of its package

@@ -4,8 +4,10 @@ use Rattle.markers.specs.Environment.{Texts}
 use Rattle.pep440.specs.Version.{VersionParts}
 use Rattle.problems.specs.Problem.{ProblemParts, requirements}
 use Rattle.problems.specs.Rules.{rules_of}
+use Rattle.pylock.specs.Packages.{EntryParts}
 use Rattle.search.specs.Solutions.{IsBest}
 use Rattle.snapshot.specs.Packages.{Index}
+use Rattle.states.specs.Locks.{IsEntry}
 use Rattle.exports.specs.Alike.{AnswersAlike}
 
 -- what a lock is made of beside its environment: lines, an index, the versions that are kept, and whether none counts beside them
@@ -30,11 +32,17 @@ abbrev pub RulesAreTheSame : Type 0
 RulesAreTheSame = (asking : Asking) (environment other : Texts)
     → AnswersAlike asking.lines asking.index environment other → rules_of (problem_in asking environment) ≡ rules_of (problem_in asking other)
 
--- the best solution of lines over an index is the same in both environments, whatever versions are kept, alone or before others
+-- two problems have the same best solution, and of it the same is locked for each name: what its release asks of Python, which packages
+-- it needs, and its files
+abbrev pub LockAlike : ProblemParts → ProblemParts → (List ℕ → Option VersionParts) → Type 0
+LockAlike given other s = (IsBest (rules_of given) s ↔ IsBest (rules_of other) s) × ((e : EntryParts) → IsEntry given s e ↔ IsEntry other s e)
+
+-- the best solution of lines over an index is the same in both environments, with all that is locked of it, whatever versions are kept,
+-- alone or before others
 abbrev pub HasSameBest : List (List ℕ) → Index → Texts → Texts → Type 0
 HasSameBest lines index environment other = (kept : List (List ℕ × VersionParts)) (only : Bool) (s : List ℕ → Option VersionParts)
-    → IsBest (rules_of (problem_in (record { lines = lines; index = index; kept = kept; only_kept = only }) environment)) s
-    ↔ IsBest (rules_of (problem_in (record { lines = lines; index = index; kept = kept; only_kept = only }) other)) s
+    → LockAlike (problem_in (record { lines = lines; index = index; kept = kept; only_kept = only }) environment)
+    (problem_in (record { lines = lines; index = index; kept = kept; only_kept = only }) other) s
 
 -- environments that answer alike have the same best solution
 abbrev pub BestIsTheSame : Type 0

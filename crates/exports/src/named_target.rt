@@ -1,17 +1,14 @@
 // Which target is told.
 
-ghost use Rattle.std.specs.Prelude.{◌≡◌, IfSome};
+ghost use Rattle.std.specs.Prelude.{◌≡◌, find};
+ghost use Rattle.std.specs.Option.{option_copied};
+ghost use Rattle.exports.specs.NamedTarget.{has_name};
 
 use states::Target;
 
-/// The target of the name; none where no target has it.
+/// The first target of the name; none exactly where no target has it.
 pub fn target_named<'t>(targets: &'t [Target], name: &str) -> Option<&'t Target>
-    ensures { IfSome result (λ target. target.now.name ≡ name.now) }
+    ensures { option_copied result ≡ find (has_name name.now) targets.now }
 {
-    for target in targets {
-        if target.name.as_str() == name {
-            return Some(target);
-        }
-    }
-    None
+    targets.iter().find(|target| target.name.as_str() == name)
 }

@@ -15,6 +15,6 @@ mod saved_files;
 pub mod saved_history;
 mod stopped_save;
 
-pub use crate::links_out::{LinkOut, link_out};
+pub use crate::links_out::link_out;
 pub use crate::saved_files::SavedFiles;
 pub use crate::stopped_save::{Beside, end_left, remove_left};

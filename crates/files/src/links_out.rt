@@ -1,7 +1,7 @@
 // Links in the places of the files that a first save writes.
 
 use edits::Refusal;
-use inputs::{Fault, InputFile, passed_over, path_of, read_bytes};
+use inputs::{Fault, InputFile, LinkOut, passed_over, path_of, read_bytes};
 use journal::{Journal, Session};
 use lists::Seq;
 use std::alloc::AllocError;
@@ -10,14 +10,6 @@ use std::{fs, io};
 
 // The line with which a lock of reqlock begins.
 const MADE_BY_US: &[u8] = b"created-by = \"reqlock\"\n";
-
-/// A link to what isn't reqlock's, in the place of a file.
-#[derive(Drop)]
-pub struct LinkOut {
-    pub file: InputFile,
-    /// Where it leads.
-    pub place: String,
-}
 
 /// The first of the files that a first save writes whose place is a link to a file that is no lock and no journal
 /// of reqlock: the save would overwrite that one, as a hook of git, which then runs what stands in the lock. It counts

@@ -11,6 +11,7 @@ ghost use Rattle.inputs.specs.declared.input_files.InputFault.TheVariants.{OutOf
 
 use crate::fault::Fault;
 use edits::TargetName;
+use lists::Text;
 use pep508::{Cause, Environment, Fault as LineFault, ReqFile};
 use pylock::Fault as LockFault;
 use snapshot::{Fault as IndexFault, Snapshot};
@@ -47,8 +48,8 @@ pub enum InputFile {
     NewRequirements,
     /// The requirements file as it was before somebody changed the folder's.
     OldRequirements,
-    /// The pins of this target, or of every target.
-    Pins(TargetName),
+    /// The pins of the target of this name, or of every target.
+    Pins(Text),
 }
 
 impl Clone for InputFile {

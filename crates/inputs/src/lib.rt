@@ -17,6 +17,7 @@ mod fault;
 mod folder_lock;
 pub mod handed_in;
 mod input_files;
+mod link_out;
 mod pin_fault;
 mod pin_file;
 mod pinned_version;
@@ -29,5 +30,6 @@ pub use crate::input_files::{
     InputFault, InputFile, NO_REGULAR_FILE, TOO_LONG, path_of, read_bytes, read_environment,
     read_file, read_index, read_requirements,
 };
+pub use crate::link_out::LinkOut;
 pub use crate::pin_fault::PinFault;
 pub use crate::pin_file::PinFile;

@@ -12,7 +12,7 @@ use crate::input_files::{InputFault, InputFile};
 use crate::pin_fault::PinFault;
 use crate::pin_file::PinFile;
 use crate::target_files::parts_of;
-use edits::{Environment, Name, Refusal, TargetName, TargetPins};
+use edits::{Environment, Name, TargetName, TargetPins};
 use lists::{Seq, Text};
 use pep440::Version;
 use std::alloc::{AllocError, Global};
@@ -22,25 +22,25 @@ use std::rt::Files;
 // How many dots any lock may have.
 const MANY_DOTS: usize = 1000;
 
-/// The target that a file of pins is for, and where the file stands. Without a name it is for every target that no
-/// other file is for.
+/// The target that a file of pins is for, by a name which there may be none of, and where the file stands. Without a
+/// name it is for every target that no other file is for.
 #[derive(Drop)]
 pub struct PinsPath {
-    target: TargetName,
+    target: Text,
     path: Text,
 }
 
 /// A file of pins as it was read, and the target that it is for.
 #[derive(Drop)]
 pub struct PinsFile {
-    pub target: TargetName,
+    pub target: Text,
     pub file: PinFile,
 }
 
 /// What a file of pins holds.
 #[derive(Drop)]
 pub struct PinsBytes {
-    target: TargetName,
+    target: Text,
     is_lock: bool,
     bytes: Vec<u8>,
 }
@@ -53,7 +53,7 @@ pub struct PinsTarget<'a> {
 }
 
 /// The files that values of `--pins` name, in their order. No file has been read.
-pub fn pins_paths(alloc: Global, values: &[Text]) -> Result<Vec<PinsPath>, Fault> {
+pub fn pins_paths(alloc: Global, values: &[Text]) -> Result<Vec<PinsPath>, AllocError> {
     let mut paths = Vec::with_capacity(alloc, values.len())?;
     for value in values {
         paths.push(pins_path(alloc, value.as_str())?)?;
@@ -61,17 +61,12 @@ pub fn pins_paths(alloc: Global, values: &[Text]) -> Result<Vec<PinsPath>, Fault
     Ok(paths)
 }
 
-/// The target and the path of a value. No target has a bad name.
-fn pins_path(alloc: Global, value: &str) -> Result<PinsPath, Fault> {
+/// The target and the path of a value.
+fn pins_path(alloc: Global, value: &str) -> Result<PinsPath, AllocError> {
     let (name, path) = parts_of(value);
-    match TargetName::parse(alloc, name) {
-        Ok(target) => Ok(PinsPath {
-            target,
-            path: Text::copy_of(alloc, path)?,
-        }),
-        Err(Refusal::OutOfMemory) => Err(Fault::OutOfMemory),
-        Err(_) => Err(Fault::NoTarget(Text::copy_of(alloc, name)?)),
-    }
+    let target = Text::copy_of(alloc, name)?;
+    let path = Text::copy_of(alloc, path)?;
+    Ok(PinsPath { target, path })
 }
 
 /// The bytes of the files, read in the order of the command line.
@@ -158,8 +153,9 @@ pub fn pins_of(
 ) -> Result<Seq<TargetPins>, Fault> {
     let files = pins_files(alloc, read)?;
     for file in files.as_slice() {
-        if !file.target.is_empty() && !targets.iter().any(|target| *target.name == file.target) {
-            return Err(Fault::NoTarget(Text::copy_of(alloc, file.target.as_str())?));
+        let name = file.target.as_str();
+        if !name.is_empty() && !targets.iter().any(|target| target.name.as_str() == name) {
+            return Err(Fault::NoTarget(file.target.clone()?));
         }
     }
     Ok(pins_for(alloc, files.as_slice(), targets)?)
@@ -169,7 +165,9 @@ pub fn pins_of(
 fn has_own(files: &[PinsFile], target: &TargetName) -> bool
     ensures { result ≡ spec.has_own files.now target.now }
 {
-    files.iter().any(|file| file.target == *target)
+    files
+        .iter()
+        .any(|file| file.target.as_str() == target.as_str())
 }
 
 /// Whether a file is for the target: it names it, or none does and it names no target.
@@ -177,9 +175,9 @@ fn is_for(file: &PinsFile, target: &TargetName, has_own: bool) -> bool
     ensures { result ≡ spec.is_for has_own target.now file.now }
 {
     if has_own {
-        file.target == *target
+        file.target.as_str() == target.as_str()
     } else {
-        file.target.is_empty()
+        file.target.as_str().is_empty()
     }
 }
 

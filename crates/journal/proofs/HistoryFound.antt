@@ -7,7 +7,7 @@ use Rattle.changes.specs.Changes.{ChangeParts, IsMinimal}
 use Rattle.states.specs.State.{IsState}
 use Rattle.states.specs.declared.refusal.Refusal.TheVariants.{JournalBroken}
 use Rattle.journal.specs.Values.{State, Refusal}
-use Rattle.journal.specs.Neighbours.{IsHistory, states_of}
+use Rattle.journal.specs.Tied.Neighbours.{IsHistory, states_of}
 use Rattle.journal.specs.Opens.{IsAnswer, GoesOn, PastOf, StatesBefore, StatesBehind}
 use Rattle.journal.proofs.Neighbours.{IsFound, found}
 use Rattle.journal.proofs.StatesLawful.{lawful-joined}

@@ -13,7 +13,7 @@ use Rattle.states.proofs.EntryFacts.{not-below, rises-above, rises-rest}
 use Rattle.journal.specs.Values.{Target}
 use Rattle.journal_format.specs.Lines.{has_target}
 use Rattle.journal.specs.Locks.{LockTexts, is_kept, lock_at, lost_lock, odd_lock, stray_lock}
-use Rattle.journal.specs.LocksWritten.{IsWrittenLock}
+use Rattle.journal.specs.Tied.LocksWritten.{IsWrittenLock}
 use Rattle.journal.specs.Opens.{TargetsRead}
 use Rattle.journal.specs.Saved.{targets_for}
 use Rattle.journal_format.specs.declared.header.Header.{Header}

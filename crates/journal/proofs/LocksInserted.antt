@@ -11,7 +11,7 @@ use Rattle.lists.proofs.Members.{Contains-map_of}
 use Rattle.states.proofs.EntryFacts.{rises-above, rises-rest}
 use Rattle.journal.specs.Values.{Target}
 use Rattle.journal.specs.Locks.{LockTexts}
-use Rattle.journal.specs.LocksWritten.{AreLocked, IsInserted, IsWrittenLock}
+use Rattle.journal.specs.Tied.LocksWritten.{AreLocked, IsInserted, IsWrittenLock}
 use Rattle.journal.specs.Saved.{IsLockFile, target_for, targets_for}
 use Rattle.journal.specs.declared.saved.Locked.{Locked}
 use Rattle.journal.proofs.LocksAgain.{names}

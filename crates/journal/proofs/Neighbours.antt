@@ -10,7 +10,7 @@ use Rattle.changes.proofs.ChangeFacts.{After-inverse, IsMinimal-inverse}
 use Rattle.changes.proofs.OneOutcome.{After-one}
 use Rattle.journal.specs.Values.{State}
 use Rattle.journal.specs.Changes.{AreSteps, IsChange}
-use Rattle.journal.specs.Neighbours.{IsHistory, states_of, states_on, with_before}
+use Rattle.journal.specs.Tied.Neighbours.{IsHistory, states_of, states_on, with_before}
 use Rattle.journal.proofs.Histories.{AreSteps-at, AreSteps-count, AreSteps-pushed, last-get}
 use Rattle.journal.proofs.StepsJoined.{all-append, all-take}
 

@@ -23,7 +23,7 @@ use Rattle.journal_format.specs.Forms.{json_of}
 use Rattle.journal_format.specs.Lines.{IsStepLine, are_targets, header_of_line, step_of_line}
 use Rattle.journal_format.specs.Written.{header_data, line_of, step_data}
 use Rattle.journal.specs.Locks.{LockTexts, odd_lock}
-use Rattle.journal.specs.LocksWritten.{IsLawfulTarget, IsWrittenLock}
+use Rattle.journal.specs.Tied.LocksWritten.{IsLawfulTarget, IsWrittenLock}
 use Rattle.journal.specs.Opens.{Agrees, BeginsWith, Fit, IsAnswer, NamesEnvironment, Opens, Present, StepLines}
 use Rattle.journal.specs.Saved.{IsSaved, OpensAs, header_for, targets_for}
 use Rattle.journal.specs.Tied.{AreWritten, IsWritten}

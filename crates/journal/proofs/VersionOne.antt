@@ -12,7 +12,7 @@ use Rattle.states.specs.State.{IsState}
 use Rattle.pylock.proofs.CanonicalBack.{ReadsVersions}
 use Rattle.journal.specs.Values.{State, Target}
 use Rattle.journal.specs.Changes.{AreSteps, HistoryParts, IsChange}
-use Rattle.journal.specs.LocksWritten.{IsLawfulTarget, IsWrittenLock}
+use Rattle.journal.specs.Tied.LocksWritten.{IsLawfulTarget, IsWrittenLock}
 use Rattle.journal.specs.Opens.{BeginsWith, Opens, StepLines}
 use Rattle.journal.specs.Saved.{header_for, target_for, targets_for}
 use Rattle.journal.specs.Tied.{IsWritten}

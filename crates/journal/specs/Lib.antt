@@ -7,10 +7,8 @@ pub mod Steps
 pub mod Places
 pub mod Histories
 pub mod Laws
-pub mod Neighbours
 pub mod Locks
 pub mod Saved
-pub mod LocksWritten
 pub mod Opens
 pub mod Tied
 pub mod VersionOne

@@ -1,4 +1,6 @@
 -- What serves the proofs alone. Tied to `Opens` by the contracts of `Journal::read`, `Session::open` and `Session::save`; need not be read.
+pub mod Neighbours
+pub mod LocksWritten
 use Rattle.std.specs.Prelude.{◌≡◌, ◌⊎◌, ◌≤◌, true, ℕ, List, Option, Some, None, IsSomeAnd, ⊤, Result, Ok, Err, drop, length}
 use Rattle.std.specs.List.{AllByRecursion}
 use Rattle.std.specs.Str.{is_utf8}

@@ -4,7 +4,7 @@ ghost use Rattle.std.specs.Prelude.{◌≡◌, ◌+◌, ◌-◌, ◌<◌, ◌≤
 ghost use Rattle.std.specs.List.{AllByRecursion};
 ghost use Rattle.states.specs.State.{IsState};
 ghost use Rattle.journal.specs.Changes.{AreSteps, with_change};
-ghost use Rattle.journal.specs.Neighbours.{IsHistory, states_of};
+ghost use Rattle.journal.specs.Tied.Neighbours.{IsHistory, states_of};
 ghost use Rattle.journal.specs.Past.{starts};
 
 use crate::history::History;
@@ -32,7 +32,7 @@ impl Drop for ChangeHistory {
 
 impl Model for ChangeHistory {
     ghost use Rattle.journal.specs.Changes.{HistoryParts};
-    ghost use Rattle.journal.specs.Neighbours.{IsHistory, states_of};
+    ghost use Rattle.journal.specs.Tied.Neighbours.{IsHistory, states_of};
 
     ghost Value = { HistoryParts };
 

@@ -17,7 +17,7 @@ ghost use Rattle.journal_format.specs.Written.{header_data, journal_of, line_of,
 ghost use Rattle.journal.specs.Changes.{parts_of};
 ghost use Rattle.journal.specs.Saved.{IsSaved, OpensAs};
 ghost use Rattle.journal.specs.Tied.{AreWritten, IsWritten};
-ghost use Rattle.journal.specs.LocksWritten.{AreLocked, IsLawfulTarget, IsInserted};
+ghost use Rattle.journal.specs.Tied.LocksWritten.{AreLocked, IsLawfulTarget, IsInserted};
 
 use crate::history::History;
 use edits::laws::a_change_leads_to_one_state;

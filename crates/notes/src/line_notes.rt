@@ -1,5 +1,6 @@
 // What is told of lines of a requirements file that don't read: where, why, and what to write in their place.
 
+use crate::clause_notes::add_clause_note;
 use crate::file_form::is_conflict_mark;
 use crate::near_variable::mistyped_variable;
 use edits::{Cause, Line};
@@ -69,7 +70,8 @@ pub fn add_line_note(
         return text.push_str("\n");
     }
     match cause {
-        Cause::Specifier(SpecifierFault::BadClause(_)) => add_clause_note(text, line.trim()),
+        Cause::UrlRequirement => add_at_note(alloc, text, line.trim()),
+        Cause::Specifier(SpecifierFault::BadClause(_)) => add_clause_note(alloc, text, line.trim()),
         Cause::BadMarker => add_marker_note(alloc, text, line),
         _ => Ok(()),
     }
@@ -95,7 +97,7 @@ fn known_note(line: &str, cause: Cause) -> Option<&'static str> {
     }
     if line.contains("git+") || line.contains("://") {
         return Some(
-            "reqlock locks releases of an index: put a wheel of it where reqlock-snapshot finds it, and write the name.",
+            "That is a URL, and reqlock locks releases of an index: put a wheel of it where reqlock-snapshot finds it, and write the name.",
         );
     }
     match cause {
@@ -104,6 +106,28 @@ fn known_note(line: &str, cause: Cause) -> Option<&'static str> {
             "Write == in the place of ===.",
         ),
         _ => None,
+    }
+}
+
+/// The comparison that is meant by a single `@` in front of a version, which is that of a URL.
+fn add_at_note(alloc: Global, text: &mut String, line: &str) -> Result<(), AllocError> {
+    let fixed = line.replace(alloc, "@", "==")?;
+    if !is_read(alloc, fixed.as_str())? {
+        return text.push_str(
+            "What stands behind @ is a URL, and reqlock locks releases of an index: write the name.\n",
+        );
+    }
+    text.push_str("Write == in the place of @, behind which a URL stands: ")?;
+    add_plain(text, fixed.as_str())?;
+    text.push_str("\n")
+}
+
+/// Whether a text is a line with a requirement.
+pub(crate) fn is_read(alloc: Global, line: &str) -> Result<bool, AllocError> {
+    match Line::read(alloc, line) {
+        Ok(line) => Ok(line.requirement().is_some()),
+        Err(Cause::OutOfMemory) => Err(AllocError),
+        Err(_) => Ok(false),
     }
 }
 
@@ -118,48 +142,6 @@ fn option_note(line: &str) -> &'static str {
         return "A project in a folder is not locked: take the line out, and install it behind what is locked.";
     }
     "Take the line out: reqlock-snapshot is told the index and what of it counts."
-}
-
-/// The comparison that a clause lacks or has wrong.
-fn add_clause_note(text: &mut String, line: &str) -> Result<(), AllocError> {
-    let wanted = line
-        .split_once(" #")
-        .map(|(wanted, _)| wanted)
-        .unwrap_or(line);
-    for (wrong, right) in [
-        ("=>", ">="),
-        ("=<", "<="),
-        ("^", "~="),
-        ("><", "!="),
-        ("<>", "!="),
-    ] {
-        if wanted.contains(wrong) {
-            return write!(text, "Write {right} in the place of {wrong}.\n");
-        }
-    }
-    match lone_equals(wanted) {
-        Some((name, version)) => {
-            text.push_str("A single = compares nothing: write ")?;
-            add_plain(text, name.trim_end())?;
-            text.push_str("==")?;
-            add_plain(text, version.trim_start())?;
-            text.push_str("\n")
-        }
-        None => text.push_str("A specifier is a comparison with a version, as in >=2,<3.\n"),
-    }
-}
-
-/// What stands before and behind the first `=` that is no part of a longer comparison.
-fn lone_equals(line: &str) -> Option<(&str, &str)> {
-    let (before, behind) = line.split_once('=')?;
-    if before.ends_with(is_sign) || behind.starts_with(is_sign) {
-        return None;
-    }
-    Some((before, behind))
-}
-
-fn is_sign(letter: char) -> bool {
-    matches!(letter, '=' | '<' | '>' | '!' | '~')
 }
 
 fn add_marker_note(alloc: Global, text: &mut String, line: &str) -> Result<(), AllocError> {

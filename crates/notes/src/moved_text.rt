@@ -1,14 +1,16 @@
 // Which locked versions an edit moved that it doesn't name.
 
-use edits::{Cause, Change, Edit, EntryChange, Line, Name, State, Target};
+use crate::release_notes::is_yanked;
+use edits::{Cause, Change, Edit, EntryChange, Line, Name, Snapshot, State, Target};
 use lists::Text;
 use std::alloc::{AllocError, Global};
 
-/// An edit, and what it changed.
+/// An edit over an index, and what it changed.
 #[derive(Clone, Copy)]
 pub struct AppliedEdit<'a> {
     pub edit: &'a Edit,
     pub change: &'a Change,
+    pub snapshot: &'a Snapshot,
 }
 
 /// Whether an edit moved a locked version that it doesn't name.
@@ -32,10 +34,13 @@ pub fn add_moved(
     for entry in applied.change.entries() {
         if is_moved(alloc, applied.edit, entry)? {
             add_move(text, entry)?;
+            text.push_str(" (")?;
+            add_yanked(text, applied.snapshot, entry)?;
             match kept {
                 Some(state) => add_kept(alloc, text, applied, state, entry)?,
-                None => text.push_str(" (no solution keeps all that is locked)\n")?,
+                None => text.push_str("no solution keeps all that is locked")?,
             }
+            text.push_str(")\n")?;
         }
     }
     Ok(())
@@ -103,6 +108,21 @@ fn add_move(text: &mut String, entry: &EntryChange) -> Result<(), AllocError> {
     Ok(())
 }
 
+/// That the version which was locked is yanked by now.
+fn add_yanked(
+    text: &mut String,
+    snapshot: &Snapshot,
+    entry: &EntryChange,
+) -> Result<(), AllocError> {
+    match &entry.old {
+        Some(old) if is_yanked(snapshot, old) => {
+            let version = old.version();
+            write!(text, "{version} is yanked; ")
+        }
+        _ => Ok(()),
+    }
+}
+
 /// What becomes of a moved version where every locked version has to stay: it stays too, or its name isn't needed
 /// there. Then the versions that other names of the same target have there, as far as they differ.
 fn add_kept(
@@ -113,16 +133,15 @@ fn add_kept(
     moved: &EntryChange,
 ) -> Result<(), AllocError> {
     let Some(target) = target_of(state, moved) else {
-        return text.push_str("\n");
+        return Ok(());
     };
     let verb = if target.locked(&moved.name).is_some() {
         "keeps it"
     } else {
         "takes it out"
     };
-    write!(text, " (--keep-locked {verb}")?;
-    add_others(alloc, text, applied, target, moved)?;
-    text.push_str(")\n")
+    write!(text, "--keep-locked {verb}")?;
+    add_others(alloc, text, applied, target, moved)
 }
 
 fn add_others(

@@ -11,6 +11,17 @@ pub const INDEX: &str = "index.json";
 /// The name that they give an environment.
 pub const ENVIRONMENT: &str = "environment.json";
 
+/// What makes an index again that is there.
+#[derive(Clone, Copy, Debug, PartialEq, Eq)]
+pub enum IndexMaker {
+    /// The call that makes a first one, as the index doesn't tell how it was made.
+    First,
+    /// The call that makes it as it was made, with more packages.
+    Again,
+    /// `rql`, whose folder stands there, and which takes in by itself what it is asked for.
+    Project,
+}
+
 /// The files that an index is made for, and where it is to stand.
 #[derive(Clone, Copy)]
 pub struct IndexPlan<'a> {
@@ -18,25 +29,42 @@ pub struct IndexPlan<'a> {
     /// Where the environment stands, if a call names it.
     pub environment: Option<&'a str>,
     pub index: &'a str,
-    /// A package that nothing leads to yet.
-    pub package: Option<&'a str>,
     /// Whether an index stands where these pages have it.
     pub is_there: bool,
+    pub maker: IndexMaker,
 }
 
 impl IndexPlan<'_> {
     /// Puts the command that makes the index behind the text.
     pub fn add_command(self, text: &mut String) -> Result<(), AllocError> {
-        text.push_str("    reqlock-snapshot simple https://index.example/simple/")?;
-        if let Some(package) = self.package {
-            add_word(text, package)?;
+        let none: &[String] = &[];
+        self.add_first(text, none)
+    }
+
+    /// Puts the command behind the text that makes the index with these packages too.
+    pub fn add_remaking(self, text: &mut String, packages: &[String]) -> Result<(), AllocError> {
+        if self.maker != IndexMaker::Again {
+            return self.add_first(text, packages);
         }
+        text.push_str("    reqlock-snapshot again")?;
+        add_words(text, packages)?;
+        self.add_output(text)
+    }
+
+    fn add_first(self, text: &mut String, packages: &[String]) -> Result<(), AllocError> {
+        text.push_str("    reqlock-snapshot simple")?;
+        add_word(text, address_of(self.index))?;
+        add_words(text, packages)?;
         text.push_str(" --for")?;
         add_word(text, self.requirements)?;
         if let Some(environment) = self.environment {
             text.push_str(" --env")?;
             add_word(text, environment)?;
         }
+        self.add_output(text)
+    }
+
+    fn add_output(self, text: &mut String) -> Result<(), AllocError> {
         text.push_str(" --output")?;
         add_word(text, output_of(self.index))?;
         text.push_str("\n")
@@ -53,12 +81,34 @@ impl IndexPlan<'_> {
     }
 }
 
-/// Where an index is written. What the shell hands over can't be written to.
+/// Puts words behind a command.
+pub(crate) fn add_words(text: &mut String, words: &[String]) -> Result<(), AllocError> {
+    for word in words {
+        add_word(text, word.as_str())?;
+    }
+    Ok(())
+}
+
+/// Where an index is written. What the shell hands over can't be written to, nor can an address.
 fn output_of(index: &str) -> &str {
-    if index.is_empty() || index.starts_with("/dev/") || index.starts_with("/proc/") {
+    let is_handed_over = index.starts_with("/dev/") || index.starts_with("/proc/");
+    if index.is_empty() || is_handed_over || is_address(index) {
         return INDEX;
     }
     index
+}
+
+/// The address of the index that is asked: what was given in the place of a file, or a name for pip's. A password isn't told.
+fn address_of(index: &str) -> &str {
+    if is_address(index) && !index.contains('@') {
+        return index;
+    }
+    "https://index.example/simple/"
+}
+
+/// Whether an address was given in the place of a file.
+pub fn is_address(index: &str) -> bool {
+    index.contains("://")
 }
 
 /// Puts the command that makes an environment behind the text.

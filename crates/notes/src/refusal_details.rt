@@ -1,5 +1,6 @@
 // What is known of a refused edit beside its word.
 
+use crate::near_locked::{add_near_lines, add_near_locked};
 use edits::{Cause, Edit, Environment, Line, Name, Refusal, Snapshot, State};
 use lists::Text;
 use pep440::{Fault as SpecifierFault, SpecifierSet};
@@ -28,7 +29,13 @@ pub fn add_refusal_details(
         snapshot,
         refusal,
     } = refused;
-    write!(text, "{refusal}\n")?;
+    write!(text, "{refusal}")?;
+    match refusal {
+        Refusal::NotLocked(name) => add_near_locked(alloc, text, state, name.as_str())?,
+        Refusal::NotPresent => add_near_lines(alloc, text, state, edit)?,
+        _ => {}
+    }
+    text.push_str("\n")?;
     match refusal {
         Refusal::BadText => add_bad_text(alloc, text, edit),
         Refusal::AlreadyPresent(number) => add_numbered(text, state.lines().lines(), *number),

@@ -1,23 +1,20 @@
 // What a person may type next where an edit is refused.
 
-use crate::line_notes::add_line_note;
-use crate::next_steps::IndexPlan;
+use crate::bad_text_steps::add_bad_text_steps;
 use crate::refusal_details::RefusedEdit;
 use edits::{Cause, Edit, Environment, Line, Name, Refusal, Requirement, Snapshot};
-use phrases::{add_specifiers, add_word, has_package};
+use phrases::{add_specifiers, add_word};
 use std::alloc::{AllocError, Global};
 
-/// Puts what to do next behind the text. The options are those of the call, each with a space before it; the index is to be
-/// made by the plan where it lacks a package.
+/// Puts what to do next behind the text. The options are those of the call, each with a space before it.
 pub fn add_refusal_steps(
     alloc: Global,
     text: &mut String,
     options: &str,
-    plan: IndexPlan<'_>,
     refused: RefusedEdit<'_>,
 ) -> Result<(), AllocError> {
     match (refused.refusal, refused.edit) {
-        (Refusal::BadText, Edit::Add(line)) => add_bad_line_note(alloc, text, line.as_str()),
+        (Refusal::BadText, edit) => add_bad_text_steps(alloc, text, options, edit),
         (Refusal::AlreadyPresent(_), Edit::Add(line)) => {
             add_constraint(alloc, text, options, line.as_str())
         }
@@ -27,8 +24,8 @@ pub fn add_refusal_steps(
         (Refusal::NotLocked(_), _) => {
             text.push_str("What is locked is told by:\n    reqlock show\n")
         }
-        (Refusal::NoSolution, _) => add_lines_steps(alloc, text, plan, refused),
-        (Refusal::BadText | Refusal::AlreadyPresent(_) | Refusal::NotPresent, _) => Ok(()),
+        (Refusal::NoSolution, _) => add_lines_steps(alloc, text, refused),
+        (Refusal::AlreadyPresent(_) | Refusal::NotPresent, _) => Ok(()),
         // of these there is nothing to type
         (
             Refusal::Ambiguous(_)
@@ -51,7 +48,6 @@ pub fn add_refusal_steps(
 fn add_lines_steps(
     alloc: Global,
     text: &mut String,
-    plan: IndexPlan<'_>,
     refused: RefusedEdit<'_>,
 ) -> Result<(), AllocError> {
     let changed = changed_lines(alloc, refused)?;
@@ -61,15 +57,13 @@ fn add_lines_steps(
     }
     let environments = environments.as_slice();
     let (changed, lines) = (changed.as_slice(), refused.state.lines().lines());
-    add_index_steps(text, plan, changed, environments, refused.snapshot)?;
-    add_index_steps(text, plan, lines, environments, refused.snapshot)
+    add_newest_releases(text, changed, environments, refused.snapshot)?;
+    add_newest_releases(text, lines, environments, refused.snapshot)
 }
 
-/// Of each line that counts in one of the environments: the newest release, where the line admits none; and how the index is
-/// made again, where it hasn't the package.
-pub fn add_index_steps(
+/// Of each line that counts in one of the environments: the newest release, where the line admits none.
+pub fn add_newest_releases(
     text: &mut String,
-    plan: IndexPlan<'_>,
     lines: &[Line],
     environments: &[&Environment],
     snapshot: &Snapshot,
@@ -80,30 +74,11 @@ pub fn add_index_steps(
                 .iter()
                 .any(|environment| requirement.is_active(environment))
             {
-                add_index_step(text, plan, requirement, snapshot)?;
+                add_newest(text, requirement, snapshot)?;
             }
         }
     }
     Ok(())
-}
-
-fn add_index_step(
-    text: &mut String,
-    plan: IndexPlan<'_>,
-    requirement: &Requirement,
-    snapshot: &Snapshot,
-) -> Result<(), AllocError> {
-    let name = requirement.name();
-    if !has_package(snapshot, name) {
-        let normal = name.normal();
-        write!(
-            text,
-            "The snapshot was made without {normal}. Where the index has it, this makes it with {normal}:\n"
-        )?;
-        let package = Some(normal);
-        return IndexPlan { package, ..plan }.add_command(text);
-    }
-    add_newest(text, requirement, snapshot)
 }
 
 /// The newest release of a name, where a requirement admits none. One that isn't final counts where there is no other.
@@ -126,14 +101,6 @@ fn add_newest(
     write!(text, "The newest {name} of the snapshot is {version}.\n")
 }
 
-fn add_bad_line_note(alloc: Global, text: &mut String, line: &str) -> Result<(), AllocError> {
-    match Line::read(alloc, line) {
-        Ok(_) => Ok(()),
-        Err(Cause::OutOfMemory) => Err(AllocError),
-        Err(cause) => add_line_note(alloc, text, line, cause),
-    }
-}
-
 /// How the line that is there already comes to what is asked for. Extras are no part of what `constrain` changes.
 fn add_constraint(
     alloc: Global,
@@ -151,7 +118,7 @@ fn add_constraint(
     if !requirement.extras().is_empty() {
         write!(
             text,
-            "This puts the line in the place of that one:\n    reqlock{options} remove {name}\n    reqlock{options} add"
+            "This puts the line in the place of that one:\n    reqlock{options} replace --line {name}"
         )?;
         add_word(text, line)?;
         return text.push_str("\n");
@@ -172,7 +139,7 @@ fn add_constraint(
     text.push_str("\n")
 }
 
-fn read_line(alloc: Global, line: &str) -> Result<Option<Line>, AllocError> {
+pub(crate) fn read_line(alloc: Global, line: &str) -> Result<Option<Line>, AllocError> {
     match Line::read(alloc, line) {
         Ok(line) => Ok(Some(line)),
         Err(Cause::OutOfMemory) => Err(AllocError),

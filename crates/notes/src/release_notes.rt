@@ -91,6 +91,14 @@ fn add_entry_note(
     Ok(())
 }
 
+/// Whether the release that an entry locks is yanked in an index.
+pub(crate) fn is_yanked(snapshot: &Snapshot, entry: &Entry) -> bool {
+    match release_of(snapshot, entry) {
+        Some(release) => release.yanked(),
+        None => false,
+    }
+}
+
 fn release_of<'a>(snapshot: &'a Snapshot, entry: &Entry) -> Option<&'a Release> {
     snapshot
         .releases(entry.name())

@@ -14,7 +14,7 @@ mod table;
 mod target_line;
 mod text_column;
 
-pub use crate::near_names::{SOUGHT, add_near_names, has_package};
+pub use crate::near_names::{SOUGHT, add_near_names, add_near_of, has_package};
 pub use crate::plain_text::add_plain;
 pub use crate::requirement_text::{add_clause, add_requirement, add_specifiers, signs_of};
 pub use crate::shell_word::add_word;

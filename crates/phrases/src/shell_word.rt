@@ -3,11 +3,12 @@
 use crate::plain_text::add_plain_letter;
 use std::alloc::AllocError;
 
-/// Puts a space and a word behind a command: as it stands where the shell takes nothing in it for its own, else in
-/// single quotes.
+/// Puts a space and a word behind a command: as it stands where no shell takes something in it for its own, else in
+/// single quotes. One that begins with = is a program's path to zsh.
 pub fn add_word(text: &mut String, word: &str) -> Result<(), AllocError> {
     text.push_str(" ")?;
-    if !word.is_empty() && word.chars().all(is_bare) {
+    let is_plain = !word.is_empty() && !word.starts_with('=');
+    if is_plain && word.chars().all(is_bare) {
         return text.push_str(word);
     }
     text.push_str("'")?;

@@ -6,8 +6,8 @@ use Rattle.std.specs.declared.io.ErrorKind.{ErrorKind}
 use Rattle.std.specs.declared.io.ErrorKind.TheVariants as kinds
 use Rattle.reqlock.specs.declared.given_words.NoWords.{NoWords}
 use Rattle.reqlock.specs.declared.given_words.NoWords.TheVariants.{BadVariable, BadWord, OutOfMemory}
-use Rattle.calls.specs.declared.report.Status.{Status}
-use Rattle.calls.specs.declared.report.Status.TheVariants as statuses
+use Rattle.reports.specs.declared.report.Status.{Status}
+use Rattle.reports.specs.declared.report.Status.TheVariants as statuses
 
 -- a word gives an option, as itself or with a value behind `=`
 abbrev pub gives : List ℕ → List ℕ → Bool

@@ -1,8 +1,8 @@
 -- The files that a subcommand reads. All of it is reqlock's own rule.
 use Rattle.std.specs.Prelude.{◌≡◌, ℕ, Bool, true, false, List, [], Option, None, Some}
 use Rattle.std.specs.Borrow.{Bor}
-use Rattle.calls.specs.declared.stop.Stop.{Stop}
-use Rattle.calls.specs.declared.stop.Stop.TheVariants as stops
+use Rattle.reports.specs.declared.stop.Stop.{Stop}
+use Rattle.reports.specs.declared.stop.Stop.TheVariants as stops
 use Rattle.command_line.specs.declared.invocation.NewLines.{NewLines}
 use Rattle.command_line.specs.declared.invocation.NewLines.TheVariants as lines
 use Rattle.command_line.specs.declared.invocation.Question.TheVariants as questions
@@ -14,10 +14,10 @@ use Rattle.inputs.specs.declared.input_files.InputFile.TheVariants as files
 
 -- the index of a subcommand, where it is given one
 abbrev pub index_of : Subcommand → Option (Bor (List ℕ))
-index_of (subcommands.Init inputs) = Some inputs.index
+index_of (subcommands.Init inputs saving) = Some inputs.index
 index_of (subcommands.Edit edit inputs saving) = Some inputs.index
 index_of (subcommands.Replace replacement inputs saving) = Some inputs.index
-index_of (subcommands.Batch inputs) = Some inputs.index
+index_of (subcommands.Batch inputs all) = Some inputs.index
 index_of (subcommands.Try inputs) = Some inputs.index
 index_of (subcommands.Show (shown.Entry name index) format) = index
 index_of (subcommands.Check index format) = index
@@ -32,7 +32,7 @@ index_of other = None
 
 -- the values of `--env` of a subcommand that locks new targets; none of any other
 abbrev pub environments_of : Subcommand → List (List ℕ)
-environments_of (subcommands.Init inputs) = inputs.environments
+environments_of (subcommands.Init inputs saving) = inputs.environments
 environments_of (subcommands.Try inputs) = inputs.environments
 environments_of (subcommands.Why (questions.Init inputs line) told) = inputs.environments
 environments_of other = []

@@ -5,8 +5,8 @@ ghost use Rattle.std.specs.Prelude.{◌≡◌, map, string_bytes};
 ghost use Rattle.reqlock.specs.GivenWords.{gives, has_option, no_words_by, status_without};
 ghost use Rattle.reqlock.specs.declared.given_words.NoWords.TheVariants as no_words;
 
-use calls::report::{Status, report_fault};
 use commands::batch::BatchFault;
+use reports::report::{Status, report_fault};
 use std::alloc::{AllocError, AllocFailed};
 use std::env::VarError;
 use std::io::{self, ErrorKind, Write};

@@ -36,5 +36,5 @@ fn main(rt: HostRuntime) -> ExitCode {
         },
         Err(fault) => report_words(&fault, &mut errors),
     };
-    ExitCode::from(status as u8)
+    ExitCode::from(status.number())
 }

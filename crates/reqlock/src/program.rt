@@ -4,25 +4,30 @@ use crate::given_words::has_option;
 use crate::question::{answer_why, first_paths};
 use crate::screen::{Screen, shown_stop};
 use crate::subcommand_files::{
-    environments_of, has_old_lines, index_of, lines_of, locked, refuse_no_folder,
+    environments_of, has_old_lines, index_of, lines_of, locked, named_in, refuse_no_folder,
 };
-use calls::report::{Status, report, report_fault};
-use calls::{Call, Stop};
+use calls::Call;
+use clap::error::ErrorKind;
+use command_line::command;
 use command_line::request::{
-    ColorChoice, Inputs, Invocation, RequestFault, Saving, Subcommand, Verbosity, request,
+    ColorChoice, Format, Inputs, Invocation, RequestFault, Saving, Subcommand, Verbosity, request,
 };
 use commands::batch::BatchFault;
+use details::{CallFiles, Details};
 use inputs::LockFile;
 use inputs::target_files::{TargetFile, target_files};
 use journal::Command;
 use phrases::Style;
+use reports::report::{Status, report, report_fault};
+use reports::{Stop, stop_of_request};
 use saves::{
-    CallFiles, Details, begin_history, edit_once, rehearse_edit, rehearse_replace, rehearse_step,
-    replace_once, run_batch, step_once, try_commands,
+    add_near_names, begin_history, edit_once, rehearse_edit, rehearse_init, rehearse_replace,
+    rehearse_step, replace_once, run_batch, step_once, try_commands,
 };
-use std::alloc::Global;
+use std::alloc::{AllocError, Global};
 use std::io::{Read, Write};
 use std::rt::Files;
+use texts::diff_text::diff_text;
 use views::{
     print_check, print_diff, print_export, print_history, print_outdated, print_shown,
     print_skipped,
@@ -110,14 +115,44 @@ fn refuse_words<R: Files + AllocGlobal, O: Write, E: Write>(
     let mut details = Details::new(rt.alloc(), manner);
     let noted = match &fault {
         RequestFault::Needed(option) => details.add_needed(rt, *option, given.words),
+        RequestFault::Usage(error) if is_mistake(error) => {
+            details.add_misused(rt.alloc(), given.words)
+        }
         RequestFault::Usage(_) | RequestFault::OutOfMemory => Ok(()),
     };
-    let status = match noted {
-        Ok(()) => report(&Stop::from(fault), output, errors),
+    let status = match noted.and_then(|_| without_tip(rt.alloc(), fault, &details, given.words)) {
+        Ok(fault) => report(&stop_of_request(rt.alloc(), fault), output, errors),
         Err(_) => report_fault(BatchFault::OutOfMemory, errors),
     };
     details.tell(rt.alloc(), status == Status::Fault, errors);
     status
+}
+
+/// Whether words call for no help.
+fn is_mistake(error: &clap::Error) -> bool {
+    !matches!(
+        error.kind(),
+        ErrorKind::DisplayHelp | ErrorKind::DisplayVersion
+    )
+}
+
+/// The fault without near names of a subcommand, where those would lead astray.
+fn without_tip(
+    alloc: Global,
+    fault: RequestFault,
+    details: &Details,
+    words: &[String],
+) -> Result<RequestFault, AllocError> {
+    match fault {
+        RequestFault::Usage(error) if error.kind() == ErrorKind::InvalidSubcommand => {
+            if !details.is_led_astray(alloc, words)? {
+                return Ok(RequestFault::Usage(error));
+            }
+            let message = "reqlock has no such subcommand";
+            Ok(RequestFault::Usage(command(alloc)?.error(ErrorKind::InvalidSubcommand, message)?))
+        }
+        fault => Ok(fault),
+    }
 }
 
 /// How much words ask for that are no request.
@@ -148,18 +183,20 @@ where
         index: index_of(&subcommand),
         lines: lines_of(&subcommand),
         is_old: has_old_lines(&subcommand),
+        named: named_in(&subcommand),
         targets: Vec::new(rt.alloc()),
     };
     let is_environment_idle = names_environment && environments_of(&subcommand).is_empty();
     let done = match target_files(rt.alloc(), environments_of(&subcommand)) {
         Ok(targets) => {
             files.targets = targets.clone()?;
-            details.tell_of(rt.alloc(), &files, is_environment_idle)?;
+            details.tell_of(rt, &files, is_environment_idle)?;
             obey_in(call, subcommand, targets, input, details)
         }
         Err(fault) => Err(Stop::from(fault)),
     };
     if let Err(stop) = &done {
+        add_near_names(rt, call.dir, details, stop)?;
         details.add_stop(rt, &files, stop)?;
     }
     done
@@ -178,7 +215,7 @@ where
     refuse_no_folder(call.dir, &subcommand)?;
     let _lock = locked(call.rt, call.dir, &subcommand)?;
     match subcommand {
-        Subcommand::Init(inputs) => init(call, details, &inputs, targets, input),
+        Subcommand::Init(inputs, saving) => init(call, details, &inputs, saving, targets, input),
         Subcommand::Edit(edit, inputs, Saving::Save) => edit_once(call, details, edit, inputs),
         Subcommand::Edit(edit, inputs, Saving::DryRun) => {
             rehearse_edit(call, details, edit, inputs)
@@ -191,24 +228,49 @@ where
         }
         Subcommand::Undo(saving) => step(call, details, &Command::Undo, saving),
         Subcommand::Redo(saving) => step(call, details, &Command::Redo, saving),
-        Subcommand::Batch(inputs) => run_batch(call, inputs, input),
+        Subcommand::Batch(inputs, is_all_or_none) => {
+            run_batch(call, details, inputs, is_all_or_none, input)
+        }
         Subcommand::Try(inputs) => try_commands(call, inputs.index, targets, input),
         Subcommand::Show(shown, format) => print_shown(call, shown, format),
         Subcommand::Log(long, format) => print_history(call, long, format),
         Subcommand::Diff(range, format) => print_diff(call, range, format),
-        Subcommand::Check(index, format) => print_check(call, index, format),
-        Subcommand::Outdated(index, format) => print_outdated(call, index, format),
+        Subcommand::Check(index, format) => check(call, details, index, format),
+        Subcommand::Outdated(index, format) => {
+            print_outdated(call, &mut details.lacks, index, format)
+        }
         Subcommand::Export(export) => print_export(call, &export),
         Subcommand::Skipped(index) => print_skipped(call, index),
-        Subcommand::Why(question, told) => answer_why(call, question, told, targets, input),
+        Subcommand::Why(question, told) => {
+            answer_why(call, &mut details.lacks, question, told, targets, input)
+        }
     }
 }
 
-/// A first lock, with the pins that it keeps.
+/// Whether the files belong together. That the lock is current over another index than its own is noted.
+fn check<R: Files + AllocGlobal, O: Write>(
+    call: &mut Call<'_, R, O>,
+    details: &mut Details,
+    index: Option<&str>,
+    format: Format,
+) -> Result<(), Stop>
+where
+    R::File: LockFile,
+{
+    if let Some(change) = print_check(call, index, format)? {
+        if details.tells() {
+            details.changes = diff_text(call.rt.alloc(), &change)?;
+        }
+    }
+    Ok(())
+}
+
+/// A first lock, with the pins that it keeps, saved or not.
 fn init<R: Files + AllocGlobal, I: Read + Drop, O: Write>(
     call: &mut Call<'_, R, O>,
     details: &mut Details,
     inputs: &Inputs<'_>,
+    saving: Saving,
     targets: Vec<TargetFile>,
     input: I,
 ) -> Result<(), Stop>
@@ -216,7 +278,10 @@ where
     R::File: LockFile,
 {
     let paths = first_paths(call.rt.alloc(), inputs, targets)?;
-    begin_history(call, details, paths, input)
+    match saving {
+        Saving::Save => begin_history(call, details, paths, input),
+        Saving::DryRun => rehearse_init(call, details, paths, input),
+    }
 }
 
 /// An undo or a redo, saved or not.

@@ -1,11 +1,13 @@
 // What `why` answers.
 
-use calls::{Call, Stop};
+use calls::Call;
 use command_line::request::{Inputs, Question, Told};
 use files::first_inputs::FirstPaths;
 use inputs::LockFile;
 use inputs::pins_files::pins_paths;
 use inputs::target_files::TargetFile;
+use notes::Lacks;
+use reports::Stop;
 use std::alloc::Global;
 use std::io::{Read, Write};
 use std::rt::Files;
@@ -15,6 +17,7 @@ use views::{print_why, print_why_init, print_why_not, print_why_replace};
 /// always answered in sentences.
 pub fn answer_why<R: Files + AllocGlobal, I: Read + Drop, O: Write>(
     call: &mut Call<'_, R, O>,
+    lacks: &mut Lacks,
     question: Question<'_>,
     told: Told,
     targets: Vec<TargetFile>,
@@ -24,15 +27,15 @@ where
     R::File: LockFile,
 {
     match question {
-        Question::Edit(edit, inputs) => print_why(call, &edit, inputs, told),
+        Question::Edit(edit, inputs) => print_why(call, lacks, &edit, inputs, told),
         Question::Replace(replacement, inputs) => {
-            print_why_replace(call, &replacement, inputs, told, input)
+            print_why_replace(call, lacks, &replacement, inputs, told, input)
         }
         Question::Init(inputs, line) => {
             let paths = first_paths(call.rt.alloc(), &inputs, targets)?;
-            print_why_init(call, line, paths, told, input)
+            print_why_init(call, lacks, line, paths, told, input)
         }
-        Question::Release(text, index) => print_why_not(call, text, index, told),
+        Question::Release(text, index) => print_why_not(call, lacks, text, index, told),
     }
 }
 

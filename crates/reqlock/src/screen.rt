@@ -1,10 +1,10 @@
 // Who reads what the program writes, and how it looks there.
 
 use crate::given_words::NoWords;
-use calls::Stop;
 use command_line::request::{ColorChoice, Verbosity};
+use details::Manner;
 use phrases::Style;
-use saves::Manner;
+use reports::Stop;
 use std::alloc::{AllocError, Global};
 use std::env::VarError;
 use std::rt::Env;
@@ -24,6 +24,8 @@ pub struct Terminals {
 #[derive(Clone, Copy)]
 pub struct Screen {
     readers: Terminals,
+    // whether it is a CI job
+    is_job: bool,
     // whether a terminal shows colors
     has_colors: bool,
     width: Option<usize>,
@@ -32,12 +34,13 @@ pub struct Screen {
 impl Screen {
     /// That of the terminals, by what the environment says of them.
     pub fn new<R: Env + AllocGlobal>(rt: &R, terminals: Terminals) -> Result<Screen, NoWords> {
-        let is_ci = has_variable(rt, "CI")?;
+        let is_job = has_variable(rt, "CI")?;
         Ok(Screen {
             readers: Terminals {
-                output: terminals.output && !is_ci,
-                errors: terminals.errors && !is_ci,
+                output: terminals.output && !is_job,
+                errors: terminals.errors && !is_job,
             },
+            is_job,
             has_colors: !has_variable(rt, "NO_COLOR")? && !is_dumb(rt)?,
             width: width_of(rt)?,
         })
@@ -48,12 +51,14 @@ impl Screen {
         self.style_for(self.readers.output, color)
     }
 
-    /// What is told on standard error beside the output, and how.
+    /// What is told on standard error beside the output, and how. A job is told what the index lacks.
     pub fn manner(self, verbosity: Verbosity, color: ColorChoice) -> Manner {
         let is_person = self.readers.errors && verbosity != Verbosity::Quiet;
+        let tells = is_person || verbosity == Verbosity::Verbose;
         Manner {
-            tells: is_person || verbosity == Verbosity::Verbose,
+            tells,
             is_person,
+            tells_lacks: tells || (self.is_job && verbosity != Verbosity::Quiet),
             style: self.style_for(self.readers.errors, color),
         }
     }

@@ -3,10 +3,10 @@
 ghost use Rattle.std.specs.Prelude.{◌≡◌, ◌≢◌, ◌⊎◌, [], IfErr, OnOk, true};
 ghost use Rattle.reqlock.specs.SubcommandFiles.{StopsForNoFolder, environments_of, file_of, index_of, is_old, new_lines_of, reads_no_folder};
 
-use calls::Stop;
 use command_line::request::{NewLines, Question, Saving, Shown, Subcommand};
 use inputs::{InputFault, InputFile, LockFile, lock_to_save};
 use lists::Text;
+use reports::Stop;
 use std::rt::Files;
 
 /// The index of a subcommand, where it is given one.
@@ -14,12 +14,12 @@ pub fn index_of<'a>(subcommand: &Subcommand<'a>) -> Option<&'a str>
     ensures { result ≡ index_of subcommand.now }
 {
     match subcommand {
-        Subcommand::Init(inputs)
+        Subcommand::Init(inputs, _)
         | Subcommand::Try(inputs)
         | Subcommand::Why(Question::Init(inputs, _), _) => Some(inputs.index),
         Subcommand::Edit(_, inputs, _)
         | Subcommand::Replace(_, inputs, _)
-        | Subcommand::Batch(inputs)
+        | Subcommand::Batch(inputs, _)
         | Subcommand::Why(Question::Edit(_, inputs) | Question::Replace(_, inputs), _) => {
             Some(inputs.index)
         }
@@ -43,6 +43,15 @@ pub fn lines_of<'a>(subcommand: &Subcommand<'a>) -> Option<&'a str>
     match new_lines_of(subcommand)? {
         NewLines::File(path) | NewLines::Was(path) => Some(path),
         NewLines::Line(_, _) => None,
+    }
+}
+
+/// The text that is to name a package or a release, of a subcommand that tells of one.
+pub fn named_in<'a>(subcommand: &Subcommand<'a>) -> Option<&'a str> {
+    match subcommand {
+        Subcommand::Show(Shown::Entry(name, _), _)
+        | Subcommand::Why(Question::Release(name, _), _) => Some(*name),
+        _ => None,
     }
 }
 
@@ -72,14 +81,14 @@ pub fn environments_of<'a>(subcommand: &'a Subcommand<'_>) -> &'a [Text]
     ensures { result.now ≡ environments_of subcommand.now }
 {
     match subcommand {
-        Subcommand::Init(inputs)
+        Subcommand::Init(inputs, _)
         | Subcommand::Try(inputs)
         | Subcommand::Why(Question::Init(inputs, _), _) => inputs.environments.as_slice(),
         Subcommand::Edit(_, _, _)
         | Subcommand::Replace(_, _, _)
         | Subcommand::Undo(_)
         | Subcommand::Redo(_)
-        | Subcommand::Batch(_)
+        | Subcommand::Batch(_, _)
         | Subcommand::Show(_, _)
         | Subcommand::Log(_, _)
         | Subcommand::Diff(_, _)
@@ -117,13 +126,14 @@ where
     R::File: LockFile,
 {
     match subcommand {
-        Subcommand::Init(_)
+        Subcommand::Init(_, Saving::Save)
         | Subcommand::Edit(_, _, Saving::Save)
         | Subcommand::Replace(_, _, Saving::Save)
         | Subcommand::Undo(Saving::Save)
         | Subcommand::Redo(Saving::Save)
-        | Subcommand::Batch(_) => Ok(lock_to_save(rt, dir)?),
-        Subcommand::Edit(_, _, Saving::DryRun)
+        | Subcommand::Batch(_, _) => Ok(lock_to_save(rt, dir)?),
+        Subcommand::Init(_, Saving::DryRun)
+        | Subcommand::Edit(_, _, Saving::DryRun)
         | Subcommand::Replace(_, _, Saving::DryRun)
         | Subcommand::Undo(Saving::DryRun)
         | Subcommand::Redo(Saving::DryRun)

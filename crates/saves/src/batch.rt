@@ -1,26 +1,29 @@
 // What `batch` and `try` do.
 
-use crate::details::Details;
 use crate::init::begin;
-use calls::{Call, Stop, pool_of, print};
+use calls::{Call, pool_of};
 use command_line::request::EditInputs;
-use commands::Counted;
-use commands::batch::accepted_in;
+use commands::batch::batch_to_its_end;
+use commands::{BatchEnd, Counted, RefusedLine};
+use details::Details;
 use edits::Pool;
 use files::first_inputs::FirstPaths;
 use files::saved_history::{SavedHistory, history_to_save};
 use inputs::LockFile;
 use inputs::target_files::TargetFile;
 use journal::Session;
+use reports::{Stop, print};
 use std::alloc::Global;
 use std::io::{Read, Write};
 use std::rt::Files;
 
 /// Does the commands of the input over an index, prints the replies, and saves at the end where one
-/// was accepted.
+/// was accepted. Where all or none are to be done, nothing is saved if one was refused, and the call stops.
 pub fn run_batch<R: Files + AllocGlobal, I: Read + Drop, O: Write>(
     call: &mut Call<'_, R, O>,
+    details: &mut Details,
     inputs: EditInputs<'_>,
+    is_all_or_none: bool,
     input: I,
 ) -> Result<(), Stop>
 where
@@ -33,10 +36,24 @@ where
         snapshot,
     } = history_to_save(rt, dir, inputs.index)?;
     let pool = pool_of(&snapshot, inputs);
-    if accepts_one(rt.alloc(), input, &mut call.output, &mut session, &pool)? {
-        files.replace(rt, dir, &session)?;
+    let output = &mut call.output;
+    let end = done_to_the_end(
+        rt.alloc(),
+        input,
+        output,
+        &mut session,
+        &pool,
+        is_all_or_none,
+    )?;
+    match end {
+        BatchEnd::Save => Ok(files.replace(rt, dir, &session)?),
+        BatchEnd::Leave => Ok(()),
+        BatchEnd::Refuse(line) => {
+            let RefusedLine { number, refusal } = line;
+            details.add_refused_line(number, &refusal)?;
+            Err(Stop::NoneSaved(refusal))
+        }
     }
-    Ok(())
 }
 
 /// Does the commands of the input on the state that `init` begins with, and writes the requirements
@@ -61,20 +78,21 @@ pub fn try_commands<R: Files + AllocGlobal, I: Read + Drop, O: Write>(
         snapshot,
     } = begin(call.rt, call.dir, &mut none, paths, no_input)?;
     let pool = Pool::whole(&snapshot);
-    let _ = accepts_one(alloc, input, &mut call.output, &mut session, &pool)?;
+    let _ = done_to_the_end(alloc, input, &mut call.output, &mut session, &pool, false)?;
     let text = session.state().lines().bytes(alloc)?;
     Ok(print(&mut call.output, text.as_str().as_bytes())?)
 }
 
-/// Does the commands of the input on a session, prints the replies, and tells whether one was accepted.
-fn accepts_one<I: Read + Drop, O: Write>(
+/// Does the commands of the input on a session, prints the replies, and answers what is to be done at the end.
+fn done_to_the_end<I: Read + Drop, O: Write>(
     alloc: Global,
     input: I,
     output: &mut O,
     session: &mut Session,
     pool: &Pool<'_>,
-) -> Result<bool, Stop> {
+    is_all_or_none: bool,
+) -> Result<BatchEnd, Stop> {
     let mut source = Counted::new(input);
     let mut sink = Counted::new(output);
-    Ok(accepted_in(alloc, &mut source, &mut sink, session, pool)?)
+    Ok(batch_to_its_end(alloc, &mut source, &mut sink, session, pool, is_all_or_none)?)
 }

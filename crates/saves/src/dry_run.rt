@@ -1,15 +1,15 @@
 // What `--dry-run` prints: an edit, `undo` or `redo` as it would be, of which nothing is saved.
 
-use crate::change_details::{Changed, Place};
-use crate::details::Details;
-use crate::edit::applied;
-use calls::{Call, Stop, change_between, pool_of, print};
+use crate::edit::{applied, changed_from};
+use calls::{Call, change_between, pool_of};
 use command_line::request::EditInputs;
 use commands::ReplyText;
+use details::{Changed, Details, Place};
 use edits::Edit;
 use files::saved_history::{saved_session, session_over};
 use inputs::LockFile;
 use journal::{Command, Session};
+use reports::{Stop, print};
 use std::io::Write;
 use std::rt::Files;
 use texts::diff_text::diff_text;
@@ -27,7 +27,7 @@ where
 {
     let (session, snapshot) = session_over(call.rt, call.dir, inputs.index)?;
     let command = Command::Edit(edit, pool_of(&snapshot, inputs));
-    rehearse(call, details, session, &command)
+    rehearse(call, details, session, &command, inputs.only_if_needed)
 }
 
 /// Does one command that needs no index, in the same way.
@@ -40,7 +40,7 @@ where
     R::File: LockFile,
 {
     let session = saved_session(call.rt, call.dir)?;
-    rehearse(call, details, session, command)
+    rehearse(call, details, session, command, false)
 }
 
 pub(crate) fn rehearse<R: AllocGlobal, O: Write>(
@@ -48,15 +48,19 @@ pub(crate) fn rehearse<R: AllocGlobal, O: Write>(
     details: &mut Details,
     mut session: Session,
     command: &Command<'_>,
+    only_if_needed: bool,
 ) -> Result<(), Stop> {
     let alloc = call.rt.alloc();
     let from = Place::of(&session);
     let mut text = ReplyText::new(alloc)?;
-    text.set(&applied(alloc, details, &mut session, command)?);
+    let reply = applied(alloc, details, &mut session, command, only_if_needed)?;
+    text.set(&reply);
+    let from = changed_from(&reply, from, &session);
     let change = change_between(alloc, &session, from.cursor, session.cursor())?;
     let changed = Changed {
         from,
         change: &change,
+        is_saved: false,
     };
     details.add_moved(alloc, &session, command, changed)?;
     let change = call.style.change(alloc, diff_text(alloc, &change)?)?;

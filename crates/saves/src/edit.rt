@@ -4,20 +4,20 @@ ghost use Rattle.std.specs.Prelude.{IfErr, IfOk};
 ghost use Rattle.journal.specs.Commands.{asked_of};
 ghost use Rattle.saves.specs.Applied.{GoesOn, StopsAt};
 
-use crate::change_details::Place;
-use crate::details::Details;
-use calls::{Call, Stop, pool_of, print, unless_refused};
+use calls::{Call, change_between, pool_of};
 use command_line::request::EditInputs;
-use commands::{ReplyText, is_accepted};
+use commands::{ReplyText, apply_command, is_accepted};
+use details::{Changed, Details, Place};
 use edits::Edit;
 use files::SavedFiles;
 use files::saved_history::{SavedHistory, history_to_save};
 use inputs::LockFile;
 use journal::{Command, Reply, Session};
-use resolve::RESOLVER;
+use reports::{Stop, print, unless_refused};
 use std::alloc::Global;
 use std::io::Write;
 use std::rt::Files;
+use texts::diff_text::diff_text;
 
 /// Makes one edit over an index.
 pub fn edit_once<R: Files + AllocGlobal, O: Write>(
@@ -35,7 +35,14 @@ where
         snapshot,
     } = history_to_save(call.rt, call.dir, inputs.index)?;
     let command = Command::Edit(edit, pool_of(&snapshot, inputs));
-    apply(call, details, &files, session, &command)
+    apply(
+        call,
+        details,
+        &files,
+        session,
+        &command,
+        inputs.only_if_needed,
+    )
 }
 
 /// Does one command that needs no index.
@@ -49,7 +56,7 @@ where
 {
     let (rt, dir) = (call.rt, call.dir);
     let (files, session) = SavedFiles::read_to_save(rt, dir)?.open_to_save(rt, dir)?;
-    apply(call, details, &files, session, command)
+    apply(call, details, &files, session, command, false)
 }
 
 /// Does one command, saves where it was accepted, and prints the reply. What changed is worked out before anything is
@@ -60,6 +67,7 @@ pub(crate) fn apply<R: Files + AllocGlobal, O: Write>(
     files: &SavedFiles,
     mut session: Session,
     command: &Command<'_>,
+    only_if_needed: bool,
 ) -> Result<(), Stop>
 where
     R::File: LockFile,
@@ -67,33 +75,76 @@ where
     let alloc = call.rt.alloc();
     let from = Place::of(&session);
     let mut text = ReplyText::new(alloc)?;
-    let reply = applied(alloc, details, &mut session, command)?;
+    let reply = applied(alloc, details, &mut session, command, only_if_needed)?;
     text.set(&reply);
-    details.add_change(alloc, &session, from, command)?;
+    add_change(
+        details,
+        alloc,
+        &session,
+        changed_from(&reply, from, &session),
+        command,
+    )?;
     if is_accepted(&reply) {
         files.replace(call.rt, call.dir, &session)?;
     }
     Ok(print(&mut call.output, text.as_bytes())?)
 }
 
-/// Does one command on a history. Where it is refused, what is known is noted, and the call stops.
+/// From where on a command changed the history. Where nothing is to be saved, nothing changed.
+pub(crate) fn changed_from(reply: &Reply, from: Place, session: &Session) -> Place {
+    if is_accepted(reply) {
+        from
+    } else {
+        Place::of(session)
+    }
+}
+
+/// Does one command on a history, an edit only if it is needed where that is asked for. Where it is refused, what is
+/// known is noted, and the call stops.
 pub fn applied(
     alloc: Global,
     details: &mut Details,
     session: &mut Session,
     command: &Command<'_>,
+    only_if_needed: bool,
 ) -> Result<Reply, Stop>
-    ensures done { IfOk result (GoesOn session.old.past (asked_of command.now) session.new.past) }
+    ensures done { IfOk result
+        (GoesOn only_if_needed session.old.past (asked_of command.now) session.new.past) }
     ensures stopped { IfErr result
-        (StopsAt session.old.past (asked_of command.now) session.new.past) }
+        (StopsAt only_if_needed session.old.past (asked_of command.now) session.new.past) }
 {
-    let reply = session.apply(alloc, command, &RESOLVER);
+    let place = session.cursor();
+    let reply = apply_command(alloc, session, command, only_if_needed);
     match &reply {
         Reply::Refused(refusal) => {
             details.add_refusal(alloc, session.state(), command, refusal)?;
         }
+        Reply::Same if session.cursor() != place => details.add_index_alone()?,
         Reply::Same => details.add_same(command)?,
         Reply::Done(_) => {}
     }
     unless_refused(reply)
+}
+
+/// Notes what a command changed, before which the history stood in this place.
+fn add_change(
+    details: &mut Details,
+    alloc: Global,
+    session: &Session,
+    from: Place,
+    command: &Command<'_>,
+) -> Result<(), Stop> {
+    if !details.manner.tells_lacks {
+        return Ok(());
+    }
+    let change = change_between(alloc, session, from.cursor, session.cursor())?;
+    if details.manner.tells {
+        details.changes = diff_text(alloc, &change)?;
+    }
+    let changed = Changed {
+        from,
+        change: &change,
+        is_saved: true,
+    };
+    details.add_moved(alloc, session, command, changed)
 }

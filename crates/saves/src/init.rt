@@ -1,16 +1,19 @@
-// What `init` does.
+// What `init` does, and what it would do.
 
-use crate::details::Details;
-use calls::{Call, Stop, print};
+use calls::Call;
 use commands::ReplyText;
+use details::Details;
 use files::first_inputs::{FirstInputs, FirstPaths, first_inputs};
 use files::saved_history::SavedHistory;
-use files::{LinkOut, end_left, link_out, remove_left};
-use inputs::LockFile;
+use files::{SavedFiles, end_left, link_out, remove_left};
+use inputs::{Fault, LinkOut, LockFile};
 use journal::{Reply, Session};
+use reports::{Stop, print};
 use resolve::RESOLVER;
+use std::alloc::AllocError;
 use std::io::{Read, Write};
 use std::rt::Files;
+use texts::diff_text::first_lock_text;
 
 /// Locks the requirements file, keeping the pins that are handed in, and saves the history that begins with it. A save that was stopped is
 /// ended before, so that its history stays where this one can't be saved. A link is followed only to a file of
@@ -26,24 +29,62 @@ where
 {
     let (rt, dir) = (call.rt, call.dir);
     let left = end_left(rt, dir)?;
-    let steps_before = details.steps_before(rt, dir)?;
+    let steps_before = steps_before(details, rt, dir)?;
     let SavedHistory {
         files,
         session,
         snapshot,
     } = begin(rt, dir, details, paths, input)?;
-    if let Some(link) = link_out(rt, dir, &session)? {
-        details.add_link(&link)?;
-        let LinkOut { file, place: _ } = link;
-        return Err(Stop::Unwritten(file));
-    }
+    refuse_link(rt, dir, details, &session)?;
     let mut text = ReplyText::new(rt.alloc())?;
     text.set(&Reply::Done(session.cursor()));
-    details.add_first_lock(rt.alloc(), &session, &snapshot)?;
+    details.add_first_lock(rt.alloc(), &session, &snapshot, "locked")?;
     details.add_replaced(dir, steps_before)?;
     remove_left(rt, dir, left, &session)?;
     files.replace(rt, dir, &session)?;
     Ok(print(&mut call.output, text.as_bytes())?)
+}
+
+/// Prints the reply of a first lock, and the entries that it would have. A history that stands there is left, and so is
+/// what a save that was stopped has left.
+pub fn rehearse_init<R: Files + AllocGlobal, I: Read + Drop, O: Write>(
+    call: &mut Call<'_, R, O>,
+    details: &mut Details,
+    paths: FirstPaths<'_>,
+    input: I,
+) -> Result<(), Stop> {
+    let (rt, dir) = (call.rt, call.dir);
+    let alloc = rt.alloc();
+    let steps_before = steps_before(details, rt, dir)?;
+    let SavedHistory {
+        files: _,
+        session,
+        snapshot,
+    } = begin(rt, dir, details, paths, input)?;
+    refuse_link(rt, dir, details, &session)?;
+    let mut text = ReplyText::new(alloc)?;
+    text.set(&Reply::Done(session.cursor()));
+    details.add_first_lock(alloc, &session, &snapshot, "would be locked")?;
+    details.add_replaceable(steps_before)?;
+    let locks = first_lock_text(alloc, session.state().targets())?;
+    let locks = call.style.change(alloc, locks)?;
+    print(&mut call.output, text.as_bytes())?;
+    Ok(print(&mut call.output, locks.as_bytes())?)
+}
+
+/// Refuses a link in the place of a file that leads to what isn't ours.
+fn refuse_link<R: Files + AllocGlobal>(
+    rt: &R,
+    dir: &str,
+    details: &mut Details,
+    session: &Session,
+) -> Result<(), Stop> {
+    let Some(link) = link_out(rt, dir, session)? else {
+        return Ok(());
+    };
+    details.add_link(&link)?;
+    let LinkOut { file, place: _ } = link;
+    Err(Stop::Unwritten(file))
 }
 
 /// The history that `init` begins with, the requirements file that it was made of, and the index.
@@ -74,4 +115,25 @@ pub fn begin<R: Files + AllocGlobal, I: Read + Drop>(
         session,
         snapshot,
     })
+}
+
+/// How many steps the history has that an `init` is about to replace; none where there is no history, or nobody is
+/// told.
+fn steps_before<R: Files + AllocGlobal>(
+    details: &Details,
+    rt: &R,
+    dir: &str,
+) -> Result<usize, Stop> {
+    if !details.manner.is_person {
+        return Ok(0);
+    }
+    let opened = match SavedFiles::read(rt, dir) {
+        Ok(files) => files.open(rt.alloc()),
+        Err(fault) => Err(fault),
+    };
+    match opened {
+        Ok(session) => Ok(session.steps()),
+        Err(Fault::OutOfMemory) => Err(Stop::from(AllocError)),
+        Err(_) => Ok(0),
+    }
 }

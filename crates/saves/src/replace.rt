@@ -1,18 +1,19 @@
 // What `replace` does, and what it would do.
 
-use crate::details::Details;
 use crate::dry_run::rehearse;
 use crate::edit::apply;
-use calls::{Call, ReplacedHistory, Stop, pool_of, replaced, replaced_to_save};
+use calls::{Call, ReplacedHistory, pool_of, replaced, replaced_to_save};
 use command_line::request::{EditInputs, Replacement};
+use details::Details;
 use files::saved_history::SavedHistory;
 use inputs::LockFile;
 use journal::Command;
+use reports::Stop;
 use std::io::{Read, Write};
 use std::rt::Files;
 
 /// Puts other lines in the place of all lines, and keeps of the locked versions and those that are handed in the newer
-/// ones.
+/// ones that the index has.
 pub fn replace_once<R: Files + AllocGlobal, I: Read + Drop, O: Write>(
     call: &mut Call<'_, R, O>,
     details: &mut Details,
@@ -36,7 +37,14 @@ where
         snapshot,
     } = history;
     let command = Command::Edit(edit, pool_of(&snapshot, inputs));
-    apply(call, details, &files, session, &command)
+    apply(
+        call,
+        details,
+        &files,
+        session,
+        &command,
+        inputs.only_if_needed,
+    )
 }
 
 /// Prints the reply and what would change. Nothing is saved.
@@ -63,5 +71,5 @@ where
         snapshot,
     } = history;
     let command = Command::Edit(edit, pool_of(&snapshot, inputs));
-    rehearse(call, details, session, &command)
+    rehearse(call, details, session, &command, inputs.only_if_needed)
 }

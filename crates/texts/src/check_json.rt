@@ -13,21 +13,23 @@ pub fn check_json(alloc: Global, place: usize) -> Result<String, AllocError> {
     json_text(alloc, &Value::Object(members))
 }
 
-/// The same, with the change that a new lock would make, or none where it would make none.
+/// The same, with what a new lock would move, or none where it would move nothing, and whether its index is another one.
 pub fn current_json(
     alloc: Global,
     place: usize,
-    change: Option<&Change>,
+    moved: Option<&Change>,
+    is_another_index: bool,
 ) -> Result<String, AllocError> {
     let mut members = Map::new(alloc);
+    put(&mut members, alloc, "current", Value::Bool(moved.is_none()))?;
     put(
         &mut members,
         alloc,
-        "current",
-        Value::Bool(change.is_none()),
+        "another_index",
+        Value::Bool(is_another_index),
     )?;
     put(&mut members, alloc, "place", Value::from(place))?;
-    let diff = match change {
+    let diff = match moved {
         Some(change) => diff_value(alloc, change)?,
         None => Value::Null,
     };

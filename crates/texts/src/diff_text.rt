@@ -1,6 +1,7 @@
 // What a change did, for people.
 
-use edits::{Change, DigestChange, EntryChange, Splice};
+use crate::entry_fields::add_other_fields;
+use edits::{Change, DigestChange, Entry, EntryChange, Splice, Target};
 use lists::Text;
 use phrases::{add_plain, add_target_line};
 use std::alloc::{AllocError, Global};
@@ -16,6 +17,32 @@ pub fn diff_text(alloc: Global, change: &Change) -> Result<String, AllocError> {
         add_digests(alloc, &mut text, digests)?;
     }
     Ok(text)
+}
+
+/// The entries of first locks, as `diff_text` tells entries that are put in.
+pub fn first_lock_text(alloc: Global, targets: &[Target]) -> Result<String, AllocError> {
+    let mut text = String::new(alloc);
+    for target in targets {
+        let entries = target.lock.entries();
+        if !entries.is_empty() {
+            add_target_line(&mut text, target.name.as_str())?;
+        }
+        add_new_entries(&mut text, entries)?;
+    }
+    Ok(text)
+}
+
+fn add_new_entries(text: &mut String, entries: &[Entry]) -> Result<(), AllocError> {
+    for entry in entries {
+        add_new_entry(text, entry.name().normal(), entry)?;
+        text.push_str("\n")?;
+    }
+    Ok(())
+}
+
+fn add_new_entry(text: &mut String, name: &str, entry: &Entry) -> Result<(), AllocError> {
+    let version = entry.version();
+    write!(text, "+ {name} {version}")
 }
 
 fn add_splices(text: &mut String, splices: &[Splice]) -> Result<(), AllocError> {
@@ -74,21 +101,19 @@ fn has_same_target(last: Option<&EntryChange>, change: &EntryChange) -> bool {
     }
 }
 
-/// What became of an entry. One that has other files, or other needs, keeps its version.
+/// What became of an entry. Of one that keeps its version it is told which fields are others.
 pub(crate) fn add_entry_change(text: &mut String, change: &EntryChange) -> Result<(), AllocError> {
     let name = change.name.normal();
     match (&change.old, &change.new) {
-        (None, Some(new)) => {
-            let new = new.version();
-            write!(text, "+ {name} {new}")
-        }
+        (None, Some(new)) => add_new_entry(text, name, new),
         (Some(old), None) => {
             let old = old.version();
             write!(text, "- {name} {old}")
         }
         (Some(old), Some(new)) => {
-            let (old, new) = (old.version(), new.version());
-            write!(text, "{name} {old} -> {new}")
+            let (before, behind) = (old.version(), new.version());
+            write!(text, "{name} {before} -> {behind}")?;
+            add_other_fields(text, old, new)
         }
         (None, None) => Ok(()),
     }

@@ -4,6 +4,7 @@
 pub mod check_json;
 pub mod diff_json;
 pub mod diff_text;
+mod entry_fields;
 mod entry_json;
 pub mod entry_text;
 pub mod history_text;

@@ -1,26 +1,52 @@
 // What a step of the history asked for that changed no line.
 
+use crate::diff_text::add_entry_change;
 use edits::{Change, Entry, EntryChange, Name};
 use std::alloc::{AllocError, Global};
 use std::collections::BTreeMap;
 
 /// Puts what was asked behind the text, as far as the change shows it. Over the same index only an upgrade changes
-/// something. It is told with its name where one entry has another version and all else that changed hangs on it.
+/// something. It is told with its name where one entry has another version and all else that changed hangs on it. Over
+/// another index that entry is told alone, or else the first with another version: an upgrade and a relock look alike there.
 pub(crate) fn add_new_lock(
     alloc: Global,
     text: &mut String,
     change: &Change,
 ) -> Result<(), AllocError> {
+    let upgraded = upgraded_in(alloc, change.entries())?;
     if change.digests().is_some() {
-        add_count(text, "relock", change)?;
-        return text.push_str(", another index");
+        let first = change.entries().iter().find(|entry| has_moved(entry));
+        return add_other_index(text, change, upgraded.or(first));
     }
-    match upgraded_in(alloc, change.entries())? {
-        Some(name) => {
+    match upgraded {
+        Some(entry) => {
             text.push_str("upgrade ")?;
-            text.push_str(name.normal())
+            text.push_str(entry.name.normal())
         }
         None => add_count(text, "upgrade", change),
+    }
+}
+
+/// What a step over another index did: an entry with another version, and how many more have changed. Where no version
+/// changed, it did what a relock does.
+fn add_other_index(
+    text: &mut String,
+    change: &Change,
+    moved: Option<&EntryChange>,
+) -> Result<(), AllocError> {
+    let Some(moved) = moved else {
+        add_count(text, "relock", change)?;
+        return text.push_str(", another index");
+    };
+    text.push_str("another index: ")?;
+    add_entry_change(text, moved)?;
+    match change.entries().len() {
+        0 | 1 => Ok(()),
+        2 => text.push_str(", 1 more entry"),
+        entries => {
+            let more = entries.saturating_sub(1);
+            write!(text, ", {more} more entries")
+        }
     }
 }
 
@@ -30,12 +56,12 @@ fn add_count(text: &mut String, word: &str, change: &Change) -> Result<(), Alloc
     write!(text, "{word}: {entries} {noun}")
 }
 
-/// The name on which all that changed hangs. The last of the starts from which walks have reached everything is the only one
-/// from which a single walk can.
+/// The entry with another version on which all that changed hangs. The last of the starts from which walks have reached everything
+/// is the only one from which a single walk can.
 fn upgraded_in<'a>(
     alloc: Global,
     changes: &'a [EntryChange],
-) -> Result<Option<&'a Name>, AllocError> {
+) -> Result<Option<&'a EntryChange>, AllocError> {
     let needs = needs_of(alloc, changes)?;
     let mut reached = none_reached(alloc, needs.len())?;
     let mut last = 0;
@@ -51,7 +77,7 @@ fn upgraded_in<'a>(
         return Ok(None);
     }
     match changes.get(last) {
-        Some(change) if has_moved(change) => Ok(Some(&change.name)),
+        Some(change) if has_moved(change) => Ok(Some(change)),
         _ => Ok(None),
     }
 }

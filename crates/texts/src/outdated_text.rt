@@ -12,7 +12,8 @@ use std::alloc::{AllocError, Global};
 
 /// A table for each target of the state with entries that have newer releases in the index: what is locked, the
 /// newest version that all admit that require it, the newest version, and what doesn't admit that. Below it stand the
-/// entries whose releases the index doesn't have. A target without either has no table.
+/// entries whose releases the index doesn't have, and those whose releases are yanked in it. A target with none of these has
+/// no table.
 pub fn outdated_text(
     alloc: Global,
     state: &State,
@@ -33,7 +34,7 @@ pub fn outdated_text(
     Ok(text)
 }
 
-/// The table of a target, and the line below it.
+/// The table of a target, and the lines below it.
 fn target_text(
     alloc: Global,
     state: &State,
@@ -48,7 +49,17 @@ fn target_text(
         let heads = ["name", "locked", "admitted", "newest", "held by"];
         add_table(alloc, &mut text, heads.as_slice(), rows.as_slice())?;
     }
-    add_absent(&mut text, &problem, target.lock.entries())?;
+    let entries = target.lock.entries();
+    add_pins(
+        &mut text,
+        "not in the index: ",
+        absent_in(alloc, &problem, entries)?.as_slice(),
+    )?;
+    add_pins(
+        &mut text,
+        "yanked: ",
+        yanked_in(alloc, &problem, entries)?.as_slice(),
+    )?;
     Ok(text)
 }
 
@@ -90,25 +101,56 @@ fn holders_text(alloc: Global, holders: &[RequiredBy<'_>]) -> Result<String, All
     Ok(text)
 }
 
-/// The entries whose releases the index doesn't have, in a line.
-fn add_absent(
-    text: &mut String,
-    problem: &Problem<'_>,
-    entries: &[Entry],
-) -> Result<(), AllocError> {
-    let mut mark = "not in the index: ";
+/// Entries in a line behind what they have in common, if there are any.
+fn add_pins(text: &mut String, label: &str, entries: &[&Entry]) -> Result<(), AllocError> {
+    let mut mark = label;
     for entry in entries {
-        if !is_in_index(problem, entry) {
-            let name = entry.name().normal();
-            let version = entry.version();
-            write!(text, "{mark}{name} {version}")?;
-            mark = ", ";
-        }
+        let name = entry.name().normal();
+        let version = entry.version();
+        write!(text, "{mark}{name} {version}")?;
+        mark = ", ";
     }
-    if mark == ", " {
+    if !entries.is_empty() {
         text.push_str("\n")?;
     }
     Ok(())
+}
+
+/// The entries whose releases the index doesn't have.
+fn absent_in<'a>(
+    alloc: Global,
+    problem: &Problem<'_>,
+    entries: &'a [Entry],
+) -> Result<Vec<&'a Entry>, AllocError> {
+    let mut absent = Vec::new(alloc);
+    for entry in entries {
+        if !is_in_index(problem, entry) {
+            absent.push(entry)?;
+        }
+    }
+    Ok(absent)
+}
+
+/// The entries whose releases are yanked in the index.
+fn yanked_in<'a>(
+    alloc: Global,
+    problem: &Problem<'_>,
+    entries: &'a [Entry],
+) -> Result<Vec<&'a Entry>, AllocError> {
+    let mut yanked = Vec::new(alloc);
+    for entry in entries {
+        if is_yanked(problem, entry) {
+            yanked.push(entry)?;
+        }
+    }
+    Ok(yanked)
+}
+
+fn is_yanked(problem: &Problem<'_>, entry: &Entry) -> bool {
+    match problem.release(entry.name(), entry.version()) {
+        Some(release) => release.yanked(),
+        None => false,
+    }
 }
 
 /// The same as a JSON object.
@@ -137,8 +179,11 @@ fn target_value(
         outdated.push(outdated_value(alloc, one)?)?;
     }
     let mut members = target_members(alloc, target, "outdated", Value::Array(outdated))?;
-    let absent = absent_value(alloc, &problem, target.lock.entries())?;
+    let entries = target.lock.entries();
+    let absent = pins_value(alloc, absent_in(alloc, &problem, entries)?.as_slice())?;
     put(&mut members, alloc, "not_in_index", absent)?;
+    let yanked = pins_value(alloc, yanked_in(alloc, &problem, entries)?.as_slice())?;
+    put(&mut members, alloc, "yanked", yanked)?;
     Ok(Value::Object(members))
 }
 
@@ -160,16 +205,10 @@ fn outdated_value(alloc: Global, outdated: &Outdated<'_>) -> Result<Value, Alloc
     Ok(Value::Object(members))
 }
 
-fn absent_value(
-    alloc: Global,
-    problem: &Problem<'_>,
-    entries: &[Entry],
-) -> Result<Value, AllocError> {
-    let mut absent = Vec::new(alloc);
+fn pins_value(alloc: Global, entries: &[&Entry]) -> Result<Value, AllocError> {
+    let mut pins = Vec::new(alloc);
     for entry in entries {
-        if !is_in_index(problem, entry) {
-            absent.push(pin_value(alloc, entry)?)?;
-        }
+        pins.push(pin_value(alloc, entry)?)?;
     }
-    Ok(Value::Array(absent))
+    Ok(Value::Array(pins))
 }

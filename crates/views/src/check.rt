@@ -1,17 +1,18 @@
 // What `check` prints: whether the files belong together, and whether the lock is that of the index at hand.
 
-ghost use Rattle.std.specs.Prelude.{IfErr, IfOk, IfSome, MatchOption};
+ghost use Rattle.std.specs.Prelude.{◌≡◌, IfErr, IfOk, IfSome, MatchOption, None};
 ghost use Rattle.changes.specs.Changes.{ChangeParts};
 ghost use Rattle.journal.specs.Past.{present};
-ghost use Rattle.views.specs.Views.{IsCurrent, IsRelock, IsStale, StopsRelock};
+ghost use Rattle.views.specs.Views.{IsCurrent, IsOutOfDate, IsRelock, IsStale, StopsRelock, moves};
 
-use calls::{Call, Stop, print};
+use calls::Call;
 use command_line::request::Format;
 use commands::ReplyText;
 use edits::{Change, Edit, Pool, Refusal, State, edit};
 use files::saved_history::{saved_session, session_over};
 use inputs::LockFile;
 use journal::{Reply, Session};
+use reports::{Stop, print};
 use resolve::RESOLVER;
 use snapshot::Snapshot;
 use std::alloc::{AllocError, Global};
@@ -21,12 +22,13 @@ use texts::check_json::{check_json, current_json};
 use texts::diff_text::diff_text;
 
 /// Prints the place of the present state, as the reply of a command that led to it would. Where an index is given,
-/// prints whether a new lock over it would change something, and what.
+/// prints whether a new lock over it would move something, and what. Answers the change of a new lock that would change
+/// the digest of the index alone.
 pub fn print_check<R: Files + AllocGlobal, O: Write>(
     call: &mut Call<'_, R, O>,
     index: Option<&str>,
     format: Format,
-) -> Result<(), Stop>
+) -> Result<Option<Change>, Stop>
 where
     R::File: LockFile,
 {
@@ -34,7 +36,8 @@ where
     match index {
         None => {
             let session = saved_session(call.rt, call.dir)?;
-            print_place(alloc, session.cursor(), format, &mut call.output)
+            print_place(alloc, session.cursor(), format, &mut call.output)?;
+            Ok(None)
         }
         Some(index) => {
             let (session, snapshot) = session_over(call.rt, call.dir, index)?;
@@ -66,18 +69,34 @@ fn print_current<O: Write>(
     snapshot: &Snapshot,
     format: Format,
     output: &mut O,
-) -> Result<(), Stop>
-    ensures current { IfOk result (λ _. IfSome (present session.now.past)
-        (λ state. IsCurrent state snapshot.now)) }
+) -> Result<Option<Change>, Stop>
+    ensures current { IfOk result (λ change. IfSome (present session.now.past)
+        (λ state. IsCurrent state snapshot.now change)) }
     ensures stale { IfErr result (λ stop. IsStale stop → IfSome (present session.now.past)
-        (λ state. (change : ChangeParts) × IsRelock state snapshot.now change)) }
+        (λ state. (change : ChangeParts) × IsOutOfDate state snapshot.now change)) }
 {
     let change = relock_change(alloc, session.state(), snapshot)?;
     let text = current_text(alloc, session.cursor(), change.as_ref(), format)?;
     match change {
-        Some(_) => Err(Stop::Stale(text)),
-        None => Ok(print(output, text.as_bytes())?),
+        Some(change) => {
+            if moves(&change) {
+                return Err(Stop::Stale(text));
+            }
+            print(output, text.as_bytes())?;
+            Ok(Some(change))
+        }
+        None => {
+            print(output, text.as_bytes())?;
+            Ok(None)
+        }
     }
+}
+
+/// Whether a change moves lines or entries, and not the digest of the index alone.
+fn moves(change: &Change) -> bool
+    ensures { result ≡ moves change.now }
+{
+    !(change.splices().is_empty() && change.entries().is_empty())
 }
 
 fn current_text(
@@ -86,8 +105,16 @@ fn current_text(
     change: Option<&Change>,
     format: Format,
 ) -> Result<String, AllocError> {
-    match (format, change) {
-        (Format::Json, _) => current_json(alloc, place, change),
+    let moved = match change {
+        Some(change) if moves(change) => Some(change),
+        _ => None,
+    };
+    let is_another_index = match change {
+        Some(change) => change.digests().is_some(),
+        None => false,
+    };
+    match (format, moved) {
+        (Format::Json, _) => current_json(alloc, place, moved, is_another_index),
         (Format::Lines, None) => String::from_str(alloc, "current\n"),
         (Format::Lines, Some(change)) => {
             let mut text = String::from_str(alloc, "stale\n")?;
@@ -100,7 +127,7 @@ fn current_text(
 /// What a new lock over the index would change; nothing where it would change nothing.
 fn relock_change(alloc: Global, state: &State, snapshot: &Snapshot) -> Result<Option<Change>, Stop>
     ensures change { IfOk result (λ change. MatchOption change
-        (IsCurrent state.now snapshot.now)
+        (IsCurrent state.now snapshot.now None)
         (IsRelock state.now snapshot.now)) }
     ensures refused { IfErr result (StopsRelock state.now snapshot.now) }
 {

@@ -3,10 +3,11 @@
 ghost use Rattle.std.specs.Prelude.{◌≡◌};
 ghost use Rattle.views.specs.Views.{places_in};
 
-use calls::{Call, Stop, change_between, show};
+use calls::{Call, change_between};
 use command_line::request::{DiffRange, Format};
 use files::saved_history::saved_session;
 use inputs::LockFile;
+use reports::{Stop, show};
 use std::io::Write;
 use std::rt::Files;
 use texts::diff_json::diff_json;

@@ -1,6 +1,6 @@
 // What `export` prints.
 
-use calls::{Call, Stop, print};
+use calls::Call;
 use clap::error::ErrorKind;
 use command_line::command;
 use command_line::request::{Export, ExportFormat};
@@ -11,6 +11,7 @@ use exports::{
 };
 use files::saved_history::{saved_session, session_over};
 use inputs::LockFile;
+use reports::{Stop, print, stop_of_usage};
 use std::alloc::{AllocError, Global};
 use std::io::Write;
 use std::rt::Files;
@@ -155,7 +156,7 @@ fn names_of(alloc: Global, targets: &[Target]) -> Result<String, AllocError> {
 /// A mistake in the words of the call.
 fn usage(alloc: Global, kind: ErrorKind, message: Result<String, AllocError>) -> Stop {
     match told(alloc, kind, message) {
-        Ok(error) => Stop::Usage(error),
+        Ok(error) => stop_of_usage(alloc, &error),
         Err(error) => Stop::from(error),
     }
 }

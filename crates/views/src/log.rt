@@ -1,9 +1,10 @@
 // What `log` prints.
 
-use calls::{Call, Stop, show};
+use calls::Call;
 use command_line::request::Format;
 use files::saved_history::saved_session;
 use inputs::LockFile;
+use reports::{Stop, show};
 use std::io::Write;
 use std::rt::Files;
 use texts::history_text::history_text;

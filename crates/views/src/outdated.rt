@@ -1,16 +1,20 @@
 // What `outdated` prints.
 
-use calls::{Call, Stop, show};
+use calls::Call;
 use command_line::request::Format;
 use files::saved_history::session_over;
 use inputs::LockFile;
+use notes::Lacks;
+use reports::{Stop, show};
 use std::io::Write;
 use std::rt::Files;
 use texts::outdated_text::{outdated_json, outdated_text};
 
-/// Prints the entries of each target that have newer releases in the index, and who holds them back.
+/// Prints the entries of each target that have newer releases in the index, and who holds them back. What the index lacks for
+/// still newer ones is noted.
 pub fn print_outdated<R: Files + AllocGlobal, O: Write>(
     call: &mut Call<'_, R, O>,
+    lacks: &mut Lacks,
     index: &str,
     format: Format,
 ) -> Result<(), Stop>
@@ -19,6 +23,7 @@ where
 {
     let alloc = call.rt.alloc();
     let (session, snapshot) = session_over(call.rt, call.dir, index)?;
+    lacks.add_newer(alloc, session.state(), &snapshot, None)?;
     let text = match format {
         Format::Lines => {
             let text = outdated_text(alloc, session.state(), &snapshot)?;

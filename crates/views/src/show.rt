@@ -1,6 +1,6 @@
 // What `show` prints.
 
-use calls::{Call, Stop, show};
+use calls::Call;
 use command_line::request::{Format, Shown};
 use edits::{Name, Refusal, State};
 use files::saved_history::{saved_session, session_over};
@@ -9,6 +9,7 @@ use journal::Session;
 use lists::Text;
 use pep508::Cause;
 use phrases::Style;
+use reports::{Stop, show};
 use snapshot::Snapshot;
 use std::alloc::{AllocError, Global};
 use std::io::Write;

@@ -1,8 +1,9 @@
 // What `skipped` prints.
 
-use calls::{Call, Stop, show};
+use calls::Call;
 use inputs::{InputFile, in_file, read_bytes, read_index};
 use phrases::skipped_text::skipped_text;
+use reports::{Stop, show};
 use std::io::Write;
 use std::rt::Files;
 

@@ -5,7 +5,7 @@ ghost use Rattle.std.specs.List.{All};
 ghost use Rattle.answers.specs.Answers.{IsSolvable};
 
 use answers::{Shown, changed_by, explained_text, first_refuted, lines_of, listed_text};
-use calls::{Call, ReplacedHistory, Stop, pool_of, print, replaced};
+use calls::{Call, ReplacedHistory, pool_of, replaced};
 use command_line::request::{EditInputs, Replacement, Told};
 use edits::{Edit, Problem, TargetName, problem_after, problems_of_init};
 use explain::{ChangedLines, Extent, Wording};
@@ -13,6 +13,8 @@ use files::first_inputs::{FirstInputs, FirstPaths, first_inputs};
 use files::saved_history::session_over;
 use inputs::LockFile;
 use lists::Text;
+use notes::Lacks;
+use reports::{Stop, print};
 use std::alloc::Global;
 use std::io::{Read, Write};
 use std::rt::Files;
@@ -22,6 +24,7 @@ use std::rt::Files;
 /// It is told in sentences where that is asked for, long ones too. All files are read before a fault in one is told.
 pub fn print_why<R: Files + AllocGlobal, O: Write>(
     call: &mut Call<'_, R, O>,
+    lacks: &mut Lacks,
     edit: &Edit,
     inputs: EditInputs<'_>,
     told: Told,
@@ -37,12 +40,14 @@ where
         lines: session.state().lines().lines(),
         changed: changed_by(edit),
     };
-    answer(alloc, changed, told, problems.as_slice(), &mut call.output)
+    let asked = Asked { changed, told };
+    answer(alloc, lacks, asked, problems.as_slice(), &mut call.output)
 }
 
 /// The same of other lines in the place of all lines. The lines that are told are the new ones.
 pub fn print_why_replace<R: Files + AllocGlobal, I: Read + Drop, O: Write>(
     call: &mut Call<'_, R, O>,
+    lacks: &mut Lacks,
     replacement: &Replacement<'_>,
     inputs: EditInputs<'_>,
     told: Told,
@@ -65,13 +70,15 @@ where
         lines: lines_of(&edit, history.session.state()),
         changed: changed_by(&edit),
     };
-    answer(alloc, changed, told, problems.as_slice(), &mut call.output)
+    let asked = Asked { changed, told };
+    answer(alloc, lacks, asked, problems.as_slice(), &mut call.output)
 }
 
 /// The same of the lock that `init` would make of the requirements file, with this line behind the others
 /// where there is one. No history and no lock is read.
 pub fn print_why_init<R: Files + AllocGlobal, I: Read + Drop, O: Write>(
     call: &mut Call<'_, R, O>,
+    lacks: &mut Lacks,
     line: Option<&str>,
     paths: FirstPaths<'_>,
     told: Told,
@@ -93,23 +100,34 @@ pub fn print_why_init<R: Files + AllocGlobal, I: Read + Drop, O: Write>(
         lines: lines.lines(),
         changed: changed_by(&edit),
     };
-    answer(alloc, changed, told, problems.as_slice(), &mut call.output)
+    let asked = Asked { changed, told };
+    answer(alloc, lacks, asked, problems.as_slice(), &mut call.output)
 }
 
-/// Tells of the first target without a solution why it has none, or that each has one.
+// Which lines are asked about, and how it is told.
+#[derive(Clone, Copy)]
+struct Asked<'a> {
+    changed: ChangedLines<'a>,
+    told: Told,
+}
+
+/// Tells of the first target without a solution why it has none, or that each has one. What the index lacks for that target is
+/// noted.
 fn answer<O: Write>(
     alloc: Global,
-    changed: ChangedLines<'_>,
-    told: Told,
+    lacks: &mut Lacks,
+    asked: Asked<'_>,
     problems: &[(TargetName, Problem<'_>)],
     output: &mut O,
 ) -> Result<(), Stop>
     ensures { IfOk result (λ _. All IsSolvable problems.now) }
 {
+    let Asked { changed, told } = asked;
     let explains = told != Told::Conflicts;
     match first_refuted(alloc, problems, explains)? {
         Some((place, shown)) => {
             let (name, problem) = &problems[place];
+            lacks.add_asked(alloc, name, problem, true)?;
             Err(match shown {
                 Shown::Listed(refutation) => {
                     Stop::Refuted(listed_text(alloc, name, &refutation)?)

@@ -6,21 +6,21 @@ ghost use Rattle.edits.specs.Refused.{is_locked_for};
 ghost use Rattle.views.specs.WhyNot.{lacks};
 
 use crate::why::wording_of;
-use answers::{explained_text, refuted_by_sets};
-use calls::{Call, Stop, show};
+use answers::{best_keeping, explained_text, kept_longest, refuted_by_sets};
+use calls::Call;
 use command_line::request::Told;
 use edits::{
     Cause, Edit, Learning, Line, Name, Pool, Problem, Refusal, Resolver, State, Target,
     problem_after, problems_with,
 };
-use explain::{
-    ChangedLine, ChangedLines, WantedRelease, Wording, add_difference, add_same, add_uncounted,
-};
+use explain::{ChangedLine, ChangedLines, WantedRelease, add_difference, add_same, add_uncounted};
 use files::saved_history::session_over;
 use inputs::LockFile;
 use lists::Text;
+use notes::Lacks;
 use pep440::Version;
 use phrases::add_target_line;
+use reports::{Stop, show};
 use resolve::Answer;
 use snapshot::{Release, Snapshot};
 use std::alloc::{AllocError, Global};
@@ -41,6 +41,7 @@ struct NamedRelease {
 /// sentences, in long ones where these are asked for.
 pub fn print_why_not<R: Files + AllocGlobal, O: Write>(
     call: &mut Call<'_, R, O>,
+    lacks: &mut Lacks,
     text: &str,
     index: &str,
     told: Told,
@@ -51,7 +52,7 @@ where
     let alloc = call.rt.alloc();
     let (session, snapshot) = session_over(call.rt, call.dir, index)?;
     let named = release_in(alloc, text, &snapshot)?;
-    let answer = why_not(alloc, session.state(), &named, &snapshot, told)?;
+    let answer = why_not(alloc, lacks, session.state(), &named, &snapshot, told)?;
     show(&mut call.output, answer.as_str().as_bytes())?;
     Ok(())
 }
@@ -110,9 +111,10 @@ fn version_in(alloc: Global, text: &str) -> Result<Version, Refusal> {
 }
 
 /// The answer of the first target whose lock has the name and not the release. A name that is in no lock is
-/// refused.
+/// refused. What the index lacks for that target is noted.
 fn why_not(
     alloc: Global,
+    lacks: &mut Lacks,
     state: &State,
     named: &NamedRelease,
     snapshot: &Snapshot,
@@ -124,22 +126,89 @@ fn why_not(
     if !is_locked(state.targets(), name) {
         return Err(Stop::from(Refusal::NotLocked(Text::copy_of(alloc, name.normal())?)));
     }
-    let changed = ChangedLines {
-        lines: state.lines().lines(),
-        changed: ChangedLine::Wanted(&named.text),
-    };
     let Some(place) = first_lacking(state.targets(), named) else {
         return Ok(same_text(alloc, named)?);
     };
     let target = &state.targets()[place];
+    let lacking = Lacking {
+        state,
+        target,
+        named,
+        snapshot,
+    };
     let (_, before) = &present.as_slice()[place];
-    let (_, problem) = &problems.as_slice()[place];
-    let mut text = String::new(alloc);
-    add_target_line(&mut text, target.name.as_str())?;
-    if is_told(alloc, &mut text, named, before, problem)? {
-        return Ok(text);
+    let (_, asked) = &problems.as_slice()[place];
+    lacks.add_asked(alloc, &target.name, asked, false)?;
+    lacking.why(alloc, before, asked, told)
+}
+
+/// A target whose lock has the name and not the release.
+#[derive(Clone, Copy)]
+struct Lacking<'a> {
+    state: &'a State,
+    target: &'a Target,
+    named: &'a NamedRelease,
+    snapshot: &'a Snapshot,
+}
+
+impl Lacking<'_> {
+    /// Tells why the release counts for nothing, or which name would have to give, below the target's name. `present` is
+    /// the problem of the lines as they are, `asked` the one with a line on the release.
+    fn why(
+        &self,
+        alloc: Global,
+        present: &Problem<'_>,
+        asked: &Problem<'_>,
+        told: Told,
+    ) -> Result<String, Stop> {
+        let named = self.named;
+        let mut text = String::new(alloc);
+        add_target_line(&mut text, self.target.name.as_str())?;
+        let Some(version) = &named.version else {
+            return self.refuted(alloc, text, asked, told);
+        };
+        let name = &named.name;
+        let wanted = WantedRelease { name, version };
+        if is_uncounted(alloc, &mut text, present, wanted)? {
+            return Ok(text);
+        }
+        let taken = best_keeping(alloc, self.state, self.target, name, version, self.snapshot)?;
+        if let Some(best) = taken {
+            add_difference(alloc, &mut text, present, wanted, &best)?;
+            return Ok(text);
+        }
+        match Learning.resolve(alloc, asked)? {
+            Answer::Solution(best) => {
+                let best = kept_longest(alloc, present, asked, name, best)?;
+                add_difference(alloc, &mut text, present, wanted, &best)?;
+                Ok(text)
+            }
+            Answer::NoSolution => self.refuted(alloc, text, asked, told),
+        }
     }
-    refuted_text(alloc, text, target, problem, wording_of(changed, told))
+
+    /// Why there is no solution with the release.
+    fn refuted(
+        &self,
+        alloc: Global,
+        text: String,
+        asked: &Problem<'_>,
+        told: Told,
+    ) -> Result<String, Stop> {
+        let (state, named) = (self.state, self.named);
+        let changed = ChangedLines {
+            lines: state.lines().lines(),
+            changed: ChangedLine::Wanted(&named.text),
+        };
+        let wording = wording_of(changed, told);
+        match refuted_by_sets(alloc, asked)? {
+            Some(explanation) => {
+                let text = explained_text(alloc, &self.target.name, asked, &explanation, wording)?;
+                Err(Stop::Explained(text))
+            }
+            None => Ok(text),
+        }
+    }
 }
 
 /// Whether the lock of some target has the name.
@@ -179,51 +248,7 @@ fn same_text(alloc: Global, named: &NamedRelease) -> Result<String, AllocError> 
     Ok(text)
 }
 
-/// Tells why the release counts for nothing, or which name would have to give; nothing where there is no solution
-/// with it.
-fn is_told(
-    alloc: Global,
-    text: &mut String,
-    named: &NamedRelease,
-    before: &Problem<'_>,
-    problem: &Problem<'_>,
-) -> Result<bool, Stop> {
-    let Some(version) = &named.version else {
-        return Ok(false);
-    };
-    let wanted = WantedRelease {
-        name: &named.name,
-        version,
-    };
-    if is_uncounted(alloc, text, before, wanted)? {
-        return Ok(true);
-    }
-    match Learning.resolve(alloc, problem)? {
-        Answer::Solution(best) => {
-            add_difference(alloc, text, problem, wanted, &best)?;
-            Ok(true)
-        }
-        Answer::NoSolution => Ok(false),
-    }
-}
-
-/// Why there is no solution with the release.
-fn refuted_text(
-    alloc: Global,
-    text: String,
-    target: &Target,
-    problem: &Problem<'_>,
-    wording: Wording<'_>,
-) -> Result<String, Stop> {
-    match refuted_by_sets(alloc, problem)? {
-        Some(explanation) => {
-            let text = explained_text(alloc, &target.name, problem, &explanation, wording)?;
-            Err(Stop::Explained(text))
-        }
-        None => Ok(text),
-    }
-}
-
+/// Tells why the release counts for nothing, where it does.
 fn is_uncounted(
     alloc: Global,
     text: &mut String,

@@ -5,7 +5,7 @@ ghost use Rattle.std.specs.List.{AllByRecursion};
 ghost use Rattle.std.specs.Result.{result_map_both};
 ghost use Rattle.changes.specs.Changes.{IsMinimal, Leads, inverse};
 ghost use Rattle.states.specs.declared.refusal.Refusal.TheVariants as refusals;
-ghost use Rattle.journal.specs.Neighbours.{IsHistory, states_of};
+ghost use Rattle.journal.specs.Tied.Neighbours.{IsHistory, states_of};
 ghost use Rattle.journal.specs.Tied.{Walks};
 ghost use Rattle.journal.specs.Opens.{Found, PastOf, StatesBefore, StatesBehind, Tells};
 

@@ -1,6 +1,6 @@
 use Rattle.std.proofs.Common.{◌≡◌, ◌++◌, map, take}
 use Rattle.clap.specs.Words.{rule_of}
-use Rattle.command_line.specs.Tables.{rule_of_words}
+use Rattle.command_line.specs.Tied.Tables.{rule_of_words}
 use Rattle.command_line.proofs.arguments.with_arguments.Given as goal
 
 abbrev pub invariant-loop-word : goal.invariant-loop-word

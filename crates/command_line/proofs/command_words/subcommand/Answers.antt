@@ -3,7 +3,7 @@ use Rattle.std.proofs.lemmas.Result.{IfOk-weaker}
 use Rattle.clap.specs.Simple.{app_of_fields, new_shape, on_top}
 use Rattle.clap.specs.Words.{Rule, app_of, new_app, rule_of}
 use Rattle.command_line.specs.CommandWords.{option_rules, telling_rules}
-use Rattle.command_line.specs.Tables.{rule_of_words}
+use Rattle.command_line.specs.Tied.Tables.{rule_of_words}
 use Rattle.command_line.proofs.AddedArguments.{adds_are}
 use Rattle.command_line.proofs.SimpleRules.{locals, simple_behind_options}
 use Rattle.command_line.proofs.command_words.subcommand.Goals as goal

@@ -1,7 +1,7 @@
 use Rattle.std.proofs.Common.{◌≡◌, drop, map}
 use Rattle.clap.specs.Words.{app_of}
 use Rattle.command_line.specs.CommandWords.{with_subcommands}
-use Rattle.command_line.specs.Tables.{shape_of_words}
+use Rattle.command_line.specs.Tied.Tables.{shape_of_words}
 use Rattle.command_line.proofs.command_words.with_subcommands.Given as goal
 
 abbrev pub invariant-loop-words : goal.invariant-loop-words

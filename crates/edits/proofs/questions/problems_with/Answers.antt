@@ -11,6 +11,7 @@ pub returns-clause-ok : goal.returns-clause-ok
 returns-clause-ok c =
     let lines = rw c.lines.ensures at c.in_ok-more.ensures in
     let so = accepted (refused_requirement (requirement_in c.args.requirement.now)) (with_line c.args.state.now.lines c.args.requirement.now) c.in_ok-more.more lines in
-    let givens = givens-after c.in_ok-more.more Relock (whole c.args.snapshot.now) c.args.state.now.targets c.in_ok-targets.targets c.in_ok-targets.ensures.kept in
-    let problems = rw c.whole.ensures at c.in_ok-problems.ensures in
+    let kept = rw c.whole-pool.ensures at c.in_ok-targets.ensures.kept in
+    let givens = givens-after c.in_ok-more.more Relock (whole c.args.snapshot.now) c.args.state.now.targets c.in_ok-targets.targets kept in
+    let problems = rw c.whole-pool.ensures at c.in_ok-problems.ensures in
     (so.0, rw so.1 (problems ∙ givens))

@@ -1,7 +1,7 @@
 use Rattle.std.proofs.Common.{◌≡◌, arith, length, rules}
 use Rattle.std.specs.List.{AllByRecursion}
 use Rattle.journal.specs.Changes.{parts_of}
-use Rattle.journal.specs.LocksWritten.{AreLocked, IsLawfulTarget}
+use Rattle.journal.specs.Tied.LocksWritten.{AreLocked, IsLawfulTarget}
 use Rattle.journal.specs.Saved.{IsSaved, header_for}
 use Rattle.journal.specs.declared.saved.Saved.{Saved}
 use Rattle.journal.proofs.Histories.{AreSteps-count}

@@ -1,5 +1,5 @@
 use Rattle.std.proofs.Common.{take}
-use Rattle.journal.specs.LocksWritten.{AreLocked}
+use Rattle.journal.specs.Tied.LocksWritten.{AreLocked}
 use Rattle.journal.proofs.saved.locked_of.Given as goal
 
 abbrev pub invariant-loop-place : goal.invariant-loop-place

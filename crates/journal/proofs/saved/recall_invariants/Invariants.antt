@@ -1,6 +1,6 @@
 use Rattle.std.proofs.Common.{take}
 use Rattle.std.specs.List.{AllByRecursion}
-use Rattle.journal.specs.LocksWritten.{IsLawfulTarget}
+use Rattle.journal.specs.Tied.LocksWritten.{IsLawfulTarget}
 use Rattle.journal.proofs.saved.recall_invariants.Given as goal
 
 abbrev pub invariant-loop-place : goal.invariant-loop-place

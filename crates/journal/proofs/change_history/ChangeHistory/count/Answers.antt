@@ -1,6 +1,6 @@
 use Rattle.std.proofs.Common.{sym, arith}
 use Rattle.journal.proofs.Histories.{AreSteps-count}
-use Rattle.journal.specs.Neighbours.{states_of}
+use Rattle.journal.specs.Tied.Neighbours.{states_of}
 use Rattle.journal.proofs.change_history.ChangeHistory.count.Goals as goal
 
 pub returns-clause-states : goal.returns-clause-states

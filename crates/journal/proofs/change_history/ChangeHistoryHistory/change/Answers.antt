@@ -1,7 +1,7 @@
 use Rattle.std.proofs.Common.{◌≡◌, ◌-◌, ◌<◌, length, Some, arith, refl, sym}
 use Rattle.std.proofs.lemmas.Option.{slice_get_read}
 use Rattle.std.specs.Prelude.{slice_get}
-use Rattle.journal.specs.Neighbours.{states_of}
+use Rattle.journal.specs.Tied.Neighbours.{states_of}
 use Rattle.journal.proofs.Histories.{AreSteps-count, step_of}
 use Rattle.journal.proofs.change_history.ChangeHistoryHistory.change.Goals as goal
 

@@ -1,0 +1,3 @@
+pub mod Printed
+pub mod Statuses
+pub mod Stops

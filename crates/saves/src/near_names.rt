@@ -1,0 +1,30 @@
+// Which locked names are near to one that isn't locked.
+
+use details::Details;
+use edits::Refusal;
+use files::SavedFiles;
+use reports::Stop;
+use std::alloc::AllocError;
+use std::rt::Files;
+
+/// Notes them where a call stops since a name isn't locked. A history that can't be opened again has none.
+pub fn add_near_names<R: Files + AllocGlobal>(
+    rt: &R,
+    dir: &str,
+    details: &mut Details,
+    stop: &Stop,
+) -> Result<(), AllocError> {
+    let Stop::Refused(Refusal::NotLocked(name)) = stop else {
+        return Ok(());
+    };
+    if !details.tells() {
+        return Ok(());
+    }
+    let Ok(files) = SavedFiles::read(rt, dir) else {
+        return Ok(());
+    };
+    match files.open(rt.alloc()) {
+        Ok(session) => details.add_not_locked(rt.alloc(), session.state(), name.as_str()),
+        Err(_) => Ok(()),
+    }
+}
