@@ -1,12 +1,13 @@
 #!/usr/bin/env python3
-"""Times `tools/snapshot.py simple` on an index of its own: simple_index.py [PACKAGES [RELEASES [SECONDS [LINES]]]]
+"""Times `tools/snapshot.py simple` on an index of its own: simple_index.py [PACKAGES [RELEASES [SECONDS [LINES]]]] [pip]
 
 The index has 300 packages with 30 releases each, unless told otherwise, and answers on 127.0.0.1 from another process, each
 request after SECONDS more, 0 where none are given. Each release has a wheel with its metadata beside it, and four dependencies on
 average. Thirty names lead to all packages; with LINES so many names lead to six packages each, and to no others.
 A first call has an empty cache, a second a full one, of which it asks whether each page is as it was, a third is offline. They give the
-same bytes. A fourth makes the snapshot again with one name more while all pages are fresh. Of each the seconds by the clock, the
-processor seconds, the requests that the index counted and the peak memory are printed.
+same bytes. A fourth makes the snapshot again with one name more while all pages are fresh. With the word `pip` at the end pip is then
+asked what it would install of the same names: with no cache, and again with the cache that a call before filled. Of each the seconds by
+the clock, the processor seconds, the requests that the index counted and the peak memory are printed, and the load of the machine.
 """
 import multiprocessing
 import os
@@ -58,7 +59,9 @@ def serve(pipe, packages, releases, seconds, has_groups):
 
     if seconds:
         Answers.do_GET = Answers.do_HEAD = later
-    index = MadeIndex(max_age=600)
+    index = MadeIndex(max_age=86_400)
+    # (it ends with the process that began it)
+    index.end.cancel()
     fill(index, packages, releases, has_groups)
     pipe.send(index.url)
     while pipe.recv():
@@ -68,7 +71,9 @@ def serve(pipe, packages, releases, seconds, has_groups):
 def timed(pipe, words, variables):
     """The figures of one call."""
     start = time.monotonic()
-    call = subprocess.Popen([sys.executable, TOOLS / "snapshot.py", *words], stderr=subprocess.PIPE, encoding="utf-8", env=variables)
+    call = subprocess.Popen(
+        [sys.executable, *words], stdout=subprocess.DEVNULL, stderr=subprocess.PIPE, encoding="utf-8", env=variables
+    )
     told = call.stderr.read()
     _, status, usage = os.wait4(call.pid, 0)
     seconds = time.monotonic() - start
@@ -78,31 +83,56 @@ def timed(pipe, words, variables):
     return seconds, usage.ru_utime + usage.ru_stime, pipe.recv(), usage.ru_maxrss / 1000
 
 
+def show(title, clock, processor, requests, memory):
+    told = f"{clock:.2f} s, {processor:.2f} s of processor time, {requests} requests, {memory:.0f} MB"
+    print(f"{title}: {told}; load {os.getloadavg()[0]:.1f}", flush=True)
+
+
+def time_snapshots(pipe, url, names, new, folder, variables):
+    """The calls of the script, which are compiled before."""
+    output, script, texts = folder / "index.json", TOOLS / "snapshot.py", []
+    place = "--cache", folder / "cache", "--output", output
+    subprocess.run([sys.executable, script, "simple", url, "none"], env=variables, capture_output=True, check=False)
+    for title, words in (
+        ("empty cache", ["simple", url, *names]), ("full cache", ["simple", url, *names, "--refresh"]),
+        ("offline", ["simple", url, *names, "--offline"]), ("one name more", ["again", new]),
+    ):
+        figures = timed(pipe, [script, *words, *place], variables)
+        texts.append(output.read_bytes())
+        show(title, *figures)
+    if len(set(texts[:3])) != 1:
+        sys.exit("the snapshots differ")
+    print(f"the snapshot has {len(texts[0]) / 1e6:.1f} MB")
+
+
+def time_pip(pipe, url, names, folder, variables):
+    """pip's calls, which install nothing."""
+    words = "-m", "pip", "--isolated", "--disable-pip-version-check", "install", "--dry-run", "--target", folder / "target", "-q"
+    for title, cache in ("pip, no cache", ["--no-cache-dir"]), (None, []), ("pip, full cache", []):
+        figures = timed(pipe, [*words, *cache, "--index-url", url, *names], variables)
+        if title is not None:
+            show(title, *figures)
+
+
 def main(arguments):
+    has_pip = arguments[-1:] == ["pip"]
+    arguments = arguments[: len(arguments) - has_pip]
     packages, releases, seconds, lines = (*arguments, *("300", "30", "0", "0")[len(arguments):])[:4]
     packages, releases, seconds, lines = int(packages), int(releases), float(seconds), int(lines)
     pipe, theirs = multiprocessing.Pipe()
     server = multiprocessing.Process(target=serve, args=(theirs, packages, releases, seconds, lines > 0), daemon=True)
     server.start()
-    url, texts = pipe.recv(), []
+    url = pipe.recv()
+    step = GROUP * max(1, packages // GROUP // lines) if lines else max(1, packages // LINES)
+    names = [name_of(number) for number in range(0, packages, step)][: lines or None]
+    new = name_of(GROUP - 1 if lines else 0) if step == GROUP else name_of(step - 1)
     with tempfile.TemporaryDirectory() as name:
-        output = Path(name) / "index.json"
-        step = GROUP * max(1, packages // GROUP // lines) if lines else max(1, packages // LINES)
-        names = [name_of(number) for number in range(0, packages, step)][: lines or None]
-        place = "--cache", Path(name) / "cache", "--output", output
-        new = name_of(GROUP - 1 if lines else 0) if step == GROUP else name_of(step - 1)
-        variables = {**os.environ, "PYTHONPYCACHEPREFIX": name}
-        subprocess.run([sys.executable, TOOLS / "snapshot.py", "simple", url, "none"], env=variables, capture_output=True, check=False)
-        for title, words in (
-            ("empty cache", ["simple", url, *names]), ("full cache", ["simple", url, *names, "--refresh"]),
-            ("offline", ["simple", url, *names, "--offline"]), ("one name more", ["again", new]),
-        ):
-            clock, processor, requests, memory = timed(pipe, [*words, *place], variables)
-            texts.append(output.read_bytes())
-            print(f"{title}: {clock:.2f} s, {processor:.2f} s of processor time, {requests} requests, {memory:.0f} MB", flush=True)
-    if len(set(texts[:3])) != 1:
-        sys.exit("the snapshots differ")
-    print(f"the snapshot has {len(texts[0]) / 1e6:.1f} MB")
+        # (modules are compiled once, whatever the surroundings say)
+        variables = {key: text for key, text in os.environ.items() if key != "PYTHONDONTWRITEBYTECODE"}
+        variables |= {"PYTHONPYCACHEPREFIX": name, "XDG_CACHE_HOME": f"{name}/pip"}
+        time_snapshots(pipe, url, names, new, Path(name), variables)
+        if has_pip:
+            time_pip(pipe, url, names, Path(name), variables)
     pipe.send(False)
     server.join()
 

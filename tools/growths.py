@@ -31,6 +31,17 @@ from typing import Any
 SOURCE = Path(__file__).resolve().parent / "refuse_growth.c"
 
 
+@dataclass(frozen=True)
+class Request:
+    """A program with its words, the paths of the folder and of the input, and between which writes growths are counted."""
+
+    command: tuple[str, ...]
+    folder: str | None
+    input: str | None
+    mark: str | None
+    end: str | None
+
+
 @dataclass
 class Run:
     """How a run ended. `refused` is the call that was refused, as `malloc 64`, or None where none was; `growths` counts all, or
@@ -141,7 +152,8 @@ def show(all_runs: Iterable[Run]) -> bool:
     return has_ended
 
 
-def request_of(arguments: list[str]) -> argparse.Namespace:
+def request_of(arguments: list[str]) -> Request:
+    """The request that words spell."""
     parser = argparse.ArgumentParser(
         prog="growths.py", description=__doc__, formatter_class=argparse.RawDescriptionHelpFormatter
     )
@@ -151,22 +163,23 @@ def request_of(arguments: list[str]) -> argparse.Namespace:
     parser.add_argument("--end", metavar="TEXT", help="and none behind the write of TEXT, until the mark comes again")
     parser.add_argument("command", metavar="COMMAND", nargs=argparse.REMAINDER, help="the program and its words")
     options = parser.parse_args(arguments)
-    if not options.command:
+    words = options.command[options.command[:1] == ["--"] :]
+    if not words:
         parser.error("it takes a command")
-    return options
+    command = os.path.abspath(shutil.which(words[0]) or words[0]), *words[1:]
+    return Request(command, options.folder, options.input, options.mark, options.end)
 
 
 def main(arguments: list[str]) -> int:
-    options = request_of(arguments)
-    command = options.command[options.command[0] == "--" :]
-    command[0] = os.path.abspath(shutil.which(command[0]) or command[0])
+    request = request_of(arguments)
     if not compiler():
         print("growths.py: there is no C compiler", file=sys.stderr)
         return 2
     try:
-        data = Path(options.input).read_bytes() if options.input else b""
+        data = Path(request.input).read_bytes() if request.input else b""
         with tempfile.TemporaryDirectory() as folder:
-            all_runs = runs(command, compiled(folder), data=data, mark=options.mark, end=options.end, folder=options.folder)
+            library = compiled(folder)
+            all_runs = runs(request.command, library, data=data, mark=request.mark, end=request.end, folder=request.folder)
             return 0 if show(all_runs) else 1
     except (OSError, subprocess.CalledProcessError) as fault:
         print(f"growths.py: {fault}", file=sys.stderr)

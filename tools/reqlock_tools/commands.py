@@ -19,6 +19,7 @@ def call(module: str) -> int:
         print(f"{tool(module)}: Python {OLDEST[0]}.{OLDEST[1]} or later is needed, and this is {sys.version.split()[0]}", file=sys.stderr)
         return FAILED
     try:
+        importlib.import_module("reqlock_tools.moved").tell_moved(module)
         status: int = importlib.import_module(f"reqlock_tools.{module}").main(sys.argv[1:])
         sys.stdout.flush()
     except BrokenPipeError:

@@ -44,6 +44,9 @@ SECONDS = 60
 Described = NamedTuple("Described", [
     ("os_name", str), ("platform_machine", str), ("platform_system", str), ("sys_platform", str), ("family", str),
 ])
+# An environment that is asked for: a version of Python or an interpreter's path, None for the one that runs; the name of a platform,
+# None where an interpreter is asked; and the versions of systems that a platform has.
+Request = NamedTuple("Request", [("python", Optional[str]), ("platform", Optional[str]), ("versions", Dict[str, Pair])])
 # The platforms that have names. `family` tells of which system a version counts, for the platforms of wheels.
 PLATFORMS = {
     "linux-x86_64": Described("posix", "x86_64", "Linux", "linux", "glibc"),
@@ -281,12 +284,11 @@ def parser_of() -> argparse.ArgumentParser:
     return parser
 
 
-def versions_of(parser: argparse.ArgumentParser, options: argparse.Namespace) -> Dict[str, Pair]:
-    """The versions of systems that a described platform has."""
+def versions_of(parser: argparse.ArgumentParser, platform: Optional[str], typed: Dict[str, Optional[str]]) -> Dict[str, Pair]:
+    """The versions of systems that a described platform has, of those that were typed."""
     found = dict(SYSTEMS)
-    family = PLATFORMS[options.platform].family if options.platform else None
-    for name in SYSTEMS:
-        text = getattr(options, name)
+    family = PLATFORMS[platform].family if platform else None
+    for name, text in typed.items():
         if text is None:
             continue
         if family != name:
@@ -298,17 +300,26 @@ def versions_of(parser: argparse.ArgumentParser, options: argparse.Namespace) ->
     return found
 
 
-def wanted(parser: argparse.ArgumentParser, options: argparse.Namespace) -> Dict[str, Any]:
-    """The environment that the words ask for."""
-    versions = versions_of(parser, options)
+def request_of(words: Optional[List[str]]) -> Request:
+    """What the words ask for."""
+    parser = parser_of()
+    options = parser.parse_args(words)
+    versions = versions_of(parser, options.platform, {name: getattr(options, name) for name in SYSTEMS})
     is_version = options.python is not None and re.match(r"[0-9]+(\.|\Z)", options.python) is not None
-    if options.platform is not None:
-        if not is_version:
-            parser.error("--platform describes a machine: --python VERSION tells of which Python, as --python 3.9")
-        return described_environment(options.python, options.platform, versions)
-    if is_version:
+    if options.platform is not None and not is_version:
+        parser.error("--platform describes a machine: --python VERSION tells of which Python, as --python 3.9")
+    if options.platform is None and is_version:
         parser.error("--python {}: on which machine? --platform NAME says it".format(options.python))
-    return own_environment() if options.python is None else asked_environment(options.python)
+    return Request(options.python, options.platform, versions)
+
+
+def wanted(request: Request) -> Dict[str, Any]:
+    """The environment that is asked for."""
+    if request.python is None:
+        return own_environment()
+    if request.platform is None:
+        return asked_environment(request.python)
+    return described_environment(request.python, request.platform, request.versions)
 
 
 def write(text: str) -> int:
@@ -325,10 +336,9 @@ def write(text: str) -> int:
 
 
 def main(words: Optional[List[str]] = None) -> int:
-    parser = parser_of()
-    options = parser.parse_args(words)
+    request = request_of(words)
     try:
-        found = wanted(parser, options)
+        found = wanted(request)
     except Refused as fault:
         say(str(fault))
         return 1

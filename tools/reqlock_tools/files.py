@@ -95,7 +95,11 @@ def read_text(path: str) -> str:
 
 
 def read_json(path: str) -> Node:
-    text = read_text(path)
+    return json_of(path, read_text(path))
+
+
+def json_of(path: str, text: str) -> Node:
+    """The value of a document that was read."""
     try:
         return Node(path, json.loads(text))
     except (ValueError, RecursionError) as error:

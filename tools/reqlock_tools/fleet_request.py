@@ -18,11 +18,12 @@ WHY: dict[str, list[str]] = {
 OTHERS = {
     "batch": "it reads standard input, which folders can't share: ask its lines one by one",
     "try": "it reads standard input, which folders can't share: ask its lines one by one, with --dry-run",
+    "replace": "its lines are those of one folder: type reqlock --dir FOLDER replace for each folder",
     "skipped": "it reads the index and no folder: type reqlock --index FILE skipped",
     "why": "with --explain before -- each folder without a solution is asked why",
     "help": "type reqlock help",
-} | {name: f"it has no reply: type reqlock --dir FOLDER {name} for each folder" for name in ("show", "log", "diff", "outdated")}
-FLAGS = "--dry-run", "--keep-locked", "--verbose", "-v", "--current"
+} | {name: f"it has no reply: type reqlock --dir FOLDER {name} for each folder" for name in ("show", "log", "diff", "outdated", "export")}
+FLAGS = "--dry-run", "--keep-locked", "--if-needed", "--verbose", "-v", "--current"
 OWN = "--index", "--env", "--json"
 
 

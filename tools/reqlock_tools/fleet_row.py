@@ -18,7 +18,7 @@ ABSENCES = {"refused not-present": "no such line", "refused not-locked": "not lo
 REPLY = re.compile(r"ok [0-9]+|same|refused [a-z-]+|current|stale")
 LINE = re.compile(r"[-+] [0-9]+: .*|\\ no line ending")
 INDEX = re.compile(r"[-+] index: [0-9a-f]{64}")
-MOVED = re.compile(r"(\S+) (\S+) -> (\S+)")
+MOVED = re.compile(r"(\S+) (\S+) -> (\S+)(?: \([a-z-]+(?:, [a-z-]+)*\))?")
 CAME = re.compile(r"([-+]) (\S+) (\S+)")
 MOST_SHOWN = 3
 

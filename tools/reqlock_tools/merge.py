@@ -26,11 +26,12 @@ from dataclasses import dataclass
 from pathlib import Path
 
 from reqlock_tools.files import refuse_no_file
+from reqlock_tools.folder_lock import alone_in
 from reqlock_tools.merge_git import Checkout
 from reqlock_tools.merge_pins import told_pins, versions_in
-from reqlock_tools.merge_place import locked, put
+from reqlock_tools.merge_place import put
 from reqlock_tools.merge_sides import (
-    JOURNAL, REQUIREMENTS, Found, Journal, Side, are_of_one_history, digest_of, lock_name, read_journal, read_side, saved,
+    FOLDER, JOURNAL, REQUIREMENTS, Found, Journal, Side, are_of_one_history, digest_of, lock_name, read_journal, read_side, saved,
 )
 from reqlock_tools.names import called, tool
 from reqlock_tools.program import program_path
@@ -38,7 +39,7 @@ from reqlock_tools.refusal import Refusal, fault_text, speaker
 
 MARKER = re.compile(rb"(<{7}|\|{7}|={7}|>{7})( |\r?$)")
 DONE, FAILED, UNSOLVED, STOPPED = 0, 1, 3, 130
-OURS, THEIRS, FOLDER = "this side", "the other side", "the folder"
+OURS, THEIRS = "this side", "the other side"
 
 say = speaker("merge")
 
@@ -99,7 +100,9 @@ class Folder:
         """The folder's own files, whose requirements file was changed."""
         data = self.read(JOURNAL)
         if data is None:
-            raise Refusal(f"{self.path / JOURNAL}: it isn't there, so there is no history; reqlock init begins one")
+            lock = self.path / lock_name("")
+            kept = f" --pins {shlex.quote(str(lock))}" if lock.exists() else ""
+            raise Refusal(f"{self.path / JOURNAL}: it isn't there, so there is no history; reqlock init{kept} begins one")
         journal = read_journal(JOURNAL, data)
         locks = {target: self.lock(target, digest) for target, digest in sorted(journal.locks.items())}
         return Side(FOLDER, journal, saved(self.checkout, REQUIREMENTS, journal.requirements, ["HEAD"]), locks)
@@ -264,7 +267,7 @@ def lock(folder: Folder, one: Side, other: Side | None, place: Path) -> int:
 
 def run(options: MergeRequest) -> int:
     folder = Folder(options)
-    with locked(options.dir), tempfile.TemporaryDirectory() as name:
+    with alone_in(options.dir), tempfile.TemporaryDirectory() as name:
         sides = chosen(folder)
         if sides is not None:
             return lock(folder, *sides, Path(name))

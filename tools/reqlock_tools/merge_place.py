@@ -1,23 +1,10 @@
-"""The folder that a merge is for: nobody else saves in it meanwhile, and its files are put there all at once or not at all."""
+"""The files of the folder that a merge is for: they are put there all at once or not at all."""
 
 import contextlib
-import fcntl
 import os
 import shutil
 import signal
-from collections.abc import Callable, Iterator
-
-
-@contextlib.contextmanager
-def locked(folder: str) -> Iterator[None]:
-    """Waits for calls of reqlock that save in a folder, and has others wait."""
-    number = os.open(folder, os.O_RDONLY)
-    try:
-        with contextlib.suppress(OSError):
-            fcntl.flock(number, fcntl.LOCK_EX)
-        yield
-    finally:
-        os.close(number)
+from collections.abc import Callable
 
 
 def ignore_stops() -> None:

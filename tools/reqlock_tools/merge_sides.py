@@ -9,6 +9,7 @@ from reqlock_tools.merge_git import Blob, Checkout
 from reqlock_tools.refusal import Refusal
 
 REQUIREMENTS, JOURNAL = "requirements.txt", "reqlock.journal"
+FOLDER = "the folder"
 TARGET = re.compile("[a-z][a-z0-9-]{0,31}|")
 # The steps of a history that is compared with another one move no more lines than these.
 MOST_MOVED = 10**9
@@ -86,6 +87,13 @@ class Side(NamedTuple):
     old: Found | None
     locks: dict[str, bytes | None]
 
+    def way_out(self) -> str:
+        """What to type where the journal is older than the locks."""
+        if self.name != FOLDER:
+            return "end this, and have that side's files belong together first"
+        pins = [f"{target}={lock_name(target)}" if target else lock_name(target) for target in self.locks]
+        return f"stage the newer one, or begin anew: reqlock init {' '.join(f'--pins {it}' for it in pins)}"
+
     def whole(self) -> Found:
         """The requirements file of a side whose files belong together; others are refused."""
         if self.old is None:
@@ -95,7 +103,8 @@ class Side(NamedTuple):
             )
         for target, data in self.locks.items():
             if data is None:
-                raise Refusal(f"{lock_name(target)} of {self.name}: it isn't the one that reqlock saved with its journal")
+                told = f"{lock_name(target)} of {self.name}: it isn't the one that reqlock saved with its journal"
+                raise Refusal(f"{told}, which is older where it wasn't committed with the lock; {self.way_out()}")
         return self.old
 
 

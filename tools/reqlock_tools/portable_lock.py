@@ -21,6 +21,7 @@ import json
 import os
 import re
 import sys
+from dataclasses import dataclass
 from typing import Any, NamedTuple
 
 from reqlock_tools.environment import VARIABLES
@@ -39,6 +40,16 @@ ODD = re.compile("[\0-\x08\n-\x1f\x7f\x85\u2028\u2029]|^\ufeff")
 PARTS = re.compile(r"([A-Za-z0-9._-]*)[ \t]*(?:\[([^]]*)\])?([^;]*)(?:;(.*))?", re.DOTALL)
 
 say = speaker("portable_lock")
+
+
+@dataclass(frozen=True)
+class Request:
+    """The paths of a lock, of the index that it was made of, and of the requirements file, which is the one beside the lock where
+    that is None."""
+
+    lock: str
+    index: str
+    requirements: str | None
 
 
 class Asked(NamedTuple):
@@ -178,27 +189,27 @@ def with_environments(path: str, text: str, marker: str) -> str:
     return other
 
 
-def portable(options: argparse.Namespace) -> tuple[str, list[str]]:
+def portable(request: Request) -> tuple[str, list[str]]:
     """The lock's text with the marker of the variables that matter, and what there is to tell."""
-    text = text_of(options.lock)
-    lock, index = read_lock_text(options.lock, text), read_json(options.index)
+    text = text_of(request.lock)
+    lock, index = read_lock_text(request.lock, text), read_json(request.index)
     is_index = isinstance(index.value, dict) and index.value.get("snapshot") == 1
-    refuse_unless(is_index, f"{options.index}: no index of reqlock; {called('tools/snapshot.py')} makes one")
-    is_own = hashlib.sha256(read_bytes(options.index)).hexdigest() == lock.digest
-    refuse_unless(is_own, f"{options.index}: the lock was made of another index; relock over this one first")
-    path = options.requirements or os.path.join(os.path.dirname(options.lock), "requirements.txt")
+    refuse_unless(is_index, f"{request.index}: no index of reqlock; {called('tools/snapshot.py')} makes one")
+    is_own = hashlib.sha256(read_bytes(request.index)).hexdigest() == lock.digest
+    refuse_unless(is_own, f"{request.index}: the lock was made of another index; relock over this one first")
+    path = request.requirements or os.path.join(os.path.dirname(request.lock), "requirements.txt")
     lines = read_lines(path, text_of(path))
     refuse_other_lines(path, lines, lock)
     try:
         why = reasons(lines, lock, index.member("packages").items())
     except Refusal as fault:
-        place = "" if str(fault).startswith(options.index) else f"{options.index}: "
+        place = "" if str(fault).startswith(request.index) else f"{request.index}: "
         raise Refusal(f"{place}{fault}") from None
     cut = [name for name in VARIABLES if name not in why]
     told = [f"keeps {name}: {why[name]}" for name in VARIABLES if name in why]
     told += [f"cuts {', '.join(cut)}: no marker that matters reads them"] if cut else []
     told += ["keeps no variable, so the lock tells no environment"] if not why else []
-    return with_environments(options.lock, text, marker_of({name: lock.environment[name] for name in why})), told
+    return with_environments(request.lock, text, marker_of({name: lock.environment[name] for name in why})), told
 
 
 def text_of(path: str) -> str:
@@ -217,7 +228,7 @@ def main(words: list[str]) -> int:
     parser.add_argument("--requirements", metavar="FILE", help="the requirements file that was locked")
     options = parser.parse_args(words)
     try:
-        text, told = portable(options)
+        text, told = portable(Request(options.lock, options.index, options.requirements))
     except (Refusal, OSError) as fault:
         say(fault_text(fault))
         return 1

@@ -1,6 +1,7 @@
 """What requirement texts ask for, and the lines of requirements files."""
 
 import re
+from collections.abc import Iterator
 from functools import lru_cache
 from typing import NamedTuple
 
@@ -56,13 +57,17 @@ def doubt_of(text: str) -> str | None:
     return None
 
 
+def numbered_lines(text: str) -> Iterator[tuple[int, str]]:
+    """The lines of a requirements file without comments, each with its number; not those that are blank."""
+    for number, line in enumerate(text.split("\n"), 1):
+        if found := re.sub(r"(^|[ \t])#.*", "", line.removesuffix("\r")).strip():
+            yield number, found
+
+
 def read_lines(path: str, say: Say) -> list[str]:
     """The requirements of a requirements file. A line that only packaging refuses is said."""
     found = []
-    for number, line in enumerate(read_text(path).split("\n"), 1):
-        text = re.sub(r"(^|[ \t])#.*", "", line.removesuffix("\r")).strip()
-        if text == "":
-            continue
+    for number, text in numbered_lines(read_text(path)):
         if fault := fault_of(text):
             raise Refusal(f"{path}: line {number}: {text!a}: {fault}")
         if doubt := doubt_of(text):

@@ -9,6 +9,7 @@ from reqlock_tools.files import is_own, usual_mode, write_whole
 from reqlock_tools.refusal import Refusal, speaker
 from reqlock_tools.simple.addresses import hidden
 
+ENCODER = json.JSONEncoder(ensure_ascii=False, separators=(",", ":"))
 Packages = dict[str, dict[str, Any]]
 Made = dict[str, Any]
 
@@ -30,7 +31,7 @@ def plural(count: int, noun: str) -> str:
 
 
 def compact(value: object) -> str:
-    return json.dumps(value, ensure_ascii=False, separators=(",", ":"))
+    return ENCODER.encode(value)
 
 
 def made_text(made: Made) -> str:

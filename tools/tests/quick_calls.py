@@ -9,7 +9,7 @@ from made.environments import LINUX
 from places import TOP
 from shown import typed_blocks
 
-PAGES = "README.md", "docs/SESSIONS.md"
+PAGES = "README.md", "docs/SESSIONS.md", "docs/ANSWERS.md"
 
 
 class Call(NamedTuple):
@@ -31,12 +31,14 @@ class Session(NamedTuple):
 
 # A command that needs no other program: reqlock's own, with a text as its standard input.
 TYPED = re.compile(r"(?:printf '([^']*)' \| )?(reqlock (?:'[^']*'|[^'|<>$])*)")
-FOLDER = "cd examples/"
+# The folder of an example, or of a copy of it.
+FOLDER = re.compile(r"cd examples/(\w+)|cp -r examples/(\w+) (\S+) && cd \3")
 
 
 def session_of(block: list[tuple[str, list[str]]]) -> Session | None:
     """The session of a block, where nothing but the program is typed behind a `cd`."""
     (first, _), *others = block
+    place = FOLDER.fullmatch(first)
     calls = []
     for command, lines in others:
         found = TYPED.fullmatch(command)
@@ -44,7 +46,7 @@ def session_of(block: list[tuple[str, list[str]]]) -> Session | None:
             return None
         text = (found[1] or "").replace("\\n", "\n")
         calls.append(Call(shlex.split(found[2])[1:], text, None, lines))
-    return Session(first.removeprefix(FOLDER), calls) if first.startswith(FOLDER) else None
+    return Session(place[1] or place[2], calls) if place else None
 
 
 def shown_sessions() -> list[Session]:

@@ -3,14 +3,16 @@
 import contextlib
 import io
 import os
+import shutil
 import stat
 import subprocess
 import sys
 import unittest
 from unittest import mock
 
+from checkouts import VARIABLES
 from made.served_index import MadeIndex
-from places import PROGRAM, TOOLS, new_folder
+from places import PROGRAM, TOOLS, TOP, new_folder
 from wanted_libraries import ASKING, want_libraries
 
 from reqlock_tools.rql import main
@@ -69,6 +71,12 @@ class Projects(unittest.TestCase):
         path.chmod(path.stat().st_mode | stat.S_IXUSR)
         self.variables["PATH"] = f"{place}:{self.variables['PATH']}"
 
+    def put_on_path(self):
+        """From here on a shell finds rql by its name."""
+        place = self.put("bin/rql", f'#!/bin/sh\nexec {sys.executable} -B {SCRIPT} "$@"\n', self.outside)
+        place.chmod(0o755)
+        self.variables["PATH"] = f"{place.parent}:{self.variables['PATH']}"
+
     def files(self, folder=None):
         """What stands in the project, but for what rql keeps."""
         place = folder or self.folder
@@ -111,3 +119,26 @@ class Served(Projects):
 
     def lines(self):
         return (self.folder / "requirements.txt").read_text(encoding="utf-8")
+
+
+@unittest.skipUnless(shutil.which("git"), "there is no git")
+class Committed(Served):
+    """A test whose project stands in a git checkout."""
+
+    def setUp(self):
+        super().setUp()
+        self.variables.update(VARIABLES)
+
+    def begin_git(self):
+        """Has the project's folder be a checkout, which has git merge what reqlock writes as the example says."""
+        self.put(".gitattributes", (TOP / "examples" / "git" / ".gitattributes").read_text(encoding="utf-8"))
+        self.git("init", "--quiet", "--initial-branch=main")
+
+    def git(self, *words, fails=False):
+        done = subprocess.run(["git", *words], cwd=self.folder, env=self.variables, capture_output=True, encoding="utf-8", check=False)
+        self.assertEqual(done.returncode != 0, fails, done.stdout + done.stderr)
+        return done.stdout
+
+    def commit(self, message):
+        self.git("add", "--all")
+        self.git("commit", "--quiet", f"--message={message}")

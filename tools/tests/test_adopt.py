@@ -2,6 +2,7 @@
 begins nothing. The lines of docs/FROM_PIP_TOOLS.md are run by a shell."""
 
 import os
+import re
 import shutil
 import subprocess
 import sys
@@ -11,12 +12,16 @@ import unittest
 from pathlib import Path
 
 from made.archives import wheel
+from made.served_index import wheel_of
 from places import PROGRAM, TOOLS, TOP
 from program import FILES, Program
+from rql_projects import Served
 from shown import indented_blocks
 
 SCRIPT = TOOLS / "adopt.py"
 ZEROS, ONES = "0" * 64, "1" * 64
+PAGE = TOP / "docs" / "FROM_PIP_TOOLS.md"
+NOTHING = "in: nothing is begun; what is told of requirements.txt is of this file\n"
 INDEX = (
     ("Flask", "2.3", ["werkzeug>=2"]), ("Flask", "3.0", ["werkzeug>=3"]), ("werkzeug", "2.0", []), ("werkzeug", "2.1", []),
     ("werkzeug", "3.0", []), ("click", "7.0", []), ("click", "8.0", []), ("tea", "1.0", [], {"yanked": True}), ("tea", "1.1", []),
@@ -46,23 +51,26 @@ class Adopt(Program):
         command += ["--dir", place, *([] if "--program" in words else ["--program", PROGRAM])]
         done = subprocess.run(command, cwd=self.outside, capture_output=True, encoding="utf-8", check=False)
         self.assertNotIn("Traceback", done.stderr)
-        return done.returncode, done.stdout, done.stderr.replace("adopt.py: ", "")
+        return done.returncode, done.stdout, done.stderr.replace("adopt.py: ", "").replace("rql.py: ", "")
 
     def check_adopts(self, source, pins, locked, said="", status=0):
         """The folder has the source to the byte and these versions, and the program takes it."""
         shutil.rmtree(self.outside / "new", ignore_errors=True)
         found, output, errors = self.adopt(source, pins)
-        self.assertEqual((found, errors), (status, said))
+        told, count = re.fullmatch(r"((?:.*\n)*)([0-9]+) of [0-9]+ pins are taken over\n", errors).groups()
+        self.assertEqual((found, output, told), (status, "ok 0\n", said))
+        self.assertEqual(int(count), sum(f"{name} " not in said for name in locked))
+        self.assertEqual(sorted(path.name for path in (self.outside / "new").iterdir()), sorted(FILES))
         self.assertEqual((self.outside / "new" / FILES[0]).read_bytes(), source)
         lock = tomllib.loads((self.outside / "new" / FILES[1]).read_text(encoding="utf-8"))
         self.assertEqual({entry["name"]: entry["version"] for entry in lock["packages"]}, locked)
         done = subprocess.run([PROGRAM, "--dir", self.outside / "new", "check"], capture_output=True, encoding="utf-8", check=False)
         self.assertEqual(done.stdout, "ok 0\n")
 
-    def check_refused(self, told, *given, place="new"):
+    def check_refused(self, told, *given, place="new", reply=""):
         before = {path.name: path.read_bytes() for path in self.folder.iterdir()}
         status, output, errors = self.adopt(*given, place=place)
-        self.assertEqual((status, output, errors), (1, "", told))
+        self.assertEqual((status, output, errors), (1, reply, told))
         self.assertFalse((self.outside / "new").exists())
         self.assertEqual({path.name: path.read_bytes() for path in self.folder.iterdir()}, before)
 
@@ -90,7 +98,7 @@ class Adopt(Program):
             "txt: line 9: it isn't NAME==VERSION, so it isn't taken over: cup==\\x1b\n"
             "z 1: it isn't taken over: the index hasn't the package\n"
             "tea 3: it isn't taken over: the index hasn't this release of it\n"
-            "click 7.0: it isn't taken over: in this environment nothing needs it\n"
+            "click 7.0: it isn't taken over: nothing needs it\n"
         )
         self.check_adopts(b"flask\n", pins, {"flask": "2.3", "werkzeug": "2.0"}, said, 3)
 
@@ -103,12 +111,10 @@ class Adopt(Program):
         self.check_adopts(b"tea==1.0\ncup>=2rc1\n", b"tea==1.0\ncup==2.0rc1\n", {"tea": "1.0", "cup": "2.0rc1"})
 
     def test_names_pins_that_do_not_go_together(self):
-        said = "werkzeug 2.1: it isn't taken over: over this index it doesn't go with the lines and the other pins\n"
-        locked = "werkzeug 3.0: it is locked, and no pin was taken over for it\n"
-        self.check_adopts(b"flask\n", b"flask==3.0\nwerkzeug==2.1\n", {"flask": "3.0", "werkzeug": "3.0"}, said + locked, 3)
-        said = "flask 2.3: it isn't taken over: over this index it doesn't go with the lines and the other pins\n"
-        locked = "flask 3.0: it is locked, and no pin was taken over for it\n"
-        self.check_adopts(b"flask (>=3)\n", b"flask==2.3\nwerkzeug==3.0\n", {"flask": "3.0", "werkzeug": "3.0"}, said + locked, 3)
+        said = "werkzeug 2.1: it isn't taken over: 3.0 is locked, since over this index it doesn't fit\n"
+        self.check_adopts(b"flask\n", b"flask==3.0\nwerkzeug==2.1\n", {"flask": "3.0", "werkzeug": "3.0"}, said, 3)
+        said = "flask 2.3: it isn't taken over: 3.0 is locked, since over this index it doesn't fit\n"
+        self.check_adopts(b"flask (>=3)\n", b"flask==2.3\nwerkzeug==3.0\n", {"flask": "3.0", "werkzeug": "3.0"}, said, 3)
 
     def test_asks_why_of_few_pins(self):
         """Of two hundred that don't go together, and fifty that are yanked, twenty are asked about."""
@@ -127,36 +133,36 @@ class Adopt(Program):
         status, _, said = self.adopt(source, pins, *words, "--program", counting)
         self.assertEqual(status, 3)
         self.assertEqual((self.outside / "calls").read_bytes().count(b"\n"), 2 + 20)
-        self.assertEqual(said.count(": it isn't taken over: over this index it doesn't go with the lines and the other pins\n"), 200)
+        self.assertEqual(said.count(": it isn't taken over: 2 is locked, since over this index it doesn't fit\n"), 200)
         self.assertEqual(said.count(": it isn't taken over: 1 is locked, since the pinned release is yanked, and no line pins it\n"), 20)
-        self.assertIn("y020 2: it isn't taken over: 1 is locked; reqlock why --not y020==2 tells why\n", said)
+        self.assertIn("y020 2: it isn't taken over: 1 is locked; reqlock --dir new --index index.json why --not y020==2 tells why\n", said)
         self.assertEqual(said.count(" tells why\n"), 30)
 
     def test_names_files_with_other_digests(self):
         said = (
             "click 7.0: it isn't taken over: no file of the index has a sha256 that is listed\n"
-            "click 8.0: it is locked, and no pin was taken over for it\n"
+            "click: it is locked, and no pin was taken over for it\n"
         )
         self.check_adopts(b"click\n", compiled("click==7.0").replace(ZEROS.encode(), b"2" * 64), {"click": "8.0"}, said, 3)
 
     def test_refuses_lines_that_reqlock_does_not_read(self):
-        said = "in: line 1: option-line: -r base.in\nin: line 3: url-requirement: x @ https://x.example; reqlock reads no such line: take it out\n"
+        said = f"reqlock: requirements.txt: line 1: option-line\n{NOTHING}"
         self.check_refused(said, b"-r base.in\nclick\nx @ https://x.example\n", compiled("click==7.0"))
         status, _, errors = self.adopt(compiled("click==7.0"), b"click\n")
         self.assertEqual(status, 1)
         self.assertIn("it pins nothing", errors)
         status, _, errors = self.adopt(compiled("click==7.0"), b"click==7.0\n")
-        self.assertEqual((status, errors), (1, "in: line 4: continuation: click==7.0 \\; is it the compiled file?\n"))
+        self.assertEqual((status, errors), (1, f"reqlock: requirements.txt: line 4: continuation\n{NOTHING}"))
 
     def test_refuses_where_nothing_can_begin(self):
-        self.check_refused("in: no choice of versions of this index meets it\n", b"click>9\n", compiled("click==7.0"))
+        self.check_refused(NOTHING, b"click>9\n", compiled("click==7.0"), reply="refused no-solution\n")
         self.check_refused("txt: it pins nothing; is it the file that pip-compile made?\n", b"click\n", b"")
         self.check_refused("txt: it isn't UTF-8\n", b"click\n", b"\xff")
         words = "--index", "index.json", "--env", "environment.json"
         self.check_refused("no: No such file or directory\n", b"", b"", "no", "txt", *words)
         self.check_refused("no: No such file or directory\n", b"click\n", b"", "in", "no", *words)
         self.check_refused("no: unreadable\n", b"click\n", b"click==7.0\n", "in", "txt", "--index", "no", *words[2:])
-        self.check_refused("in: bad-environment\n", b"click\n", b"click==7.0\n", "in", "txt", *words[:2], "--env", "in")
+        self.check_refused(f"reqlock: environment: bad-environment\n{NOTHING}", b"click\n", b"click==7.0\n", "in", "txt", *words[:2], "--env", "in")
 
     def test_does_not_write_over_files(self):
         for name in reversed(FILES):
@@ -166,7 +172,7 @@ class Adopt(Program):
             self.assertIn(f"folder/{name}: it stands there already", errors)
             (self.folder / name).unlink()
         (self.folder / FILES[0]).write_bytes(b"click\n")
-        self.assertEqual(self.adopt(b"click\n", b"click==7.0\n", place="folder")[:2], (0, "1 of 1 pins are taken over\n"))
+        self.assertEqual(self.adopt(b"click\n", b"click==7.0\n", place="folder")[:2], (0, "ok 0\n"))
         self.assertEqual(sorted(self.files()), sorted(FILES))
 
     def test_usage(self):
@@ -186,8 +192,7 @@ class Page(unittest.TestCase):
 
     @unittest.skipUnless(shutil.which("git"), "there is no git")
     def test_the_lines_of_the_page(self):
-        page = (TOP / "docs" / "FROM_PIP_TOOLS.md").read_text(encoding="utf-8")
-        [block] = indented_blocks(page)
+        [_, block] = indented_blocks(PAGE.read_text(encoding="utf-8"))
         with tempfile.TemporaryDirectory() as name:
             folder = Path(name)
             os.symlink(TOOLS, folder / "tools")
@@ -202,10 +207,26 @@ class Page(unittest.TestCase):
                 ["bash", "-e"], input=text, env=variables, cwd=folder, capture_output=True, encoding="utf-8", check=False,
             )
             self.assertEqual(done.returncode, 0, done.stderr)
-            self.assertEqual(done.stdout, "2 of 2 pins are taken over\nok 0\n")
+            self.assertEqual((done.stdout, done.stderr), ("ok 0\nok 0\n", "rql.py: 2 of 2 pins are taken over\n"))
             self.assertEqual((folder / "requirements.txt").read_bytes(), b"Flask>=1  # web\n")
             lock = tomllib.loads((folder / "pylock.toml").read_text(encoding="utf-8"))
             self.assertEqual({entry["name"]: entry["version"] for entry in lock["packages"]}, {"click": "1.0", "flask": "1.0"})
+
+
+class PageOfRql(Served):
+    """The same over an index that pip is set to."""
+
+    def test_the_lines_of_the_page(self):
+        [block, _] = indented_blocks(PAGE.read_text(encoding="utf-8"))
+        self.serve(flask=[wheel_of("flask", "1"), wheel_of("flask", "2")])
+        self.put("requirements.in", "flask\n")
+        self.put("requirements.txt", "flask==1\n    # via -r requirements.in\n")
+        self.variables["PIP_INDEX_URL"] = self.index.url
+        self.assertEqual(block.splitlines(), ["rql init", "rql check"])
+        for line in block.splitlines():
+            self.accepts(*line.split()[1:], answer="ok 0\n")
+        self.assertIn("flask==1 \\", self.lines())
+        self.assertEqual(sorted(it.name for it in (self.folder / "locks").iterdir()), ["pylock.toml", "reqlock.journal", "requirements.txt"])
 
 
 if __name__ == "__main__":

@@ -11,11 +11,15 @@ from functools import partial
 from unittest import mock
 
 from places import TOOLS, new_folder
+from terminals import shown_on_terminal
 from test_install import COMMANDS
+from wanted_libraries import want_libraries
 
-from reqlock_tools import names
+from reqlock_tools import moved, names
 
 
+# What an installed command runs.
+INSTALLED = "import sys\nsys.path.insert(0, {!r})\nfrom reqlock_tools.commands import call\nsys.exit(call({!r}))\n"
 # A tool in which Ctrl-C is pressed at once.
 PRESSED = """
 import importlib, sys
@@ -107,6 +111,38 @@ class Calls(unittest.TestCase):
             with self.subTest(module=module):
                 done = subprocess.run([sys.executable, "-B", "-c", PRESSED, module], cwd=TOOLS, capture_output=True, encoding="utf-8", check=False)
                 self.assertEqual((done.returncode, done.stdout, done.stderr), (130, "", f"{module}.py: stopped\n"))
+
+    def told(self, module, terminal=True, **more):
+        """What an installed command tells on standard error, which is a terminal or a pipe, when its help is asked for."""
+        place = self.folder / "bin" / names.COMMANDS[module]
+        place.parent.mkdir(exist_ok=True)
+        place.write_text(INSTALLED.format(str(TOOLS), module), encoding="utf-8")
+        variables = {name: it for name, it in os.environ.items() if name != "CI"} | {"XDG_CACHE_HOME": str(self.folder / "cache"), **more}
+        command = [sys.executable, "-B", place, "--help"]
+        if not terminal:
+            return subprocess.run(command, env=variables, capture_output=True, encoding="utf-8", check=True).stderr
+        status, shown = shown_on_terminal(lambda errors: subprocess.Popen(command, stdout=subprocess.DEVNULL, stderr=errors, env=variables))
+        self.assertEqual(status, 0)
+        return shown.replace("\r\n", "\n")
+
+    @want_libraries("platformdirs")
+    def test_a_person_is_told_once_which_word_of_rql_does_the_same(self):
+        listed = subprocess.run([sys.executable, "-B", TOOLS / "rql.py", "--help"], capture_output=True, encoding="utf-8", check=True).stdout
+        for module, words in moved.WORDS.items():
+            command = names.COMMANDS[module]
+            with self.subTest(command=command):
+                self.assertEqual(self.told(module, terminal=False), "")
+                self.assertEqual(self.told(module, CI="1"), "")
+                self.assertEqual(self.told(module), f"{command}: rql does this too: {words} (told once; this name stays)\n")
+                self.assertEqual(self.told(module), "")
+                self.assertRegex(listed, rf"(?m)^    {words.split()[1].rstrip(',')}( |$)")
+        for module in "hashed_requirements", "portable_lock", "rql":
+            self.assertEqual(self.told(module), "")
+
+    @want_libraries("platformdirs")
+    def test_where_nothing_can_be_remembered_nothing_is_told(self):
+        (self.folder / "cache").write_bytes(b"")
+        self.assertEqual(self.told("merge"), "")
 
     def test_an_output_that_is_full_or_closed(self):
         with open("/dev/full", "w", encoding="utf-8") as full:

@@ -9,6 +9,7 @@ import unittest
 
 from drawn_sessions import locked_names, names_on
 from made.environments import LINUX, OLDER, WINDOWS
+from made.releases import file_of
 from made.sessions import Draw
 from places import IS_LONG
 from program import Program
@@ -16,12 +17,16 @@ from rules.journals import file_name
 from rules.lock_tables import read_lock
 from rules.requirements import cut_lines
 from rules.states import Change, State, Target, after, inverse, is_minimal, places_of
+from rules.versions import order_key, read_version
 
 SESSIONS = 200 if IS_LONG else 12
 COMMANDS = 6
 TARGETS = [{"": LINUX}, {"linux": LINUX, "win": WINDOWS}, {"": LINUX, "older": OLDER, "x-1": WINDOWS}]
-# a version that moved unasked; a locked release that is yanked, a pre-release, or without an extra that is asked for
-NOTE = r"^(moved: |\S+ \S+ is yanked: |\S+ \S+ is a pre-release, and |No release of \S+ in the index asks for anything by the extra )"
+# a version that moved unasked; a locked release that is yanked, a pre-release, or without an extra that is asked for; what the index lacks
+NOTE = (
+    r"^(moved: |\S+ \S+ is yanked: |\S+ \S+ is a pre-release, and |No release of \S+ in the index asks for anything by the extra "
+    r"|.* (was|were) ruled out|\S+ \S+ was locked without the extra |Where the package index has (it|them), |    reqlock-snapshot simple )"
+)
 DRY = {"add", "remove", "constrain", "upgrade", "relock", "undo", "redo"}
 
 
@@ -55,7 +60,21 @@ def line_told(sign, number, line):
 def entry_told(name, old, new):
     if old is None or new is None:
         return f"- {name} {old['version']}\n" if new is None else f"+ {name} {new['version']}\n"
-    return f"{name} {old['version']} -> {new['version']}\n"
+    return f"{name} {old['version']} -> {new['version']}{fields_told(old, new)}\n"
+
+
+def fields_told(old, new):
+    """Which fields differ of entries of equal versions."""
+    if order_key(read_version(old["version"])) != order_key(read_version(new["version"])):
+        return ""
+    files, others = ({it["name"]: it for it in [*entry["wheels"], *filter(None, [entry["sdist"]])]} for entry in (old, new))
+    places, other_places = ({(it["name"], it["url"], it["size"]) for it in found.values()} for found in (files, others))
+    fields = {
+        "files": places != other_places, "hashes": any(it in others and others[it]["sha256"] != files[it]["sha256"] for it in files),
+        "requires-python": old["requires_python"] != new["requires_python"], "dependencies": old["dependencies"] != new["dependencies"],
+    }
+    told = ", ".join(field for field, is_other in fields.items() if is_other)
+    return f" ({told})" if told else ""
 
 
 def text_of(change):
@@ -191,6 +210,20 @@ class Histories(Changes):
             self.assertEqual(change_in(step), self.change(number - 1, number))
         self.assertNotIn("\u009b", self.succeeds("log", "--json") + self.succeeds("diff", "--json") + self.succeeds("diff"))
 
+    def test_which_fields_of_an_entry_are_others(self):
+        self.begin(b"a\n", ("a", "1", []), ("b", "1", []))
+        self.succeeds("init")
+        wheel, other = file_of("a", "1"), file_of("a", "1", ".tar.gz")
+        changes = {
+            "files": {"files": [wheel, other]}, "files, hashes": {"files": [wheel | {"sha256": "1" * 64, "url": "https://other.example/a.whl"}]},
+            "hashes": {"files": [wheel | {"sha256": "1" * 64}]}, "requires-python": {"requires_python": ">=3"},
+            "files, requires-python, dependencies": {"files": [wheel | {"size": 2}], "requires_python": ">=3", "requires_dist": ["b"]},
+        }
+        for fields, more in changes.items():
+            self.begin(b"a\n", ("a", "1", [], more), ("b", "1", []))
+            told = self.succeeds("relock", "--dry-run").splitlines()
+            self.assertEqual(told[:2], ["ok 1", f"a 1 -> 1 ({fields})"])
+
     def test_what_comes_and_goes_is_not_told(self):
         self.begin(b"a\nc", ("a", "1", []), ("b", "1", ["d"]), ("c", "1", []), ("d", "1", []))
         for words in ("init",), ("add", "b"), ("remove", "b"), ("remove", "a"):
@@ -256,13 +289,17 @@ class Details(Changes):
         head = "no versions meet all requirements\n"
         self.assertEqual(self.details("add", "c  # it's", status=3), f"{head}{options} 'c  # it'\\''s'\n")
         lacking = "the index has no release of x\n"
-        self.assertEqual(self.details("add", "x", status=3), f"{head}{lacking}{options} x\n")
+        file, index = self.folder / "requirements.txt", self.outside / "index.json"
+        call = "Where the package index has it, this makes the snapshot with it:\n    reqlock-snapshot simple https://index.example/simple/ "
+        made = f"{call}x --for {file} --output {index}\n"
+        self.assertEqual(self.details("add", "x", status=3), f"{head}{lacking}{options} x\n{made}")
         self.assertEqual(self.details("constrain", "a", ">=2", status=3), f"{head}{options} --constrain a '>=2'\n")
         self.begin(b"a\n", ("b", "1", []))
         lacking = "the index has no release of a\n"
         options = f"--dir {self.folder} --index {self.outside / 'index.json'} --env {self.environment_file('')}"
         asking = f"ask: reqlock {options} why --explain --init\n"
-        self.assertEqual(self.details("init", status=3), head + lacking + asking)
+        made = f"{call}a --for {file} --env {self.environment_file('')} --output {index}\n"
+        self.assertEqual(self.details("init", status=3), head + lacking + asking + made)
 
     def test_of_names_that_the_index_lacks(self):
         head = "no versions meet all requirements\nthe index has no release of "

@@ -11,6 +11,13 @@ from program import FILES, Program
 UNWRITTEN = "reqlock: output: write failed\n"
 PAGE = os.sysconf("SC_PAGESIZE")
 
+# Calls over a folder, one or more of each subcommand that reads one.
+IN_A_FOLDER = (
+    ["init"], ["add", "c"], ["remove", "a"], ["constrain", "a"], ["upgrade"], ["relock"], ["replace", "-"], ["undo"], ["redo"], ["batch"],
+    ["try"], ["show"], ["show", "a"], ["show", "--tree"], ["log"], ["diff"], ["check"], ["check", "--current"], ["outdated"], ["export"],
+    ["why"], ["why", "--init"], ["why", "--not", "a"], ["why", "--replace", "-"], ["add", "c", "--dry-run"], ["undo", "--dry-run"], ["init", "--dry-run"],
+)
+
 
 class Faults(Program):
     def setUp(self):
@@ -147,11 +154,7 @@ class Faults(Program):
     def test_a_folder_without_a_name(self):
         # no path is made of it, which would lead to files at the root
         options = self.options("")
-        for words in (
-            ["init"], ["add", "c"], ["remove", "a"], ["constrain", "a"], ["upgrade"], ["relock"], ["replace", "-"], ["undo"], ["redo"], ["batch"],
-            ["try"], ["show"], ["show", "a"], ["show", "--tree"], ["log"], ["diff"], ["check"], ["check", "--current"], ["outdated"], ["export"],
-            ["why"], ["why", "--init"], ["why", "--not", "a"], ["why", "--replace", "-"], ["add", "c", "--dry-run"], ["undo", "--dry-run"],
-        ):
+        for words in IN_A_FOLDER:
             with self.subTest(words=words):
                 done = subprocess.run([PROGRAM, *options, *words], input=b"", cwd=self.folder, capture_output=True, check=False)
                 told = b"reqlock: requirements.txt: unreadable\n"
@@ -225,6 +228,8 @@ class NextSteps(Program):
         super().setUp()
         self.begin(b"a\n", ("a", "1", []), ("c", "1", []))
         self.index = self.outside / "index.json"
+        kept = "begins a new history with requirements.txt as it stands, and keeps the locked versions.\n"
+        self.beginning = f"`reqlock init --pins {self.folder}/pylock.toml` {kept}"
         self.making = f"    reqlock-snapshot simple https://index.example/simple/ --for {self.folder}/requirements.txt"
 
     def notes(self, *words, status=4):
@@ -374,7 +379,8 @@ class NextSteps(Program):
             self.assertEqual((status, output), (3, "refused no-solution\n"))
             self.assertIn(f"\nthe index has no release of {name}\n", told)
             targets = " ".join(f"--env {name}={self.environment_file(name)}" for name in self.environments)
-            self.assertTrue(told.endswith(f"\nask: reqlock --dir {self.folder} --index {self.index} {targets} why --explain --init\n"), told)
+            asking = f"\nask: reqlock --dir {self.folder} --index {self.index} {targets} why --explain --init\n"
+        self.assertIn(f"{asking}Where the package index has it, this makes the snapshot with it:\n", told)
         self.index.unlink()
         making = f"{self.making} --env {self.environment_file('one')} --output {self.index}\n"
         self.assertTrue(self.notes("init").endswith(f"\nThis makes it:\n{making}"))
@@ -392,16 +398,14 @@ class NextSteps(Program):
                 path.write_bytes(b"a\nb=>2\n")
                 self.assertIn("line 2, column ", self.notes(*words, path))
                 path.write_bytes(b"c\n")
-                seeking = f"    reqlock-merge --dir {self.folder} --index {self.index}\n"
                 told = self.notes(*words, "--was", path)
-                self.assertTrue(told.startswith("The file of --was isn't requirements.txt as reqlock saved it."), told)
-                self.assertTrue(told.endswith(f"\n{seeking}"), told)
+                self.assertEqual(told, f"The file of --was isn't requirements.txt as reqlock saved it. {self.beginning}")
 
     def test_of_all_lines_that_do_not_read(self):
         told = {
             "flask=2": "line 1, column 6: flask=2: clause 1 is no version specifier\nA single = compares nothing: write flask==2\n",
             "b=>2": "Write >= in the place of =>.\n", "b^2": "Write ~= in the place of ^.\n",
-            "b===2": "Write == in the place of ===.\n", "b 2": "A specifier is a comparison with a version, as in >=2,<3.\n",
+            "b===2": "Write == in the place of ===.\n", "b 2": "A version alone compares nothing: write b==2\n", "b>": "A specifier is a comparison with a version, as in >=2,<3.\n",
             'b ; python_verson < "3"': "A marker has no variable python_verson: write python_version.\n",
             "b ; linux": "A marker compares a variable with a text in quotes, ",
             "b==2 --hash=sha256:00": "The lock has the hashes: ", "b==2 \\": "Write the requirement on one line.\n",
@@ -431,8 +435,7 @@ class NextSteps(Program):
         self.put(files | {"requirements.txt": b"a\nc\n"})
         told = self.notes("relock")
         options = f"--dir {self.folder} --index {self.index}"
-        self.assertIn(f"\n{git} show HEAD:./requirements.txt | reqlock {options} replace --was -\n", told)
-        self.assertIn("`reqlock init` begins a new history", told)
+        self.assertTrue(told.endswith(f"\n    reqlock {options} replace --was COPY\n{self.beginning}"), told)
         self.put(files | {"requirements.txt": b"<<<<<<< HEAD\na\n=======\nc\n>>>>>>> b\n"})
         self.assertIn("git left a conflict at line 1 of requirements.txt.", self.notes("relock"))
         self.put(files | {"pylock.toml": b"x\n=======\n" + files["pylock.toml"]})
@@ -440,7 +443,7 @@ class NextSteps(Program):
         self.assertTrue(told.startswith("git left a conflict at line 2 of pylock.toml."), told)
         self.assertIn(f"\n    reqlock-merge --dir {self.folder} --index ", told)
         self.put(files | {"pylock.toml": files["pylock.toml"] + b"\n"})
-        self.assertIn(f"\n{git} checkout HEAD -- pylock.toml\n", self.notes("check"))
+        self.assertEqual(self.notes("check"), f"pylock.toml isn't the one that reqlock.journal was saved with. {self.beginning}")
         self.put(files | {"reqlock.journal": files["reqlock.journal"][:-9]})
         self.assertIn(f"\n{git} checkout HEAD -- {sides}", self.notes("log"))
         self.put(files | {"reqlock.journal": files["reqlock.journal"] + b">>>>>>> b\n"})

@@ -17,7 +17,7 @@ import growths  # (it stands in tools/)
 SOURCE = TESTS / "file_calls.c"
 EDITS = (
     ["add", "p02"], ["remove", "p00"], ["constrain", "p00", "<2"], ["upgrade"], ["upgrade", "p00"], ["relock"], ["undo"], ["redo"],
-    ["replace", "-"],
+    ["replace", "-"], ["relock", "--if-needed"],
 )
 READINGS = (
     ["show"], ["show", "p00"], ["show", "--tree"], ["show", "--json"], ["log"], ["log", "--long"], ["log", "--json"], ["diff"],
@@ -25,8 +25,10 @@ READINGS = (
     ["why"], ["why", "p02"], ["why", "--constrain", "p00", "<2"], ["why", "--upgrade"], ["why", "--remove", "p00"],
     ["why", "--not", "p00==1"], ["why", "--replace", "-"],
 )
+# what is told of one target, where there are several
+EXPORTS = ["export"], ["export", "--format", "pylock"]
 # what reads no journal, and takes no lock
-UNLOCKED = ["skipped"], ["why", "--init"], ["try"]
+UNLOCKED = ["skipped"], ["why", "--init"], ["try"], ["init", "--dry-run"]
 UNMET = ["why", "p02>2"], ["why", "--explain", "p02>2"]
 # the C library's calls that can change files, `write` and its like apart, which need a file that is open
 CHANGING = set(
@@ -250,7 +252,9 @@ class FileCalls(Fifty):
 
     def test_what_is_no_edit_only_reads(self):
         self.begin_history()
-        for listed, status, locks in (READINGS, 0, True), (UNMET, 3, True), (UNLOCKED, 0, False):
+        target = [f"--target={name}" for name in list(self.environments)[:1] if name]
+        exports = [[*words, *target] for words in EXPORTS]
+        for listed, status, locks in (READINGS, 0, True), (exports, 0, True), (UNMET, 3, True), (UNLOCKED, 0, False):
             for words in listed:
                 with self.subTest(words=words):
                     self.assertEqual(self.only_reads(*words, locks=locks)[0], status)

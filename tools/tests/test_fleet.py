@@ -53,6 +53,8 @@ class Words(Fleet):
         for told, words in (
             ("batch: it reads standard input, which folders can't share", ["a", "--", "batch"]),
             ("show: it has no reply: type reqlock --dir FOLDER show for each folder", ["a", "--", "show"]),
+            ("export: it has no reply: type reqlock --dir FOLDER export for each folder", ["a", "--", "export"]),
+            ("replace: its lines are those of one folder: type reqlock --dir FOLDER replace for each folder", ["a", "--", "replace", "new.txt"]),
             ("constrian: reqlock has no such subcommand; did you mean constrain?", ["a", "--", "constrian", "a"]),
             ("skipped: it reads the index and no folder", ["a", "--", "skipped"]),
             ("why: with --explain before --", ["a", "--", "why", "a"]),

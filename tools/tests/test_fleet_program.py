@@ -90,8 +90,8 @@ class OverProgram(Program):
 
     def test_a_newer_index(self):
         self.begin(b"", ("flask", "3.1", []), *self.RELEASES[1:])
-        rows = ("docs", "stale", "flask 3.0 -> 3.1"), ("mail", "stale", "another index")
-        self.assertEqual(self.fleet("docs", "mail", "--", "check", "--current"), (1, f"{table(*rows)}\n2 folders: 2 refused\n", ""))
+        rows = ("docs", "stale", "flask 3.0 -> 3.1"), ("mail", "current", "")
+        self.assertEqual(self.fleet("docs", "mail", "--", "check", "--current"), (1, f"{table(*rows)}\n2 folders: 1 ok, 1 refused\n", ""))
 
     def test_inputs_that_are_refused_before_any_folder_is_touched(self):
         before = self.bytes_of("docs")

@@ -129,7 +129,7 @@ class Growths(unittest.TestCase):
 
 class Request(unittest.TestCase):
     def test_wants_a_command_that_runs(self):
-        for words in [], ["./absent"], ["--input", "absent", "true"]:
+        for words in [], ["--"], ["./absent"], ["--input", "absent", "true"]:
             command = [sys.executable, "-B", TOOLS / "growths.py", *words]
             done = subprocess.run(command, capture_output=True, check=False)
             self.assertEqual((done.returncode, done.stdout), (2, b""))

@@ -28,7 +28,8 @@ class Order(Program):
     NEEDED = (
         (["undo"], SAVED), (["redo"], SAVED), (["show"], SAVED), (["log"], SAVED), (["check"], SAVED), (["add", "c"], EDITED),
         (["remove", "a"], EDITED), (["constrain", "a"], EDITED), (["upgrade"], EDITED), (["relock"], EDITED), (["batch"], EDITED),
-        (["why"], EDITED), (["why", "c"], EDITED), (["init"], BEGUN), (["try"], BEGUN), (["skipped"], ["index"]),
+        (["why"], EDITED), (["why", "c"], EDITED), (["replace", "--line", "a", "c"], EDITED), (["outdated"], EDITED), (["diff"], SAVED),
+        (["export"], SAVED), (["init"], BEGUN), (["try"], BEGUN), (["skipped"], ["index"]),
     )
     # What makes each file faulty and what is then told, in the order in which faults are told.
     SAVED_FAULTS = {

@@ -161,7 +161,7 @@ class Installed(unittest.TestCase):
         (self.folder / "in").write_bytes(b"a\n")
         (self.folder / "txt").write_bytes(b"a==1\n")
         files = "--index", "index.json", "--env", "environment.json"
-        self.assertEqual(self.run_installed("reqlock-adopt", "in", "txt", *files), (0, "1 of 1 pins are taken over\n"))
+        self.assertEqual(self.run_installed("reqlock-adopt", "in", "txt", *files), (0, "ok 0\nrql: 1 of 1 pins are taken over\n"))
         status, told = self.run_installed("reqlock", "--index", "index.json", "why", "z")
         self.assertEqual((status, told), (3, "-\n"))
         words = "index.json", "environment.json", "requirements.txt", "--line", "z"
@@ -192,7 +192,7 @@ class Installed(unittest.TestCase):
     def test_bash_completes(self):
         self.install(self.prefix)
         stepping = {*EVERYWHERE, "--dir", "--dry-run"}
-        editing = {"a", "b", *stepping, "--index", "--keep-locked"}
+        editing = {"a", "b", *stepping, "--index", "--keep-locked", "--if-needed"}
         for words, wanted in (
             (["reqlock", "re"], {"remove", "relock", "replace", "redo"}), (["reqlock", "--i"], {"--index"}),
             (["reqlock", "--index", "x", "why", "--ex"], {"--explain"}), (["reqlock", "--dir", "d", "upgrade", ""], editing),
@@ -241,7 +241,7 @@ def zsh_options(text):
     """The same by those of zsh."""
     lists = {
         "$dir": {"--dir"}, "$index": {"--index"}, "$environments": {"--env"}, "$keeping": {"--keep-locked"}, "$saving": {"--dry-run"},
-        "$json": {"--json"}, "$lines": {"--was", "--line"}, "$pins": {"--pins"},
+        "$needed": {"--if-needed"}, "$json": {"--json"}, "$lines": {"--was", "--line"}, "$pins": {"--pins"},
     }
     found = {}
     arms = text.split("case $line[1] in")[1].split("esac")[0]

@@ -279,6 +279,13 @@ class Moved(Plugins):
         self.begin_plugins()
         self.assertEqual(self.moves("add", "aa-plug>=2"), ["moved: mid 2.0 -> 1.0 (no solution keeps all that is locked)"])
 
+    def test_of_a_version_that_was_yanked_since(self):
+        self.begin(b"mid\n", ("aa", "1", []), ("mid", "1", []), ("mid", "2", []))
+        self.plays((["init"], 0, "ok 0\n"))
+        self.begin(b"mid\n", ("aa", "1", []), ("mid", "1", []), ("mid", "2", [], {"yanked": True}))
+        self.assertEqual(self.moves("add", "aa", "--dry-run"), ["moved: mid 2 -> 1 (2 is yanked; no solution keeps all that is locked)"])
+        self.assertEqual(self.moves("relock"), ["moved: mid 2 -> 1 (2 is yanked; no solution keeps all that is locked)"])
+
     def test_with_an_entry_of_the_same_version(self):
         """The index has another `aa-plug` 2.0, which doesn't go with the locked `mid`."""
         self.begin(b"aa-plug\nmid\n", ("aa-plug", "1.0", []), ("aa-plug", "2.0", []), ("mid", "1.0", []), ("mid", "2.0", []))

@@ -245,7 +245,7 @@ class Hands(Checkouts):
         self.check_refused("none.json: unreadable\n", "--index", "none.json")
         self.check_refused("none: No such file or directory; give the program by --program\n", "--program", "none")
         (self.folder / "pylock.toml").write_bytes(b"x\n")
-        self.check_refused("pylock.toml of the folder: it isn't the one that reqlock saved with its journal\n")
+        self.check_refused("pylock.toml of the folder: it isn't the one that reqlock saved with its journal, which is older where ")
         self.check_refused("nothing is in progress, so there is no other side\n", "--theirs")
         (self.folder / "pylock.toml").unlink()
         (self.folder / "pylock.toml").symlink_to("requirements.txt")

@@ -91,7 +91,7 @@ class Days(Checkouts):
         both would do."""
         index = read_index((self.outside / "index.json").read_bytes())
         pins = [{it: read_version(version) for it, version in side.items()} for _, side in sorted(own.values(), key=lambda it: it is not own[name])]
-        kept = newer_of(pins[0], pins[1].items())
+        kept = newer_of(pins[0], pins[1].items(), index)
         problem = Problem(cut_lines((self.folder / "requirements.txt").read_text(encoding="utf-8")), LINUX, index, kept)
         chosen = {it: problem.place_of(it, order_key(read_version(version))) for it, version in lock.items()}
         self.assertEqual(chosen, best_solution(problem))

@@ -32,8 +32,9 @@ def target_text(told):
     for it in told["outdated"]:
         rows.append([it["name"], it["locked"], it["admitted"] or "-", it["newest"], ", ".join(map(holder_text, it["held_by"]))])
     text = table(rows) if len(rows) > 1 else ""
-    absent = ", ".join(f"{it['name']} {it['version']}" for it in told["not_in_index"])
-    text += f"not in the index: {absent}\n" if absent else ""
+    for label, key in ("not in the index", "not_in_index"), ("yanked", "yanked"):
+        pins = ", ".join(f"{it['name']} {it['version']}" for it in told[key])
+        text += f"{label}: {pins}\n" if pins else ""
     return (f"target {told['target']}\n" if told["target"] and text else "") + text
 
 
@@ -82,6 +83,13 @@ class Outdated(DrawnFiles):
             "name  locked  admitted  newest  held by\na     1       2         2\nb     1       2         2\nnot in the index: a 1\n"
         )
 
+    def test_a_locked_release_that_was_yanked_since(self):
+        releases = ("a", "1", []), ("a", "2", []), ("b", "1", [])
+        self.begin(b"a==2\nb\n", *releases)
+        self.assertEqual(self.call("init"), (0, "ok 0\n"))
+        self.begin(b"a==2\nb\n", releases[0], ("a", "2", [], {"yanked": True}), ("b", "1", [], {"yanked": True}))
+        self.tells("yanked: a 2, b 1\n")
+
     def test_drawn_sessions(self):
         seen = set()
         for seed in range(SESSIONS):
@@ -89,7 +97,7 @@ class Outdated(DrawnFiles):
                 draw = Draw(seed)
                 self.lock_for(self.drawn_targets(draw, seed))
                 self.play(draw, seen)
-        self.assertLessEqual({"held", "free", "none admitted", "absent", "current", "stale", "no-solution"}, seen)
+        self.assertLessEqual({"held", "free", "none admitted", "absent", "current", "another index", "stale", "no-solution"}, seen)
 
     def play(self, draw, seen):
         self.put({})
@@ -122,15 +130,17 @@ class Outdated(DrawnFiles):
         told = self.told("check", "--current", "--json")
         self.assertEqual((self.files(), error), (before, ""))
         try:
-            is_current = edited(state, ("relock",), self.index) == state
+            relocked = edited(state, ("relock",), self.index)
         except Refused as refused:
             seen.add(refused.word)
             self.assertEqual((status, output), (3, f"refused {refused.word}\n"))
             self.assertEqual(told, (3, f"refused {refused.word}\n", ""))
             return
+        is_current, is_another = relocked.targets == state.targets, relocked.digest != state.digest
         answer = json.loads(told[1])
         self.assertEqual((told[0], answer["place"], answer["current"]), (status, cursor, is_current))
-        seen.add("current" if is_current else "stale")
+        self.assertEqual(answer["another_index"], is_another)
+        seen.add("stale" if not is_current else "another index" if is_another else "current")
         if is_current:
             self.assertEqual((status, output, answer["diff"]), (0, "current\n", None))
             return
@@ -154,15 +164,26 @@ class Current(Program):
         self.assertEqual(self.call("init"), (0, "ok 0\n"))
         self.assertEqual(self.told("check", "--current"), (0, "current\n", ""))
         self.assertEqual(self.told("check", "--json"), (0, '{"place":0}\n', ""))
-        self.assertEqual(self.told("check", "--current", "--json"), (0, '{"current":true,"diff":null,"place":0}\n', ""))
+        self.assertEqual(self.told("check", "--current", "--json"), (0, '{"another_index":false,"current":true,"diff":null,"place":0}\n', ""))
         self.begin(b"a\n", ("a", "1", ["b"]), ("b", "1", []))
         files = self.files()
         status, told, error = self.told("check", "--current")
         self.assertEqual((status, error), (1, ""))
-        self.assertRegex(told, r"\Astale\na 1 -> 1\n\+ b 1\n- index: [0-9a-f]{64}\n\+ index: [0-9a-f]{64}\n\Z")
+        self.assertRegex(told, r"\Astale\na 1 -> 1 \(dependencies\)\n\+ b 1\n- index: [0-9a-f]{64}\n\+ index: [0-9a-f]{64}\n\Z")
         self.assertEqual(self.files(), files)
         self.begin(b"a\n", ("a", "2", ["z"]))
         self.assertEqual(self.told("check", "--current"), (3, "refused no-solution\n", ""))
+
+    def test_another_index_in_which_nothing_moves(self):
+        self.begin(b"a\n", ("a", "1", []))
+        self.assertEqual(self.call("init"), (0, "ok 0\n"))
+        self.begin(b"a\n", ("a", "1", []), ("b", "1", []))
+        self.assertEqual(self.told("check", "--current"), (0, "current\n", ""))
+        status, output, told = self.told("check", "--current", "-v")
+        self.assertEqual((status, output), (0, "current\n"))
+        self.assertRegex(told, r"\A- index: [0-9a-f]{64}\n\+ index: [0-9a-f]{64}\n\Z")
+        self.assertEqual(self.told("check", "--current", "-q"), (0, "current\n", ""))
+        self.assertEqual(self.told("check", "--current", "--json"), (0, '{"another_index":true,"current":true,"diff":null,"place":0}\n', ""))
 
     def test_the_index_is_needed(self):
         self.begin(b"a\n", ("a", "1", []))

@@ -1,5 +1,5 @@
 """Each relative link of a page leads to a file, and its part behind `#` to a heading of that file. Each page that is named in words stands
-there too."""
+there too. Links of README.md lead to every page of docs/, by one other page at most."""
 
 import re
 import unittest
@@ -22,6 +22,12 @@ def headings(page: Path) -> set[str]:
     return {re.sub(r"[^\w\- ]", "", line.lower()).replace(" ", "-") for line in lines}
 
 
+def linked(page: Path) -> set[Path]:
+    """The pages to which the links of a page lead."""
+    found = ((page.parent / path).resolve() for path, _ in LINK.findall(page.read_text(encoding="utf-8")) if path)
+    return {path for path in found if path.suffix == ".md" and path.is_file()}
+
+
 class Pages(unittest.TestCase):
     def test_each_link_leads_somewhere(self) -> None:
         for page in pages():
@@ -31,6 +37,11 @@ class Pages(unittest.TestCase):
                     self.assertTrue(target.exists())
                     if heading:
                         self.assertIn(heading, headings(target))
+
+    def test_readme_leads_to_each_page(self) -> None:
+        found = linked(TOP / "README.md")
+        reached = found.union(*map(linked, found))
+        self.assertEqual({path for path in pages() if path.is_relative_to(TOP / "docs")} - reached, set())
 
     def test_each_page_that_is_named_stands_there(self) -> None:
         for page in pages():

@@ -94,6 +94,7 @@ class Hook(Program):
         self.assertEqual(status, 1, told)
         self.assertRegex(told, r"reqlock check\.+Failed")
         self.assertIn("reqlock: requirements.txt: files-disagree", told)
+        self.assertIn("\n    git add requirements.txt 'pylock*.toml' reqlock.journal\n", told)
         status, told = self.commit(*FILES)
         self.assertEqual(status, 0, told)
         (self.project / "pylock.toml").write_bytes((self.project / "pylock.toml").read_bytes() + b"# by hand\n")

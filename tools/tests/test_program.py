@@ -45,15 +45,19 @@ class Help(Program):
         "--line <NAME> <TEXT>": "Put the text in the place of the line of the name",
     }
     PINS = {"--pins <FILE>": "Keep the versions of this lock, or of these lines; or NAME=FILE"}
+    DRY = {"--dry-run": "Save nothing; print what would change"}
+    EDIT = {"--if-needed": "Answer same, and save nothing, where only the index would change", **DRY}
     ARGUMENTS = {
-        "init": PINS,
-        "add": {"<TEXT>": "The line, such as 'flask>=2  # the server'"},
-        "remove": {"<NAME>": "The name of the line"},
+        "init": PINS | DRY,
+        "add": {"<TEXT>": "The line, such as 'flask>=2  # the server'", **EDIT},
+        "remove": {"<NAME>": "The name of the line", **EDIT},
         "constrain": {
-            "<NAME>": "The name of the line", "[SPEC]": "The specifiers, such as '>=2,<3'; without them any version will do",
+            "<NAME>": "The name of the line", "[SPEC]": "The specifiers, such as '>=2,<3'; without them any version will do", **EDIT,
         },
-        "upgrade": {"[NAME]...": "Names in the lock; without any, all of them"},
-        "replace": {"[NEW]": "The file with the new lines; - is standard input", **LINES, **PINS},
+        "upgrade": {"[NAME]...": "Names in the lock; without any, all of them", **EDIT},
+        "relock": EDIT, "undo": DRY, "redo": DRY,
+        "replace": {"[NEW]": "The file with the new lines; - is standard input", **LINES, **PINS, **EDIT},
+        "batch": {"--all-or-none": "Save nothing where a command is refused, and end with its status"},
         "show": {
             "[NAME]": "Print the entry of this name, with its files", "--tree": "Print the entries below the lines that ask for them",
             "--json": "Print JSON",
@@ -63,7 +67,7 @@ class Help(Program):
             "[FROM]": "The first place; without it, the one before the present",
             "[TO]": "The second place; without it, the present one", "--json": "Print JSON",
         },
-        "check": {"--current": "Tell whether a relock over the index would change something", "--json": "Print JSON"},
+        "check": {"--current": "Tell whether a relock over the index would change an entry", "--json": "Print JSON"},
         "outdated": {"--json": "Print JSON"},
         "export": {"--format <FORMAT>": "hashes, dot or pylock [default: hashes]", "--target <NAME>": "The target whose lock it is"},
         "why": {

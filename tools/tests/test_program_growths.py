@@ -205,6 +205,7 @@ class Growths(unittest.TestCase):
 class Program(Growths):
     def test_init(self):
         self.check_single("init", starts="ok 0")
+        self.check_single("init", "--dry-run", starts="ok 0\n+ ")
 
     def test_edits(self):
         self.prepare("init")
@@ -355,6 +356,7 @@ class Targets(Growths):
 
     def test_init(self):
         self.check_single("init", starts="ok 0")
+        self.check_single("init", "--dry-run", starts="ok 0\ntarget linux\n+ ")
         (self.folder / "requirements.txt").write_bytes(b"a\nx[e] ; os_name == 'nt'\n")
         self.check_single("init", starts="refused no-solution")
 

@@ -15,7 +15,7 @@ class Calls(unittest.TestCase):
     def test_each_subcommand_and_each_status_is_among_them(self):
         calls = [call for session in (*SESSIONS, *shown_sessions()) for call in session.calls]
         words = {word for call in calls for word in call.words}
-        table = (TOP / "README.md").read_text(encoding="utf-8").split("| Subcommand | Does | Needs |\n")[1].split("\n\n")[0]
+        table = (TOP / "docs" / "REFERENCE.md").read_text(encoding="utf-8").split("| Subcommand | Does | Needs |\n")[1].split("\n\n")[0]
         named = set(re.findall(r"(?m)^\| `([a-z]+)", table))
         self.assertGreater(len(named), 15)
         self.assertEqual(named - words, set())

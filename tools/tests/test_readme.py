@@ -1,7 +1,8 @@
-"""What README.md, docs/SESSIONS.md, docs/RULES.md and docs/FAULTS.md show being typed is typed: each indented block that has lines `$ COMMAND` is run by
-a shell in a copy of the repository's examples and tools, and what comes out is what the block shows. It needs the program, which
-./check builds first."""
+"""What README.md and the pages below show being typed is typed: each indented block that has lines `$ COMMAND` is run by a shell in a copy of the
+repository's examples and tools, and what comes out is what the block shows. One that begins with `rql` is run in an empty folder, over an index
+of the tests' own. It needs the program, which ./check builds first."""
 
+import json
 import os
 import re
 import shutil
@@ -13,7 +14,22 @@ from pathlib import Path
 from made.served_index import MadeIndex, wheel_of
 from places import PROGRAM, TOOLS, TOP
 from program import Program
+from rql_projects import Served
 from shown import indented_blocks, printed_by, typed_blocks
+
+PAGES = "README.md", "docs/SESSIONS.md", "docs/ANSWERS.md", "docs/RULES.md", "docs/FAULTS.md", "docs/ADVICE.md"
+ADDRESS = "https://index.example/simple/"
+EXAMPLE = TOP / "examples" / "web" / "index.json"
+REFERENCE = (TOP / "docs" / "REFERENCE.md").read_text(encoding="utf-8")
+
+
+def shown_on(page):
+    """The blocks of a page that are typed."""
+    return typed_blocks((TOP / page).read_text(encoding="utf-8"))
+
+
+def is_of_rql(block):
+    return block[0][0].startswith("rql ")
 
 
 def copy_tools(folder):
@@ -29,12 +45,12 @@ class Blocks(unittest.TestCase):
 @unittest.skipUnless(PROGRAM.exists(), "the program isn't built")
 class Readme(unittest.TestCase):
     def test_each_command_prints_what_is_shown(self):
-        for page in "README.md", "docs/SESSIONS.md", "docs/RULES.md", "docs/FAULTS.md":
-            found = typed_blocks((TOP / page).read_text(encoding="utf-8"))
+        for page in PAGES:
+            found = [block for block in shown_on(page) if not is_of_rql(block)]
             self.assertTrue(found)
             for block in found:
                 with self.subTest(page=page, block=block), tempfile.TemporaryDirectory() as folder:
-                    self.run_block(block, Path(folder))
+                    self.run_block(block, Path(folder) / "checkout")
 
     def run_block(self, block, folder):
         shutil.copytree(TOP / "examples", folder / "examples")
@@ -44,8 +60,7 @@ class Readme(unittest.TestCase):
 
     def test_an_index_is_made_of_an_address(self):
         """The block with the address of an index: one of the test's own stands for it."""
-        text = (TOP / "README.md").read_text(encoding="utf-8")
-        [block] = [block for block in indented_blocks(text) if "snapshot.py simple" in block]
+        [block] = [block for block in indented_blocks(REFERENCE) if "snapshot.py simple" in block]
         needs = {"flask": ["Werkzeug>=3.0.0", "Jinja2", "click"], "werkzeug": [], "jinja2": [], "click": []}
         index = MadeIndex()
         self.addCleanup(index.close)
@@ -55,7 +70,7 @@ class Readme(unittest.TestCase):
             folder = Path(name)
             copy_tools(folder)
             (folder / "requirements.txt").write_bytes(b"Flask\r\n")
-            lines = [line.replace("https://index.example/simple/", index.url) for line in block.splitlines()]
+            lines = [line.replace(ADDRESS, index.url) for line in block.splitlines()]
             self.assertIn(index.url, lines[1])
             done = self.run_lines(lines, folder)
             self.assertEqual((done.returncode, done.stdout), (0, "ok 0\n"), done.stderr)
@@ -70,13 +85,26 @@ class Readme(unittest.TestCase):
         )
 
 
+class Rql(Served):
+    """What is shown of rql is typed in an empty folder, over an index with the releases of examples/web."""
+
+    def test_each_command_prints_what_is_shown(self):
+        [block] = [block for page in PAGES for block in shown_on(page) if is_of_rql(block)]
+        for package in json.loads(EXAMPLE.read_text(encoding="utf-8"))["packages"]:
+            name = package["name"].lower()
+            self.index.add(name, *(wheel_of(name, it["version"], *it.get("requires_dist", [])) for it in package["releases"]))
+        self.put_on_path()
+        printed = printed_by(block, self.folder, {**self.variables, "PIP_INDEX_URL": self.index.url}, ADDRESS, self.index.url)
+        self.assertEqual([text.replace("rql.py: ", "rql: ").splitlines() for text in printed], [shown for _, shown in block])
+
+
 class Tables(Program):
-    """The program has the subcommands and options of the README's tables and no others, and a subcommand needs the options that
+    """The program has the subcommands and options of the tables of docs/REFERENCE.md and no others, and a subcommand needs the options that
     stand beside it."""
 
     def rows(self, head):
         """The cells of the table with this head."""
-        table = (TOP / "README.md").read_text(encoding="utf-8").split(f"{head}\n")[1].split("\n\n")[0]
+        table = REFERENCE.split(f"{head}\n")[1].split("\n\n")[0]
         return [[cell.strip() for cell in line.strip("|").split("|")] for line in table.splitlines()[1:]]
 
     def subcommands(self):

@@ -2,16 +2,19 @@
 and what is printed, every fault of a file that is handed in, several targets, and a full disk. test_file_calls.py stops a save of it at
 each call."""
 
+import json
 import shutil
 import unittest
 
 from drawn_sessions import DrawnSessions
 from made.environments import LINUX, WINDOWS
+from made.releases import index_of
 from made.sessions import Draw
 from places import IS_LONG
 from program import Program, limited
 from rules.edits import History, Refused, edited, status_of
 from rules.journals import file_name
+from rules.locks import read_index
 from rules.pins import begun_with, newer_of, replaced
 from rules.requirements import cut_lines, read_version
 
@@ -109,13 +112,15 @@ class Sessions(DrawnSessions):
 class Laws(unittest.TestCase):
     def test_the_newer_of_two(self):
         """It doesn't matter whose versions are the own ones, but for the spelling of equal ones."""
-        for seed in range(50):
-            draw = Draw(seed)
-            one, other = ({name: draw.one((1, 2, 3)) for name in "abc" if draw.happens(60)} for _ in range(2))
-            wanted = {name: max(side[name] for side in (one, other) if name in side) for name in one.keys() | other.keys()}
-            for own, others in (one, other), (other, one):
-                found = newer_of({name: read_version(str(it)) for name, it in own.items()}, [(name, read_version(str(it))) for name, it in others.items()])
-                self.assertEqual(found, {name: read_version(str(it)) for name, it in wanted.items()})
+        index = read_index(json.dumps(index_of(("a", "1", []), ("a", "2", []), ("b", "3", []))).encode())
+        for one, other, wanted in (
+            ("", "", ""), ("a1", "", "a1"), ("a3", "", "a3"), ("a1", "a2", "a2"), ("a1", "a3", "a1"), ("a2", "a3", "a2"), ("a3", "a4", "a4"),
+            ("b2", "b3", "b3"), ("b4", "b3", "b3"), ("b2", "b4", "b4"), ("c1", "c2", "c2"), ("a1 c1", "b4 c2", "a1 b4 c2"),
+        ):
+            sides = [[(it[0], read_version(it[1])) for it in side.split()] for side in (one, other)]
+            for own, others in sides, sides[::-1]:
+                with self.subTest(own=own, others=others):
+                    self.assertEqual(newer_of(dict(own), others, index), {it[0]: read_version(it[1]) for it in wanted.split()})
 
 
 class Words(Program):
@@ -192,6 +197,60 @@ class Words(Program):
         pins = self.write(b"web==2\ntool==2 ; os_name == 'nt'\nBase[x] == 2  # of the other\nbase==1\nnone==1\n", "pins")
         self.assertEqual(self.told("replace", self.write(b"web\ntool\nbase\n"), "--pins", pins), (0, "ok 1\n", ""))
         self.assertEqual(self.locked(), {"base": "2", "tool": "1", "web": "2"})
+
+    def test_a_newer_pin_that_the_index_lacks(self):
+        """Of two pins the one that the index has is kept, whoever hands it in; of two that it lacks none leads to anything."""
+        new = self.write(b"web\ntool\n")
+        for keep in [], ["--keep-locked"]:
+            for pins, locked in (("web==4", "2"), ("web==3", "3"), ("web==1", "2"), ("web==4\nweb==3", "3")):
+                with self.subTest(pins=pins, keep=keep):
+                    path = self.write(pins.encode(), "pins")
+                    self.assertEqual(self.told("replace", new, "--pins", path, *keep), (0, "ok 1\n", ""))
+                    self.assertEqual(self.locked()["web"], locked)
+                    self.plays((["undo"], 0, "ok 0\n"))
+        path = self.write(b"web==4\nweb==1\n", "pins")
+        self.assertEqual(self.told("init", "--pins", path), (0, "ok 0\n", ""))
+        self.assertEqual(self.locked()["web"], "1")
+
+    def test_both_sides_of_a_merge_where_the_index_lacks_a_pin(self):
+        """Each side's lock is handed in to the other; the releases of one are gone from the index, or of both."""
+        new = self.write(b"web\n")
+        found = []
+        for gone in ["3"], ["2"], ["2", "3"], ["1", "2"]:
+            for own, other in ("2", "3"), ("3", "2"):
+                for keep in [], ["--keep-locked"]:
+                    self.begin(f"web=={own}\n".encode(), *RELEASES)
+                    self.assertEqual(self.call("init"), (0, "ok 0\n"))
+                    self.begin(f"web=={own}\n".encode(), *(it for it in RELEASES if it[0] != "web" or it[1] not in gone))
+                    told = self.told("replace", new, "--pins", self.write(f"web=={other}".encode(), "pins"), *keep)
+                    found.append((told, self.locked()["web"] if told[0] == 0 else ""))
+        sides = [found[place : place + 2] for place in range(0, len(found), 2)]
+        self.assertEqual(sides[::2], sides[1::2])
+        accepted, refused = (0, "ok 1\n", ""), (3, "refused no-solution\n", "")
+        self.assertEqual(sides[::2], [
+            [(accepted, "2")] * 2, [(accepted, "3")] * 2, [(accepted, "1"), (refused, "")], [(accepted, "3")] * 2,
+        ])
+
+    def test_faults_of_files_come_before_what_refuses_a_line(self):
+        pins = self.write(b"[\n", "bad.toml")
+        self.assertEqual(self.told("replace", "--line", "none", "none", "--pins", pins), (4, "", "reqlock: pins: not-toml\n"))
+        self.assertEqual(self.told("replace", "--line", "none", "none", "--pins", f"X={pins}"), (4, "", "reqlock: pins X: not-toml\n"))
+        pins = self.write(b"web==1\n", "pins")
+        told = 2, "", "reqlock: --pins has no target X\n"
+        self.assertEqual(self.told("replace", "--line", "none", "none", "--pins", f"X={pins}"), told)
+        self.assertEqual(self.told("replace", "--line", "none", "none", "--pins", pins), (1, "refused not-present\n", ""))
+        self.assertEqual(self.files(), self.first)
+
+    def test_faults_of_files_come_before_a_name_that_is_no_targets(self):
+        bad, pins = self.write(b"web >>1\n", "bad.txt"), self.write(b"web==1\n", "pins")
+        for name in "X", "mac":
+            for path, told in (
+                (pins, "new requirements: line 1: bad-clause"), (self.outside / "none", f"pins {name}: unreadable"),
+            ):
+                self.assertEqual(self.told("replace", bad, "--pins", f"{name}={path}"), (4, "", f"reqlock: {told}\n"))
+            (self.folder / "requirements.txt").write_bytes(b"web >>1\n")
+            self.assertEqual(self.told("init", "--pins", f"{name}={pins}"), (4, "", "reqlock: requirements.txt: line 1: bad-clause\n"))
+            (self.folder / "requirements.txt").write_bytes(self.first["requirements.txt"])
 
     def test_each_fault_of_pins(self):
         new, target = self.write(b"web\ntool\n"), ""

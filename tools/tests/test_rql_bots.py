@@ -28,9 +28,7 @@ class Bots(Served):
     def setUp(self):
         super().setUp()
         self.variables.update(VARIABLES, PRE_COMMIT_HOME=str(self.outside / "hooks-cache"), PRE_COMMIT_COLOR="never")
-        place = self.put("bin/rql", f'#!/bin/sh\nexec {sys.executable} -B {SCRIPT} "$@"\n', self.outside)
-        place.chmod(0o755)
-        self.variables["PATH"] = f"{place.parent}:{self.variables['PATH']}"
+        self.put_on_path()
         self.serve(rich=[wheel_of("rich", "1"), wheel_of("rich", "2")])
         self.begin("rich<2\n")
         self.run_in("git", "init", "--quiet", "--initial-branch=main")

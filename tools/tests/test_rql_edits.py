@@ -3,6 +3,7 @@ none, and a new index takes the old one's place only with an accepted reply."""
 
 import json
 import os
+import shutil
 import signal
 import subprocess
 import sys
@@ -68,6 +69,10 @@ class Edits(Served):
         self.assertEqual(self.files(), before)
         self.accepts("add", "rich", "flask", answer="ok 1\nok 2\n")
         self.assertEqual(self.rql("remove", "rich", "none")[:2], (1, "refused not-present\n"))
+        self.assertEqual(self.lines(), "rich\nflask\n")
+        # a text that is no one line is no two commands
+        self.assertEqual(self.rql("add", "werkzeug\nremove rich", "asgiref")[:2], (1, "refused bad-text\n"))
+        self.assertEqual(self.rql("remove", "rich\nadd werkzeug", "flask")[:2], (1, "refused bad-text\n"))
         self.assertEqual(self.lines(), "rich\nflask\n")
         self.accepts("set", "rich<2", "flask<3", answer="ok 3\n")
         self.assertEqual(self.lines(), "rich<2\nflask<3\n")
@@ -190,8 +195,8 @@ class Edits(Served):
         self.assertEqual(self.rql("check", "--current")[:2], (0, "current\n"))
         self.index.add("rich", wheel_of("rich", "3"))
         self.assertEqual(self.rql("outdated")[1].splitlines()[1].split(), ["rich", "2", "3", "3"])
-        status, output, _ = self.rql("check", "--current")
-        self.assertEqual((status, output.splitlines()[0]), (1, "stale"))
+        # a relock would keep rich 2, so no entry would change
+        self.assertEqual(self.rql("check", "--current")[:2], (0, "current\n"))
         self.assertEqual(self.rql("why", "flask>=9")[0], 3)
         self.assertEqual(self.named(), ["rich"])
 
@@ -276,8 +281,8 @@ class Exports(Served):
         super().setUp()
         self.serve(rich=[wheel_of("rich", "1"), wheel_of("rich", "2")])
         self.begin("rich<2\n")
-        path = self.folder / "reqlock.toml"
-        self.put("reqlock.toml", 'exports = [{ file = "deploy/linux.txt" }]\n' + path.read_text(encoding="utf-8"))
+        self.settings = (self.folder / "reqlock.toml").read_text(encoding="utf-8")
+        self.put("reqlock.toml", 'exports = [{ file = "deploy/linux.txt" }]\n' + self.settings)
         self.export = self.folder / "deploy" / "linux.txt"
 
     def exported(self):
@@ -302,14 +307,55 @@ class Exports(Served):
         self.assertEqual(self.export.read_text(encoding="utf-8"), "import this\n")
 
     def test_that_cannot_be_made_are_left_as_they_are_and_told(self):
+        self.put("reqlock.toml", 'exports = [{ file = "lock.toml", format = "pylock" }]\n' + self.settings)
         self.accepts("relock")
-        before = self.export.read_bytes()
+        self.accepts("constrain", "rich")
+        self.accepts("upgrade")
+        before = (self.folder / "lock.toml").read_bytes()
+        for path in (self.folder / ".reqlock").glob("index*.json"):
+            path.unlink()
+        self.assertIn("lock.toml: it is as it was, since the index of this lock is gone: rql relock makes it anew", self.accepts("undo"))
+        self.assertEqual((self.folder / "lock.toml").read_bytes(), before)
+        self.accepts("check")
+        self.accepts("relock")
+        self.assertNotEqual((self.folder / "lock.toml").read_bytes(), before)
+
+    def test_of_hashes_need_no_index(self):
+        self.accepts("relock")
         self.accepts("constrain", "rich")
         self.accepts("upgrade")
         for path in (self.folder / ".reqlock").glob("index*.json"):
             path.unlink()
-        self.assertIn("deploy/linux.txt: it is as it was, since the index of this lock is gone", self.accepts("undo"))
-        self.assertNotEqual(self.export.read_bytes(), before)
+        self.accepts("undo")
+        self.assertIn("rich==1 \\", self.exported())
+
+    def test_that_are_stale_are_told_and_mended(self):
+        self.accepts("relock")
+        text = self.export.read_text(encoding="utf-8")
+        shutil.rmtree(self.folder / ".reqlock")
+        self.accepts("check", answer="ok 0\n")
+        rows = (
+            (text.replace("rich==1", "rich==2"), "deploy/linux.txt: it isn't what is locked: rql lock exports it anew\n"),
+            (None, "deploy/linux.txt: this export isn't there: rql lock writes it\n"),
+        )
+        for changed, told in rows:
+            with self.subTest(told=told):
+                self.export.unlink()
+                if changed is not None:
+                    self.export.write_text(changed, encoding="utf-8")
+                for words in ["check"], ["lock", "--check"]:
+                    self.assertEqual(self.rql(*words), (1, "ok 0\n", told))
+                self.accepts("lock", answer="ok 0\n")
+                self.assertEqual(self.export.read_text(encoding="utf-8"), text)
+                self.accepts("check", answer="ok 0\n")
+        self.export.write_text("import this\n", encoding="utf-8")
+        told = "deploy/linux.txt: rql didn't write it, so it isn't exported: move it away, and then: rql lock\n"
+        self.assertEqual(self.rql("check"), (1, "ok 0\n", told))
+
+    def test_a_pipe_in_the_place_is_not_waited_for(self):
+        self.export.parent.mkdir()
+        os.mkfifo(self.export)
+        self.assertIn("deploy/linux.txt: it is no file", self.refuses("check"))
 
     def test_a_link_in_the_place_is_not_followed(self):
         self.export.parent.mkdir()

@@ -2,10 +2,12 @@
 
 import os
 import re
+import tomllib
 import unittest
 from unittest import mock
 
 from made.served_index import wheel_of
+from places import TOP
 from rql_projects import ENVIRONMENT, Projects, Served
 
 from reqlock_tools.rql.defaults import VARIABLES_OF_INDEXES, index_of_pip, pip_told
@@ -141,16 +143,29 @@ class Begin(Served):
         before = self.files()
         found, output, errors = self.rql("init", "--index", self.index.url)
         self.assertEqual((found, output), (3, "refused no-solution\n"), errors)
-        self.assertEqual(self.files(), before)
+        self.assertEqual((self.files(), os.listdir(self.folder)), (before, ["requirements.txt"]))
         self.put("requirements.txt", "rich\n-e .\n")
         self.assertIn("requirements.txt: line 2: ", self.init(status=4))
-        self.assertEqual(list(self.files()), ["requirements.txt"])
+        self.assertEqual(os.listdir(self.folder), ["requirements.txt"])
 
     def test_an_index_that_fails_leaves_nothing(self):
         self.index.instead[f"{self.index.prefix}rich/"] = [lambda answer: answer.give(500)]
         (self.folder / "pyproject.toml").write_text("[tool.poetry.dependencies]\nrich = '*'\n", encoding="utf-8")
         self.assertIn("500", self.init(status=6))
-        self.assertEqual(list(self.files()), ["pyproject.toml"])
+        self.assertEqual(os.listdir(self.folder), ["pyproject.toml"])
+
+    def test_what_was_kept_before_stays_where_nothing_begins(self):
+        self.put(".reqlock/index.json", "{}")
+        self.put("requirements.txt", "rich>=9\n")
+        self.init(status=3)
+        self.assertIn("index.json", os.listdir(self.folder / ".reqlock"))
+
+    def test_quiet_tells_nothing_beside_the_answer(self):
+        self.put("uv.lock", UV)
+        self.put("requirements.txt", "rich\nflask\n")
+        status, output, errors = self.rql("-q", "init", PIP_INDEX_URL=self.index.url)
+        self.assertEqual((status, output, errors), (0, "ok 0\n", ""))
+        self.assertIn("settings stand there already", self.rql("-q", "init", "--python", "3.11")[2])
 
     def test_settings_that_stand_there_are_taken(self):
         self.put("reqlock.toml", f'index = ["{self.index.url}"]\n{ENVIRONMENT}')
@@ -220,6 +235,14 @@ class Begin(Served):
         self.init("--from", "compiled.txt")
         self.assertEqual(self.locked(), {"rich": "1"})
 
+    def test_words_that_are_no_good_are_told_by_their_names(self):
+        for words, told in (
+            (["--platform", "vax"], "--platform vax: one of linux-x86_64, "), (["--python", "2.7"], "--python: '2.7' is no version of Python 3"),
+            (["--index", "flask"], "--index: the address of an index is wanted"), (["--from", "none"], f"{self.folder}/none: No such file or directory"),
+        ):
+            self.assertTrue(self.refuses("init", *([] if "--index" in words else ["--index", self.index.url]), *words).startswith(told), words)
+            self.assertEqual(os.listdir(self.folder), [])
+
     def test_two_locks_of_others(self):
         self.put("uv.lock", UV)
         self.put("poetry.lock", POETRY)
@@ -282,6 +305,13 @@ class OfPoetry(unittest.TestCase):
         )
         for value, wanted in rows:
             self.assertEqual(line_of("x", value), wanted, value)
+
+    def test_what_the_page_shows(self):
+        page = (TOP / "docs" / "FROM_UV_AND_POETRY.md").read_text(encoding="utf-8")
+        rows = re.findall(r"(?m)^\| `(flask = .*)` \| `(.*)` \|$", page)
+        self.assertGreater(len(rows), 4)
+        for shown, wanted in rows:
+            self.assertEqual(line_of("flask", tomllib.loads(shown)["flask"]), wanted)
 
 
 if __name__ == "__main__":

@@ -2,14 +2,12 @@
 
 import importlib.util
 import os
+import re
 import shutil
-import subprocess
 import unittest
 
-from checkouts import VARIABLES
 from made.served_index import wheel_of
-from places import TOP
-from rql_projects import Served
+from rql_projects import ENVIRONMENT, Committed, Served
 
 WINDOWS = "--python", "3.11", "--platform", "windows-x86_64"
 
@@ -55,34 +53,49 @@ class Lines(Served):
         self.begin("rich<2\n")
         shutil.rmtree(self.folder / ".reqlock")
         self.change("rich\n")
-        self.assertIn("rql init --from pylock.toml begins a new history", self.refuses("lock"))
+        told = self.refuses("lock").strip()
+        self.assertEqual(told, "requirements.txt: nobody has the lines that were saved last. A new history, with the versions that are locked, is begun"
+                         " by: rql init --from pylock.toml")
+        (self.folder / "deep").mkdir()
+        self.assertIn(f": rql -C {self.folder} init --from pylock.toml\n", self.refuses("lock", folder=self.folder / "deep"))
+        self.index.add("rich", wheel_of("rich", "3"))
+        errors = self.accepts(*told.rpartition(": rql ")[2].split(), answer="ok 0\n")
+        self.assertIn("1 of 1 pins are taken over", errors)
+        self.assertEqual((self.lines(), self.rql("show")[1].splitlines()[1].split()), ("rich\n", ["rich", "1", "1"]))
+
+    def test_no_history_that_is_whole_is_begun_anew_by_a_word(self):
+        self.begin("rich<2\n")
+        before = self.files()
+        self.assertIn("a history stands there, with its own pins: rql init without --from goes on", self.refuses("init", "--from", "pylock.toml"))
+        self.assertEqual(self.files(), before)
+
+    def test_an_edit_over_lines_that_were_changed_by_hand(self):
+        self.begin("rich<2\n")
+        self.change("rich\n")
+        told = "lines or locks were changed since they were saved: rql lock has them fit\n"
+        for words in ["add", "flask"], ["upgrade"], ["remove", "rich"]:
+            self.assertNotIn(told, self.rql(*words)[2])
+            status, output, errors = self.rql("-v", *words)
+            self.assertEqual((status, output), (4, ""))
+            self.assertIn(told, errors)
 
     def test_without_a_history(self):
         self.begin("rich\n")
         (self.folder / "reqlock.journal").unlink()
         for words in ["lock"], ["lock", "--check"]:
-            self.assertIn("so there is no history: rql init begins one", self.refuses(*words))
+            self.assertIn("so there is no history: rql init --from pylock.toml begins one", self.refuses(*words))
+        locked = (self.folder / "pylock.toml").read_bytes()
+        self.assertEqual(self.rql("init", "--from", "pylock.toml")[0], 0)
+        self.assertEqual((self.folder / "pylock.toml").read_bytes(), locked)
 
 
-@unittest.skipUnless(shutil.which("git"), "there is no git")
-class Merges(Served):
+class Merges(Committed):
     def setUp(self):
         super().setUp()
         self.serve(**{name: [wheel_of(name, "1"), wheel_of(name, "2")] for name in ("rich", "flask", "tool")})
-        self.variables.update(VARIABLES)
         self.begin("rich\n\n# tools\n")
-        self.put(".gitattributes", (TOP / "examples" / "git" / ".gitattributes").read_text(encoding="utf-8"))
-        self.git("init", "--quiet", "--initial-branch=main")
+        self.begin_git()
         self.commit("begin")
-
-    def git(self, *words, fails=False):
-        done = subprocess.run(["git", *words], cwd=self.folder, env=self.variables, capture_output=True, encoding="utf-8", check=False)
-        self.assertEqual(done.returncode != 0, fails, done.stdout + done.stderr)
-        return done.stdout
-
-    def commit(self, message):
-        self.git("add", "--all")
-        self.git("commit", "--quiet", f"--message={message}")
 
     def diverge(self):
         """A branch that has another line than `main`, and a newer version that `main` has not seen."""
@@ -138,6 +151,22 @@ class Merges(Served):
         self.git("rebase", "--continue")
         self.accepts("check", answer="ok 2\n")
 
+    def test_exports_and_sources_are_merged_for_git_too(self):
+        self.put("requirements.in", "rich\n\n# tools\n")
+        told = f'index = ["{self.index.url}"]\n{ENVIRONMENT}'
+        self.put("reqlock.toml", f'sources = ["requirements.in"]\nexports = [{{ file = "deploy/all.txt" }}]\n{told}')
+        self.accepts("lock")
+        self.commit("sources")
+        self.diverge()
+        self.git("merge", "other", fails=True)
+        self.put("requirements.in", "rich<2\n\n# tools\nflask\n")
+        self.accepts("lock")
+        self.git("commit", "--quiet", "--message=merged")
+        self.assertEqual(self.git("status", "--short"), "")
+        exported = (self.folder / "deploy" / "all.txt").read_text(encoding="utf-8")
+        self.assertEqual(re.findall(r"(?m)^[a-z]+==\S+", exported), ["flask==2", "rich==1"])
+        self.accepts("check")
+
     def test_a_bot_in_a_new_clone(self):
         """A bot changes a bound in a clone that has nothing of what rql keeps."""
         self.accepts("constrain", "rich", "<2")
@@ -171,14 +200,26 @@ class Checks(Served):
     def test_targets_that_differ(self):
         told = (
             ('environment = { python = "3.12", platform = "linux-x86_64" }',
-             "the target without a name is Python 3.12 on linux x86_64 in the settings, and Python 3.11 on linux x86_64 is locked for"),
-            ('[environments]\nlinux = { python = "3.11", platform = "linux-x86_64" }', "target linux is in the settings, and isn't locked for"),
+             "the target without a name is Python 3.12 on linux x86_64 in the settings, and Python 3.11 on linux x86_64 is locked for: rql env lock"),
+            ('[environments]\nlinux = { python = "3.11", platform = "linux-x86_64" }',
+             "target linux is in the settings, and isn't locked for: rql env lock"),
         )
         for text, line in told:
             self.settings(text)
             found, output, errors = self.rql("check")
             self.assertEqual((found, output), (1, "ok 0\n"))
             self.assertIn(line, errors)
+            self.accepts("env", "lock", answer="ok 0\n")
+            self.assertEqual(self.accepts("check", answer="ok 0\n"), "")
+            self.accepts("env", "lock", answer="ok 0\n")
+        self.accepts("constrain", "rich", ">=1")
+        self.settings('environment = { python = "3.12", platform = "linux-x86_64" }')
+        before = self.files()
+        self.assertIn("its 1 steps can't be undone any more; versions stay. --anew has it so", self.refuses("env", "lock"))
+        self.assertEqual(self.files(), before)
+        self.accepts("env", "lock", "--anew", answer="ok 0\n")
+        self.assertIn("rich  1  ", self.rql("show")[1])
+        self.assertEqual(self.accepts("check", answer="ok 0\n"), "")
 
     def test_a_patch_of_python_makes_no_difference(self):
         self.settings('environment = { python = "3.11.7", platform = "linux-x86_64" }')
@@ -250,6 +291,14 @@ class Targets(Served):
         ):
             self.assertIn(fault, self.refuses("env", *words))
         self.assertEqual(self.files(), before)
+
+    def test_a_target_that_is_exported_is_not_removed(self):
+        targets = "".join(f'{it} = {{ python = "3.11", platform = "{it}-x86_64" }}\n' for it in ("linux", "windows"))
+        exports = 'exports = [{ file = "out.txt", target = "windows" }]\n'
+        text = self.put("reqlock.toml", f'index = ["{self.index.url}"]\n{exports}[environments]\n{targets}').read_text(encoding="utf-8")
+        self.assertIn("exports[0]: out.txt is of windows: take it out of the settings first", self.refuses("env", "remove", "windows"))
+        self.put("reqlock.toml", text.replace(exports, ""))
+        self.accepts("env", "remove", "windows", answer="ok 0\n")
 
 
 if __name__ == "__main__":

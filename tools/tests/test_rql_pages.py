@@ -1,28 +1,13 @@
 """Tests of the manual page and the completions of rql: they are what tools/rql_pages.py makes of the parser, and shells complete by them."""
 
-import os
 import shutil
 import subprocess
 import sys
 import unittest
 
-from places import TOOLS, TOP, new_folder
+from completed import RUNS, SHARE, Completed
+from places import TOOLS
 
-SHARE = TOP / "share"
-RUNS = b"$(id>PWNED)`id>PWNED`;id>PWNED"
-LINES = b"a" + RUNS + b"\n c-1.2_x [e]>=1\n-r other\n\xffb\nD\xe2\x80\xa8" + RUNS + b"\n"
-BASH = """
-source "$1"
-shift
-COMP_WORDS=(rql "$@" "")
-COMP_CWORD=$(($# + 1))
-_rql
-printf '%s\\n' "${COMPREPLY[@]}"
-"""
-FISH = """
-source $argv[1]
-complete --do-complete "rql $argv[2..-1] " | string replace -r '\\t.*' ''; or true
-"""
 COMMANDS = {
     "init", "add", "remove", "constrain", "set", "upgrade", "relock", "lock", "sync", "check", "index", "env", "undo", "redo", "show", "tree",
     "outdated", "why", "log", "diff", "export", "skipped", "fleet", "merge", "check-refutation",
@@ -40,19 +25,9 @@ class Pages(unittest.TestCase):
         self.assertEqual((done.returncode, done.stderr), (0, ""))
 
 
-class Completions(unittest.TestCase):
-    def setUp(self):
-        self.folder = new_folder(self.addCleanup)
-        (self.folder / "requirements.txt").write_bytes(LINES)
-
-    def offered(self, shell, *words):
-        """What a shell offers behind these words, but for options."""
-        start = {"bash": ("bash", "-c", BASH, "bash", SHARE / "rql.bash"), "fish": ("fish", "--no-config", "-c", FISH, SHARE / "rql.fish")}
-        variables = {**os.environ, "HOME": str(self.folder), "LC_ALL": "C.UTF-8"}
-        done = subprocess.run([*start[shell], *words], cwd=self.folder, env=variables, capture_output=True, check=False, timeout=60)
-        self.assertEqual((done.returncode, done.stderr), (0, b""))
-        self.assertFalse((self.folder / "PWNED").exists(), (shell, words))
-        return {line for line in done.stdout.decode(errors="surrogateescape").splitlines() if line and not line.startswith("-")}
+class Completions(Completed):
+    name = "rql"
+    lines = b"a" + RUNS + b"\n c-1.2_x [e]>=1\n-r other\n\xffb\nD\xe2\x80\xa8" + RUNS + b"\n"
 
     def test_commands_and_names_of_lines(self):
         for shell in "bash", "fish":
@@ -65,8 +40,7 @@ class Completions(unittest.TestCase):
                         self.assertFalse([it for it in self.offered(shell, word) if "$" in it or ";" in it])
 
     def test_options(self):
-        done = subprocess.run(["bash", "-c", BASH, "bash", SHARE / "rql.bash", "add"], cwd=self.folder, capture_output=True, check=False)
-        self.assertLessEqual({b"--dry-run", b"--keep-locked"}, set(done.stdout.split()))
+        self.assertLessEqual({"--dry-run", "--keep-locked"}, self.all_offered("bash", "add"))
 
     def test_the_shells_read_them(self):
         for shell, name in ("bash", "rql.bash"), ("zsh", "_rql"), ("fish", "rql.fish"):

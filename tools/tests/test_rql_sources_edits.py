@@ -68,7 +68,7 @@ class Sources(Served):
         self.put("requirements.in", "rich\nflask\n")
         found, output, errors = self.rql("check")
         self.assertEqual((found, output), (1, "ok 0\n"))
-        self.assertIn("'flask' isn't in requirements.txt", errors)
+        self.assertIn("requirements.in: line 2: 'flask' isn't in locks/requirements.txt\n", errors)
         self.assertEqual(self.rql("lock", "--check")[0], 1)
         self.accepts("lock", answer="ok 1\n")
         self.assertEqual(self.texts(), ["rich", "flask"])

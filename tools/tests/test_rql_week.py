@@ -4,13 +4,10 @@ typed are counted."""
 
 import re
 import shutil
-import subprocess
 import unittest
 
-from checkouts import VARIABLES
 from made.served_index import wheel_of
-from places import TOP
-from rql_projects import Served
+from rql_projects import Committed
 from synced import template
 
 from reqlock_tools.rql.sync_installed import read_environment
@@ -29,34 +26,22 @@ web==1 \\
 MOST_WORDS = 50
 
 
-@unittest.skipUnless(shutil.which("git"), "there is no git")
-class Week(Served):
+class Week(Committed):
     def setUp(self):
         super().setUp()
         if template() is None:
             self.skipTest("the system's python3 makes no venv: apt-get install python3-venv")
         self.words = 0
-        self.variables.update(VARIABLES, PIP_INDEX_URL=self.index.url, PIP_RETRIES="0")
+        self.variables.update(PIP_INDEX_URL=self.index.url, PIP_RETRIES="0")
         self.old, self.web = wheel_of("urllib3", "1.26"), wheel_of("web", "1", "urllib3")
         self.serve(urllib3=[self.old, wheel_of("urllib3", "2.0")], web=[self.web], rich=[wheel_of("rich", "1"), wheel_of("rich", "2")])
         self.serve(tool=[wheel_of("tool", "1"), wheel_of("tool", "2")], aid=[wheel_of("aid", "1")])
-        self.git("init", "--quiet", "--initial-branch=main")
+        self.begin_git()
         self.put("requirements.in", "web  # the server\n")
         self.put("requirements.txt", COMPILED.replace("DIGEST", self.old.sha256).replace("WEB", self.web.sha256))
         self.put(".gitignore", ".venv\n")
-        attributes = (TOP / "examples" / "git" / ".gitattributes").read_text(encoding="utf-8")
-        self.put(".gitattributes", attributes)
         self.commit("as it was")
         shutil.copytree(template(), self.folder / ".venv", symlinks=True)
-
-    def git(self, *words, fails=False):
-        done = subprocess.run(["git", *words], cwd=self.folder, env=self.variables, capture_output=True, encoding="utf-8", check=False)
-        self.assertEqual(done.returncode != 0, fails, done.stdout + done.stderr)
-        return done.stdout
-
-    def commit(self, message):
-        self.git("add", "--all")
-        self.git("commit", "--quiet", f"--message={message}")
 
     def types(self, line):
         """A call as it is typed, which is accepted. Its words count."""

@@ -83,7 +83,8 @@ def steps_of(log):
     steps = []
     for line in log.splitlines():
         if line.startswith("      "):
-            steps[-1][2].append(line.strip())
+            # (that program didn't tell which fields of an entry are others)
+            steps[-1][2].append(line.strip().partition(" (")[0])
         else:
             steps.append((line[:2], line[2:].split(" ")[0], []))
     return steps

@@ -1,6 +1,8 @@
 """Tests of `tools/snapshot.py simple` with pages that are fresh for a while (RFC 9111)."""
 
 import json
+import ssl
+import threading
 import time
 import unittest
 from unittest import mock
@@ -8,6 +10,7 @@ from unittest import mock
 from made.served_index import JSON_TYPE, wheel_of
 from simple_index import Simple
 
+from reqlock_tools.simple import known
 from reqlock_tools.simple.fresh import freshness, is_fresh, seconds_of
 
 PATH = "/simple/a/"
@@ -45,6 +48,25 @@ class Fresh(Simple):
         self.asked()
         self.assertEqual(self.again(self.index, "c")[0], 0)
         self.assertEqual(sorted(path for _, path in self.index.counts()), ["/files/c-1-py3-none-any.whl.metadata", "/simple/c/"])
+
+    def test_fresh_pages_are_read_while_an_answer_is_waited_for(self):
+        """Over one connection a new name, which is asked for first, has its answer once the pages that are kept were read."""
+        self.asked()
+        read, usual = threading.Event(), known.known
+        self.index.add("a-new", wheel_of("a_new", "1"))
+        self.index.instead["/simple/a-new/"] = [lambda to: to.give_page(self.index, "a-new") if read.wait(5) else to.give(404)]
+
+        def told(*words):
+            if words[2] == "b":
+                read.set()
+            return usual(*words)
+
+        with mock.patch("reqlock_tools.simple.known.known", told):
+            self.assertEqual(self.versions(self.index, "a", "a-new", "--jobs", "1")[0], {"a": ["1"], "a-new": ["1"], "b": ["1"]})
+
+    def test_over_plain_http_no_certificates_are_read(self):
+        with mock.patch.object(ssl, "create_default_context", side_effect=AssertionError):
+            self.asked()
 
     def test_pages_that_were_so_long_ago_are_asked_for(self):
         self.asked()

@@ -1,6 +1,7 @@
 """Tests of `tools/snapshot.py simple` where nobody is at the address of a file: an unknown host, or a port that refuses."""
 
 import socket
+import time
 import unittest
 from unittest import mock
 
@@ -73,6 +74,10 @@ class Hosts(Simple):
         for status in 401, 403, 500, 503:
             index.instead[path] = [lambda to, status=status: to.give(status)]
             self.check_refused(index, "a", "--retries", "0", fault=f"^{path}: {status} ")
+        index.instead[path] = [lambda to: setattr(to, "close_connection", True)]
+        self.check_refused(index, "a", "--retries", "0", fault=f"^{path}: the connection was cut")
+        index.instead[path] = [lambda to: time.sleep(1)]
+        self.check_refused(index, "a", "--retries", "0", "--timeout", "0.2", fault=f"^{path}: no answer in 0.2 s")
 
     def test_what_the_index_serves_itself_is_no_link_to_nobody(self):
         """Its page is fresh in the cache, and then it goes down: what it tells of an older release isn't there."""

@@ -18,7 +18,7 @@ WORLDS = 300 if IS_LONG else 30
 SIDE_BY_SIDE = 4
 SEED = 11
 NAMES = "ant", "bee", "cow", "dog", "elk", "fly"
-SETS = "", "", "", ">=2", "<3", "==1", "==2", "!=3", ">=1,<3", "~=1.0"
+SETS = "", "", "", ">=2", "<3", "==1", "==2", "!=3", ">=1,<3", "~=1.0", "<=2", ">1"
 MARKERS = "", "", "", "; os_name == 'nt'", "; python_version >= '3'", "; extra == 'more'", "; extra == 'more' and os_name != 'nt'"
 PYTHONS = None, None, None, None, ">=3.8", "<3"
 TAGS = "py3-none-any", "py3-none-any", "py3-none-any", "py2.py3-none-any", "py3-none-win32"

@@ -102,6 +102,17 @@ class Made(Simple):
         self.check_again("index.json: not JSON", "{")
         self.assertEqual(self.index.counts(), {})
 
+    def test_again_reads_nothing_behind_it(self):
+        """The packages, which are nearly all of a snapshot, take long to read: they may be cut, and then they come whole again."""
+        self.made(self.index, "rich")
+        data = self.output.read_bytes()
+        self.output.write_bytes(data[: data.rindex(b'"packages":') + 20])
+        self.assertEqual(self.again(self.index)[0], 0)
+        self.assertEqual(self.output.read_bytes(), data)
+        self.output.write_text(json.dumps(dict(reversed(self.read().items()))), encoding="utf-8")
+        self.assertEqual(self.again(self.index)[0], 0)
+        self.assertEqual(self.output.read_bytes(), data)
+
     def test_again_takes_nothing_odd_of_it(self):
         """The file may be a stranger's: what stands in it is tested as words are."""
         self.made(self.index, "rich", "--env", LINUX, "--newest", "1")

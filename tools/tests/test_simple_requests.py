@@ -6,6 +6,7 @@ import os
 import shutil
 import signal
 import socket
+import ssl
 import subprocess
 import sys
 import tempfile
@@ -359,6 +360,16 @@ class Encrypted(Simple):
 
     def test_is_read_where_the_certificate_is_trusted(self):
         self.assertEqual(self.versions(self.index, "a"), ({"a": ["1"]}, []))
+
+    def test_is_read_with_authorities_that_are_read_once(self):
+        """They are many, and files are mostly served at another host than pages."""
+        other = self.serve({"b": [wheel_of("b", "1")]}, certificate=self.certificate)
+        place = other.url.replace("/simple/", "/files/b-1-py3-none-any.whl")
+        self.index.add("b", wheel_of("b", "1", told={"url": place}))
+        with mock.patch.object(ssl, "create_default_context", wraps=ssl.create_default_context) as read:
+            self.assertEqual(self.versions(self.index, "a", "b")[0], {"a": ["1"], "b": ["1"]})
+        self.assertEqual(read.call_count, 1)
+        self.assertIn(("GET", "/files/b-1-py3-none-any.whl.metadata"), other.counts())
 
     def test_is_refused_at_once_where_it_is_not(self):
         with mock.patch.dict(os.environ, {"SSL_CERT_FILE": os.devnull}):

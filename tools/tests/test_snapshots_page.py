@@ -1,4 +1,5 @@
-"""What docs/SNAPSHOTS.md shows being typed is typed, with an index of the tests' own in place of the one that it names."""
+"""What docs/SNAPSHOTS.md, docs/INDEXES.md and docs/LIMITS.md show being typed is typed, with an index of the tests' own in place of the one that they
+name."""
 
 import dataclasses
 import os
@@ -55,15 +56,16 @@ class Page(unittest.TestCase):
         return printed_by(block, self.folder, variables, NAMED, self.base)
 
     def test_each_command_prints_what_is_shown(self):
-        found = typed_blocks((TOP / "docs" / "SNAPSHOTS.md").read_text(encoding="utf-8"))
-        self.assertGreater(len(found), 4)
+        pages = [TOP / "docs" / name for name in ("SNAPSHOTS.md", "INDEXES.md", "LIMITS.md")]
+        found = [block for page in pages for block in typed_blocks(page.read_text(encoding="utf-8"))]
+        self.assertGreater(len(found), 5)
         for block in found:
             with self.subTest(block=block[0][0]):
                 printed = [FIGURES.sub("..", text).splitlines() for text in self.run_block(block)]
                 self.assertEqual(printed, [[FIGURES.sub("..", line) for line in shown] for _, shown in block])
 
     def test_the_limits_are_those_of_the_tool(self):
-        text = (TOP / "docs" / "SNAPSHOTS.md").read_text(encoding="utf-8")
+        text = (TOP / "docs" / "LIMITS.md").read_text(encoding="utf-8")
         found = re.findall(r"(?m)^\| `([a-z]+)` \| ([0-9,]+) \| (.*) \|$", text)
         wanted = [(it.name, f"{it.default:,}", it.metadata["meaning"]) for it in dataclasses.fields(Limits)]
         self.assertEqual(found, wanted)

@@ -106,7 +106,9 @@ class Told(Terminal):
                 self.assertEqual(len(reasons.splitlines()) <= 40, is_told)
                 options = f"--dir {self.folder} --index {self.outside / 'index.json'}"
                 question = f"no versions meet all requirements\nask: reqlock {options} why --explain aa\n"
-                self.assertEqual(self.plainly("add", "aa"), (3, "refused no-solution\n", reasons if is_told else question))
+                status, output, shown = self.plainly("add", "aa")
+                self.assertEqual((status, output), (3, "refused no-solution\n"))
+                self.assertTrue(shown.startswith(f"{reasons if is_told else question}aa 1 to "), shown)
 
     def test_how_a_history_is_begun(self):
         self.begin(b"aa\n", ("aa", "1", []))
@@ -122,7 +124,7 @@ class Told(Terminal):
         _, _, shown = self.plainly("add", "aaa")
         index, file = self.outside / "index.json", self.folder / "requirements.txt"
         command = f"    reqlock-snapshot simple https://index.example/simple/ aaa --for {file} --output {index}\n"
-        self.assertTrue(shown.endswith(f"this makes it with aaa:\n{command}"), shown)
+        self.assertTrue(shown.endswith(f"this makes the snapshot with it:\n{command}"), shown)
 
     def test_why_a_first_lock_has_no_solution(self):
         self.begin(b"aa>2\n", ("aa", "1", []))
@@ -143,8 +145,13 @@ class Told(Terminal):
     def test_how_many_packages_are_locked_for_each_target(self):
         self.lock_for({"one": LINUX, "two": WINDOWS})
         self.begin(b"aa\nbb ; os_name == 'nt'\n", ("aa", "1", []), ("bb", "1", []))
-        told = "1 package locked in pylock.one.toml\n2 packages locked in pylock.two.toml\n"
-        self.assertEqual(self.plainly("init"), (0, "ok 0\n", told))
+        locked = "ok 0\ntarget one\n+ aa 1\ntarget two\n+ aa 1\n+ bb 1\n"
+        told = "1 package would be locked in pylock.one.toml\n2 packages would be locked in pylock.two.toml\n"
+        self.assertEqual(self.plainly("init", "--dry-run"), (0, locked, told))
+        self.assertEqual(self.plainly("init"), (0, "ok 0\n", told.replace("would be ", "")))
+        self.assertEqual(self.call("constrain", "bb", ">=1"), (0, "ok 1\n"))
+        told += "The history that stands here would be replaced, with its 1 step.\n"
+        self.assertEqual(self.plainly("init", "--dry-run"), (0, locked, told))
 
     def test_that_nothing_changes(self):
         self.begin_plugins()
@@ -155,6 +162,14 @@ class Told(Terminal):
             for more in [], ["--dry-run"]:
                 with self.subTest(words=[*words, *more]):
                     self.assertEqual(self.plainly(*words, *more), (0, "same\n", told))
+
+    def test_that_the_index_alone_would_change(self):
+        self.begin_plugins()
+        index = self.outside / "index.json"
+        index.write_bytes(index.read_bytes() + b"\n")
+        told = "The index is another one. Nothing else would change, and nothing is saved.\n"
+        for more in [], ["--dry-run"]:
+            self.assertEqual(self.plainly("relock", "--if-needed", *more), (0, "same\n", told))
 
     def test_of_a_save_that_fails_the_fault_alone(self):
         self.begin_plugins()
@@ -183,8 +198,10 @@ class Told(Terminal):
         self.begin_plugins()
         for words in ["add", "aa"], ["remove", "mid"], ["undo"], ["undo"]:
             self.call(*words)
-        shown = self.plainly("add", "aa<2")[2]
-        self.assertTrue(shown.endswith("2 steps that were undone are gone from the history: redo has nothing left to go on to.\n"), shown)
+        words = "add", "aa<2"
+        for more, told in (["--dry-run"], "would be gone from the history: redo would have"), ([], "are gone from the history: redo has"):
+            shown = self.plainly(*words, *more)[2]
+            self.assertTrue(shown.endswith(f"2 steps that were undone {told} nothing left to go on to.\n"), shown)
 
     def test_what_pip_would_warn_of(self):
         self.begin(
@@ -220,7 +237,7 @@ class Told(Terminal):
         options = f"--dir {self.folder} --index {self.outside / 'index.json'}"
         for words, steps in (
             (["add", "aa>1"], f"    reqlock {options} constrain aa '>1'\n"), (["add", "aa"], f"    reqlock {options} upgrade aa\n"),
-            (["add", "aa[x]"], f"    reqlock {options} remove aa\n    reqlock {options} add 'aa[x]'\n"),
+            (["add", "aa[x]"], f"    reqlock {options} replace --line aa 'aa[x]'\n"),
             (["remove", "mid"], "    reqlock show mid\n"), (["constrain", "mid", "<2"], f"    reqlock {options} add 'mid<2'\n"),
             (["remove", "none"], "    reqlock show --tree\n"), (["upgrade", "none"], "    reqlock show\n"),
             (["add", "cc=2"], "A single = compares nothing: write cc==2\n"), (["diff", "7"], "    reqlock log\n"),

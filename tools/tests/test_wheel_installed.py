@@ -137,14 +137,15 @@ class Job(Wheeled):
     def test_runs_as_it_stands(self):
         text = (TOP / "examples" / "ci" / "reqlock.yml").read_text(encoding="utf-8")
         steps = re.findall(r"(?m)^      - run: (.*)$", text)
-        self.assertEqual((len(steps), "reqlock check" in steps), (4, True))
+        self.assertEqual((len(steps), "reqlock check -v" in steps), (4, True))
         venv, place = self.venv(), self.project()
         path = {"PATH": f"{venv / 'bin'}:/usr/bin:/bin"}
         for step in steps:
             self.run_in(place, "bash", "-e", "-c", step, **path)
         self.assertTrue(list(venv.glob("lib/*/site-packages/a-1.dist-info")))
         (place / "requirements.txt").write_bytes(b"a # by hand\n")
-        self.assertEqual(self.run_in(place, "bash", "-e", "-c", steps[1], status=4, **path), "reqlock: requirements.txt: files-disagree\n")
+        told = self.run_in(place, "bash", "-e", "-c", steps[1], status=4, **path)
+        self.assertTrue(told.startswith("reqlock: requirements.txt: files-disagree\nrequirements.txt was changed since reqlock saved it. "), told)
 
 
 if __name__ == "__main__":

@@ -17,6 +17,7 @@ from program import FILES
 from shown import indented_blocks, typed_blocks
 
 HEAD = "# From a folder of wheels to an installed environment"
+ATTRIBUTES = TOP / "examples" / "git" / ".gitattributes"
 REQUIREMENTS = b"# web\r\nclick<8  # the old one\r\n"
 FIRST = {"asgiref": "3.1", "click": "7.0", "flask": "2.0", "werkzeug": "2.0"}
 UPGRADED = {"asgiref": "3.2", "click": "7.0", "flask": "2.1", "werkzeug": "2.1"}
@@ -104,7 +105,7 @@ class Shell(unittest.TestCase):
 class Wheels(Shell):
     def setUp(self):
         super().setUp()
-        self.begin, self.install, self.later, self.attributes, self.job, _ = indented_blocks(section(HEAD))
+        self.begin, self.install, self.later, self.job = indented_blocks(section(HEAD))
 
     def check_installs(self, wanted):
         """What is installed anew is what the lock says, and that is what is wanted."""
@@ -154,7 +155,7 @@ class Wheels(Shell):
     def test_the_attributes_keep_all_bytes(self):
         make_wheels(self.folder / "wheels")
         self.check_runs(self.begin, "ok 0", "ok 1")
-        (self.folder / ".gitattributes").write_text(self.attributes, encoding="utf-8")
+        shutil.copy(ATTRIBUTES, self.folder)
         self.check_runs(KEEPING, "ok 1", "ok 1")
         for name in FILES:
             stands = (self.folder / name).read_bytes()
@@ -246,8 +247,7 @@ class TwoPlatforms(Shell):
     @unittest.skipUnless(shutil.which("git"), "there is no git")
     def test_the_attributes_keep_both_locks(self):
         self.type_all()
-        attributes = indented_blocks(section(HEAD))[3]
-        (self.folder / ".gitattributes").write_text(attributes, encoding="utf-8")
+        shutil.copy(ATTRIBUTES, self.folder)
         self.check_runs(KEEPING.replace("pylock.toml", "pylock.linux.toml pylock.windows.toml"), "ok 1", "ok 1")
         for name in "requirements.txt", "pylock.linux.toml", "pylock.windows.toml", "reqlock.journal":
             stands = (self.folder / name).read_bytes()

@@ -1,9 +1,24 @@
-"""What `why --not` answers, over the built program: of which target and of which release it tells, and in which words. Nothing is saved."""
+"""What `why --not` answers, over the built program: of which target and of which release it tells, and in which words. Nothing is saved.
+Over drawn files what it says that an upgrade takes is what the upgrade takes."""
 
+import re
 import unittest
 
+from drawn_files import DrawnFiles
 from made.environments import LINUX, WINDOWS
+from made.sessions import Draw
+from places import IS_LONG
 from program import Program
+from rules.absent_releases import first_given_way
+from rules.edits import problems_after
+from rules.locks import Problem
+from rules.versions import order_key, read_version
+
+SESSIONS = 2000 if IS_LONG else 200
+STAYS = re.compile(r"(\S+) stays at (\S+), since the lock has it; with (\S+) no name that is taken before it would change\. (.*)")
+UPGRADE = re.compile(r"'upgrade (\S+)' takes (\S+) or a newer one\.")
+GIVES_WAY = re.compile(r"With (?P<name>\S+) (?P<version>\S+) no solution keeps (?P<other>\S+) at .*he best one has (?P=other) (?P<best>\S+)\.")
+COMES = re.compile(r"With (?P<name>\S+) (?P<version>\S+) the best solution has (?P<other>\S+) (?P<best>\S+), which isn't locked\.")
 
 # on Windows `e` needs an older `a`, and `a` needs an older `w`, which is locked there alone
 TWO = (
@@ -104,6 +119,99 @@ class OfReleases(Released):
         self.begin(b"b\nc\nd\nq>=1a1\ny\n", *ONE[:-1])
         gone = "No choice of versions meets line 5 (y).\n1. line 5 (y) needs y, and the index has no package y.\n"
         self.answers(("y", 3, gone), ("y==2", 3, gone), ("y==1", 0, "y 1 is locked.\n"))
+
+
+class OfHolders(Released):
+    """No line is on the name, and what needs it is taken first."""
+
+    def is_told(self, *releases, lines, told):
+        self.begin(lines, *releases)
+        self.plays((["init"], 0, "ok 0\n"))
+        self.answers(("b", 0, told))
+        self.plays((["upgrade", "b"], 0, "same\n"))
+
+    def test_a_holder_is_told(self):
+        self.is_told(
+            ("b", "1", []), ("b", "2", []), ("z", "1", []), ("z", "2", ["b<2"]), lines=b"z\n",
+            told="With b 2 no solution keeps z at 2, which is taken first: z 2 needs b<2. The best one has z 1.\n",
+        )
+
+    def test_what_only_the_release_needs_is_not_taken_before_its_holder(self):
+        needs = ("b", "1", []), ("b", "2", ["c"]), ("c", "2", []), ("c", "3", ["y<2"]), ("y", "1", []), ("y", "2", [])
+        self.is_told(
+            *needs, ("z", "1", []), ("z", "2", ["b<2"]), lines=b"y\nz\n",
+            told="With b 2 no solution keeps z at 2, which is taken first: z 2 needs b<2. The best one has z 1.\n",
+        )
+
+    def test_the_holder_gets_the_newest_version_that_goes(self):
+        needs = ("b", "1", []), ("b", "2", ["c"]), ("c", "2", []), ("c", "3", [])
+        self.is_told(
+            *needs, ("z", "1", []), ("z", "2", ["c<3"]), ("z", "3", ["b<2"]), lines=b"z\n",
+            told="With b 2 no solution keeps z at 3, which is taken first: z 3 needs b<2. The best one has z 2.\n",
+        )
+
+
+class Drawn(DrawnFiles):
+    """What is told of the newest release of each locked name, over an index that is mostly a newer one."""
+
+    def test_what_is_told_is_so(self):
+        seen = set()
+        for seed in range(SESSIONS):
+            with self.subTest(seed=seed):
+                draw = Draw(seed)
+                self.put({})
+                self.take_index(draw.index())
+                state = self.begun_session(draw)[0]
+                self.take_index(draw.index())
+                for name in state.entries():
+                    self.check(state, name, seen)
+        self.assertLessEqual({"stays", "upgrade", "gives way"}, seen)
+
+    def check(self, state, name, seen):
+        status, told, error = self.told("why", "--not", name)
+        told = re.sub(r"\n *", " ", told).strip()
+        self.assertEqual(error, "")
+        if status:
+            self.assertEqual(status, 3)
+            return
+        stays, gives_way = STAYS.fullmatch(told), GIVES_WAY.fullmatch(told) or COMES.fullmatch(told)
+        if stays:
+            self.check_stays(state, stays, seen)
+        elif gives_way:
+            self.check_way(state, gives_way, seen)
+        else:
+            self.assertRegex(told, r"\A\S+ \S+ (is locked\.|needs Python |is yanked, |is a pre-release, )")
+
+    def given_way(self, state, name, version):
+        """The problem of a relock, and which name gives way to the release."""
+        lines, problems = problems_after(state, ("relock",), self.index)
+        problem = problems[""]
+        asked = Problem([*lines, f"{name}=={version}\n"], problem.environment, self.index, {})
+        return problem, first_given_way(problem, asked, name)
+
+    def check_stays(self, state, found, seen):
+        name, locked, version, advice = found.groups()
+        seen.add("stays")
+        self.assertIsNone(self.given_way(state, name, version)[1])
+        self.assertEqual(key_of(locked), key_of(state.entries()[name]["version"]))
+        if key_of(version) < key_of(locked):
+            self.assertEqual(advice, f"A requirement {name}=={version} takes it.")
+            return
+        seen.add("upgrade")
+        self.assertEqual(UPGRADE.fullmatch(advice).groups(), (name, version))
+        before = self.files()
+        self.assertEqual(self.told("upgrade", name)[:2], (0, "ok 1\n"))
+        self.assertGreaterEqual(key_of(self.locked()[name]), key_of(version))
+        self.put(before)
+
+    def check_way(self, state, found, seen):
+        seen.add("gives way")
+        problem, told = self.given_way(state, found["name"], found["version"])
+        self.assertEqual((found["other"], problem.place_of(found["other"], key_of(found["best"]))), told)
+
+
+def key_of(version):
+    return order_key(read_version(version))
 
 
 if __name__ == "__main__":

@@ -262,6 +262,24 @@ class Saved(Program):
             (["show"], 0, f"{HEAD}a     1        1\n"),
         )
 
+    def test_a_log_claims_no_command_over_another_index(self):
+        """An upgrade and a relock that has to move a version look alike."""
+        self.begin(b"a\nc\n", ("a", "1", ["b<2"]), ("b", "1", []), ("c", "1", []))
+        self.plays((["init"], 0, "ok 0\n"))
+        lines = b"a\nc\n"
+        later = ("a", "2", ["b"]), ("b", "1", []), ("b", "2", []), ("c", "1", [])
+        for words, releases in (["relock"], later), (["upgrade", "a"], (("a", "1", ["b<2"]), *later)):
+            self.begin(lines, *releases)
+            self.plays(
+                (words, 0, "ok 1\n"), (["log"], 0, "  0 init\n* 1 another index: a 1 -> 2\n"), (["undo"], 0, "ok 0\n"),
+            )
+        self.begin(lines, ("a", "1", ["b<2"]), ("a", "2", ["b>=2"]), ("b", "1", []), ("b", "2", []), ("c", "1", []), ("c", "2", []))
+        self.plays(
+            (["upgrade", "a"], 0, "ok 1\n"), (["log"], 0, "  0 init\n* 1 another index: a 1 -> 2, 1 more entry\n"), (["undo"], 0, "ok 0\n"),
+            (["upgrade"], 0, "ok 1\n"), (["log"], 0, "  0 init\n* 1 another index: a 1 -> 2, 2 more entries\n"), (["undo"], 0, "ok 0\n"),
+            (["upgrade", "c"], 0, "ok 1\n"), (["log"], 0, "  0 init\n* 1 another index: c 1 -> 2\n"),
+        )
+
     def test_packages_that_need_each_other_come_back(self):
         both = f"{HEAD}p     1        1     q\nq     1              p\n"
         self.begin(b"p\n", *CYCLE)

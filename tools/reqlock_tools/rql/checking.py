@@ -1,8 +1,9 @@
-"""`rql check`: sources and settings against lines and targets first, then what the program checks."""
+"""`rql check`: sources, settings and exports against lines, targets and locks first, then what the program checks."""
 
 from reqlock_tools.refusal import speaker
 from reqlock_tools.rql.calls import Caller, typed_path
 from reqlock_tools.rql.environments import are_alike, environments, label_of
+from reqlock_tools.rql.exports import stale_exports
 from reqlock_tools.rql.faults import FOUND
 from reqlock_tools.rql.history import content, journal_of
 from reqlock_tools.rql.kept import Kept
@@ -13,8 +14,9 @@ say = speaker("rql")
 
 
 def run_check(project: Project, request: CheckRequest) -> int:
-    """The program's status; or 1 where settings or sources differ and the program finds nothing."""
-    differences = [*target_differences(project), *source_differences(project)]
+    """The program's status; or 1 where settings, sources or exports differ and the program finds nothing."""
+    exports = stale_exports(project, Kept(project), Caller(project.options))
+    differences = [*target_differences(project), *source_differences(project), *exports]
     for text in differences:
         say(text)
     words = [*["--json"] * request.is_json, *["--current"] * request.is_current]
@@ -40,11 +42,11 @@ def target_differences(project: Project) -> list[str]:
     if journal is None or not project.settings.environments:
         return []
     wanted, found = environments(project.settings), journal.environments
-    lines = [f"{named(name)} is in the settings, and isn't locked for: rql env add" for name in wanted.keys() - found.keys()]
-    lines += [f"{named(name)} is locked for, and isn't in the settings: rql env remove" for name in found.keys() - wanted.keys()]
+    lines = [f"{named(name)} is in the settings, and isn't locked for: rql env lock" for name in wanted.keys() - found.keys()]
+    lines += [f"{named(name)} is locked for, and isn't in the settings: rql env lock" for name in found.keys() - wanted.keys()]
     for name in sorted(wanted.keys() & found.keys()):
         if not are_alike(wanted[name], found[name]):
-            lines.append(f"{named(name)} is {label_of(wanted[name])} in the settings, and {label_of(found[name])} is locked for")
+            lines.append(f"{named(name)} is {label_of(wanted[name])} in the settings, and {label_of(found[name])} is locked for: rql env lock")
     return sorted(lines)
 
 
@@ -58,5 +60,6 @@ def source_differences(project: Project) -> list[str]:
         return []
     from reqlock_tools.rql.sources import differences, gathered
 
-    found = differences(gathered(project.top, project.base, project.settings.sources), content(project.folder / REQUIREMENTS))
+    path = project.folder / REQUIREMENTS
+    found = differences(gathered(project.top, project.base, project.settings.sources), content(path), typed_path(path))
     return [*found, "sources and lines came apart: rql lock takes the sources over"] if found else []

@@ -7,7 +7,7 @@ import subprocess
 import sys
 from collections.abc import Mapping
 
-from reqlock_tools.environment import PLATFORMS, own_environment
+from reqlock_tools.environment import PLATFORMS, SYSTEMS, Refused, described_environment, own_environment
 from reqlock_tools.refusal import speaker
 from reqlock_tools.rql.faults import SettingsFault
 
@@ -91,6 +91,20 @@ def platform_name(told: Mapping[str, object]) -> str | None:
 
 def as_texts(value: object) -> list[str]:
     return [str(it) for it in value] if isinstance(value, list) else []
+
+
+def refuse_platform(name: str) -> None:
+    """Refuses the name of a platform that nobody knows."""
+    if name not in PLATFORMS:
+        raise SettingsFault(f"--platform {name}: one of {', '.join(PLATFORMS)} is wanted")
+
+
+def refuse_python(version: str) -> None:
+    """Refuses what is no version of a Python that can be described."""
+    try:
+        described_environment(version, next(iter(PLATFORMS)), dict(SYSTEMS))
+    except Refused as fault:
+        raise SettingsFault(str(fault)) from None
 
 
 def own_platform() -> str:

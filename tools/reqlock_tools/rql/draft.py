@@ -5,8 +5,8 @@ from dataclasses import dataclass
 from pathlib import Path
 from typing import Any
 
-from reqlock_tools.adopt import read_text
 from reqlock_tools.refusal import Refusal, speaker
+from reqlock_tools.rql.compiled import read_text
 from reqlock_tools.rql.faults import SettingsFault
 from reqlock_tools.rql.pins import has_pins_alone, is_compiled
 from reqlock_tools.rql.project import JOURNAL, REQUIREMENTS
@@ -23,13 +23,15 @@ say = speaker("rql")
 @dataclass(frozen=True)
 class Draft:
     """What a project is begun with. `compiled` is the file of another tool that is exported from now on, and `lines` are those that are
-    translated once from another form."""
+    translated once from another form. An index and an environment may be given as files, in the place of those of the settings."""
 
     folder: str
     sources: tuple[str, ...]
     compiled: str | None
     pinned: tuple[Path, ...]
     lines: bytes | None = None
+    index: Path | None = None
+    environment: Path | None = None
 
 
 def project_table(base: Path) -> dict[str, Any]:

@@ -3,21 +3,25 @@
 import shutil
 import tempfile
 from collections.abc import Sequence
+from dataclasses import replace
 from pathlib import Path
 
 from reqlock_tools.refusal import speaker
 from reqlock_tools.rql.calls import Caller, typed_path
-from reqlock_tools.rql.exports import write_export
-from reqlock_tools.rql.faults import SettingsFault
+from reqlock_tools.rql.exports import write_exports
+from reqlock_tools.rql.history import tell_changed
 from reqlock_tools.rql.index import Wanted, made_index, present_index
 from reqlock_tools.rql.kept import Kept
 from reqlock_tools.rql.project import JOURNAL, REQUIREMENTS, Project
 from reqlock_tools.rql.requests import EditRequest
+from reqlock_tools.rql.telling import is_told
 
 # Those that change one line for each of their texts.
 OF_LINES = "add", "remove", "set"
 # Those that ask the index what is new.
 ASKING = "upgrade", "relock"
+# The program's status where its files don't read, or don't belong together.
+BAD_INPUT = 4
 
 say = speaker("rql")
 
@@ -32,7 +36,10 @@ def run_edit(project: Project, request: EditRequest) -> int:
             if request.word in (*OF_LINES, "constrain"):
                 return edit_sources(project, kept, request)
             sources_of(project)  # (which refuses those that came apart from the lines)
-        return Edit(project, kept, request).run()
+        status = Edit(project, kept, request).run()
+    if status == BAD_INPUT and is_told(project.options):
+        tell_changed(project)
+    return status
 
 
 class Edit:
@@ -60,7 +67,9 @@ class Edit:
     def words(self, *texts: str) -> list[str]:
         """The program's words for the edit of these texts."""
         if self.request.word == "set":
-            return ["replace", "--line", name_of(texts[0]), texts[0]]
+            from reqlock_tools.rql.texts import name_in
+
+            return ["replace", "--line", name_in(texts[0]), texts[0]]
         return [self.request.word, *(["--"] * any(it.startswith("-") for it in texts)), *texts]
 
     def run(self) -> int:
@@ -75,6 +84,8 @@ class Edit:
 
     def run_several(self) -> int:
         """Makes the edits of several texts where all are accepted, else none."""
+        if not self.request.is_dry and self.are_commands():
+            return self.run_batch()
         with tempfile.TemporaryDirectory() as name:
             trial = copied(self.project.folder, Path(name))
             for text in self.request.texts:
@@ -83,21 +94,26 @@ class Edit:
                     say(f"nothing is changed: {text!a} is refused")
                     return answer.hand_on()
             lines = (trial / REQUIREMENTS).read_bytes()
-        if self.request.word == "set" or self.request.is_dry:
-            new = self.kept.write("requirements.new.txt", lines)
-            return self.caller.hand_over(*self.given(), *self.keeping, *self.drying, "replace", typed_path(new))
+        new = self.kept.write("requirements.new.txt", lines)
+        return self.caller.hand_over(*self.given(), *self.keeping, *self.drying, "replace", typed_path(new))
+
+    def are_commands(self) -> bool:
+        """Whether each edit is a line of `batch` that means the same there."""
+        word, texts = self.request.word, self.request.texts
+        if word == "remove":
+            return all(it.split() == [it] for it in texts)
+        return word == "add" and all(it.strip().splitlines() == [it] for it in texts)
+
+    def run_batch(self) -> int:
+        """The same by one call. Where an edit is refused, the first such reply is all that is printed: no other one came true."""
         text = "".join(f"{self.request.word} {it}\n" for it in self.request.texts)
-        return self.caller.answered(*self.given(), *self.keeping, "batch", text=text).hand_on()
-
-
-def name_of(text: str) -> str:
-    """The name of a requirement."""
-    from reqlock_tools.requirements import need_of
-
-    need = need_of(text)
-    if need is None:
-        raise SettingsFault(f"{text!a}: it begins with no name")
-    return need.name
+        answer = self.caller.answered(*self.given(), *self.keeping, "batch", "--all-or-none", text=text)
+        replies = answer.output.splitlines(keepends=True)
+        refused = [place for place, reply in enumerate(replies) if reply.startswith(b"refused ")]
+        if answer.status == 0 or not refused:
+            return answer.hand_on()
+        say(f"nothing is changed: {self.request.texts[refused[0]]!a} is refused")
+        return replace(answer, output=replies[refused[0]]).hand_on()
 
 
 def copied(folder: Path, place: Path) -> Path:
@@ -114,5 +130,4 @@ def accepted(project: Project, kept: Kept, caller: Caller, index: Path | None, f
     if index is not None:
         kept.accept(index)
     kept.save_lines()
-    for export in project.settings.exports:
-        write_export(project, kept, caller, export, export.file in forced)
+    write_exports(project, kept, caller, forced)

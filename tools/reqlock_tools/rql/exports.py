@@ -1,9 +1,11 @@
 """Files that are written anew after each accepted call, for tools that read no lock."""
 
+from collections.abc import Sequence
 from pathlib import Path
 
 from reqlock_tools.files import write_whole
 from reqlock_tools.refusal import speaker
+from reqlock_tools.regular_file import open_regular
 from reqlock_tools.rql.calls import Caller, typed_path
 from reqlock_tools.rql.kept import MODE, Kept
 from reqlock_tools.rql.project import Project
@@ -15,10 +17,11 @@ say = speaker("rql")
 
 
 def exported(project: Project, kept: Kept, caller: Caller, export: ExportSetting) -> bytes | None:
-    """What an export is to hold; None where it can't be made, as of a lock whose index is gone."""
+    """What an export is to hold; None where it can't be made, as a lock that travels can't when its index is gone."""
     target = ["--target", export.target] if export.target else []
-    for index in kept.earlier():
-        words = ["--dir", typed_path(project.folder), "--index", typed_path(index), "export", "--format", export.format, *target]
+    indexes = [["--index", typed_path(it)] for it in kept.earlier()] if export.format == "pylock" else [[]]
+    for index in indexes:
+        words = ["--dir", typed_path(project.folder), *index, "export", "--format", export.format, *target]
         answer = caller.ask(*words)
         if answer.status == 0:
             caller.tell([caller.program, *words])
@@ -29,10 +32,33 @@ def exported(project: Project, kept: Kept, caller: Caller, export: ExportSetting
 def is_exported(place: Path) -> bool:
     """Whether a file may be written anew: it isn't there, or was exported before."""
     try:
-        with open(place, "rb") as file:
+        with open_regular(str(place)) as file:
             return file.readline(len(FIRST_LINE)) == FIRST_LINE
     except FileNotFoundError:
         return True
+
+
+def write_exports(project: Project, kept: Kept, caller: Caller, forced: Sequence[str] = ()) -> None:
+    """Writes each export anew. Those that are forced take the place of what another tool wrote."""
+    for export in project.settings.exports:
+        write_export(project, kept, caller, export, export.file in forced)
+
+
+def stale_exports(project: Project, kept: Kept, caller: Caller) -> list[str]:
+    """Which exports aren't what is locked, each with what to type. One that can't be made here is passed over."""
+    found = []
+    for export in project.settings.exports:
+        place = project.place(export.file, "exports")
+        data = exported(project, kept, caller, export)
+        if data is None:
+            continue
+        if not is_exported(place):
+            found.append(f"{typed_path(place)}: rql didn't write it, so it isn't exported: move it away, and then: rql lock")
+        elif not place.exists():
+            found.append(f"{typed_path(place)}: this export isn't there: rql lock writes it")
+        elif place.read_bytes() != data:
+            found.append(f"{typed_path(place)}: it isn't what is locked: rql lock exports it anew")
+    return found
 
 
 def write_export(project: Project, kept: Kept, caller: Caller, export: ExportSetting, is_forced: bool) -> None:

@@ -3,9 +3,12 @@
 from pathlib import Path
 
 from reqlock_tools.merge_sides import Journal, digest_of, lock_name, read_journal
+from reqlock_tools.refusal import speaker
 from reqlock_tools.regular_file import read_bytes
 from reqlock_tools.rql.faults import SettingsFault
 from reqlock_tools.rql.project import JOURNAL, REQUIREMENTS, Project
+
+say = speaker("rql")
 
 
 def content(path: Path) -> bytes:
@@ -24,7 +27,9 @@ def journal_of(project: Project) -> Journal | None:
 def wanted_journal(project: Project) -> Journal:
     found = journal_of(project)
     if found is None:
-        raise SettingsFault(f"{project.folder / JOURNAL}: it isn't there, so there is no history: rql init begins one")
+        lock = lock_name("")
+        kept = f" --from {lock}" if (project.folder / lock).exists() else ""
+        raise SettingsFault(f"{project.folder / JOURNAL}: it isn't there, so there is no history: rql init{kept} begins one")
     return found
 
 
@@ -33,3 +38,10 @@ def is_whole(project: Project, journal: Journal) -> bool:
     if digest_of(content(project.folder / REQUIREMENTS)) != journal.requirements:
         return False
     return all(digest_of(content(project.folder / lock_name(target))) == digest for target, digest in journal.locks.items())
+
+
+def tell_changed(project: Project) -> None:
+    """Tells what has lines and locks fit again that somebody changed since they were saved."""
+    journal = journal_of(project)
+    if journal is not None and not is_whole(project, journal):
+        say("lines or locks were changed since they were saved: rql lock has them fit")

@@ -1,10 +1,6 @@
 """The index, brought up to date by the functions of the snapshot tool: for what the lines, the locks and a call ask."""
 
-import contextlib
-import io
-import os
-import sys
-from collections.abc import Iterable, Iterator
+from collections.abc import Iterable
 from dataclasses import dataclass, replace
 from pathlib import Path
 from typing import TYPE_CHECKING
@@ -15,6 +11,7 @@ from reqlock_tools.rql.kept import Kept
 from reqlock_tools.rql.project import REQUIREMENTS, Project
 from reqlock_tools.rql.requests import IndexRequest, Options
 from reqlock_tools.rql.settings import Settings
+from reqlock_tools.rql.telling import is_told, telling
 
 if TYPE_CHECKING:
     from reqlock_tools.simple.locked import Locked
@@ -36,21 +33,6 @@ class Wanted:
     pins: tuple[str, ...] = ()
 
 
-def is_told(options: Options) -> bool:
-    """Whether it is told what is asked of the network."""
-    return not options.is_quiet and (options.is_verbose or sys.stderr.isatty() or "CI" in os.environ)
-
-
-@contextlib.contextmanager
-def telling(options: Options) -> Iterator[None]:
-    """Has lines of the snapshot tool pass over standard error, or not, as the call is told."""
-    if is_told(options):
-        yield
-    else:
-        with contextlib.redirect_stderr(io.StringIO()):
-            yield
-
-
 def refuse_absent() -> None:
     """Refuses a Python that lacks what an index is asked with."""
     from reqlock_tools.libraries import absent_text, library
@@ -65,13 +47,13 @@ def asking_of(options: Options, is_asked: bool) -> "Asking":
     """How the index is asked."""
     from reqlock_tools.limits import limits_of
     from reqlock_tools.simple.cache import default_folder
-    from reqlock_tools.simple.plan import Asking
+    from reqlock_tools.simple.plan import JOBS, Asking
 
     cache = default_folder()
     if cache is None:
         raise IndexFault("no folder for a cache is known, since neither platformdirs nor pip is there")
     return Asking(
-        jobs=16, timeout=30.0, retries=5, cache=cache, is_offline=options.is_offline, is_refreshed=is_asked or options.is_refreshed,
+        jobs=JOBS, timeout=30.0, retries=5, cache=cache, is_offline=options.is_offline, is_refreshed=is_asked or options.is_refreshed,
         limits=limits_of([]),
     )
 
@@ -183,7 +165,7 @@ def index_bytes(plan: "Plan", asking: "Asking", options: Options) -> bytes:
     from reqlock_tools.snapshot_output import snapshot_text
 
     try:
-        with telling(options):
+        with telling(is_told(options)):
             # (settings are a file, which may be a stranger's)
             credentials = Credentials((it.url for it in plan.indexes), say_index, are_typed=False)
             return snapshot_text(Run(plan, asking, credentials).snapshot()).encode()

@@ -2,47 +2,60 @@
 
 import contextlib
 import os
+import shutil
 from pathlib import Path
 from typing import Any
 
-from reqlock_tools.adopt import Pin, fits, releases_by_name
 from reqlock_tools.files import write_whole
+from reqlock_tools.merge_sides import Journal
 from reqlock_tools.refusal import speaker
 from reqlock_tools.rql.calls import Caller, typed_path
-from reqlock_tools.rql.defaults import indexes, own_platform, own_python, platform_name, target_names
+from reqlock_tools.rql.compiled import Pin
+from reqlock_tools.rql.defaults import indexes, own_platform, own_python, platform_name, refuse_platform, refuse_python, target_names
 from reqlock_tools.rql.draft import Draft, draft_of
 from reqlock_tools.rql.edits import accepted
 from reqlock_tools.rql.environments import environments
-from reqlock_tools.rql.faults import SettingsFault
-from reqlock_tools.rql.history import content, journal_of
+from reqlock_tools.rql.faults import IndexFault, SettingsFault
+from reqlock_tools.rql.history import content, is_whole, journal_of
 from reqlock_tools.rql.index import Wanted, made_index
-from reqlock_tools.rql.kept import MODE, Kept
+from reqlock_tools.rql.kept import MODE, NAME, Kept
 from reqlock_tools.rql.pins import read_pins
+from reqlock_tools.rql.pins_fit import Outcome, fits, releases_by_name
 from reqlock_tools.rql.project import REQUIREMENTS, Project, project_of, settings_in
 from reqlock_tools.rql.requests import InitRequest, Options
 from reqlock_tools.rql.settings import OWN_FILE, PROJECT_FILE, EnvironmentSetting, ExportSetting, settings_of
 from reqlock_tools.rql.settings_text import settings_text
+from reqlock_tools.rql.telling import telling
 from reqlock_tools.toml import read_toml
-from reqlock_tools.versions import version_of
 
 say = speaker("rql")
 
 
 def run_init(options: Options, request: InitRequest) -> int:
-    """Begins a project in the folder in which the call is made."""
+    """Begins a project in the folder in which the call is made. With -q nothing is told beside the program's answer."""
+    with telling(not options.is_quiet):
+        return begun(options, request)
+
+
+def begun(options: Options, request: InitRequest) -> int:
+    """The status of beginning a project."""
     base = Path(os.path.realpath(options.start))
     if not base.is_dir():
         raise SettingsFault(f"{options.start}: there is no such folder")
     found = settings_in(base)
     if found is not None and (request.indexes or request.platforms or request.python):
         raise SettingsFault(f"{found.file}: settings stand there already: change them there, or remove them")
+    for platform in request.platforms:
+        refuse_platform(platform)
+    if request.python:
+        refuse_python(request.python)
     draft = draft_of(base, request.pinned)
     if found is not None:
-        return Beginning(project_of(found, options), draft, None).run()
+        return Beginning(project_of(found, options), draft, None, bool(request.pinned)).run()
     file, text = new_settings(base, draft, request)
     whole = read_toml(text)
     settings = settings_of(whole if file.name == OWN_FILE else whole["tool"]["reqlock"], file, f"{file}: new settings")
-    return Beginning(project_of(settings, options), draft, text).run()
+    return Beginning(project_of(settings, options), draft, text, bool(request.pinned)).run()
 
 
 def new_settings(base: Path, draft: Draft, request: InitRequest) -> tuple[Path, str]:
@@ -84,69 +97,101 @@ def of_journal(name: str, told: dict[str, Any]) -> EnvironmentSetting:
 
 
 class Beginning:
-    """The begin of a project. `text` is what is written as settings, None where they stand there."""
+    """The begin of a project. `text` is what is written as settings, None where they stand there; with `is_from` it was said whose pins are
+    kept."""
 
-    def __init__(self, project: Project, draft: Draft, text: str | None) -> None:
-        self.project, self.draft, self.text = project, draft, text
+    def __init__(self, project: Project, draft: Draft, text: str | None, is_from: bool) -> None:
+        self.project, self.draft, self.text, self.is_from = project, draft, text, is_from
         self.caller = Caller(project.options)
         self.is_made: list[Path] = []
+        # Whether all that was pinned is locked as it was.
+        self.is_taken = True
 
     def run(self) -> int:
         kept = Kept(self.project)
-        with kept.locked():
-            if journal_of(self.project) is not None:
-                return self.go_on(kept)
-            try:
-                status = self.begin(kept)
-            except BaseException:
-                self.take_back()
-                raise
+        if not kept.folder.exists():
+            self.is_made.append(kept.folder)
+        try:
+            with kept.locked():
+                journal = journal_of(self.project)
+                status = self.begin(kept) if journal is None or self.is_lost(journal) else self.go_on(kept)
+        except BaseException:
+            self.take_back()
+            raise
         return status
+
+    def is_lost(self, journal: Journal) -> bool:
+        """Whether a new history is begun in the place of one that stands there: its files don't belong together any more, and it is said
+        whose pins are kept."""
+        if self.is_from and is_whole(self.project, journal):
+            raise SettingsFault(f"{self.project.folder}: a history stands there, with its own pins: rql init without --from goes on with it")
+        return self.is_from
 
     def go_on(self, kept: Kept) -> int:
         """Writes settings for a history that stands there, and makes its index."""
         kept.accept(made_index(self.project, kept, Wanted(is_asked=True)))
         kept.save_lines()
+        self.is_made.clear()
         self.write_settings()
         say("the history that stands there goes on")
         return self.caller.hand_over("--dir", typed_path(self.project.folder), "check")
 
     def begin(self, kept: Kept) -> int:
         self.put_lines()
-        pins = [pin for path in self.draft.pinned for pin in read_pins(path)]
-        index = made_index(self.project, kept, Wanted(is_asked=True, pins=tuple(f"{it.name}=={it.version}" for it in pins)))
+        read = [read_pins(path) for path in self.draft.pinned]
+        pins = [pin for several, _ in read for pin in several]
+        index = self.index(kept, pins)
         packages = releases_by_name(str(index))
         taken = [pin for pin in pins if fits(pin, packages)]
-        told = environments(self.project.settings)
-        files = [(name, kept.environment(name, it)) for name, it in told.items()]
-        words = ["--dir", typed_path(self.project.folder), "--index", typed_path(index)]
-        words += [word for name, path in files for word in ("--env", f"{name}={typed_path(path)}" if name else typed_path(path))]
-        status = self.caller.hand_over(*words, "init", *self.pin_words(kept, taken, list(told)))
+        words = ["--dir", typed_path(self.project.folder), "--index", typed_path(index), *self.environment_words(kept)]
+        status = self.caller.hand_over(*words, "init", *self.pin_words(kept, taken))
         if status != 0:
             self.take_back()
             return status
+        self.is_made.clear()
         self.write_settings()
-        accepted(self.project, kept, self.caller, index, self.forced())
+        accepted(self.project, kept, self.caller, None if self.draft.index else index, self.forced())
         if self.draft.pinned:
-            self.tell_pins(taken, len(pins))
+            locks = [locked_in(self.project.lock_path(it)) for it in environments(self.project.settings)]
+            count = Outcome(self.caller, self.project.folder, self.draft.index or kept.index, packages).tell(locks, taken)
+            self.is_taken = count == len(pins) and all(is_whole for _, is_whole in read)
+            say(f"{count} of {len(pins)} pins are taken over")
         return status
 
-    def pin_words(self, kept: Kept, pins: list[Pin], targets: list[str]) -> list[str]:
+    def index(self, kept: Kept, pins: list[Pin]) -> Path:
+        """The index that is given, once the program has read it; or else one that has what is pinned."""
+        given = self.draft.index
+        if given is None:
+            return made_index(self.project, kept, Wanted(is_asked=True, pins=tuple(f"{it.name}=={it.version}" for it in pins)))
+        answer = self.caller.ask("--dir", typed_path(self.project.folder), "--index", str(given), "skipped")
+        if answer.status != 0:
+            raise IndexFault(f"{given}: {answer.errors.decode(errors='replace').strip().removeprefix('reqlock: index: ')}")
+        return given
+
+    def environment_words(self, kept: Kept) -> list[str]:
+        """The words that tell the program what is locked for."""
+        if self.draft.environment is not None:
+            return ["--env", str(self.draft.environment)]
+        files = [(name, typed_path(kept.environment(name, it))) for name, it in environments(self.project.settings).items()]
+        return [word for name, path in files for word in ("--env", f"{name}={path}" if name else path)]
+
+    def pin_words(self, kept: Kept, pins: list[Pin]) -> list[str]:
         """The words that have pins kept, for each target."""
         if not pins:
             return []
         data = "".join(f"{pin.name}=={pin.version} {pin.marker}".rstrip() + "\n" for pin in pins)
         path = typed_path(kept.write("pins.txt", data.encode()))
-        return [word for name in targets for word in ("--pins", f"{name}={path}" if name else path)]
+        return [word for name in environments(self.project.settings) for word in ("--pins", f"{name}={path}" if name else path)]
 
     # The files of the project
 
     def put_lines(self) -> None:
         """Puts the lines there with which the history begins."""
         folder, path = self.project.folder, self.project.folder / REQUIREMENTS
-        if not folder.exists():
-            folder.mkdir(parents=True)
-            self.is_made.append(folder)
+        for place in [*reversed(folder.parents), folder]:
+            if not place.exists():
+                place.mkdir()
+                self.is_made.append(place)
         lines = self.lines()
         if lines is None or (path.is_file() and content(path) == lines):
             return
@@ -169,7 +214,10 @@ class Beginning:
         """Removes what was put there, where nothing came of it."""
         for path in reversed(self.is_made):
             with contextlib.suppress(OSError):
-                path.rmdir() if path.is_dir() else path.unlink()
+                if path.name == NAME:
+                    shutil.rmtree(path)
+                else:
+                    path.rmdir() if path.is_dir() else path.unlink()
 
     def write_settings(self) -> None:
         """Writes settings where there are none; behind what stands in the file."""
@@ -188,25 +236,6 @@ class Beginning:
             return ()
         say(f"{self.draft.compiled} is exported from now on, and the lines come from {', '.join(self.draft.sources)}")
         return (self.draft.compiled,)
-
-    # What came of the pins
-
-    def tell_pins(self, pins: list[Pin], count: int) -> None:
-        """Tells which pins are locked, and which aren't."""
-        locks = [locked_in(self.project.lock_path(it)) for it in environments(self.project.settings)]
-        kept = 0
-        for pin in pins:
-            versions = [lock[pin.name] for lock in locks if pin.name in lock]
-            if any(version_of(it) == version_of(pin.version) for it in versions):
-                kept += 1
-            elif versions:
-                say(f"{pin.told()}: it isn't taken over: {', '.join(sorted(set(versions)))} is locked, since over this index it doesn't fit")
-            else:
-                say(f"{pin.told()}: it isn't taken over: nothing needs it")
-        names = {pin.name for pin in pins}
-        for name in sorted({name for lock in locks for name in lock} - names):
-            say(f"{name}: it is locked, and no pin was taken over for it")
-        say(f"{kept} of {count} pins are taken over")
 
 
 def locked_in(path: Path) -> dict[str, str]:

@@ -2,7 +2,6 @@
 were saved last. All of it may be removed at any time."""
 
 import contextlib
-import fcntl
 import json
 import os
 import stat
@@ -10,6 +9,7 @@ from collections.abc import Iterator, Mapping
 from pathlib import Path
 
 from reqlock_tools.files import is_own, write_whole
+from reqlock_tools.folder_lock import alone_in
 from reqlock_tools.rql.faults import SettingsFault
 from reqlock_tools.rql.project import REQUIREMENTS, Project
 
@@ -40,27 +40,22 @@ class Kept:
     def make(self) -> None:
         self.folder.mkdir(exist_ok=True)
         if not os.path.lexists(self.folder / ".gitignore"):
-            self.write(".gitignore", IGNORED)
+            write_whole(str(self.folder / ".gitignore"), IGNORED, MODE)
 
     @contextlib.contextmanager
     def locked(self) -> Iterator[None]:
         """Waits for other calls of rql in this project, and has others wait."""
         self.make()
-        number = os.open(self.folder, os.O_RDONLY)
-        try:
-            with contextlib.suppress(OSError):
-                fcntl.flock(number, fcntl.LOCK_EX)
+        with alone_in(self.folder):
             yield
-        finally:
-            os.close(number)
 
     def path(self, name: str) -> Path:
         return self.folder / name
 
     def write(self, name: str, data: bytes) -> Path:
         """Writes a file whole. A link that stands in its place is not followed."""
+        self.make()
         path = self.path(name)
-        path.parent.mkdir(exist_ok=True)
         if os.path.islink(path):
             path.unlink()
         if not path.is_file() or path.read_bytes() != data:

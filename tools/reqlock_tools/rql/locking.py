@@ -1,5 +1,7 @@
 """`rql lock`: the lock fits the lines again, whoever changed them."""
 
+import os
+import shlex
 import tempfile
 from collections.abc import Sequence
 from pathlib import Path
@@ -10,6 +12,7 @@ from reqlock_tools.merge_sides import Journal, digest_of, lock_name, read_side, 
 from reqlock_tools.refusal import Refusal, speaker
 from reqlock_tools.rql.calls import Caller, tell_call, typed_path
 from reqlock_tools.rql.edits import accepted
+from reqlock_tools.rql.exports import stale_exports, write_exports
 from reqlock_tools.rql.faults import FOUND, SettingsFault
 from reqlock_tools.rql.history import content, is_whole, wanted_journal
 from reqlock_tools.rql.index import Wanted, made_index, requirements_in
@@ -69,7 +72,7 @@ class Locking:
         journal = wanted_journal(self.project)
         are_same = lines is None or lines == content(self.project.folder / REQUIREMENTS)
         if is_whole(self.project, journal) and are_same:
-            return self.caller.hand_over("--dir", typed_path(self.project.folder), "check")
+            return self.fits()
         if self.request.is_check:
             return self.differs()
         return self.replace(journal, lines)
@@ -77,6 +80,17 @@ class Locking:
     def differs(self) -> int:
         say("the lock doesn't fit the lines: rql lock has it fit them")
         return FOUND
+
+    def fits(self) -> int:
+        """The status where the lock fits the lines: exports follow, or are told where they don't."""
+        status = self.caller.hand_over("--dir", typed_path(self.project.folder), "check")
+        if status == 0 and not self.request.is_check:
+            write_exports(self.project, self.kept, self.caller)
+            return status
+        told = stale_exports(self.project, self.kept, self.caller)
+        for text in told:
+            say(text)
+        return status or (FOUND if told else 0)
 
     # Changes by hand
 
@@ -105,10 +119,16 @@ class Locking:
         found = saved(self.checkout, REQUIREMENTS, journal.requirements, ["HEAD"]) if self.checkout else None
         if found is None:
             raise SettingsFault(
-                f"{self.project.folder / REQUIREMENTS}: nobody has the lines that were saved last; rql init --from"
-                f" {lock_name(sorted(journal.locks)[0])} begins a new history with the versions that are locked"
+                f"{typed_path(self.project.folder / REQUIREMENTS)}: nobody has the lines that were saved last. A new history, with the versions"
+                f" that are locked, is begun by: {self.beginning(journal)}"
             )
         return found.data
+
+    def beginning(self, journal: Journal) -> str:
+        """What begins a new history with the versions that are locked, as it is typed here."""
+        place = [] if Path.cwd() == self.project.base else ["-C", typed_path(self.project.base)]
+        locks = [os.path.relpath(self.project.lock_path(it), self.project.base) for it in sorted(journal.locks)]
+        return shlex.join(["rql", *place, "init", *(word for path in locks for word in ("--from", path))])
 
     # What git merges
 
@@ -127,6 +147,8 @@ class Locking:
         status = merge.main([*words, "--program", self.caller.program])
         if status == 0 and "--dry-run" not in more:
             accepted(self.project, self.kept, self.caller, index)
+            if self.checkout is not None:
+                self.stage(self.checkout)
         return status
 
     def check_merge(self, checkout: Checkout) -> int:
@@ -134,7 +156,19 @@ class Locking:
         names = [REQUIREMENTS, JOURNAL]
         if checkout.unmerged(names) or b"<<<<<<<" in journal or not is_whole(self.project, wanted_journal(self.project)):
             return self.differs()
-        return self.caller.hand_over("--dir", typed_path(self.project.folder), "check")
+        return self.fits()
+
+    def stage(self, checkout: Checkout) -> None:
+        """Tells git that those exports and sources are merged which it couldn't merge, as reqlock-merge does of the program's files."""
+        places = [self.project.place(it.file, "exports") for it in self.project.settings.exports]
+        if self.project.settings.sources:
+            from reqlock_tools.rql import sources
+
+            places += [it.path for it in sources.gathered(self.project.top, self.project.base, self.project.settings.sources).sections]
+        names = [os.path.relpath(it, self.project.folder) for it in places]
+        unmerged = checkout.unmerged(names).intersection(names) if names else set()
+        if unmerged:
+            checkout.call("add", "--", *sorted(unmerged))
 
 
 def both_locks(checkout: Checkout, sides: Sides, place: Path) -> tuple[Path, ...]:

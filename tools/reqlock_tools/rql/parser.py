@@ -43,19 +43,27 @@ if TYPE_CHECKING:
     Subparsers = argparse._SubParsersAction[argparse.ArgumentParser]
 
 
-def parser_of() -> argparse.ArgumentParser:
+def parser_of(only: str | None = None) -> argparse.ArgumentParser:
+    """The parser of all words; or of one command alone, which begins sooner."""
     parser = argparse.ArgumentParser(prog="rql", description=DESCRIPTION, epilog=EPILOG, allow_abbrev=False)
     add_options(parser)
     words = parser.add_subparsers(dest="word", metavar="COMMAND", required=True)
-    add_init(words)
-    add_edits(words)
-    add_own(words)
-    add_env(words)
-    for own in words.choices.values():
-        add_telling(own)
-    for name, told in {**PASSED, **TOOLS}.items():
-        whose = "the program" if name in PASSED else f"reqlock-{name}"
-        words.add_parser(name, help=told, description=f"{told}; the words behind it are those of {whose}", add_help=False)
+    for name in [only] if only in BUILDERS else BUILDERS:
+        BUILDERS[name](words, name)
+    return parser
+
+
+def add_passed(words: "Subparsers", name: str) -> None:
+    told = {**PASSED, **TOOLS}[name]
+    whose = "the program" if name in PASSED else f"reqlock-{name}"
+    words.add_parser(name, help=told, description=f"{told}; the words behind it are those of {whose}", add_help=False)
+
+
+def own_parser(words: "Subparsers", name: str, told: str, description: str | None = None) -> argparse.ArgumentParser:
+    """The parser of a command of rql's own. The options of each call may stand behind it too; its help doesn't repeat them."""
+    parser = words.add_parser(name, help=told, description=description, allow_abbrev=False)
+    for forms in FLAGS:
+        parser.add_argument(*forms, action="store_true", default=argparse.SUPPRESS, help=argparse.SUPPRESS)
     return parser
 
 
@@ -66,30 +74,30 @@ def add_options(parser: argparse.ArgumentParser) -> None:
     parser.add_argument("--program", metavar="FILE", help="reqlock, where it isn't on the PATH")
 
 
-def add_telling(parser: argparse.ArgumentParser) -> None:
-    """The options that may stand behind a command of rql too. Its help doesn't repeat them."""
-    for forms in FLAGS:
-        parser.add_argument(*forms, action="store_true", default=argparse.SUPPRESS, help=argparse.SUPPRESS)
-
-
-def add_init(words: "Subparsers") -> None:
-    parser = words.add_parser("init", help="begin: settings, environments, index and lock", allow_abbrev=False)
+def add_init(words: "Subparsers", name: str) -> None:
+    parser = own_parser(words, name, "begin: settings, environments, index and lock")
     parser.add_argument("--index", metavar="URL", action="append", default=[], help="an index, in order; else pip's")
     parser.add_argument("--python", metavar="VERSION", help="the version of Python, as 3.11; this one where none is given")
     parser.add_argument("--platform", metavar="NAME", action="append", default=[], help="a platform, as linux-x86_64; this one else")
     parser.add_argument("--from", metavar="FILE", dest="pinned", action="append", default=[], help="a lock whose pins are kept")
 
 
-def add_edits(words: "Subparsers") -> None:
-    for name, (told, metavar, count, help_text) in EDITS.items():
-        parser = words.add_parser(name, help=told, description=told, allow_abbrev=False)
-        parser.add_argument("texts", metavar=metavar, nargs=count, help=help_text)
-        add_edit_options(parser)
-    parser = words.add_parser("constrain", help="put other specifiers in the line of a name", allow_abbrev=False)
+def add_edit(words: "Subparsers", name: str) -> None:
+    told, metavar, count, help_text = EDITS[name]
+    parser = own_parser(words, name, told, told)
+    parser.add_argument("texts", metavar=metavar, nargs=count, help=help_text)
+    add_edit_options(parser)
+
+
+def add_constrain(words: "Subparsers", name: str) -> None:
+    parser = own_parser(words, name, "put other specifiers in the line of a name")
     parser.add_argument("name", metavar="NAME", help="a name that has a line")
     parser.add_argument("spec", metavar="SPEC", nargs="?", default="", help="the specifiers, as '>=2,<3'; without them, none")
     add_edit_options(parser)
-    add_edit_options(words.add_parser("relock", help="lock again over a fresh index; versions stay where they can", allow_abbrev=False))
+
+
+def add_relock(words: "Subparsers", name: str) -> None:
+    add_edit_options(own_parser(words, name, "lock again over a fresh index; versions stay where they can"))
 
 
 def add_edit_options(parser: argparse.ArgumentParser) -> None:
@@ -97,53 +105,73 @@ def add_edit_options(parser: argparse.ArgumentParser) -> None:
     parser.add_argument("--dry-run", action="store_true", help="save nothing; print what would change")
 
 
-def add_own(words: "Subparsers") -> None:
-    parser = words.add_parser("lock", help="have the lock fit the lines again, whoever changed them", allow_abbrev=False)
+def add_lock(words: "Subparsers", name: str) -> None:
+    parser = own_parser(words, name, "have the lock fit the lines again, whoever changed them")
     parser.add_argument("--check", action="store_true", help="change nothing; the status is 1 where it would")
-    parser = words.add_parser("sync", help="have a virtual environment hold exactly what is locked", allow_abbrev=False)
+
+
+def add_sync(words: "Subparsers", name: str) -> None:
+    parser = own_parser(words, name, "have a virtual environment hold exactly what is locked")
     parser.add_argument("--venv", metavar="DIR", help="the environment; else VIRTUAL_ENV, else .venv")
     parser.add_argument("--target", metavar="NAME", help="the target, where several fit")
     parser.add_argument("--keep", metavar="NAME", action="append", default=[], help="a package that stays though it isn't locked")
     parser.add_argument("--exact", action="store_true", help="take out folders and checkouts too")
     parser.add_argument("--dry-run", action="store_true", help="change nothing; print what would change")
-    parser = words.add_parser("check", help="tell whether settings, lines and locks belong together", allow_abbrev=False)
+
+
+def add_check(words: "Subparsers", name: str) -> None:
+    parser = own_parser(words, name, "tell whether settings, lines and locks belong together")
     parser.add_argument("--current", action="store_true", help="tell also whether a relock over today's index changes something")
     parser.add_argument("--json", action="store_true", help="print JSON")
-    parser = words.add_parser("index", help="make the index anew, with these names too", allow_abbrev=False)
+
+
+def add_index(words: "Subparsers", name: str) -> None:
+    parser = own_parser(words, name, "make the index anew, with these names too")
     parser.add_argument("names", metavar="NAME", nargs="*", help="a package, or a requirement, to follow")
 
 
-def add_env(words: "Subparsers") -> None:
-    parser = words.add_parser("env", help="add, remove or list the environments that are locked for", allow_abbrev=False)
-    kinds = parser.add_subparsers(dest="kind", metavar="add|remove|list", required=True)
+def add_env(words: "Subparsers", name: str) -> None:
+    parser = own_parser(words, name, "add, remove, lock or list the environments that are locked for")
+    kinds = parser.add_subparsers(dest="kind", metavar="add|remove|lock|list", required=True)
     add = kinds.add_parser("add", help="lock for one environment more", allow_abbrev=False)
     add.add_argument("name", metavar="NAME", help="the name of the target")
     add.add_argument("--python", metavar="VERSION", default="", help="the version of Python, as 3.11; else that of the first environment")
     add.add_argument("--platform", metavar="NAME", default="", help="the platform, as linux-x86_64; else the first whose name begins so")
     remove = kinds.add_parser("remove", help="lock for one environment less", allow_abbrev=False)
     remove.add_argument("name", metavar="NAME", help="the name of the target")
-    for it in add, remove:
+    lock = kinds.add_parser("lock", help="lock for the environments as the settings have them, whoever changed these", allow_abbrev=False)
+    for it in add, remove, lock:
         it.add_argument("--anew", action="store_true", help="begin a new history, with the versions that are locked")
     kinds.add_parser("list", help="print the environments", allow_abbrev=False)
 
 
+# What adds the parser of each command, in the order of help.
+BUILDERS: dict[str, Callable[["Subparsers", str], None]] = {
+    "init": add_init, **dict.fromkeys(EDITS, add_edit), "constrain": add_constrain, "relock": add_relock, "lock": add_lock, "sync": add_sync,
+    "check": add_check, "index": add_index, "env": add_env, **dict.fromkeys((*PASSED, *TOOLS), add_passed),
+}
+
+
 def parsed(arguments: Sequence[str]) -> tuple[Options, Request]:
     """The request that words spell. What stands behind the name of a call that is handed on is read by nobody here."""
-    place = handed_on(arguments)
-    end = len(arguments) if place is None else place + 1
-    told = parser_of().parse_args(list(arguments[:end]))
+    place = place_of_word(arguments)
+    word = arguments[place] if place < len(arguments) else ""
+    is_handed_on = word in PASSED or word in TOOLS
+    # (help in front of a word is that of all words)
+    asks_help = any(it in ("-h", "--help") for it in arguments[:place])
+    told = parser_of(None if asks_help else word).parse_args(list(arguments[: place + 1] if is_handed_on else arguments))
     options = Options(told.start, told.offline, told.refresh, told.verbose, told.quiet, told.program)
-    if place is not None:
-        return options, PassedRequest(told.word, tuple(arguments[end:]))
+    if is_handed_on:
+        return options, PassedRequest(told.word, tuple(arguments[place + 1 :]))
     return options, READERS.get(told.word, edit_request)(told)
 
 
-def handed_on(arguments: Sequence[str]) -> int | None:
-    """The place of the word of a call that is handed on; None where the call is rql's own."""
+def place_of_word(arguments: Sequence[str]) -> int:
+    """The place of the word that says which call it is, behind the options of each call."""
     place = 0
     while place < len(arguments) and arguments[place].startswith("-"):
         place += 2 if arguments[place] in ("-C", "--program") else 1
-    return place if place < len(arguments) and arguments[place] in (*PASSED, *TOOLS) else None
+    return place
 
 
 def edit_request(told: argparse.Namespace) -> Request:

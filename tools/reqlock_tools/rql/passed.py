@@ -1,17 +1,23 @@
 """Calls that are handed on: the program's own, with folder and index filled in, and those of other tools."""
 
 import importlib
+from contextlib import suppress
+from dataclasses import replace
 from pathlib import Path
 
+from reqlock_tools.refusal import Refusal
 from reqlock_tools.rql.calls import Caller, typed_path
 from reqlock_tools.rql.kept import Kept
 from reqlock_tools.rql.project import Project
 from reqlock_tools.rql.requests import Options, PassedRequest
+from reqlock_tools.rql.telling import is_told
 
 # Those that go to another state of the history.
 MOVING = "undo", "redo"
 # Those that read the index, where it is there.
 READING = "show", "tree", "export", "skipped"
+# The statuses of a question that is answered: by what is printed, by a refusal, or by that nothing can be locked.
+ANSWERS = 0, 1, 3
 
 
 def run_passed(project: Project, request: PassedRequest) -> int:
@@ -29,7 +35,7 @@ def run_passed(project: Project, request: PassedRequest) -> int:
         return caller.hand_over(*given, *index_words(kept.earlier()[:1]), *call)
     if request.word in ("outdated", "why"):
         with kept.locked():
-            return caller.hand_over(*given, *index_words([asked_index(project, kept, request)]), *call)
+            return answered(project, asked_index(project, kept, request), caller, given, request)
     return caller.hand_over(*given, *call)
 
 
@@ -55,6 +61,25 @@ def moved(project: Project, kept: Kept, caller: Caller, given: list[str], call: 
         if status == 0 and "--dry-run" not in call:
             accepted(project, kept, caller, None)
     return status
+
+
+def answered(project: Project, index: Path, caller: Caller, given: list[str], request: PassedRequest) -> int:
+    """Hands a question on. Behind the answer it is told what constraints leave out of the packages that this is about: where that can't be
+    read any more, the status stays the program's."""
+    whole = [*given, *index_words([index]), request.word, *request.words]
+    status = caller.hand_over(*whole)
+    if status in ANSWERS and is_told(with_told(project.options, request.words)):
+        from reqlock_tools.rql.left_out import tell_left_out
+
+        with suppress(Refusal, OSError):
+            tell_left_out(project, index, request.words, lambda: caller.ask(*whole).output)
+    return status
+
+
+def with_told(options: Options, words: tuple[str, ...]) -> Options:
+    """The options, with what the program's words ask for of telling."""
+    is_quiet, is_verbose = (not {short, long}.isdisjoint(words) for short, long in (("-q", "--quiet"), ("-v", "--verbose")))
+    return replace(options, is_quiet=options.is_quiet or is_quiet, is_verbose=options.is_verbose or is_verbose)
 
 
 def asked_index(project: Project, kept: Kept, request: PassedRequest) -> Path:

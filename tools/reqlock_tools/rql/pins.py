@@ -5,8 +5,8 @@ from collections.abc import Iterable
 from pathlib import Path
 from typing import Any
 
-from reqlock_tools.adopt import PIN, Pin, joined_lines, read_compiled, read_text
 from reqlock_tools.refusal import Refusal, speaker
+from reqlock_tools.rql.compiled import PIN, Pin, joined_lines, read_compiled, read_text
 from reqlock_tools.rql.faults import SettingsFault
 from reqlock_tools.toml import read_toml
 from reqlock_tools.versions import normal, read_version
@@ -31,26 +31,33 @@ def has_pins_alone(path: Path) -> bool:
     return bool(lines) and all(PIN.fullmatch(it) for it in lines)
 
 
-def read_pins(path: Path) -> list[Pin]:
-    """The pins of a file. What of it is none is told."""
+def read_pins(path: Path) -> tuple[list[Pin], bool]:
+    """The pins of a file, and whether they are all that it has. What of it is none is told."""
     if path.suffix in (".lock", ".toml"):
         try:
             told = read_toml(read_text(str(path)))
         except Refusal as fault:
             raise SettingsFault(f"{path}: {str(fault).removeprefix(f'{path}: ')}") from None
-        return list(pins_of(told, path))
+        found = list(pins_of(told, path))
+        return found, len(found) == sum(1 for it in packages_of(told, path) if not is_own_project(it))
     try:
-        return list(read_compiled(str(path))[0].values())
+        pins, is_whole = read_compiled(str(path))
+        return list(pins.values()), is_whole
     except Refusal as fault:
         raise SettingsFault(str(fault)) from None
 
 
-def pins_of(lock: dict[str, Any], path: Path) -> Iterable[Pin]:
-    """The pins of a lock in TOML. A package that has several versions has them by its markers."""
+def packages_of(lock: dict[str, Any], path: Path) -> list[dict[str, Any]]:
+    """The packages of a lock in TOML."""
     packages = lock.get("packages" if path.name.startswith("pylock") else "package")
     if not isinstance(packages, list) or not all(isinstance(it, dict) for it in packages):
         raise SettingsFault(f"{path}: it has no list of packages; it is no lock of uv or Poetry, and no pylock.toml")
-    for package in packages:
+    return packages
+
+
+def pins_of(lock: dict[str, Any], path: Path) -> Iterable[Pin]:
+    """The pins of a lock in TOML. A package that has several versions has them by its markers."""
+    for package in packages_of(lock, path):
         name, version = package.get("name"), package.get("version")
         if not isinstance(name, str):
             raise SettingsFault(f"{path}: a package has no name")

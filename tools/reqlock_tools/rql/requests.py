@@ -70,7 +70,7 @@ class IndexRequest:
 
 @dataclass(frozen=True)
 class EnvRequest:
-    """Change or list the environments: `word` is add, remove or list."""
+    """Change or list the environments: `word` is add, remove, lock or list."""
 
     word: str
     name: str

@@ -61,26 +61,26 @@ def gather(base: Path, sources: Sequence[str], top: Path | None = None) -> bytes
     return gathered(top or base, base, sources).data
 
 
-def told_lines(data: bytes) -> list[tuple[str, str]]:
-    """The lines of a requirements.txt that was gathered, each with the label of its source. Another one is refused."""
+def told_lines(data: bytes, file: str) -> list[tuple[str, str]]:
+    """The lines of a file that was gathered, each with the label of its source. Another one is refused."""
     found = []
     for number, line in enumerate(data.decode(errors="replace").splitlines(), 1):
         text, mark, label = line.rpartition(FROM)
         if not mark:
-            raise SettingsFault(f"requirements.txt: line {number}: {line!a}: it doesn't tell from which source it came: rql lock gathers all")
+            raise SettingsFault(f"{file}: line {number}: {line!a}: it doesn't tell from which source it came: rql lock gathers all")
         found.append((text, label))
     return found
 
 
-def differences(present: Gathered, data: bytes) -> list[str]:
-    """Where sources and the lines that were gathered tell otherwise; empty where they don't."""
+def differences(present: Gathered, data: bytes, file: str = "requirements.txt") -> list[str]:
+    """Where sources and the lines that were gathered into a file tell otherwise; empty where they don't."""
     if present.data == data:
         return []
     try:
-        old = told_lines(data)
+        old = told_lines(data, file)
     except SettingsFault as fault:
         return [str(fault)]
     new = [(it.text, it.section.label) for it in present.lines]
-    found = [f"{it.where}: {it.text!a} isn't in requirements.txt" for it in present.lines if (it.text, it.section.label) not in old]
-    found += [f"requirements.txt: {text!a} isn't in {label} any more" for text, label in old if (text, label) not in new]
-    return found or ["requirements.txt: its lines have another order than those of the sources"]
+    found = [f"{it.where}: {it.text!a} isn't in {file}" for it in present.lines if (it.text, it.section.label) not in old]
+    found += [f"{file}: {text!a} isn't in {label} any more" for text, label in old if (text, label) not in new]
+    return found or [f"{file}: its lines have another order than those of the sources"]

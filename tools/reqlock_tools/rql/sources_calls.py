@@ -20,7 +20,8 @@ from reqlock_tools.rql.sources_change import Change, Sources
 def sources_of(project: Project) -> Sources:
     """The sources of a project. Where they and the lines came apart, they are refused with what differs."""
     found = Sources(project.top, project.base, project.settings.sources)
-    told = differences(found.present, content(project.folder / REQUIREMENTS))
+    path = project.folder / REQUIREMENTS
+    told = differences(found.present, content(path), typed_path(path))
     if told:
         raise SettingsFault("\n".join([*told, "sources and lines came apart: rql lock takes the sources over"]))
     return found

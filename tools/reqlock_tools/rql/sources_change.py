@@ -15,6 +15,7 @@ from reqlock_tools.rql.sources_lines import changed_lines
 from reqlock_tools.rql.sources_read import Files, Line, Section, checked
 from reqlock_tools.rql.sources_splice import Splice
 from reqlock_tools.rql.sources_toml import changed_array
+from reqlock_tools.rql.texts import name_in
 from reqlock_tools.versions import is_name, normal
 
 BEGINNING = re.compile(r"[A-Za-z0-9._-]+(?:[ \t]*\[[^\]]*\])?")
@@ -93,7 +94,7 @@ class Sources:
         """What makes the sources have the lines that an undo or a redo leads to. Where nothing can, it is refused."""
         found = Change({}, self.present.data)
         wanted: dict[str, list[str]] = {}
-        for text, label in told_lines(data):
+        for text, label in told_lines(data, "requirements.txt"):
             wanted.setdefault(label, []).append(text)
         lists: dict[Section, list[Line]] = {it: [] for it in self.present.sections}
         for line in self.present.lines:
@@ -145,13 +146,6 @@ def only_line(now: Gathered, name: str) -> Line:
 def checked_word(text: str) -> str:
     """A requirement that was typed; a comment of it stays out of the sources' lists."""
     return checked(re.sub(r"\s#.*", "", text), repr(text))
-
-
-def name_in(text: str) -> str:
-    need = need_of(text)
-    if need is None:
-        raise SettingsFault(f"{text!a}: it begins with no name")
-    return need.name
 
 
 def constrained(text: str, specifiers: str) -> str:

@@ -1,13 +1,12 @@
 """`rql sync`: a virtual environment gets exactly what is locked. First all of it is installed, and only then what isn't is taken out."""
 
 import contextlib
-import fcntl
 import os
-from collections.abc import Iterator
 from dataclasses import dataclass
 from pathlib import Path
 from typing import TYPE_CHECKING
 
+from reqlock_tools.folder_lock import alone_in
 from reqlock_tools.refusal import Refusal, shown, speaker
 from reqlock_tools.rql.faults import NETWORK, STOPPED, SettingsFault
 from reqlock_tools.rql.sync_installed import Environment, is_own, python_in, read_environment
@@ -73,7 +72,7 @@ def sync(asked: Sync) -> int:
     keep = frozenset(kept_name(it) for it in asked.keep)
     place = venv_of(asked)
     python_in(place)
-    with alone(place):
+    with alone_in(place):
         environment = read_environment(place)
         target = chosen_target(asked.folder, asked.target, environment.told)
         locked = read_locked(target.path, target.text, environment.told)
@@ -101,18 +100,6 @@ def venv_of(asked: Sync) -> Path:
     if is_own(place):
         raise SettingsFault(f"{place}: rql itself runs in it: rql sync --venv {place} says that it is meant")
     return place
-
-
-@contextlib.contextmanager
-def alone(place: Path) -> Iterator[None]:
-    """Waits for another sync of this environment."""
-    number = os.open(place, os.O_RDONLY)
-    try:
-        with contextlib.suppress(OSError):
-            fcntl.flock(number, fcntl.LOCK_EX)
-        yield
-    finally:
-        os.close(number)
 
 
 def tell(asked: Sync, plan: Plan) -> None:

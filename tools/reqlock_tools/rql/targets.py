@@ -8,11 +8,12 @@ from reqlock_tools.files import write_whole
 from reqlock_tools.merge_sides import Journal, digest_of, lock_name
 from reqlock_tools.refusal import speaker
 from reqlock_tools.rql.calls import Caller, typed_path
-from reqlock_tools.rql.defaults import family_name, own_python
+from reqlock_tools.rql.checking import target_differences
+from reqlock_tools.rql.defaults import family_name, own_python, refuse_platform, refuse_python
 from reqlock_tools.rql.edits import accepted
 from reqlock_tools.rql.environments import described, environments, label_of, place_of
 from reqlock_tools.rql.faults import SettingsFault
-from reqlock_tools.rql.history import content, is_whole, journal_of
+from reqlock_tools.rql.history import content, is_whole, journal_of, wanted_journal
 from reqlock_tools.rql.index import Wanted, made_index
 from reqlock_tools.rql.kept import MODE, Kept
 from reqlock_tools.rql.project import Project, project_of
@@ -24,7 +25,7 @@ say = speaker("rql")
 
 
 def run_env(project: Project, request: EnvRequest) -> int:
-    """Lists the environments, or locks for one more or one less."""
+    """Lists the environments, or locks for one more, for one less, or for those that the settings have."""
     if request.word == "list":
         for line in listed(project.settings):
             print(line)
@@ -52,6 +53,8 @@ class Change:
 
     def run(self) -> int:
         before = self.project.settings
+        if self.request.word == "lock":
+            return self.lock(wanted_journal(self.project))
         changed = added(before, self.request) if self.request.word == "add" else removed(before, self.request.name)
         exports = renamed_exports(before, changed)
         text = with_environments(before, changed, exports)
@@ -66,6 +69,13 @@ class Change:
             if read_settings(before.file) != settings:
                 raise SettingsFault(f"{before.file}: it doesn't read as it was written: mend it by hand")
         return status
+
+    def lock(self, journal: Journal) -> int:
+        """Locks for the environments of the settings, where the history is for others."""
+        if not target_differences(self.project):
+            return self.caller.hand_over("--dir", typed_path(self.project.folder), "check")
+        self.refuse_loss(journal)
+        return self.begin_anew(self.project, journal)
 
     def refuse_loss(self, journal: Journal) -> None:
         """Refuses to lose steps that nobody said may go."""
@@ -112,8 +122,10 @@ def added(settings: Settings, request: EnvRequest) -> tuple[EnvironmentSetting, 
     """The environments with one more. One without a name gets the name of its platform."""
     if not TARGET.fullmatch(request.name):
         raise SettingsFault(f"{request.name!a}: it is no name of a target: small letters, digits and -")
-    if request.platform and request.platform not in PLATFORMS:
-        raise SettingsFault(f"--platform {request.platform}: one of {', '.join(PLATFORMS)} is wanted")
+    if request.platform:
+        refuse_platform(request.platform)
+    if request.python:
+        refuse_python(request.python)
     new = EnvironmentSetting(request.name, request.python or own_version(settings), request.platform or platform_of(request.name))
     described(new, place_of(settings, new))
     others = [it if it.name else replace(it, name=family_name(it.platform)) for it in settings.environments]
@@ -149,4 +161,7 @@ def removed(settings: Settings, name: str) -> tuple[EnvironmentSetting, ...]:
         raise SettingsFault(f"{settings.file}: environments: {name!a} isn't among them")
     if not others:
         raise SettingsFault(f"{settings.file}: environments: {name} is the only one")
+    for number, export in enumerate(settings.exports):
+        if export.target == name:
+            raise SettingsFault(f"{settings.file}: exports[{number}]: {export.file} is of {name}: take it out of the settings first")
     return others

@@ -33,16 +33,23 @@ def read_constraints(path: str, say: Say) -> Constraints:
     return Constraints(path, tuple(lines), ())
 
 
+def why_out(file: str) -> str:
+    """Why releases are left out that are outside of the bounds of a file."""
+    return f"by {file}"
+
+
 class Bound:
-    """What one file asks of packages, by normal names."""
+    """What one file asks of packages, by normal names: with the clauses stand the requirements that ask for them."""
 
     def __init__(self, told: Constraints, markers: Markers) -> None:
         self.versions: Locked = versions_of(told.versions)
         self.clauses: dict[str, list[Clause]] = {}
+        self.requirements: dict[str, list[str]] = {}
         for text in told.requirements:
             need = need_of(text)
             if need is not None and markers.can_hold(need.marker, NO_EXTRA):
                 self.clauses.setdefault(need.name, []).extend(clauses_of(text) or ())
+                self.requirements.setdefault(need.name, []).append(text)
 
     def told(self, name: str) -> str:
         """What is asked of a package, as a text."""

@@ -71,6 +71,10 @@ class Cache:
         is_whole = beside.get("key") == key and KEYS[kind] <= beside.keys()
         return (beside, body) if is_whole else None
 
+    def has(self, kind: str, key: str) -> bool:
+        """Whether something stands there, which may be no entry."""
+        return os.path.exists(self.path(kind, key))
+
     def put(self, kind: str, key: str, beside: Beside, body: bytes) -> None:
         path = self.path(kind, key)
         data = json.dumps({**beside, "key": key}).encode() + b"\n" + body

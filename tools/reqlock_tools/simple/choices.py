@@ -10,7 +10,7 @@ from typing import NamedTuple
 from reqlock_tools.archives import LONGEST_NAME
 from reqlock_tools.markers import Markers
 from reqlock_tools.refusal import Refusal
-from reqlock_tools.simple.bounds import Bound, Bounds
+from reqlock_tools.simple.bounds import Bound, Bounds, why_out
 from reqlock_tools.simple.left import Left
 from reqlock_tools.simple.locked import versions_of
 from reqlock_tools.simple.pages import Link, PageFiles
@@ -138,7 +138,7 @@ class Choices:
     def within_bounds(self, name: str, releases: list[Release], left: Left) -> list[Release]:
         """The releases that no constraint leaves out, and a locked one neither."""
         for file, bound in self.bounds.of(name):
-            releases = without_releases(releases, partial(is_outside, bound, name), f"by {file}", left)
+            releases = without_releases(releases, partial(is_outside, bound, name), why_out(file), left)
         return releases
 
     def tests(self, url: str) -> Iterator[FileTest]:

@@ -8,6 +8,7 @@ import urllib.request
 import zlib
 from collections.abc import Iterator, Mapping
 from dataclasses import dataclass
+from functools import cached_property
 from typing import IO, TYPE_CHECKING, Any, NamedTuple
 
 from reqlock_tools.libraries import urllib3, urllib3_retry
@@ -297,7 +298,7 @@ class Client:
         with self.lock:
             key = address.origin, proxy
             if key not in self.pools:
-                manager = self.opened(proxy)
+                manager = self.opened(proxy, address.scheme)
                 self.pools[key] = manager, manager.connection_from_host(address.host, address.port, address.scheme)
             return self.pools[key][1], proxy is not None and address.scheme == "http"
 
@@ -306,11 +307,18 @@ class Client:
         proxy = self.proxies.get(address.scheme) or self.proxies.get("all")
         return None if proxy is not None and urllib.request.proxy_bypass(address.host) else proxy
 
-    def opened(self, proxy: str | None) -> Any:
-        """What opens connections, through a proxy where the surroundings name one."""
-        trust = ssl.create_default_context()
+    @cached_property
+    def trust(self) -> ssl.SSLContext:
+        """The authorities whose certificates are taken. To read them all takes a while, so it is done once, where they are needed."""
+        found = ssl.create_default_context()
         # Before its version 2 urllib3 compares hosts and certificates itself, and needs this to reach a host by its number.
-        trust.check_hostname = trust.check_hostname and not urllib3.__version__.startswith("1.")
+        found.check_hostname = found.check_hostname and not urllib3.__version__.startswith("1.")
+        return found
+
+    def opened(self, proxy: str | None, scheme: str) -> Any:
+        """What opens connections of a scheme, through a proxy where the surroundings name one."""
+        is_plain = scheme == "http" and (proxy is None or not proxy.lower().startswith("https:"))
+        trust = None if is_plain else self.trust
         timeout = urllib3.Timeout(connect=self.seconds, read=self.seconds)
         found: Any
         if proxy is None:

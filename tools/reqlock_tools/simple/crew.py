@@ -4,6 +4,7 @@ import heapq
 import itertools
 import queue
 import time
+from collections import deque
 from collections.abc import Callable
 from concurrent.futures import Future, ThreadPoolExecutor
 from functools import partial
@@ -21,17 +22,23 @@ Take = Callable[[Any], None]
 
 
 class Crew:
-    """Threads that work, while one thread takes what they have done. Work of a lower rank comes first."""
+    """Threads that work, while one thread takes what they have done. Work of a lower rank comes first. What waits for nobody is done by
+    the thread that takes, while it has nothing to take."""
 
     def __init__(self, count: int) -> None:
         self.executor, self.free = ThreadPoolExecutor(count), count * AHEAD
         self.waiting: list[tuple[int, int, Work, Take]] = []
+        self.own: deque[tuple[Work, Take]] = deque()
         self.done: queue.SimpleQueue[tuple[Take, Future[Any]]] = queue.SimpleQueue()
         self.order, self.under_way = itertools.count(), 0
 
     def start(self, rank: int, work: Work, take: Take) -> None:
         """Has work done by some thread; then `take` is called with what it gave, in the thread that runs."""
         heapq.heappush(self.waiting, (rank, next(self.order), work, take))
+
+    def start_own(self, work: Work, take: Take) -> None:
+        """Has work done by the thread that runs, which then calls `take` with what it gave."""
+        self.own.append((work, take))
 
     def give(self) -> None:
         """Gives the threads what they may begin."""
@@ -46,18 +53,24 @@ class Crew:
     def run(self, show: Callable[[], None]) -> None:
         """Takes what is done, until nothing is under way. The first fault ends it. `show` is called now and then."""
         self.give()
-        while self.under_way:
-            try:
-                take, future = self.done.get(timeout=SECONDS_BETWEEN_LOOKS)
-            except queue.Empty:
-                show()
-                continue
-            self.under_way -= 1
-            take(future.result())
+        while self.under_way or self.own:
+            self.take_one()
             self.give()
             show()
-            if self.done.empty() and self.under_way == self.free:
+            if self.done.empty() and self.under_way == self.free and not self.own:
                 time.sleep(SECONDS_BETWEEN_TAKES)
+
+    def take_one(self) -> None:
+        """Takes a piece that is done. While none is, a piece of its own work is done, or it waits for a moment."""
+        try:
+            take, future = self.done.get(block=not self.own, timeout=SECONDS_BETWEEN_LOOKS)
+        except queue.Empty:
+            if self.own:
+                work, take = self.own.popleft()
+                take(work())
+            return
+        self.under_way -= 1
+        take(future.result())
 
     def end(self) -> None:
         """Ends each thread behind what it does now."""

@@ -1,10 +1,12 @@
 """How a snapshot was made: the key `made` of one, written and read."""
 
+import json
 from collections.abc import Mapping
+from contextlib import suppress
 from dataclasses import asdict, dataclass, fields
 from typing import Any
 
-from reqlock_tools.files import Node, read_json
+from reqlock_tools.files import Node, json_of, read_text
 from reqlock_tools.names import called
 from reqlock_tools.refusal import Refusal
 from reqlock_tools.requirements import fault_of, variables_in
@@ -17,6 +19,8 @@ from reqlock_tools.versions import is_name, read_version
 
 Json = dict[str, Any]
 BUILT = "interpreter", "abis", "platforms"
+# So a snapshot begins that tells how it was made.
+FRONT = '{"snapshot":1,"made":'
 
 
 @dataclass(frozen=True)
@@ -29,6 +33,16 @@ class Findings:
     passed: Mapping[str, list[str]]
     absent: tuple[str, ...]
     left: tuple[Json, ...]
+
+
+@dataclass(frozen=True)
+class LeftOut:
+    """The releases of a package that one cause left out: how many, and which, as ranges."""
+
+    name: str
+    why: str
+    releases: int
+    ranges: tuple[str, ...]
 
 
 # Writing
@@ -71,13 +85,30 @@ def made_json(plan: Plan, found: Findings) -> Json:
 
 def read_plan(path: str) -> Plan:
     """The plan by which a snapshot was made."""
-    body = read_json(path)
+    return plan_of(read_made(path))
+
+
+def read_made(path: str) -> Node:
+    """How a snapshot tells that it was made."""
+    text = read_text(path)
+    made = in_front(path, text)
+    if made is not None:
+        return made
+    body = json_of(path, text)
     if not (isinstance(body.value, dict) and "snapshot" in body.value):
         raise Refusal(f"{path}: it is no snapshot")
     if "made" not in body.value:
         way = called("`snapshot.py simple URL ..` makes one that does")
         raise Refusal(f"{path}: it doesn't tell how it was made, as snapshots of folders and those of an older reqlock don't; {way}")
-    return plan_of(body.member("made"))
+    return body.member("made")
+
+
+def in_front(path: str, text: str) -> Node | None:
+    """How a snapshot tells in front that it was made; None where it doesn't. What stands behind is nearly all of it, and isn't read."""
+    if text.startswith(FRONT):
+        with suppress(ValueError, RecursionError):
+            return Node(path, json.JSONDecoder().raw_decode(text, len(FRONT))[0], "/made")
+    return None
 
 
 def plan_of(made: Node) -> Plan:
@@ -90,6 +121,14 @@ def plan_of(made: Node) -> Plan:
         keep=tuple(map(pin_of, made.member("keep").items())),
         options=options_of(made.member("options")),
     )
+
+
+def left_of(made: Node) -> list[LeftOut]:
+    """What was left out of a snapshot."""
+    return [
+        LeftOut(it.member("name").name(), it.member("why").text(), it.member("releases").size(), tuple(it.member("ranges").texts()))
+        for it in made.member("left").items()
+    ]
 
 
 def indexes_of(node: Node) -> tuple[IndexAddress, ...]:

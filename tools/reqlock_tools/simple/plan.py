@@ -8,6 +8,9 @@ from reqlock_tools.limits import Limits
 from reqlock_tools.requirements import need_of
 from reqlock_tools.tags import Built, built_of
 
+# So many requests are under way at the same time, unless it is told otherwise.
+JOBS = 32
+
 
 @dataclass(frozen=True)
 class IndexAddress:

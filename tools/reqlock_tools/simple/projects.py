@@ -51,15 +51,30 @@ class Index:
         self.reader = MetadataReader(client, cache, client.limits)
         self.lock = threading.Lock()
 
+    def url(self, name: str) -> str:
+        """Where the page of a project is."""
+        return f"{self.base}/{urllib.parse.quote(name)}/"
+
     def found(self, name: str) -> "Found | None":
         """What is chosen of a project, or the whole of it where an earlier run read it; None where there is no page."""
-        if len(name) > LONGEST_NAME:
-            return None
-        url = f"{self.base}/{urllib.parse.quote(name)}/"
-        page = self.page(url)
-        if page is None:
-            return None
-        key = known.key_of(url, page, self.choices.told(name), self.client.limits)
+        page = None if len(name) > LONGEST_NAME else self.page(self.url(name))
+        return None if page is None else self.found_on(name, page)
+
+    def at_hand(self, name: str) -> "Found | None":
+        """The same of a project whose page is kept and needs no asking; None where it does, or where there is none."""
+        kept = self.cache.get("page", self.url(name))
+        return None if kept is None or kept[0]["is_absent"] or not self.needs_no_asking(kept[0]) else self.found_on(name, kept)
+
+    def is_kept(self, name: str) -> bool:
+        """Whether a page may be at hand."""
+        return not self.asking.is_refreshed and self.cache.has("page", self.url(name))
+
+    def needs_no_asking(self, kept: Beside) -> bool:
+        return self.asking.is_offline or not self.asking.is_refreshed and is_fresh(kept)
+
+    def found_on(self, name: str, page: tuple[Beside, bytes]) -> "Found":
+        """What is chosen of a project's page."""
+        key = known.key_of(self.url(name), page, self.choices.told(name), self.client.limits)
         project = known.known(self.cache, key, name, self.base)
         if project is not None:
             return Found(self, key, project, [])
@@ -82,12 +97,10 @@ class Index:
         """A page with its type and last URL; None where there is none. One that is kept is asked for only where it isn't fresh, and
         comes only if it has changed."""
         kept = self.cache.get("page", url)
-        if self.asking.is_offline:
-            if kept is None:
-                self.cache.refuse_absent(url)
-            return None if kept is None or kept[0]["is_absent"] else kept
-        if kept is not None and not self.asking.is_refreshed and is_fresh(kept[0]):
-            return kept
+        if kept is None:
+            self.cache.refuse_absent(url)
+        elif self.needs_no_asking(kept[0]):
+            return None if kept[0]["is_absent"] else kept
         headers = {"Accept": ACCEPT, "Accept-Encoding": "gzip"}
         if kept is not None:
             names = {"etag": "If-None-Match", "modified": "If-Modified-Since"}
@@ -162,6 +175,14 @@ class Indexes:
     def found(self, name: str) -> Found | None:
         """What is found of a project in the index that has it; None where none has it."""
         return next((found for index in self.asked_for(name) if (found := index.found(name)) is not None), None)
+
+    def is_kept(self, name: str) -> bool:
+        """Whether a project may be at hand: of the first index that is asked for it."""
+        return next((index.is_kept(name) for index in self.asked_for(name)), False)
+
+    def at_hand(self, name: str) -> Found | None:
+        """What is found of a project where nobody need be asked; None where somebody must be."""
+        return next((index.at_hand(name) for index in self.asked_for(name)), None)
 
     def count_needs(self, name: str, release: Release) -> None:
         """Counts what a release depends on that an earlier run read."""

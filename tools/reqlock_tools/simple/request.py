@@ -3,7 +3,7 @@
 import argparse
 import re
 import urllib.parse
-from collections.abc import Callable
+from collections.abc import Callable, Iterable
 from dataclasses import dataclass, replace
 from functools import partial
 from typing import Any
@@ -18,7 +18,7 @@ from reqlock_tools.simple.bounds import read_constraints
 from reqlock_tools.simple.cache import default_folder
 from reqlock_tools.simple.locked import locked_versions, texts_of
 from reqlock_tools.simple.made import is_moment, is_pattern, read_plan
-from reqlock_tools.simple.plan import Asking, IndexAddress, Options, Plan, followed_texts
+from reqlock_tools.simple.plan import JOBS, Asking, IndexAddress, Options, Plan, followed_texts
 from reqlock_tools.simple.targets import read_targets
 from reqlock_tools.snapshot_output import say
 
@@ -39,6 +39,18 @@ AGAIN = """Make a snapshot again, in its place: of the same indexes, for the sam
 in its key `made`, with NAMEs too. Names that were given before stay, and so do the lines of requirements files, unless --for gives
 others; in the same way --env, --constraints and --keep take the place of what was given then. The same answers of the indexes
 give the same bytes."""
+
+
+@dataclass(frozen=True)
+class Sources:
+    """What is followed, and for what, as it was typed: requirements, and the paths of files. An environment may have its name in
+    front."""
+
+    names: tuple[str, ...]
+    requirements: tuple[str, ...]
+    environments: tuple[str, ...]
+    constraints: tuple[str, ...]
+    keep: tuple[str, ...]
 
 
 @dataclass(frozen=True)
@@ -92,7 +104,7 @@ def add_choices(parser: argparse.ArgumentParser) -> None:
 
 def add_requests(parser: argparse.ArgumentParser) -> None:
     group = parser.add_argument_group("how the index is asked")
-    group.add_argument("--jobs", metavar="N", type=number(int, 1, MOST_JOBS), default=16, help="requests at the same time; 16")
+    group.add_argument("--jobs", metavar="N", type=number(int, 1, MOST_JOBS), default=JOBS, help=f"requests at the same time; {JOBS}")
     group.add_argument(
         "--timeout", metavar="SECONDS", type=number(float, 0.01), default=30.0, help="longest wait for an answer; 30"
     )
@@ -158,22 +170,24 @@ def simple_request(arguments: list[str]) -> Request:
     """The request that the words behind `simple` spell."""
     parser = simple_parser()
     options = parser.parse_intermixed_args(arguments)
-    refuse_faults(parser, options)
+    refuse_faults(parser, options.names, options.cache, options.limit)
     if not options.names and not options.requirements:
         parser.error("what is it for? Give --for FILE, or names of packages")
-    addresses = addresses_of(parser, options)
+    addresses = addresses_of(parser, (options.url, *options.index), options.only)
     if options.exclude_newer is not None and not is_moment(options.exclude_newer):
         forms = "no date, as 2024-05-01, and no time, as 2024-05-01T12:00:00Z"
         parser.error(f"--exclude-newer: {options.exclude_newer!a} is {forms}")
-    return Request(partial(new_plan, options, addresses), asking_of(options), typed_urls(options), options.output)
+    urls = (options.url, *options.index, *(word.partition("=")[2] for word in options.only))
+    plan = partial(new_plan, sources_of(options), addresses, choices_of(options), options.for_this_machine)
+    return Request(plan, asking_of(options), urls, options.output)
 
 
 def again_request(arguments: list[str]) -> Request:
     """The request that the words behind `again` spell."""
     parser = again_parser()
     options = parser.parse_intermixed_args(arguments)
-    refuse_faults(parser, options)
-    return Request(partial(plan_again, options), asking_of(options), (), options.output)
+    refuse_faults(parser, options.names, options.cache, options.limit)
+    return Request(partial(plan_again, options.output, sources_of(options)), asking_of(options), (), options.output)
 
 
 def asking_of(options: argparse.Namespace) -> Asking:
@@ -183,55 +197,60 @@ def asking_of(options: argparse.Namespace) -> Asking:
     )
 
 
-def new_plan(options: argparse.Namespace, addresses: tuple[IndexAddress, ...]) -> Plan:
-    """The plan of words. Their files are read."""
-    is_here = options.for_this_machine
-    return Plan(
-        indexes=addresses,
-        names=followed_texts(options.names),
-        lines=read_followed(options.requirements),
-        environments=read_targets(options.env, options.any_platform, is_here, say),
-        constraints=tuple(read_constraints(path, say) for path in options.constraints),
-        keep=texts_of(locked_versions(options.keep)),
-        options=Options(
-            only_binary=options.only_binary, no_pre=options.no_pre, newest=options.newest, exclude_newer=options.exclude_newer,
-            assume_no_dependencies=options.assume_no_dependencies, any_platform=options.any_platform,
-        ),
+def sources_of(options: argparse.Namespace) -> Sources:
+    return Sources(
+        names=tuple(options.names), requirements=tuple(options.requirements), environments=tuple(options.env),
+        constraints=tuple(options.constraints), keep=tuple(options.keep),
     )
 
 
-def plan_again(options: argparse.Namespace) -> Plan:
+def choices_of(options: argparse.Namespace) -> Options:
+    return Options(
+        only_binary=options.only_binary, no_pre=options.no_pre, newest=options.newest, exclude_newer=options.exclude_newer,
+        assume_no_dependencies=options.assume_no_dependencies, any_platform=options.any_platform,
+    )
+
+
+def new_plan(sources: Sources, addresses: tuple[IndexAddress, ...], choices: Options, is_here: bool) -> Plan:
+    """The plan of words. Their files are read."""
+    return Plan(
+        indexes=addresses,
+        names=followed_texts(sources.names),
+        lines=read_followed(sources.requirements),
+        environments=read_targets(sources.environments, choices.any_platform, is_here, say),
+        constraints=tuple(read_constraints(path, say) for path in sources.constraints),
+        keep=texts_of(locked_versions(sources.keep)),
+        options=choices,
+    )
+
+
+def plan_again(path: str, sources: Sources) -> Plan:
     """The plan by which a snapshot was made, with more names. Files that are given take the place of those of the same kind."""
-    plan = read_plan(options.output)
-    plan = replace(plan, names=followed_texts([*plan.names, *options.names]))
-    if options.requirements:
-        plan = replace(plan, lines=read_followed(options.requirements))
-    if options.env:
-        plan = replace(plan, environments=read_targets(options.env, plan.options.any_platform, False, say))
-    if options.keep:
-        plan = replace(plan, keep=texts_of(locked_versions(options.keep)))
-    if options.constraints:
-        plan = replace(plan, constraints=tuple(read_constraints(path, say) for path in options.constraints))
+    plan = read_plan(path)
+    plan = replace(plan, names=followed_texts([*plan.names, *sources.names]))
+    if sources.requirements:
+        plan = replace(plan, lines=read_followed(sources.requirements))
+    if sources.environments:
+        plan = replace(plan, environments=read_targets(sources.environments, plan.options.any_platform, False, say))
+    if sources.keep:
+        plan = replace(plan, keep=texts_of(locked_versions(sources.keep)))
+    if sources.constraints:
+        plan = replace(plan, constraints=tuple(read_constraints(path, say) for path in sources.constraints))
     elif plan.constraints:
         say(f"constraints as they were then, of {', '.join(it.file for it in plan.constraints)}; --constraints FILE reads them anew")
     return plan
 
 
-def read_followed(paths: list[str]) -> tuple[str, ...]:
+def read_followed(paths: Iterable[str]) -> tuple[str, ...]:
     return followed_texts(text for path in paths for text in read_lines(path, say))
 
 
-def typed_urls(options: argparse.Namespace) -> tuple[str, ...]:
-    """The addresses of indexes as they were typed."""
-    return (options.url, *options.index, *(word.partition("=")[2] for word in options.only))
-
-
-def addresses_of(parser: argparse.ArgumentParser, options: argparse.Namespace) -> tuple[IndexAddress, ...]:
-    """The indexes in the order in which they are asked."""
+def addresses_of(parser: argparse.ArgumentParser, urls: Iterable[str], bound: Iterable[str]) -> tuple[IndexAddress, ...]:
+    """The indexes in the order in which they are asked, of their addresses and of words of --only."""
     only: dict[str, list[str]] = {}
-    for url in (options.url, *options.index):
+    for url in urls:
         only.setdefault(address_in(parser, url), [])
-    for word in options.only:
+    for word in bound:
         pattern, _, url = word.partition("=")
         if not is_pattern(pattern):
             parser.error(f"--only: {without_password(word)!a} isn't NAME=URL, in which * may stand for any text of a name")
@@ -253,17 +272,17 @@ def address_in(parser: argparse.ArgumentParser, url: str) -> str:
     return plain_url(url)
 
 
-def refuse_faults(parser: argparse.ArgumentParser, options: argparse.Namespace) -> None:
+def refuse_faults(parser: argparse.ArgumentParser, names: Iterable[str], cache: str | None, limits: list[str]) -> None:
     """Ends with what is wrong with words that both calls take."""
     for name in LIBRARIES:
         if library(name) is None:
             parser.error(absent_text(name))
-    for text in options.names:
+    for text in names:
         if fault := fault_of(text) or doubt_of(text):
             parser.error(f"{without_password(text)!a}: {without_password(fault)}")
-    if options.cache is None:
+    if cache is None:
         parser.error("--cache DIR is needed, since neither platformdirs nor pip is there to tell the user's own folder")
     try:
-        limits_of(options.limit)
+        limits_of(limits)
     except Refusal as fault:
         parser.error(str(fault))

@@ -73,7 +73,19 @@ class Run:
     def read_pages(self, names: Iterable[str]) -> None:
         self.limits.refuse_over("names", len(self.walk.asked), self.indexes.all[0].base)
         for name in names:
-            self.crew.start(PAGES, partial(self.indexes.found, name), partial(self.take_project, name))
+            if self.indexes.is_kept(name):
+                self.crew.start_own(partial(self.indexes.at_hand, name), partial(self.take_at_hand, name))
+            else:
+                self.ask_page(name)
+
+    def ask_page(self, name: str) -> None:
+        self.crew.start(PAGES, partial(self.indexes.found, name), partial(self.take_project, name))
+
+    def take_at_hand(self, name: str, found: Found | None) -> None:
+        if found is None:
+            self.ask_page(name)
+        else:
+            self.take_project(name, found)
 
     def take_project(self, name: str, found: Found | None) -> None:
         if found is None:

@@ -139,6 +139,8 @@ class Server(ThreadingHTTPServer):
     """Says nothing of clients that go, which tests have do so."""
 
     daemon_threads = True
+    # As many connections as come at once: one that finds no room is tried again a second later.
+    request_queue_size = 256
 
     def handle_error(self, request, client_address):
         if not isinstance(sys.exc_info()[1], OSError):

@@ -81,7 +81,12 @@ def outdated(state, problems):
         absent = [
             {"name": it, "version": entry["version"]} for it, entry in sorted(entries.items()) if place_of(problem, it, entry) is None
         ]
-        targets.append({"target": name, "outdated": [it for it in found if it], "not_in_index": absent})
+        places = [(it, entry, place_of(problem, it, entry)) for it, entry in sorted(entries.items())]
+        yanked = [
+            {"name": it, "version": entry["version"]}
+            for it, entry, place in places if place is not None and problem.releases[it][place].is_yanked
+        ]
+        targets.append({"target": name, "outdated": [it for it in found if it], "not_in_index": absent, "yanked": yanked})
     return {"targets": targets}
 
 

@@ -25,12 +25,13 @@ def pins_of_lock(data):
     return [(name, read_version(entry["version"])) for name, entry in read_lock(data)[2].items()]
 
 
-def newer_of(own, others):
-    """The own versions and the others: of each name the newer one, and of equal ones the own."""
-    found = dict(own)
-    for name, version in others:
-        if name not in found or order_key(version) > order_key(found[name]):
-            found[name] = version
+def newer_of(own, others, index):
+    """The own versions and the others: of each name the newest one that the index has, or else the newest, and of equal ones the own."""
+    found = {}
+    for name in [*own, *(name for name, _ in others)]:
+        versions = [version for other, version in [*own.items(), *others] if other == name]
+        keys = {order_key(release.version) for release in index.releases.get(name, [])}
+        found[name] = max([it for it in versions if order_key(it) in keys] or versions, key=order_key)
     return found
 
 
@@ -43,9 +44,10 @@ def pins_for(files, target, environment):
 
 
 def replaced(state, lines, files, index, only_kept=False):
-    """The state with other lines in the place of all, which keeps the newer of the locked versions and those that are handed in."""
+    """The state with other lines in the place of all, which keeps of the locked versions and those that are handed in the newest
+    that the index has."""
     problems = {
-        name: Problem(lines, it.environment, index, newer_of(kept_after(it.entries, []), pins_for(files, name, it.environment)), only_kept)
+        name: Problem(lines, it.environment, index, newer_of(kept_after(it.entries, []), pins_for(files, name, it.environment), index), only_kept)
         for name, it in state.targets.items()
     }
     return locked(lines, problems, index)
@@ -54,6 +56,6 @@ def replaced(state, lines, files, index, only_kept=False):
 def begun_with(lines, environments, files, index):
     """The first state of a history that keeps what files pin."""
     problems = {
-        name: Problem(lines, it, index, newer_of({}, pins_for(files, name, it))) for name, it in sorted(environments.items())
+        name: Problem(lines, it, index, newer_of({}, pins_for(files, name, it), index)) for name, it in sorted(environments.items())
     }
     return locked(lines, problems, index)
