@@ -78,16 +78,16 @@ _reqlock() {
     [ -n "$words" ] || case $subcommand in
     "") words="$subcommands $options" ;;
     help) words=$subcommands ;;
-    init) words="$common --dir --index --env --pins" ;;
-    add) words="$common --dir --index --keep-locked --dry-run" ;;
-    remove) words="$common --dir --index --keep-locked --dry-run" ;;
-    constrain) words="$common --dir --index --keep-locked --dry-run" ;;
-    upgrade) words="$common --dir --index --keep-locked --dry-run" ;;
-    relock) words="$common --dir --index --keep-locked --dry-run" ;;
-    replace) words="$common --dir --index --keep-locked --dry-run --was --line --pins" ;;
+    init) words="$common --dir --index --env --pins --dry-run" ;;
+    add) words="$common --dir --index --keep-locked --if-needed --dry-run" ;;
+    remove) words="$common --dir --index --keep-locked --if-needed --dry-run" ;;
+    constrain) words="$common --dir --index --keep-locked --if-needed --dry-run" ;;
+    upgrade) words="$common --dir --index --keep-locked --if-needed --dry-run" ;;
+    relock) words="$common --dir --index --keep-locked --if-needed --dry-run" ;;
+    replace) words="$common --dir --index --keep-locked --if-needed --dry-run --was --line --pins" ;;
     undo) words="$common --dir --dry-run" ;;
     redo) words="$common --dir --dry-run" ;;
-    batch) words="$common --dir --index --keep-locked" ;;
+    batch) words="$common --dir --index --all-or-none --keep-locked" ;;
     try) words="$common --dir --index --env" ;;
     show) words="$common --dir --index --tree --json" ;;
     log) words="$common --dir --long --json" ;;

@@ -36,7 +36,7 @@ _rql() {
     sync) words="-h --help --venv --target --keep --exact --dry-run" ;;
     check) words="-h --help --current --json" ;;
     index) words="-h --help" ;;
-    env) words="add remove list -h --help" ;;
+    env) words="add remove lock list -h --help" ;;
     *) return ;;
     esac
     mapfile -t COMPREPLY < <(compgen -W "$words" -- "$word")
