@@ -174,7 +174,11 @@ class Wheels(Shell):
         self.assertEqual({path: path.read_bytes() for path in stands}, stands)
         for name in "requirements.txt", "pylock.toml":
             (self.folder / name).write_bytes(stands[self.folder / name] + b"# by hand\n")
-            self.assertEqual(self.run_lines(job), (4, f"reqlock: {name}: files-disagree\n"))
+            status, output = self.run_lines(job)
+            fault, *advice = output.splitlines()
+            self.assertEqual((status, fault), (4, f"reqlock: {name}: files-disagree"))
+            # (a red log says what to do next)
+            self.assertIn("reqlock init --pins pylock.toml", " ".join(advice))
             (self.folder / name).write_bytes(stands[self.folder / name])
 
 
