@@ -26,7 +26,7 @@ use Rattle.pep440.specs.Version.{VersionParts}
 use Rattle.snapshot.specs.Packages.{Index}
 use Rattle.problems.specs.Solutions.{version_for}
 use Rattle.states.proofs.EntryFacts.{rises-above, rises-rest}
-use Rattle.states.specs.Dependencies.{with_names}
+use Rattle.states.specs.Names.{with_names}
 use Rattle.edits.specs.Tied.KeptVersions.{takes, with_pin, with_pins}
 use Rattle.edits.specs.Pins.{greatest_pin, newer_of, pin_cmp, versions_on}
 use Rattle.edits.proofs.GreatestPins.{greater_in, greatest-by}

@@ -8,7 +8,7 @@ use Rattle.pep440.specs.Order.{version_cmp}
 use Rattle.pep440.specs.Version.{VersionParts}
 use Rattle.snapshot.specs.Packages.{Index, releases_of}
 use Rattle.problems.specs.Admission.{has_version}
-use Rattle.states.specs.Dependencies.{with_names}
+use Rattle.states.specs.Names.{with_names}
 use Rattle.edits.specs.declared.pins.TargetPins.{TargetPins}
 
 -- whether the index has a release of the name whose version equals this one

@@ -23,8 +23,9 @@ use Rattle.problems.specs.Admission.{release_at}
 use Rattle.problems.specs.Problem.{ProblemParts}
 use Rattle.problems.specs.Rules.{counts, wants, wants_of}
 use Rattle.problems.specs.declared.node.Node.{Node}
-use Rattle.states.specs.Dependencies.{names_at, names_in, names_needed, names_of, names_wanted, release_chosen, with_names}
-use Rattle.states.specs.Entries.{AreNeeds, entry_for}
+use Rattle.states.specs.Names.{with_names}
+use Rattle.states.specs.Tied.Dependencies.{names_at, names_in, names_needed, names_of, names_wanted, release_chosen}
+use Rattle.states.specs.Tied.Entries.{AreNeeds, entry_for}
 use Rattle.lists.proofs.Members.{Contains-nil}
 
 -- a look-up by bytes is the look-up of a map

@@ -20,7 +20,7 @@ use Rattle.pep440.specs.Python.{PythonParts, python_of}
 use Rattle.snapshot.specs.Files as index
 use Rattle.snapshot.specs.Lawful.{IsFile, IsRelease, IsSdist, IsWheel}
 use Rattle.snapshot.specs.Release.{Release}
-use Rattle.states.specs.Entries.{entry_with}
+use Rattle.states.specs.Tied.Entries.{entry_with}
 use Rattle.states.specs.Locks.{listed}
 use Rattle.states.proofs.LawfulNames.{rises-from}
 

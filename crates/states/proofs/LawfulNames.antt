@@ -10,7 +10,7 @@ use Rattle.std.specs.Str.{bytes_eq}
 use Rattle.markers.specs.Names.{is_normal}
 use Rattle.pylock.specs.Order.{rises}
 use Rattle.pylock.specs.Packages.{are_dependencies, is_other}
-use Rattle.states.specs.Entries.{AreNeeds}
+use Rattle.states.specs.Tied.Entries.{AreNeeds}
 use Rattle.lists.proofs.Members.{Contains-here, Contains-there}
 
 -- other names have other bytes

@@ -22,8 +22,9 @@ use Rattle.problems.specs.Problem.{ProblemParts}
 use Rattle.problems.specs.Rules.{counts, rules_of, wants}
 use Rattle.problems.specs.Solutions.{AreNeeded, version_for}
 use Rattle.problems.specs.declared.node.Node.{Node}
-use Rattle.states.specs.Dependencies.{leads_away, names_at, names_in, names_needed, names_over, names_wanted, release_chosen, with_names}
-use Rattle.states.specs.Entries.{AreEntries, AreNeeds, HasRelease, entry_for}
+use Rattle.states.specs.Names.{with_names}
+use Rattle.states.specs.Tied.Dependencies.{leads_away, names_at, names_in, names_needed, names_over, names_wanted, release_chosen}
+use Rattle.states.specs.Tied.Entries.{AreEntries, AreNeeds, HasRelease, entry_for}
 use Rattle.states.specs.Locks.{IsDependency, IsEntry, IsLockOf, versions_of}
 use Rattle.states.proofs.LawfulNames.{apart, differ, rises-from}
 use Rattle.lists.proofs.Members.{Contains-cons_cases, Contains-filter, Contains-filter_of, Contains-flat_map, Contains-flat_map_of, Contains-map, Contains-map_of, Contains-nil}

@@ -6,7 +6,7 @@ use Rattle.std.specs.Cmp.Lexicographic.{nat_list_cmp_total, slice_cmp}
 use Rattle.std.specs.List.Sorted.{IsStrictlySortedBy}
 use Rattle.std.specs.Ordering.{nat_cmp}
 use Rattle.lists.proofs.SortedInserts.{from-insert, kept-insert, put-insert, sorted-insert}
-use Rattle.states.specs.Dependencies.{with_names}
+use Rattle.states.specs.Names.{with_names}
 use Rattle.lists.proofs.Members.{Contains-cons_cases, Contains-here, Contains-nil, Contains-there}
 
 -- ---- order

@@ -3,8 +3,7 @@ pub mod Targets
 pub mod StateParts
 pub mod Pool
 pub mod Locks
-pub mod Dependencies
-pub mod Entries
+pub mod Names
 pub mod State
 pub mod Laws
 pub mod Tied

@@ -2,3 +2,5 @@
 pub mod LockForLines
 pub mod JoinedTargets
 pub mod Locks
+pub mod Dependencies
+pub mod Entries

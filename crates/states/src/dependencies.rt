@@ -3,7 +3,8 @@
 ghost use Rattle.std.specs.Prelude.{◌≡◌, ℕ, List, [], ◌∷◌, IfOk, OnOk, map};
 ghost use Rattle.pep508.specs.Requirement.{RequirementParts};
 ghost use Rattle.problems.specs.Solutions.{version_for};
-ghost use Rattle.states.specs.Dependencies.{leads_away, names_at, names_in, names_over, names_wanted, with_names};
+ghost use Rattle.states.specs.Names.{with_names};
+ghost use Rattle.states.specs.Tied.Dependencies.{leads_away, names_at, names_in, names_over, names_wanted};
 
 use pep440::Version;
 use pep508::{Name, Requirement};

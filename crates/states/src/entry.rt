@@ -5,7 +5,7 @@ ghost use Rattle.std.specs.Option.{option_map};
 ghost use Rattle.problems.specs.Admission.{release_at};
 ghost use Rattle.pylock.specs.Packages.{are_dependencies};
 ghost use Rattle.snapshot.specs.Lawful.{IsRelease};
-ghost use Rattle.states.specs.Entries.{HasRelease, entry_with};
+ghost use Rattle.states.specs.Tied.Entries.{HasRelease, entry_with};
 ghost use Rattle.states.specs.Locks.{listed, python_text, sdist_of, wheels_of};
 
 use lists::{Seq, Text};

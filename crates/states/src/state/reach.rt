@@ -35,7 +35,7 @@ impl Drop for Names {
 impl Model for Names {
     ghost use Rattle.std.specs.Prelude.{◌≡◌, ◌≢◌, ℕ, List, []};
     ghost use Rattle.std.specs.List.{AllPairs};
-    ghost use Rattle.states.specs.Dependencies.{with_names};
+    ghost use Rattle.states.specs.Names.{with_names};
 
     ghost Value = { List (List ℕ) };
 

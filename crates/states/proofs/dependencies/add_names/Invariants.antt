@@ -1,5 +1,6 @@
 use Rattle.std.proofs.Common.{◌≡◌, drop, map}
-use Rattle.states.specs.Dependencies.{names_wanted, with_names}
+use Rattle.states.specs.Names.{with_names}
+use Rattle.states.specs.Tied.Dependencies.{names_wanted}
 use Rattle.states.proofs.dependencies.add_names.Given as goal
 
 abbrev pub invariant-loop-dependency : goal.invariant-loop-dependency

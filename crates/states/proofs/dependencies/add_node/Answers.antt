@@ -4,7 +4,8 @@ use Rattle.pep508.specs.Requirement.{RequirementParts}
 use Rattle.problems.specs.Problem.{ProblemParts}
 use Rattle.problems.specs.Rules.{wants}
 use Rattle.problems.specs.Solutions.{version_for}
-use Rattle.states.specs.Dependencies.{names_in, names_of, names_wanted, with_names}
+use Rattle.states.specs.Names.{with_names}
+use Rattle.states.specs.Tied.Dependencies.{names_in, names_of, names_wanted}
 use Rattle.states.proofs.GatheredNames.{gathered-more, lookup-get, needed-wanted, none-needed}
 use Rattle.states.proofs.dependencies.add_node.Goals as goal
 use Rattle.states.proofs.dependencies.add_node.Goals.{in-Some-remove, in-None}

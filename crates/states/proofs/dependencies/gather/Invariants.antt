@@ -1,6 +1,7 @@
 use Rattle.std.proofs.Common.{◌≡◌, ℕ, List, [], drop}
 use Rattle.problems.specs.Solutions.{version_for}
-use Rattle.states.specs.Dependencies.{names_in, names_over, with_names}
+use Rattle.states.specs.Names.{with_names}
+use Rattle.states.specs.Tied.Dependencies.{names_in, names_over}
 use Rattle.states.proofs.dependencies.gather.Given as goal
 
 abbrev pub invariant-loop-node : goal.invariant-loop-node

@@ -1,5 +1,5 @@
 use Rattle.std.proofs.Common.{◌≡◌, ◌∙◌, Some}
-use Rattle.states.specs.Entries.{entry_with}
+use Rattle.states.specs.Tied.Entries.{entry_with}
 use Rattle.states.proofs.LawfulFiles.{entry-made}
 use Rattle.states.proofs.entry.entry_with.Goals as goal
 

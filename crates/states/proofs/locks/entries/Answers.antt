@@ -4,7 +4,7 @@ use Rattle.std.specs.Cmp.Lexicographic.{slice_cmp}
 use Rattle.std.specs.List.Sorted.{IsStrictlySortedBy}
 use Rattle.std.specs.Map.{keys_of}
 use Rattle.std.specs.Ordering.{nat_cmp}
-use Rattle.states.specs.Dependencies.{names_in, names_of}
+use Rattle.states.specs.Tied.Dependencies.{names_in, names_of}
 use Rattle.states.proofs.GatheredNames.{entries-more, lookup-there, needs-rest}
 use Rattle.states.proofs.LawfulNames.{dependencies-from}
 use Rattle.states.proofs.LockFacts.{releases-more}

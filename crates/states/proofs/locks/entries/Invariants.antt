@@ -8,8 +8,8 @@ use Rattle.std.specs.Ordering.{nat_cmp}
 use Rattle.pep440.specs.Version.{VersionParts}
 use Rattle.pylock.specs.Packages.{EntryParts}
 use Rattle.problems.specs.Admission.{release_at}
-use Rattle.states.specs.Dependencies.{names_in}
-use Rattle.states.specs.Entries.{AreNeeds, HasRelease, entry_for}
+use Rattle.states.specs.Tied.Dependencies.{names_in}
+use Rattle.states.specs.Tied.Entries.{AreNeeds, HasRelease, entry_for}
 use Rattle.states.proofs.locks.entries.Given as goal
 
 abbrev pub invariant-loop-name : goal.invariant-loop-name

@@ -2,9 +2,9 @@
 -- Tied to `IsLockOf` by the contract of `locked`; need not be read.
 use Rattle.std.specs.Prelude.{ℕ, ◌&&◌, not, Bool, List, [], map, filter, Option, Some, None, option_and_then, if◌then◌else◌}
 use Rattle.std.specs.BTreeMap.{BTreeMap, get}
-use Rattle.std.specs.BTreeSet.{BTreeSet, insert_key}
+use Rattle.std.specs.BTreeSet.{BTreeSet}
 use Rattle.std.specs.Cmp.Lexicographic.{slice_cmp}
-use Rattle.std.specs.List.{flat_map, fold}
+use Rattle.std.specs.List.{flat_map}
 use Rattle.std.specs.Ordering.{nat_cmp}
 use Rattle.std.specs.Str.{bytes_eq}
 use Rattle.pep440.specs.Version.{VersionParts}
@@ -40,10 +40,6 @@ names_at given chosen own node = if bytes_eq own node.name then names_needed giv
 -- the names that a package needs at nodes
 abbrev pub names_over : ProblemParts → (List ℕ → Option VersionParts) → List ℕ → List Node → List (List ℕ)
 names_over given chosen own nodes = flat_map (names_at given chosen own) nodes
-
--- names with more of them, each once and in the order of their bytes
-abbrev pub with_names : List (List ℕ) → List (List ℕ) → List (List ℕ)
-with_names names more = fold (insert_key (slice_cmp nat_cmp)) names more
 
 -- the names of a set, where there is one
 abbrev pub names_of : Option (BTreeSet (List ℕ)) → List (List ℕ)
