@@ -17,6 +17,7 @@ use Rattle.journal_format.specs.Lines.{IsStepLine, cut_line, header_of_line}
 use Rattle.journal.specs.Locks.{LockTexts, lock_at, odd_lock}
 use Rattle.journal_format.specs.declared.header.Header.{Header}
 use Rattle.journal_format.specs.declared.header.HeaderTarget.{HeaderTarget}
+use Rattle.journal.specs.declared.told.Told.{Told}
 
 -- ---- tests one after the other
 
@@ -156,6 +157,17 @@ Opens requirements locks journal =
     Then (StepLines begin.0 begin.0.steps 2 begin.1) (λ changes.
     Then (PastOf begin.0.cursor changes state) (λ past.
     IsAnswer (parts_of past changes)))))
+
+-- what lock files and a journal tell without the requirements file, or the first of their faults: the place of the present state, the
+-- steps that the journal's lines are, and the present targets
+abbrev pub ToldBy : LockTexts → List ℕ → Result Told Refusal → Type 0
+ToldBy locks journal =
+    Finds (BeginsWith journal) (JournalBroken 1) (λ begin.
+    Agrees (odd_lock begin.0 locks) (
+    Then (TargetsRead locks begin.0.targets) (λ targets.
+    Checks (AllByRecursion NamesEnvironment targets) (JournalBroken 1) (
+    Then (StepLines begin.0 begin.0.steps 2 begin.1) (λ changes.
+    IsAnswer (record { cursor = begin.0.cursor; changes = changes; targets = targets }))))))
 
 -- the names of a journal's targets, or that it doesn't begin with a header
 abbrev pub NamesTargets : List ℕ → Result (List (List ℕ)) Refusal → Type 0

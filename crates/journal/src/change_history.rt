@@ -88,6 +88,13 @@ impl ChangeHistory {
         }
     }
 
+    /// The change of each step, from the first on. It has no refusal.
+    pub(crate) fn all_changes(&self) -> &[Change]
+        ensures { result.now ≡ self.now.changes }
+    {
+        self.changes.as_slice()
+    }
+
     /// How many changes there are: one less than states. They lead from each state to the next, and all
     /// states are lawful.
     fn count(&self) -> usize

@@ -2,9 +2,9 @@
 
 ghost use Rattle.journal.specs.Opens.{Opens, Tells};
 
-mod locks;
-mod present;
-mod steps;
+pub(crate) mod locks;
+pub(crate) mod present;
+pub(crate) mod steps;
 mod walk;
 
 use crate::change_history::ChangeHistory;

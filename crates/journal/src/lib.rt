@@ -24,6 +24,7 @@ mod places;
 mod runs;
 mod saved;
 mod session;
+mod told;
 pub mod version_one;
 mod whole;
 
@@ -34,6 +35,7 @@ pub use crate::journal::Journal;
 pub use crate::runs::{apply, run};
 pub use crate::saved::Saved;
 pub use crate::session::Session;
+pub use crate::told::Told;
 pub use crate::whole::WholeHistory;
 pub use edits::{
     Change, Edit, Environment, Learning, Plain, Pool, Refusal, ReqFile, Resolver, SavedFile,

@@ -157,6 +157,13 @@ impl Session {
         self.history.change(step)
     }
 
+    /// The change of each step, from the first on. It has no refusal.
+    pub fn changes(&self) -> &[Change]
+        ensures changes { result.now ≡ self.now.changes }
+    {
+        self.history.all_changes()
+    }
+
     /// The state at a place of the history, from 0 to `steps`. The states between it and the present one
     /// are gone through.
     pub fn state_at(&self, alloc: Global, place: usize) -> Result<State, AllocError>

@@ -56,7 +56,7 @@ fn check_environment(alloc: Global, target: &Target) -> Result<(), Refusal>
 }
 
 /// Checks that each lock names its target's environment.
-fn check_environments(alloc: Global, targets: &[Target]) -> Result<(), Refusal>
+pub(crate) fn check_environments(alloc: Global, targets: &[Target]) -> Result<(), Refusal>
     ensures { Holds (AllByRecursion NamesEnvironment targets.now) (refusals.JournalBroken 1)
         result }
 {
