@@ -13,7 +13,7 @@ use clap::{Arg, Command};
 use std::alloc::{AllocError, Global};
 
 /// The program's version.
-const VERSION: &str = "0.1.0";
+const VERSION: &str = "0.2.0";
 
 const DIR: ArgWords<'static> = ArgWords::Valued(
     "dir",
