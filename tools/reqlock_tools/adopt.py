@@ -90,7 +90,7 @@ def begun(asked: AdoptRequest, base: Path, source: str) -> int:
     return DONE if beginning.is_taken else SOME
 
 
-def main(words: list[str]) -> int:
+def parser_of() -> argparse.ArgumentParser:
     parser = argparse.ArgumentParser(
         prog=tool("adopt"), description=called(__doc__ or ""), formatter_class=argparse.RawDescriptionHelpFormatter
     )
@@ -100,7 +100,11 @@ def main(words: list[str]) -> int:
     parser.add_argument("--env", metavar="FILE", required=True, help=called("the environment, as tools/environment.py prints it"))
     parser.add_argument("--dir", metavar="DIR", default=".", help="the folder of the new history")
     parser.add_argument("--program", metavar="FILE", help="reqlock, where it isn't on the PATH")
-    told = parser.parse_args(words)
+    return parser
+
+
+def main(words: list[str]) -> int:
+    told = parser_of().parse_args(words)
     try:
         return run(AdoptRequest(told.source, told.compiled, told.index, told.env, told.dir, told.program))
     except (Refusal, OSError) as refusal:

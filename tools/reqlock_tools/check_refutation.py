@@ -238,7 +238,7 @@ def check(problem: Problem, conflicts: list[Conflict]) -> list[str]:
     return [] if conflicts and not conflicts[-1] else [end]
 
 
-def main(words: list[str]) -> int:
+def parser_of() -> argparse.ArgumentParser:
     parser = argparse.ArgumentParser(
         prog=tool("check_refutation"), description=called(__doc__ or ""), formatter_class=argparse.RawDescriptionHelpFormatter
     )
@@ -250,7 +250,11 @@ def main(words: list[str]) -> int:
         "--upgrade", metavar="NAME", action="append", default=[], help="a name whose versions all count; may stand several times"
     )
     parser.add_argument("--steps", metavar="NUMBER", type=int, default=MOST_STEPS, help=f"give up behind so many steps; else {MOST_STEPS}")
-    options = parser.parse_args(words)
+    return parser
+
+
+def main(words: list[str]) -> int:
+    options = parser_of().parse_args(words)
     try:
         packages = at(options.INDEX, of_file, options.INDEX, read_index)
         environment = at(options.ENVIRONMENT, of_file, options.ENVIRONMENT, read_environment)

@@ -112,12 +112,16 @@ def requirements_text(environments: list[str], packages: dict[str, Package]) -> 
     return "".join(lines)
 
 
-def main(words: list[str]) -> int:
+def parser_of() -> argparse.ArgumentParser:
     parser = argparse.ArgumentParser(
         prog=tool("hashed_requirements"), description=called(__doc__ or ""), formatter_class=argparse.RawDescriptionHelpFormatter
     )
     parser.add_argument("lock", metavar="LOCK", help="the lock")
-    options = parser.parse_args(words)
+    return parser
+
+
+def main(words: list[str]) -> int:
+    options = parser_of().parse_args(words)
     try:
         data = read_bytes(options.lock)
     except (Refusal, OSError) as fault:

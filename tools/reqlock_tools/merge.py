@@ -277,7 +277,7 @@ def run(options: MergeRequest) -> int:
     return DONE
 
 
-def main(words: list[str]) -> int:
+def parser_of() -> argparse.ArgumentParser:
     parser = argparse.ArgumentParser(
         prog=tool("merge"), description=called(__doc__ or ""), formatter_class=argparse.RawDescriptionHelpFormatter
     )
@@ -289,6 +289,11 @@ def main(words: list[str]) -> int:
     histories = parser.add_mutually_exclusive_group()
     histories.add_argument("--ours", action="store_true", help="go on with the history of this side, though the other has another")
     histories.add_argument("--theirs", action="store_true", help="go on with the history of the other side")
+    return parser
+
+
+def main(words: list[str]) -> int:
+    parser = parser_of()
     told = parser.parse_args(words)
     index = told.index or os.environ.get("REQLOCK_INDEX")
     if not index:

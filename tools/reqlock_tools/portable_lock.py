@@ -219,14 +219,18 @@ def text_of(path: str) -> str:
     return decoded(path, data)
 
 
-def main(words: list[str]) -> int:
+def parser_of() -> argparse.ArgumentParser:
     parser = argparse.ArgumentParser(
         prog=tool("portable_lock"), description=called(__doc__ or ""), formatter_class=argparse.RawDescriptionHelpFormatter
     )
     parser.add_argument("lock", metavar="LOCK", help="a pylock.toml of reqlock")
     parser.add_argument("--index", metavar="FILE", required=True, help="the index that the lock was made of")
     parser.add_argument("--requirements", metavar="FILE", help="the requirements file that was locked")
-    options = parser.parse_args(words)
+    return parser
+
+
+def main(words: list[str]) -> int:
+    options = parser_of().parse_args(words)
     try:
         text, told = portable(Request(options.lock, options.index, options.requirements))
     except (Refusal, OSError) as fault:

@@ -75,7 +75,8 @@ def make_of_index(request: Request) -> None:
     write_snapshot(Run(plan, request.asking, credentials).snapshot(), request.output)
 
 
-def folder_request(arguments: list[str]) -> FolderRequest:
+def parser_of() -> argparse.ArgumentParser:
+    """Of a snapshot of a folder; `simple` and `again` have parsers of their own."""
     parser = argparse.ArgumentParser(
         prog=tool("snapshot"), description=called(__doc__ or ""), formatter_class=argparse.RawDescriptionHelpFormatter,
         epilog=limits_text(),
@@ -97,6 +98,11 @@ def folder_request(arguments: list[str]) -> FolderRequest:
         help="keep a release whose dependencies no document tells, as if it had none",
     )
     add_limits(parser)
+    return parser
+
+
+def folder_request(arguments: list[str]) -> FolderRequest:
+    parser = parser_of()
     options, rest = parser.parse_known_args(arguments)
     if any(re.match("https?://", word) for word in (options.folder, *rest)):
         parser.error(called("an index is asked by `snapshot.py simple URL ..`, with `simple` before all options"))
