@@ -1,7 +1,7 @@
 #!/usr/bin/env python3
 """Prints what tools say of problems without a solution: explanations.py [--only WORD ..] [--tools NAME ..] [--seconds SECONDS] [--whole]
 
-Each problem of tools/tests/made/refused.py is put into an index of its own on 127.0.0.1, and told to the pip of the Python that runs
+Each problem of tools/tests/support/made/refused.py is put into an index of its own on 127.0.0.1, and told to the pip of the Python that runs
 this, to `pdm`, `poetry` and `reqlock` of the PATH, of reqlock by `why --init --explain`. What a person reads is printed, without progress,
 without what is fetched and without the address of the index; with --whole all of it. What has no answer in so many seconds (120) is
 cut off. No other index is asked. docs/EXPLANATIONS.md has the answers beside one another.
@@ -19,9 +19,9 @@ from pathlib import Path
 
 TOP = Path(__file__).resolve().parent.parent
 sys.path.insert(0, str(TOP / "tools" / "tests"))
-from made.environments import LINUX  # noqa: E402
-from made.refused import PROBLEMS  # noqa: E402
-from made.served_index import MadeIndex, wheel_of  # noqa: E402
+from support.made.environments import LINUX  # noqa: E402
+from support.made.refused import PROBLEMS  # noqa: E402
+from support.made.served_index import MadeIndex, wheel_of  # noqa: E402
 
 PYTHON = ".".join(map(str, sys.version_info[:3]))
 HERE = LINUX | {"python_full_version": PYTHON, "implementation_version": PYTHON, "python_version": PYTHON.rpartition(".")[0]}

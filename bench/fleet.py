@@ -18,7 +18,7 @@ from pathlib import Path
 
 TOP = Path(__file__).resolve().parent.parent
 sys.path.insert(0, str(TOP / "tools" / "tests"))
-from made.environments import LINUX  # noqa: E402
+from support.made.environments import LINUX  # noqa: E402
 
 PACKAGES, RELEASES, LINES, DEPENDENCIES = 800, 38, 40, 3
 

@@ -15,7 +15,7 @@ from pathlib import Path
 TOP = Path(__file__).resolve().parent.parent
 sys.path[:0] = [str(TOP / "tools" / "tests"), str(TOP / "tools")]
 
-from made.served_index import MadeIndex, wheel_of  # noqa: E402
+from support.made.served_index import MadeIndex, wheel_of  # noqa: E402
 
 CALLS = "log", "show", "check", "undo", "remove rich", "lock --check", "--offline add flask", "sync"
 SETTINGS = 'index = ["{}"]\nenvironment = {{ python = "{}", platform = "linux-x86_64" }}\n'

@@ -3,7 +3,7 @@
 
 overgrown.py PROGRAM [NAME..]
 
-The inputs are those of tools/tests/made/overgrown.py, of which NAMEs choose some. Each is given with a quarter of its largest
+The inputs are those of tools/tests/support/made/overgrown.py, of which NAMEs choose some. Each is given with a quarter of its largest
 count, with half of it and with the whole, and its processor seconds are printed, with the peak memory of the last call. Where they grow
 with the input alone, each is about twice the one before. A call that takes more than SECONDS is ended, and larger ones are left out.
 """
@@ -18,8 +18,8 @@ from pathlib import Path
 
 TESTS = Path(__file__).resolve().parent.parent / "tools" / "tests"
 sys.path.insert(0, str(TESTS))
-from made.environments import LINUX  # noqa: E402
-from made.overgrown import SIZES  # noqa: E402
+from support.made.environments import LINUX  # noqa: E402
+from support.made.overgrown import SIZES  # noqa: E402
 
 SECONDS = 120
 STACK = 256 * 1024

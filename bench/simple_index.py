@@ -20,7 +20,7 @@ from pathlib import Path
 
 TOOLS = Path(__file__).resolve().parent.parent / "tools"
 sys.path.insert(0, str(TOOLS / "tests"))
-from made.served_index import Answers, MadeIndex, wheel_of  # noqa: E402
+from support.made.served_index import Answers, MadeIndex, wheel_of  # noqa: E402
 
 SEED = 1
 LINES = 30

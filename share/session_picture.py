@@ -16,7 +16,7 @@ from pathlib import Path
 TOP = Path(__file__).resolve().parent.parent
 sys.path.append(str(TOP / "tools" / "tests"))
 
-from terminals import read_all  # (it stands in tools/tests)
+from support.terminals import read_all  # (it stands in tools/tests)
 
 PROGRAM = TOP / "crates" / "reqlock" / "out" / "reqlock"
 COLUMNS = 96

@@ -8,7 +8,7 @@ import sys
 import unittest
 from pathlib import Path
 
-from places import IS_WITHOUT_PROGRAM, TESTS
+from support.places import IS_WITHOUT_PROGRAM, TESTS
 
 OPTIONAL = "optional: "
 NEEDS_PROGRAM = "the program", "there is no program"

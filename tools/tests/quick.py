@@ -12,8 +12,8 @@ import time
 from concurrent.futures import ThreadPoolExecutor
 from pathlib import Path
 
-from places import TOP
-from quick_calls import SESSIONS, Call, Session, shown_sessions
+from support.places import TOP
+from support.quick_calls import SESSIONS, Call, Session, shown_sessions
 
 CONFORMANCE = TOP / "crates" / "conformance"
 PROGRAM = TOP / "crates" / "reqlock"

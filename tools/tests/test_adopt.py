@@ -11,12 +11,12 @@ import tomllib
 import unittest
 from pathlib import Path
 
-from made.archives import wheel
-from made.served_index import wheel_of
-from places import PROGRAM, TOOLS, TOP
-from program import FILES, Program
-from rql_projects import Served
-from shown import indented_blocks
+from support.made.archives import wheel
+from support.made.served_index import wheel_of
+from support.places import PROGRAM, TOOLS, TOP
+from support.program import FILES, Program
+from support.rql_projects import Served
+from support.shown import indented_blocks
 
 SCRIPT = TOOLS / "adopt.py"
 ZEROS, ONES = "0" * 64, "1" * 64

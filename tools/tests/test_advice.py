@@ -6,10 +6,10 @@ import shutil
 import subprocess
 import sys
 
-from checkouts import SCRIPT, Checkouts
-from made.environments import LINUX, WINDOWS
-from made.releases import index_of
-from places import PROGRAM
+from support.checkouts import SCRIPT, Checkouts
+from support.made.environments import LINUX, WINDOWS
+from support.made.releases import index_of
+from support.places import PROGRAM
 
 RELEASES = ("web", "1", ["base"]), ("web", "2", ["base"]), ("base", "1", []), ("base", "2", []), ("tool", "1", []), ("tool", "2", [])
 OLD = RELEASES[0], RELEASES[2], RELEASES[4]

@@ -6,8 +6,8 @@ import subprocess
 import sys
 import unittest
 
-from made.archives import headers, sdist, tarred, wheel, zipped
-from terminals import shown_on_terminal
+from support.made.archives import headers, sdist, tarred, wheel, zipped
+from support.terminals import shown_on_terminal
 from test_snapshot import SCRIPT, Folder, body, file
 
 from reqlock_tools.libraries import library

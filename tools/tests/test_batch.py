@@ -5,7 +5,7 @@ import os
 import select
 import subprocess
 
-from program import Program
+from support.program import Program
 
 # each line and its reply, of a blank one none
 TALK = (

@@ -12,14 +12,14 @@ from itertools import count
 from pathlib import Path
 
 import test_why
-from made.environments import LINUX
-from made.releases import index_of
-from made.sessions import VERSIONS, Draw
-from places import IS_LONG, TOOLS
-from program import Program
-from rules.edits import KEEP
-from rules.locks import Problem, is_refutation, read_index, read_refutation
-from rules.requirements import Fault, cut_lines, holds, matches, read_line, read_marker, read_requirement, read_set, read_version
+from support.made.environments import LINUX
+from support.made.releases import index_of
+from support.made.sessions import VERSIONS, Draw
+from support.places import IS_LONG, TOOLS
+from support.program import Program
+from support.rules.edits import KEEP
+from support.rules.locks import Problem, is_refutation, read_index, read_refutation
+from support.rules.requirements import Fault, cut_lines, holds, matches, read_line, read_marker, read_requirement, read_set, read_version
 
 from reqlock_tools import check_refutation
 from reqlock_tools.libraries import library

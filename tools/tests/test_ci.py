@@ -5,7 +5,7 @@ import shutil
 import subprocess
 import unittest
 
-from places import TOP, new_folder
+from support.places import TOP, new_folder
 
 PACKAGES = "# what the tests need\nfish   # a shell\n\nzsh\nnone\n"
 ASKS = r"""

@@ -10,10 +10,10 @@ import unittest
 from functools import partial
 from unittest import mock
 
-from places import TOOLS, new_folder
-from terminals import shown_on_terminal
+from support.places import TOOLS, new_folder
+from support.terminals import shown_on_terminal
 from test_install import COMMANDS
-from wanted_libraries import want_libraries
+from support.wanted_libraries import want_libraries
 
 from reqlock_tools import moved, names
 

@@ -5,7 +5,7 @@ import os
 import shutil
 import unittest
 
-from completed import RUNS, Completed
+from support.completed import RUNS, Completed
 
 LINES = b"a\xff" + RUNS + b"\n" + b"b\xc3" + RUNS + b"\n c-1.2_x [e]>=1\n\xff" + RUNS + b"\n\\x\nD\xe2\x80\xa8" + RUNS + b"\n"
 TABLE = b"name  version  line  needed by\n" + RUNS + b"  1\ntarget  1\na\xff" + RUNS + b"  1\nb  2  1\n"

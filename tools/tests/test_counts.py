@@ -5,7 +5,7 @@ import subprocess
 import sys
 import unittest
 
-from places import TESTS, new_folder
+from support.places import TESTS, new_folder
 
 SAMPLE = """
 import unittest

@@ -2,7 +2,7 @@
 
 import unittest
 
-from places import new_folder
+from support.places import new_folder
 
 import crate_paths  # (it stands in tools/)
 

@@ -8,14 +8,14 @@ import tempfile
 import unittest
 from pathlib import Path
 
-from defined import clause_of, defined, definitions, extra_of, index_of, requirement_of, text, texts_of, value_of, version_of, written
-from made.chance import Chance
-from made.environments import LINUX, OLDER, WINDOWS
-from made.sessions import FAULTY_LINES, FAULTY_NAMES, FAULTY_SETS, Draw
-from places import IS_LONG, TOP
-from rules import edits, locks, pins
-from rules import requirements as rules
-from rules.versions import canonical, order_key, read_version
+from support.defined import clause_of, defined, definitions, extra_of, index_of, requirement_of, text, texts_of, value_of, version_of, written
+from support.made.chance import Chance
+from support.made.environments import LINUX, OLDER, WINDOWS
+from support.made.sessions import FAULTY_LINES, FAULTY_NAMES, FAULTY_SETS, Draw
+from support.places import IS_LONG, TOP
+from support.rules import edits, locks, pins
+from support.rules import requirements as rules
+from support.rules.versions import canonical, order_key, read_version
 
 from definitions.page import page
 from definitions.values import Made, Record

@@ -8,7 +8,7 @@ import subprocess
 import unittest
 from pathlib import Path
 
-from places import TOP, new_folder
+from support.places import TOP, new_folder
 
 RT = r"""#!/bin/bash
 name=$(basename "$PWD")

@@ -7,17 +7,17 @@ import json
 import os
 import unittest
 
-from drawn_sessions import locked_names, names_on
-from made.environments import LINUX, OLDER, WINDOWS
-from made.releases import file_of
-from made.sessions import Draw
-from places import IS_LONG
-from program import Program
-from rules.journals import file_name
-from rules.lock_tables import read_lock
-from rules.requirements import cut_lines
-from rules.states import Change, State, Target, after, inverse, is_minimal, places_of
-from rules.versions import order_key, read_version
+from support.drawn_sessions import locked_names, names_on
+from support.made.environments import LINUX, OLDER, WINDOWS
+from support.made.releases import file_of
+from support.made.sessions import Draw
+from support.places import IS_LONG
+from support.program import Program
+from support.rules.journals import file_name
+from support.rules.lock_tables import read_lock
+from support.rules.requirements import cut_lines
+from support.rules.states import Change, State, Target, after, inverse, is_minimal, places_of
+from support.rules.versions import order_key, read_version
 
 SESSIONS = 200 if IS_LONG else 12
 COMMANDS = 6

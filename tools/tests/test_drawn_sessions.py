@@ -3,9 +3,9 @@ one, two or three that may have names. There are 60 sessions of the first kind a
 
 import unittest
 
-from drawn_sessions import SEEN, SEEN_OF_TARGETS, DrawnSessions
-from made.environments import LINUX
-from places import IS_LONG
+from support.drawn_sessions import SEEN, SEEN_OF_TARGETS, DrawnSessions
+from support.made.environments import LINUX
+from support.places import IS_LONG
 
 SESSIONS = 1000 if IS_LONG else 60
 

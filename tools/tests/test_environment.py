@@ -7,9 +7,9 @@ import sys
 import unittest
 from collections import namedtuple
 
-from places import PROGRAM, TOOLS, new_folder
-from pythons import pythons
-from wanted_libraries import want_libraries
+from support.places import PROGRAM, TOOLS, new_folder
+from support.pythons import pythons
+from support.wanted_libraries import want_libraries
 
 from reqlock_tools import environment
 from reqlock_tools.libraries import needed

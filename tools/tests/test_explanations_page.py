@@ -4,11 +4,11 @@ isn't asked here: bench/explanations.py asks them. It needs the program, which .
 import json
 import unittest
 
-from made.environments import LINUX
-from made.refused import PROBLEMS
-from places import TOP
-from program import Program
-from shown import indented_blocks
+from support.made.environments import LINUX
+from support.made.refused import PROBLEMS
+from support.places import TOP
+from support.program import Program
+from support.shown import indented_blocks
 
 PAGE = (TOP / "docs" / "EXPLANATIONS.md").read_text(encoding="utf-8")
 # the Python that the others ran on

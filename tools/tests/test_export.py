@@ -8,13 +8,13 @@ import tomllib
 import unittest
 from xml.etree import ElementTree
 
-from checked_files import knows
-from made.environments import LINUX, WINDOWS
-from places import TOOLS, TOP
-from program import Program
-from rules.journals import file_name
-from rules.lock_tables import read_lock
-from shown import indented_blocks, typed_blocks
+from support.checked_files import knows
+from support.made.environments import LINUX, WINDOWS
+from support.places import TOOLS, TOP
+from support.program import Program
+from support.rules.journals import file_name
+from support.rules.lock_tables import read_lock
+from support.shown import indented_blocks, typed_blocks
 from test_wheels import FIRST, HEAD, Shell, make_wheels, section
 
 try:

@@ -6,15 +6,15 @@ import tomllib
 import unittest
 from collections import Counter
 
-from checked_files import knows
-from drawn_files import DrawnFiles
-from made.environments import LINUX
-from made.releases import file_of
-from made.sessions import SETS, Draw
-from places import IS_LONG
-from rules.edits import Refused, begun
-from rules.lock_tables import read_lock
-from rules.requirements import cut_lines
+from support.checked_files import knows
+from support.drawn_files import DrawnFiles
+from support.made.environments import LINUX
+from support.made.releases import file_of
+from support.made.sessions import SETS, Draw
+from support.places import IS_LONG
+from support.rules.edits import Refused, begun
+from support.rules.lock_tables import read_lock
+from support.rules.requirements import cut_lines
 from test_export import Marker, is_read
 
 # Each variable with texts that are of one kind: versions, of which no two are the same one, or texts that are none.

@@ -2,12 +2,12 @@
 
 import unittest
 
-from made.chance import Chance
-from made.releases import problem_in
-from places import IS_LONG
-from program import Program
-from rules.lock_tables import read_lock
-from rules.locks import best_solution, entries_of
+from support.made.chance import Chance
+from support.made.releases import problem_in
+from support.places import IS_LONG
+from support.program import Program
+from support.rules.lock_tables import read_lock
+from support.rules.locks import best_solution, entries_of
 
 SEEDS = 1000 if IS_LONG else 40
 EXTRAS = "e", "F_1", "g", "f.1", "h"

@@ -4,9 +4,9 @@ import os
 import subprocess
 import unittest
 
-from made.environments import LINUX, WINDOWS
-from places import PROGRAM
-from program import FILES, Program
+from support.made.environments import LINUX, WINDOWS
+from support.places import PROGRAM
+from support.program import FILES, Program
 
 UNWRITTEN = "reqlock: output: write failed\n"
 PAGE = os.sysconf("SC_PAGESIZE")

@@ -8,13 +8,13 @@ import subprocess
 import sys
 import unittest
 
-from made.environments import LINUX, WINDOWS
-from places import TESTS
-from program import NOBODY, Fifty
+from support.made.environments import LINUX, WINDOWS
+from support.places import SUPPORT
+from support.program import NOBODY, Fifty
 
 import growths  # (it stands in tools/)
 
-SOURCE = TESTS / "file_calls.c"
+SOURCE = SUPPORT / "file_calls.c"
 EDITS = (
     ["add", "p02"], ["remove", "p00"], ["constrain", "p00", "<2"], ["upgrade"], ["upgrade", "p00"], ["relock"], ["undo"], ["redo"],
     ["replace", "-"], ["relock", "--if-needed"],

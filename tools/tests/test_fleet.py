@@ -9,8 +9,8 @@ import time
 import unittest
 from pathlib import Path
 
-from fleets import ASKED, Fleet, table
-from terminals import shown_on_terminal
+from support.fleets import ASKED, Fleet, table
+from support.terminals import shown_on_terminal
 
 from reqlock_tools.fleet_output import same_reason
 from reqlock_tools.fleet_row import Entry, read_changes

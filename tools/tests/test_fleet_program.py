@@ -10,10 +10,10 @@ import tempfile
 import unittest
 from pathlib import Path
 
-from fleets import ASKED, SCRIPT, table
-from places import PROGRAM, TOP
-from program import Program
-from shown import printed_by, typed_blocks
+from support.fleets import ASKED, SCRIPT, table
+from support.places import PROGRAM, TOP
+from support.program import Program
+from support.shown import printed_by, typed_blocks
 
 
 class OverProgram(Program):

@@ -9,8 +9,8 @@ import sys
 import time
 import unittest
 
-from fleets import ASKED, Fleet, table
-from places import PROGRAM, TOP, new_folder
+from support.fleets import ASKED, Fleet, table
+from support.places import PROGRAM, TOP, new_folder
 
 from reqlock_tools.fleet_dask import INSTALL, Dask
 from reqlock_tools.fleet_request import Request, read_words

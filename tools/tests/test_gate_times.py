@@ -7,7 +7,7 @@ import tempfile
 import unittest
 from pathlib import Path
 
-from places import TOOLS
+from support.places import TOOLS
 
 import gate_times  # (it stands in tools/)
 

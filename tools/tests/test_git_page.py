@@ -8,9 +8,9 @@ import tempfile
 import unittest
 from pathlib import Path
 
-from checkouts import VARIABLES
-from places import PROGRAM, TOOLS, TOP
-from shown import indented_blocks, printed_by, typed_blocks
+from support.checkouts import VARIABLES
+from support.places import PROGRAM, TOOLS, TOP
+from support.shown import indented_blocks, printed_by, typed_blocks
 
 BEGIN = """
 git init --quiet --initial-branch=main

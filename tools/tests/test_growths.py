@@ -5,7 +5,7 @@ import sys
 import unittest
 import unittest.mock
 
-from places import TOOLS, new_folder
+from support.places import TOOLS, new_folder
 
 import growths  # (it stands in tools/)
 

@@ -6,8 +6,8 @@ import tempfile
 import unittest
 from pathlib import Path
 
-from places import TOOLS
-from wanted_libraries import want_libraries
+from support.places import TOOLS
+from support.wanted_libraries import want_libraries
 
 SCRIPT = TOOLS / "hashed_requirements.py"
 

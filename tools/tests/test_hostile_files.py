@@ -17,10 +17,10 @@ import zipfile
 from pathlib import Path
 from unittest import mock
 
-from made.archives import headers, tarred, zipped
-from made.environments import LINUX
-from places import IS_LONG, TOOLS, new_folder
-from wanted_libraries import want_libraries
+from support.made.archives import headers, tarred, zipped
+from support.made.environments import LINUX
+from support.places import IS_LONG, TOOLS, new_folder
+from support.wanted_libraries import want_libraries
 
 from reqlock_tools import adopt
 from reqlock_tools.archive_members import at_end_of_zip, in_tar, in_zip

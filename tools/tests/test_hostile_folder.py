@@ -8,8 +8,8 @@ import stat
 import subprocess
 import time
 
-from places import PROGRAM
-from program import FILES, Program
+from support.places import PROGRAM
+from support.program import FILES, Program
 
 # A call that waits for somebody to write to a pipe would wait for ever.
 SECONDS = 60

@@ -8,7 +8,7 @@ import time
 import unittest
 from unittest import mock
 
-from checkouts import NOTHING, Checkouts
+from support.checkouts import NOTHING, Checkouts
 from test_merge import LINES, RELEASES
 
 from reqlock_tools import merge_git, merge_sides

@@ -7,10 +7,10 @@ import time
 import unittest
 from contextlib import suppress
 
-from made.archives import headers
-from made.served_index import HTML_TYPE, JSON_TYPE, sdist_of, wheel_of
-from places import IS_LONG
-from simple_index import Simple
+from support.made.archives import headers
+from support.made.served_index import HTML_TYPE, JSON_TYPE, sdist_of, wheel_of
+from support.places import IS_LONG
+from support.simple_index import Simple
 
 from reqlock_tools.limits import Limits, limits_of
 from reqlock_tools.refusal import Refusal

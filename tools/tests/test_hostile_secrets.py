@@ -9,8 +9,8 @@ import threading
 import unittest
 from unittest import mock
 
-from made.archives import headers
-from made.served_index import HTML_TYPE, JSON_TYPE
+from support.made.archives import headers
+from support.made.served_index import HTML_TYPE, JSON_TYPE
 from test_hostile_index import METADATA, PATH, SECONDS, Hostile, page_of, raw
 
 from reqlock_tools.limits import Limits

@@ -3,9 +3,9 @@ folder, and a name or a URL with what acts on a terminal. Such a release is left
 
 import re
 
-from made.releases import file_of
-from program import Program
-from rules.locks import read_index
+from support.made.releases import file_of
+from support.program import Program
+from support.rules.locks import read_index
 
 # ends of lines, what turns a line's direction, other control characters, a space, what looks like ASCII, and what isn't ASCII
 ODD = "\n", "\r", "\t", "\0", "\x1b[2J", "\x7f", "\x9b", "\u202e", "\u2066", "\u200f", "\u2028", " ", "\u00a0", "\u0430", "é", "😀"

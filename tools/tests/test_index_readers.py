@@ -6,9 +6,9 @@ import json
 import re
 import unittest
 
-from made.chance import Chance
-from made.releases import file_of
-from program import Program
+from support.made.chance import Chance
+from support.made.releases import file_of
+from support.program import Program
 
 DRAWS = 150
 VERSIONS = "1", "1.0", "2", "3.0rc1", "2.0.post1", "one", ""

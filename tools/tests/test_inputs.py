@@ -2,7 +2,7 @@
 
 import unittest
 
-from program import Program
+from support.program import Program
 
 
 class Words(Program):

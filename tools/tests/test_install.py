@@ -9,10 +9,10 @@ import subprocess
 import unittest
 from pathlib import Path
 
-from made.environments import LINUX
-from made.releases import index_of
-from places import PROGRAM, TOP, new_folder
-from program import NOBODY
+from support.made.environments import LINUX
+from support.made.releases import index_of
+from support.places import PROGRAM, TOP, new_folder
+from support.program import NOBODY
 
 INSTALL = TOP / "install"
 SHARE = TOP / "share"

@@ -2,13 +2,13 @@
 
 import unittest
 
-from checked_files import IS_BUILT, checked, told
-from made.environments import LINUX
-from made.journals import ZEROS, altered, compact, entry, header, in_version, journal, lock_text, step
-from program import FILES
-from rules.journals import digest_of, opens, opens_in, read_header, read_step
-from rules.requirements import Fault
-from rules.states import Change, State, after, inverse, is_minimal, is_state
+from support.checked_files import IS_BUILT, checked, told
+from support.made.environments import LINUX
+from support.made.journals import ZEROS, altered, compact, entry, header, in_version, journal, lock_text, step
+from support.program import FILES
+from support.rules.journals import digest_of, opens, opens_in, read_header, read_step
+from support.rules.requirements import Fault
+from support.rules.states import Change, State, after, inverse, is_minimal, is_state
 
 ONES = "1" * 64
 BROKEN, DISAGREE = "journal-broken", "files-disagree"

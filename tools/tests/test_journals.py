@@ -5,11 +5,11 @@ hundredth alteration is tried, or with LONG_TESTS=1 each."""
 import unittest
 from itertools import islice, product
 
-from checked_files import IS_BUILT, checked, told
-from made.environments import LINUX, OLDER, WINDOWS
-from made.journals import altered, entry, journal, journal_of_targets, lock_text, step
-from places import IS_LONG
-from rules.journals import file_name, opens_in
+from support.checked_files import IS_BUILT, checked, told
+from support.made.environments import LINUX, OLDER, WINDOWS
+from support.made.journals import altered, entry, journal, journal_of_targets, lock_text, step
+from support.places import IS_LONG
+from support.rules.journals import file_name, opens_in
 
 PACE = 1 if IS_LONG else 100
 

@@ -7,15 +7,15 @@ import shutil
 import unittest
 from collections import Counter
 
-from drawn_files import DrawnFiles
-from drawn_sessions import DrawnSessions, locked_names, names_on
-from made.environments import LINUX, WINDOWS
-from made.kept_sessions import Draw
-from places import IS_LONG, TOP
-from program import Program
-from rules.edits import KEEP, Refused, edited, problems_after
-from rules.locks import Problem, is_refutation, read_index, read_refutation, solutions
-from rules.requirements import order_key, read_name, read_version
+from support.drawn_files import DrawnFiles
+from support.drawn_sessions import DrawnSessions, locked_names, names_on
+from support.made.environments import LINUX, WINDOWS
+from support.made.kept_sessions import Draw
+from support.places import IS_LONG, TOP
+from support.program import Program
+from support.rules.edits import KEEP, Refused, edited, problems_after
+from support.rules.locks import Problem, is_refutation, read_index, read_refutation, solutions
+from support.rules.requirements import order_key, read_name, read_version
 
 SESSIONS, STATES = (500, 1000) if IS_LONG else (50, 100)
 COMMANDS = 4

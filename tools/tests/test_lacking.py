@@ -6,12 +6,12 @@ import os
 import subprocess
 import unittest
 
-from made.environments import LINUX, WINDOWS
-from made.releases import index_of
-from made.served_index import wheel_of
-from places import PROGRAM
-from program import Program
-from simple_index import Simple
+from support.made.environments import LINUX, WINDOWS
+from support.made.releases import index_of
+from support.made.served_index import wheel_of
+from support.places import PROGRAM
+from support.program import Program
+from support.simple_index import Simple
 
 ASYNC = "asgiref ; extra == 'async'"
 FLASK = ("flask", "2.0.3", []), ("flask", "2.1", [ASYNC]), ("flask", "3.0", [ASYNC]), ("flask", "3.1.0", [ASYNC])

@@ -8,8 +8,8 @@ import tempfile
 import unittest
 from pathlib import Path
 
-from places import TOP
-from rules.requirements import read_requirement
+from support.places import TOP
+from support.rules.requirements import read_requirement
 
 BENCH = TOP / "bench"
 sys.path.append(str(BENCH))

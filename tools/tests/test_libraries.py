@@ -9,8 +9,8 @@ import sys
 import unittest
 from pathlib import Path
 
-from made.served_index import MadeIndex, wheel_of
-from places import TOOLS, new_folder
+from support.made.served_index import MadeIndex, wheel_of
+from support.places import TOOLS, new_folder
 
 from reqlock_tools.names import COMMANDS
 from reqlock_tools.rql import parser

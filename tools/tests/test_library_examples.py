@@ -4,7 +4,7 @@ import re
 import textwrap
 import unittest
 
-from places import TOP
+from support.places import TOP
 
 CRATES = TOP / "crates"
 CONFORMANCE = CRATES / "conformance"

@@ -9,8 +9,8 @@ import functools
 import sys
 import unittest
 
-from places import IS_LONG, built, new_folder
-from rules.library_scenarios import scenario_text, scenarios, wanted
+from support.places import IS_LONG, built, new_folder
+from support.rules.library_scenarios import scenario_text, scenarios, wanted
 
 import growths  # (these stand in tools/)
 from conformance_rows import behind_answers

@@ -10,9 +10,9 @@ import test_faults
 import test_file_calls
 import test_inputs
 import test_program
-from places import PROGRAM, TESTS, TOOLS, TOP
-from rules import requirements as rules
-from rules import sentences
+from support.places import PROGRAM, SUPPORT, TESTS, TOOLS, TOP
+from support.rules import requirements as rules
+from support.rules import sentences
 
 from reqlock_tools import fleet_request, markers, refutation_texts, specifiers
 from reqlock_tools.rql import parser
@@ -20,7 +20,7 @@ from reqlock_tools.rql import parser
 # What writes an operator in the program, and where its sign is drawn by tests and tools.
 SIGNS_OF = TOP / "crates" / "phrases" / "src" / "requirement_text.rt"
 DRAWN = (
-    [TOOLS / "requirements_table.py"], [TOOLS / "versions_table.py"], sorted((TESTS / "made").glob("*.py")), [TESTS / "test_export_drawn.py"],
+    [TOOLS / "requirements_table.py"], [TOOLS / "versions_table.py"], sorted((SUPPORT / "made").glob("*.py")), [TESTS / "test_export_drawn.py"],
     [TESTS / "test_simple_locks.py"], [TESTS / "test_check_refutation.py"], [TOP / "bench" / "generate.py"],
 )
 

@@ -4,15 +4,15 @@ import json
 import unittest
 from itertools import combinations
 
-from made.environments import LINUX
-from made.releases import index_in, problem_in
-from made.sessions import Draw
-from rules.edits import History, Refused, begun, edited, with_set
-from rules.locks import (
+from support.made.environments import LINUX
+from support.made.releases import index_in, problem_in
+from support.made.sessions import Draw
+from support.rules.edits import History, Refused, begun, edited, with_set
+from support.rules.locks import (
     Choice, Problem, best_solution, case_of, entries_of, is_refutation, read_index, read_refutation, solutions,
 )
-from rules.requirements import Fault, cut_lines, order_key
-from rules.states import is_state
+from support.rules.requirements import Fault, cut_lines, order_key
+from support.rules.states import is_state
 
 PROBLEMS = 60
 

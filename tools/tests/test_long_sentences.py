@@ -3,13 +3,13 @@ are asked for, and requirements. The texts stand here without the ends of lines 
 
 import unittest
 
-from made.environments import LINUX
-from made.releases import index_in
-from program import Program
-from rules.explanations import check, lines_of, numbered
-from rules.locks import Problem
-from rules.requirements import Fault
-from rules.sentences import cut
+from support.made.environments import LINUX
+from support.made.releases import index_in
+from support.program import Program
+from support.rules.explanations import check, lines_of, numbered
+from support.rules.locks import Problem
+from support.rules.requirements import Fault
+from support.rules.sentences import cut
 from test_sentences import BOUND, BOUND_FILE, BOUND_INDEX
 
 NUMBERS = tuple(map(str, range(1, 10)))

@@ -2,11 +2,11 @@
 
 import unittest
 
-from made.journals import entry
-from made.releases import file_of
-from program import HEAD, Program
-from rules.journals import opens_in
-from rules.lock_tables import read_lock
+from support.made.journals import entry
+from support.made.releases import file_of
+from support.program import HEAD, Program
+from support.rules.journals import opens_in
+from support.rules.lock_tables import read_lock
 
 COUNT = 120
 NAMES = [f"p{number:03}" for number in range(COUNT)]

@@ -3,7 +3,7 @@ them."""
 
 import unittest
 
-from made.environments import LINUX
+from support.made.environments import LINUX
 from test_check_refutation import MARKER_TEXTS, REQUIREMENT_TEXTS, SET_TEXTS, VERSION_TEXTS, checker
 
 from reqlock_tools.markers import NO_EXTRA, decided, tree_extras, tree_of, variables_of

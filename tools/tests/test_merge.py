@@ -9,10 +9,10 @@ import subprocess
 import time
 import unittest
 
-from checkouts import NOTHING, SCRIPT, Checkouts
-from made.environments import LINUX, WINDOWS
-from places import PROGRAM
-from program import limited
+from support.checkouts import NOTHING, SCRIPT, Checkouts
+from support.made.environments import LINUX, WINDOWS
+from support.places import PROGRAM
+from support.program import limited
 
 # `web` needs `base`, and newer releases of it newer ones.
 RELEASES = (

@@ -4,13 +4,13 @@ import shutil
 import subprocess
 import unittest
 
-from checkouts import NOTHING, Checkouts
-from made.environments import LINUX
-from made.sessions import Draw
-from places import IS_LONG
-from rules.locks import Problem, best_solution, is_solution, read_index
-from rules.pins import newer_of
-from rules.requirements import cut_lines, order_key, read_version
+from support.checkouts import NOTHING, Checkouts
+from support.made.environments import LINUX
+from support.made.sessions import Draw
+from support.places import IS_LONG
+from support.rules.locks import Problem, best_solution, is_solution, read_index
+from support.rules.pins import newer_of
+from support.rules.requirements import cut_lines, order_key, read_version
 from test_merge import LINES, RELEASES
 
 DAYS = 20 if IS_LONG else 3

@@ -5,7 +5,7 @@ import shlex
 import subprocess
 import unittest
 
-from places import PROGRAM
+from support.places import PROGRAM
 from test_terminal import Terminal
 
 RELEASES = ("flask", "2", ["click"]), ("flask", "3", ["click"]), ("click", "7", []), ("click", "8", []), ("pytest", "7.0", []), ("pytest", "8", [])

@@ -4,12 +4,12 @@ program, which ./check builds first."""
 import json
 import unittest
 
-from drawn_files import DrawnFiles
-from made.sessions import Draw
-from places import IS_LONG
-from program import Program
-from rules.edits import History, Refused, edited, problems_after
-from rules.newer import outdated
+from support.drawn_files import DrawnFiles
+from support.made.sessions import Draw
+from support.places import IS_LONG
+from support.program import Program
+from support.rules.edits import History, Refused, edited, problems_after
+from support.rules.newer import outdated
 
 SESSIONS = 300 if IS_LONG else 30
 EDITS = 4

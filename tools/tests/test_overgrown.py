@@ -5,9 +5,9 @@ short lines take little memory."""
 import resource
 import unittest
 
-from made.overgrown import SIZES, SMALL, blank_lines, short_comments
-from places import IS_LONG
-from program import Program
+from support.made.overgrown import SIZES, SMALL, blank_lines, short_comments
+from support.places import IS_LONG
+from support.program import Program
 
 STACK = 256 * 1024
 # for a mebibyte of short lines, with the program itself

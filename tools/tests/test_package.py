@@ -8,9 +8,9 @@ import subprocess
 import unittest
 import zipfile
 
-from packaged import VERSION_FILE, Packaged
-from places import TOP
-from program import NOBODY
+from support.packaged import VERSION_FILE, Packaged
+from support.places import TOP
+from support.program import NOBODY
 
 
 class Package(Packaged):

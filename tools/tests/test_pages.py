@@ -5,9 +5,9 @@ import re
 import unittest
 from pathlib import Path
 
-from places import TOP
+from support.places import TOP
 
-FOLDERS = ".", "bench", "crates/*", "docs", "docs/makers", "tools/tests/*"
+FOLDERS = ".", "bench", "crates/*", "docs", "docs/makers", "tools/tests/support/*"
 LINK = re.compile(r"\]\((?!https?:)([^()#\s]*)(?:#([^()\s]*))?\)")
 NAMED = re.compile(r"(?<![\w/])docs/[\w/]+\.md\b")
 

@@ -10,10 +10,10 @@ import time
 import tomllib
 import unittest
 
-from made.environments import LINUX
-from made.journals import entry, lock_text
-from made.releases import index_of
-from places import TOOLS, new_folder
+from support.made.environments import LINUX
+from support.made.journals import entry, lock_text
+from support.made.releases import index_of
+from support.places import TOOLS, new_folder
 
 from reqlock_tools.environment import VARIABLES
 

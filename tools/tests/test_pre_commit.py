@@ -7,8 +7,8 @@ import shutil
 import subprocess
 import unittest
 
-from places import PROGRAM, TOP
-from program import FILES, Program
+from support.places import PROGRAM, TOP
+from support.program import FILES, Program
 
 HOOKS = ".pre-commit-hooks.yaml"
 CONFIG = """repos:

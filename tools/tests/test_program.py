@@ -9,11 +9,11 @@ import subprocess
 import sys
 import unittest
 
-from made.environments import LINUX
-from made.releases import file_of, index_of
-from places import PROGRAM
-from program import FILES, NOBODY, Program, limited
-from rules.requirements import marker_text
+from support.made.environments import LINUX
+from support.made.releases import file_of, index_of
+from support.places import PROGRAM
+from support.program import FILES, NOBODY, Program, limited
+from support.rules.requirements import marker_text
 
 
 class Help(Program):

@@ -11,10 +11,10 @@ import tempfile
 import unittest
 from pathlib import Path
 
-from checked_files import knows
-from made.environments import LINUX, WINDOWS
-from places import IS_LONG, PROGRAM, new_folder
-from terminals import shown_on_terminal
+from support.checked_files import knows
+from support.made.environments import LINUX, WINDOWS
+from support.places import IS_LONG, PROGRAM, new_folder
+from support.terminals import shown_on_terminal
 
 import growths  # (these stand in tools/)
 from reqlock_tools.snapshot_output import compact

@@ -4,9 +4,9 @@ import re
 import unittest
 from pathlib import Path
 
-from places import TOP
+from support.places import TOP
 from quick import Answers, whole
-from quick_calls import SESSIONS, Call, session_of, shown_sessions
+from support.quick_calls import SESSIONS, Call, session_of, shown_sessions
 
 FOLDER = Path("/w/web")
 

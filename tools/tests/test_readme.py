@@ -11,11 +11,11 @@ import tempfile
 import unittest
 from pathlib import Path
 
-from made.served_index import MadeIndex, wheel_of
-from places import PROGRAM, TOOLS, TOP
-from program import Program
-from rql_projects import Served
-from shown import indented_blocks, printed_by, typed_blocks
+from support.made.served_index import MadeIndex, wheel_of
+from support.places import PROGRAM, TOOLS, TOP
+from support.program import Program
+from support.rql_projects import Served
+from support.shown import indented_blocks, printed_by, typed_blocks
 
 PAGES = "README.md", "docs/SESSIONS.md", "docs/ANSWERS.md", "docs/RULES.md", "docs/FAULTS.md", "docs/ADVICE.md"
 ADDRESS = "https://index.example/simple/"

@@ -6,17 +6,17 @@ import json
 import shutil
 import unittest
 
-from drawn_sessions import DrawnSessions
-from made.environments import LINUX, WINDOWS
-from made.releases import index_of
-from made.sessions import Draw
-from places import IS_LONG
-from program import Program, limited
-from rules.edits import History, Refused, edited, status_of
-from rules.journals import file_name
-from rules.locks import read_index
-from rules.pins import begun_with, newer_of, replaced
-from rules.requirements import cut_lines, read_version
+from support.drawn_sessions import DrawnSessions
+from support.made.environments import LINUX, WINDOWS
+from support.made.releases import index_of
+from support.made.sessions import Draw
+from support.places import IS_LONG
+from support.program import Program, limited
+from support.rules.edits import History, Refused, edited, status_of
+from support.rules.journals import file_name
+from support.rules.locks import read_index
+from support.rules.pins import begun_with, newer_of, replaced
+from support.rules.requirements import cut_lines, read_version
 
 SESSIONS = 300 if IS_LONG else 25
 MARKERS = "os_name == 'posix'", "os_name == 'nt'"

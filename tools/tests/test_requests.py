@@ -3,7 +3,7 @@
 import ast
 import unittest
 
-from places import TOOLS
+from support.places import TOOLS
 
 NAMESPACE = "argparse.Namespace"
 PARSING = "parse_args", "parse_known_args", "parse_intermixed_args"

@@ -2,8 +2,8 @@
 
 import unittest
 
-from made.environments import LINUX
-from rules.requirements import (
+from support.made.environments import LINUX
+from support.rules.requirements import (
     Fault, active_requirements, cut_lines, holds, marker_text, matches, order_key, read_environment, read_line, read_lines,
     read_marker, read_set, read_version,
 )

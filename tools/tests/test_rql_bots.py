@@ -8,11 +8,11 @@ import subprocess
 import sys
 import unittest
 
-from checkouts import VARIABLES
-from made.served_index import wheel_of
-from places import TOP
-from program import Program
-from rql_projects import SCRIPT, Served
+from support.checkouts import VARIABLES
+from support.made.served_index import wheel_of
+from support.places import TOP
+from support.program import Program
+from support.rql_projects import SCRIPT, Served
 
 HOOKS = ".pre-commit-hooks.yaml"
 CONFIG = """repos:

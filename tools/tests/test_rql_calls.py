@@ -8,9 +8,9 @@ import sys
 import time
 import unittest
 
-from places import PROGRAM, TOOLS
-from program import Program
-from rql_projects import SCRIPT, Projects
+from support.places import PROGRAM, TOOLS
+from support.program import Program
+from support.rql_projects import SCRIPT, Projects
 
 HANDED_ON = ("undo", "redo", "log", "diff", "show", "export", "skipped")
 WAITS = "#!/bin/sh\ntrap 'echo ended; exit 7' INT\necho begun\nwhile :; do sleep 0.05; done\n"

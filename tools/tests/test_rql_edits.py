@@ -11,8 +11,8 @@ import threading
 import time
 import unittest
 
-from made.served_index import wheel_of
-from rql_projects import ENVIRONMENT, SCRIPT, Projects, Served
+from support.made.served_index import wheel_of
+from support.rql_projects import ENVIRONMENT, SCRIPT, Projects, Served
 
 FLASK = (
     wheel_of("flask", "2.0", "werkzeug"),

@@ -2,8 +2,8 @@
 
 import unittest
 
-from made.served_index import wheel_of
-from rql_projects import ENVIRONMENT, Served
+from support.made.served_index import wheel_of
+from support.rql_projects import ENVIRONMENT, Served
 
 NAMES = "a", "b", "c"
 

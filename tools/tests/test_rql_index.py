@@ -7,9 +7,9 @@ import subprocess
 import sys
 import unittest
 
-from made.served_index import MadeIndex, sdist_of, wheel_of
-from rql_projects import ENVIRONMENT, SCRIPT, Served
-from terminals import shown_on_terminal
+from support.made.served_index import MadeIndex, sdist_of, wheel_of
+from support.rql_projects import ENVIRONMENT, SCRIPT, Served
+from support.terminals import shown_on_terminal
 
 
 class Indexes(Served):

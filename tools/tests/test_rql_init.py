@@ -6,9 +6,9 @@ import tomllib
 import unittest
 from unittest import mock
 
-from made.served_index import wheel_of
-from places import TOP
-from rql_projects import ENVIRONMENT, Projects, Served
+from support.made.served_index import wheel_of
+from support.places import TOP
+from support.rql_projects import ENVIRONMENT, Projects, Served
 
 from reqlock_tools.rql.defaults import VARIABLES_OF_INDEXES, index_of_pip, pip_told
 from reqlock_tools.rql.poetry import line_of, specifiers_of

@@ -6,8 +6,8 @@ import re
 import shutil
 import unittest
 
-from made.served_index import wheel_of
-from rql_projects import ENVIRONMENT, Committed, Served
+from support.made.served_index import wheel_of
+from support.rql_projects import ENVIRONMENT, Committed, Served
 
 WINDOWS = "--python", "3.11", "--platform", "windows-x86_64"
 

@@ -5,8 +5,8 @@ import subprocess
 import sys
 import unittest
 
-from completed import RUNS, SHARE, Completed
-from places import TOOLS
+from support.completed import RUNS, SHARE, Completed
+from support.places import TOOLS
 
 COMMANDS = {
     "init", "add", "remove", "constrain", "set", "upgrade", "relock", "lock", "sync", "check", "index", "env", "undo", "redo", "show", "tree",

@@ -4,9 +4,9 @@ import os
 import unittest
 import unittest.mock
 
-from places import new_folder
-from program import NOBODY
-from rql_projects import ENVIRONMENT, Projects
+from support.places import new_folder
+from support.program import NOBODY
+from support.rql_projects import ENVIRONMENT, Projects
 
 from reqlock_tools.refusal import Refusal
 from reqlock_tools.rql.faults import IndexFault

@@ -7,10 +7,10 @@ import tomllib
 import unittest
 from pathlib import Path
 
-from made.served_index import wheel_of
-from places import new_folder
-from rql_projects import ENVIRONMENT, Served
-from wanted_libraries import want_libraries
+from support.made.served_index import wheel_of
+from support.places import new_folder
+from support.rql_projects import ENVIRONMENT, Served
+from support.wanted_libraries import want_libraries
 
 from reqlock_tools.rql.faults import SettingsFault
 from reqlock_tools.rql.sources import differences, gather, gathered

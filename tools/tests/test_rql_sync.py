@@ -11,10 +11,10 @@ import sys
 import time
 import unittest
 
-from made.journals import lock_text
-from made.served_index import MadeIndex, sdist_of, wheel_of
-from rql_projects import Served
-from synced import PYTHON, Synced, locked_entry, site_of, variables
+from support.made.journals import lock_text
+from support.made.served_index import MadeIndex, sdist_of, wheel_of
+from support.rql_projects import Served
+from support.synced import PYTHON, Synced, locked_entry, site_of, variables
 
 PROJECT = """
 [build-system]

@@ -5,8 +5,8 @@ import shutil
 import subprocess
 import unittest
 
-from made.served_index import wheel_of
-from rql_projects import Served
+from support.made.served_index import wheel_of
+from support.rql_projects import Served
 
 ENVIRONMENTS = ("--env", "linux=.reqlock/environment.linux.json", "--env", "windows=.reqlock/environment.windows.json")
 

@@ -6,9 +6,9 @@ import re
 import shutil
 import unittest
 
-from made.served_index import wheel_of
-from rql_projects import Committed
-from synced import template
+from support.made.served_index import wheel_of
+from support.rql_projects import Committed
+from support.synced import template
 
 from reqlock_tools.rql.sync_installed import read_environment
 

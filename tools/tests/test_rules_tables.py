@@ -1,17 +1,18 @@
 """Tests of the rows of the crate conformance, and of rules/requirements.py, with rules/versions.py below it, by what packaging 23.0
 answers to them. tools/versions_table.py and tools/requirements_table.py print these parts of the rows and answers, and say where
-the rules differ by design. made/drawn_rows.py prints those that a second reading of the rules answers."""
+the rules differ by design. support/made/drawn_rows.py prints those that a second reading of the rules answers."""
 
 import json
 import subprocess
 import unittest
 
-from made import drawn_rows
-from places import TOOLS
-from rules.requirements import Fault, holds, matches, order_key, read_marker, read_requirement, read_set, read_version
+from support.made import drawn_rows
+from support.places import TOOLS
+from support.rules.requirements import Fault, holds, matches, order_key, read_marker, read_requirement, read_set, read_version
+
+from support.rules.versions import canonical
 
 from conformance_rows import lines_with_answers, printed_lines, printed_rows  # (these stand in tools/)
-from rules.versions import canonical
 
 VERSIONS, REQUIREMENTS = "versions_table.py", "requirements_table.py"
 DEBIAN = "/usr/bin/python3"

@@ -6,15 +6,15 @@ import re
 import shutil
 import unittest
 
-from made.journals import compact
-from places import PROGRAM, TESTS
-from program import FILES, Program
-from rules.journals import opens_in, read_header, read_step
-from rules.lock_tables import read_lock
-from rules.requirements import read_lines
-from rules.states import State, after, inverse, is_state
+from support.made.journals import compact
+from support.places import PROGRAM, SUPPORT
+from support.program import FILES, Program
+from support.rules.journals import opens_in, read_header, read_step
+from support.rules.lock_tables import read_lock
+from support.rules.requirements import read_lines
+from support.rules.states import State, after, inverse, is_state
 
-SESSIONS = TESTS / "saved_sessions"
+SESSIONS = SUPPORT / "saved_sessions"
 TOLD = json.loads((SESSIONS / "told.json").read_text(encoding="utf-8"))
 # of each session the cursor, the count of its steps, and its index
 PLACES = {

@@ -4,9 +4,9 @@ change, and `init --dry-run`."""
 import json
 import unittest
 
-from made.environments import LINUX, WINDOWS
-from made.releases import index_of
-from program import Program
+from support.made.environments import LINUX, WINDOWS
+from support.made.releases import index_of
+from support.program import Program
 
 RELEASES = ("a", "1", []), ("a", "2", []), ("b", "1", []), ("c", "1", [])
 # an index with another digest

@@ -6,17 +6,17 @@ import random
 import re
 import unittest
 
-from made.environments import LINUX
-from made.releases import index_in, index_of
-from made.unsolved import NAMES, Draw
-from places import IS_LONG
-from program import Program
-from rules.edits import KEEP
-from rules.explanations import check, lines_of, numbered
-from rules.left_out_releases import left_out
-from rules.locks import Problem, read_index
-from rules.requirements import Fault, read_line, read_version
-from rules.sentences import HELD
+from support.made.environments import LINUX
+from support.made.releases import index_in, index_of
+from support.made.unsolved import NAMES, Draw
+from support.places import IS_LONG
+from support.program import Program
+from support.rules.edits import KEEP
+from support.rules.explanations import check, lines_of, numbered
+from support.rules.left_out_releases import left_out
+from support.rules.locks import Problem, read_index
+from support.rules.requirements import Fault, read_line, read_version
+from support.rules.sentences import HELD
 
 COUNT, COUNT_OF_KEPT = (1000, 300) if IS_LONG else (100, 30)
 # lines over an index, and a text on them as it is printed but for the ends of lines

@@ -2,10 +2,10 @@
 
 import unittest
 
-from made.releases import problem_in
-from made.set_refutation_lists import LISTS, problem_of
-from rules.locks import solutions
-from rules.set_refutations import case_of, is_accepted, read_conflict
+from support.made.releases import problem_in
+from support.made.set_refutation_lists import LISTS, problem_of
+from support.rules.locks import solutions
+from support.rules.set_refutations import case_of, is_accepted, read_conflict
 
 
 class SetRefutations(unittest.TestCase):

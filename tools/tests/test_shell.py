@@ -5,7 +5,7 @@ import os
 import subprocess
 import unittest
 
-from program import Program
+from support.program import Program
 
 
 class Shell(Program):

@@ -4,12 +4,12 @@ need the program, which ./check builds first."""
 import json
 import unittest
 
-from drawn_files import DrawnFiles
-from made.releases import file_of
-from made.sessions import Draw
-from places import IS_LONG
-from rules.edits import problems_after
-from rules.newer import told_entries, tree
+from support.drawn_files import DrawnFiles
+from support.made.releases import file_of
+from support.made.sessions import Draw
+from support.places import IS_LONG
+from support.rules.edits import problems_after
+from support.rules.newer import told_entries, tree
 
 STATES = 300 if IS_LONG else 30
 RELEASES = ("a", "1", ["b<2", "c[x]"]), ("b", "1", ["d"]), ("c", "1", ['d>=1; extra=="x"', "d; os_name=='nt'"]), ("d", "1", [])

@@ -7,10 +7,10 @@ import platform
 import sys
 import unittest
 
-from made.served_index import sdist_of, wheel_of
-from rules.requirements import Fault, holds, read_environment, read_requirement
-from simple_index import LINUX, Simple, snapshot
-from wanted_libraries import ASKING, want_libraries
+from support.made.served_index import sdist_of, wheel_of
+from support.rules.requirements import Fault, holds, read_environment, read_requirement
+from support.simple_index import LINUX, Simple, snapshot
+from support.wanted_libraries import ASKING, want_libraries
 
 from conformance_rows import printed_rows  # (these stand in tools/)
 from reqlock_tools.markers import NO_EXTRA, Markers

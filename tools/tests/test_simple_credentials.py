@@ -5,9 +5,9 @@ import os
 import unittest
 from unittest import mock
 
-from made.served_index import wheel_of
-from places import new_folder
-from simple_index import Simple
+from support.made.served_index import wheel_of
+from support.places import new_folder
+from support.simple_index import Simple
 
 from reqlock_tools.refusal import Refusal
 from reqlock_tools.simple.addresses import address_of

@@ -5,9 +5,9 @@ import subprocess
 import sys
 import unittest
 
-from made.served_index import sdist_of, wheel_of
-from places import TOOLS
-from simple_index import Simple
+from support.made.served_index import sdist_of, wheel_of
+from support.places import TOOLS
+from support.simple_index import Simple
 
 from reqlock_tools.simple.left import ranges_of
 

@@ -7,8 +7,8 @@ import time
 import unittest
 from unittest import mock
 
-from made.served_index import JSON_TYPE, wheel_of
-from simple_index import Simple
+from support.made.served_index import JSON_TYPE, wheel_of
+from support.simple_index import Simple
 
 from reqlock_tools.simple import known
 from reqlock_tools.simple.fresh import freshness, is_fresh, seconds_of

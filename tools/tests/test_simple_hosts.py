@@ -5,8 +5,8 @@ import time
 import unittest
 from unittest import mock
 
-from made.served_index import sdist_of, wheel_of
-from simple_index import Simple
+from support.made.served_index import sdist_of, wheel_of
+from support.simple_index import Simple
 
 
 def free_port():

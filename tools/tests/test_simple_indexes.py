@@ -3,8 +3,8 @@
 import time
 import unittest
 
-from made.served_index import wheel_of
-from simple_index import LINUX, Simple
+from support.made.served_index import wheel_of
+from support.simple_index import LINUX, Simple
 from test_simple_hosts import free_port
 
 

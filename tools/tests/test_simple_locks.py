@@ -10,9 +10,9 @@ import tomllib
 import unittest
 from concurrent.futures import ThreadPoolExecutor
 
-from made.served_index import sdist_of, wheel_of
-from places import IS_LONG, PROGRAM, TOOLS
-from simple_index import Simple
+from support.made.served_index import sdist_of, wheel_of
+from support.places import IS_LONG, PROGRAM, TOOLS
+from support.simple_index import Simple
 
 WORLDS = 300 if IS_LONG else 30
 SIDE_BY_SIDE = 4

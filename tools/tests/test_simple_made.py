@@ -3,9 +3,9 @@
 import json
 import unittest
 
-from made.served_index import sdist_of, wheel_of
-from places import TOP
-from simple_index import LINUX, Simple
+from support.made.served_index import sdist_of, wheel_of
+from support.places import TOP
+from support.simple_index import LINUX, Simple
 
 WINDOWS = TOP / "examples" / "web" / "windows.json"
 

@@ -3,9 +3,9 @@
 import random
 import unittest
 
-from made.archives import headers, zipped
-from made.served_index import Served, sdist_of, wheel_of
-from simple_index import Simple
+from support.made.archives import headers, zipped
+from support.made.served_index import Served, sdist_of, wheel_of
+from support.simple_index import Simple
 
 LARGE = 300_000
 

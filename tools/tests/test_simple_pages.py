@@ -5,8 +5,8 @@ import gzip
 import json
 import unittest
 
-from made.served_index import HTML_TYPE, JSON_TYPE, sdist_of, wheel_of
-from simple_index import Simple
+from support.made.served_index import HTML_TYPE, JSON_TYPE, sdist_of, wheel_of
+from support.simple_index import Simple
 
 from reqlock_tools.limits import Limits
 from reqlock_tools.simple.pages import read_page

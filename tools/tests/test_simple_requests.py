@@ -16,10 +16,10 @@ import unittest
 from pathlib import Path
 from unittest import mock
 
-from made.served_index import JSON_TYPE, sdist_of, wheel_of
-from places import TOOLS
-from simple_index import Simple
-from terminals import shown_on_terminal
+from support.made.served_index import JSON_TYPE, sdist_of, wheel_of
+from support.places import TOOLS
+from support.simple_index import Simple
+from support.terminals import shown_on_terminal
 from test_snapshot import heed_keyboard
 
 from reqlock_tools.libraries import library

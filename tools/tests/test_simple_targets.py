@@ -7,9 +7,9 @@ import subprocess
 import sys
 import unittest
 
-from made.served_index import sdist_of, wheel_of
-from places import IS_LONG, PROGRAM, TOOLS
-from simple_index import Simple
+from support.made.served_index import sdist_of, wheel_of
+from support.places import IS_LONG, PROGRAM, TOOLS
+from support.simple_index import Simple
 from test_simple_locks import pip
 
 WORLDS = 40 if IS_LONG else 4

@@ -10,8 +10,8 @@ import time
 import unittest
 from pathlib import Path
 
-from places import TESTS, TOOLS, new_folder
-from wanted_libraries import want_libraries
+from support.places import SUPPORT, TOOLS, TOP, new_folder
+from support.wanted_libraries import want_libraries
 
 SCRIPT = TOOLS / "snapshot.py"
 ZEROS = "0" * 64
@@ -111,8 +111,8 @@ class Shipped(unittest.TestCase):
     """The documents that are shipped give the snapshot beside them."""
 
     def test_gives_the_snapshot(self):
-        status, output, errors = run(TESTS / "documents")
-        self.assertEqual(output, (TESTS / "expected.json").read_text(encoding="utf-8"))
+        status, output, errors = run(SUPPORT / "documents")
+        self.assertEqual(output, (SUPPORT / "expected.json").read_text(encoding="utf-8"))
         self.assertEqual(status, 0)
         wanted = "tea-pot.json: Tea.Pot: left out, as no document tells their requires_dist: 1.9\n"
         self.assertIn(wanted, errors)
@@ -121,12 +121,12 @@ class Shipped(unittest.TestCase):
     def test_writes_it_to_a_file(self):
         with tempfile.TemporaryDirectory() as folder:
             path = Path(folder) / "index.json"
-            status, output, _ = run(TESTS / "documents", "--output", path)
+            status, output, _ = run(SUPPORT / "documents", "--output", path)
             self.assertEqual((status, output), (0, ""))
-            self.assertEqual(path.read_bytes(), (TESTS / "expected.json").read_bytes())
+            self.assertEqual(path.read_bytes(), (SUPPORT / "expected.json").read_bytes())
 
     def test_keeps_a_release_of_unknown_dependencies_where_asked(self):
-        _, output, errors = run(TESTS / "documents", "--assume-no-dependencies")
+        _, output, errors = run(SUPPORT / "documents", "--assume-no-dependencies")
         versions = [release["version"] for release in json.loads(output)["packages"][2]["releases"]]
         self.assertEqual(versions, ["1.10", "2.0", "1.9", "0.1"])
         self.assertNotIn("left out", errors)
@@ -315,7 +315,7 @@ class Needed(Folder):
         wanted = ["no document tells of these packages, which are needed: b c d f h", "extras that are followed: a[x] e[y]"]
         self.assertEqual(self.absent("--for", path), wanted)
         wanted[0] = "no document tells of these packages, which are needed: b c f"
-        environment = TESTS.parent.parent / "examples" / "web" / "environment.json"
+        environment = TOP / "examples" / "web" / "environment.json"
         self.assertEqual(self.absent("--for", path, "--env", environment), wanted)
         path.write_text("e\n", encoding="utf-8")
         self.assertEqual(self.absent("--for", path), [])

@@ -7,10 +7,10 @@ import re
 import shutil
 import unittest
 
-from made.served_index import MadeIndex, sdist_of, wheel_of
-from places import TOP, new_folder
-from shown import printed_by, typed_blocks
-from wanted_libraries import ASKING, want_libraries
+from support.made.served_index import MadeIndex, sdist_of, wheel_of
+from support.places import TOP, new_folder
+from support.shown import printed_by, typed_blocks
+from support.wanted_libraries import ASKING, want_libraries
 
 from reqlock_tools.limits import Limits
 

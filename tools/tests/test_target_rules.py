@@ -3,12 +3,12 @@ answers each of them alike."""
 
 import unittest
 
-from checked_files import IS_BUILT, checked, told
-from made.environments import LINUX, OLDER, WINDOWS
-from made.journals import ZEROS, compact, entry, header_of_targets, lock_text, step
-from rules.journals import file_name, is_target_name, opens, opens_in, read_header, read_step
-from rules.requirements import Fault
-from rules.states import Change, State, Target, after, inverse, is_minimal, is_state
+from support.checked_files import IS_BUILT, checked, told
+from support.made.environments import LINUX, OLDER, WINDOWS
+from support.made.journals import ZEROS, compact, entry, header_of_targets, lock_text, step
+from support.rules.journals import file_name, is_target_name, opens, opens_in, read_header, read_step
+from support.rules.requirements import Fault
+from support.rules.states import Change, State, Target, after, inverse, is_minimal, is_state
 
 ONES = "1" * 64
 BROKEN, DISAGREE = "journal-broken", "files-disagree"

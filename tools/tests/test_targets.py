@@ -4,10 +4,10 @@ first."""
 import json
 import unittest
 
-from made.environments import LINUX, WINDOWS
-from program import HEAD, Program
-from rules.journals import file_name, opens_in
-from rules.locks import Problem, is_refutation, read_index, read_refutation
+from support.made.environments import LINUX, WINDOWS
+from support.program import HEAD, Program
+from support.rules.journals import file_name, opens_in
+from support.rules.locks import Problem, is_refutation, read_index, read_refutation
 
 TWO = {"linux": LINUX, "win": WINDOWS}
 # what `a` and `c` need on Windows alone; of `z` there is no release

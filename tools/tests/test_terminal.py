@@ -7,10 +7,10 @@ import subprocess
 import unittest
 import xml.etree.ElementTree as xml
 
-from made.environments import LINUX, WINDOWS
-from places import PROGRAM, TOP
-from program import Program
-from terminals import shown_on_terminal
+from support.made.environments import LINUX, WINDOWS
+from support.places import PROGRAM, TOP
+from support.program import Program
+from support.terminals import shown_on_terminal
 
 CODE = re.compile("\x1b\\[[0-9]*m")
 BOLD, RED, GREEN, END = "\x1b[1m", "\x1b[31m", "\x1b[32m", "\x1b[0m"

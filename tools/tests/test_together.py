@@ -9,10 +9,10 @@ import time
 import unittest
 from collections import Counter
 
-from made.environments import LINUX, WINDOWS
-from made.releases import index_of
-from places import IS_LONG, PROGRAM
-from program import Fifty, limited
+from support.made.environments import LINUX, WINDOWS
+from support.made.releases import index_of
+from support.places import IS_LONG, PROGRAM
+from support.program import Fifty, limited
 
 NAMES = Fifty.NAMES
 STOPS = 3000 if IS_LONG else 300

@@ -5,7 +5,7 @@ import subprocess
 import tempfile
 import unittest
 
-from places import TOOLS
+from support.places import TOOLS
 
 
 class Types(unittest.TestCase):

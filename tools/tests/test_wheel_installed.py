@@ -8,12 +8,12 @@ import subprocess
 import sys
 import unittest
 
-from made.archives import wheel
-from made.environments import LINUX
-from made.library_wheels import make_library_wheels, needed_names, python_with_libraries
-from made.releases import index_of
-from packaged import PAGES, Packaged, own_variables
-from places import PROGRAM, TOP
+from support.made.archives import wheel
+from support.made.environments import LINUX
+from support.made.library_wheels import make_library_wheels, needed_names, python_with_libraries
+from support.made.releases import index_of
+from support.packaged import PAGES, Packaged, own_variables
+from support.places import PROGRAM, TOP
 from test_install import COMMANDS
 
 TOOLS = [command for command in COMMANDS if command != "reqlock"]

@@ -9,12 +9,12 @@ import subprocess
 import tomllib
 import unittest
 
-from checked_files import knows
-from made.archives import wheel
-from made.environments import LINUX, WINDOWS
-from places import PROGRAM, TOP, new_folder
-from program import FILES
-from shown import indented_blocks, typed_blocks
+from support.checked_files import knows
+from support.made.archives import wheel
+from support.made.environments import LINUX, WINDOWS
+from support.places import PROGRAM, TOP, new_folder
+from support.program import FILES
+from support.shown import indented_blocks, typed_blocks
 
 HEAD = "# From a folder of wheels to an installed environment"
 ATTRIBUTES = TOP / "examples" / "git" / ".gitattributes"

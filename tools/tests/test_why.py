@@ -2,9 +2,9 @@
 
 import unittest
 
-from made.releases import SHARED, UNMET_EXTRA, problem_in
-from program import Program
-from rules.locks import is_refutation, read_refutation
+from support.made.releases import SHARED, UNMET_EXTRA, problem_in
+from support.program import Program
+from support.rules.locks import is_refutation, read_refutation
 
 # a release that is left out, since it asks for what can't be read
 LEFT_OUT = ("b", "1", ["c>1"]), ("b", "2", ["c @ https://c.example"]), ("c", "1", [])

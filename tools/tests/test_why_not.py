@@ -4,15 +4,15 @@ Over drawn files what it says that an upgrade takes is what the upgrade takes.""
 import re
 import unittest
 
-from drawn_files import DrawnFiles
-from made.environments import LINUX, WINDOWS
-from made.sessions import Draw
-from places import IS_LONG
-from program import Program
-from rules.absent_releases import first_given_way
-from rules.edits import problems_after
-from rules.locks import Problem
-from rules.versions import order_key, read_version
+from support.drawn_files import DrawnFiles
+from support.made.environments import LINUX, WINDOWS
+from support.made.sessions import Draw
+from support.places import IS_LONG
+from support.program import Program
+from support.rules.absent_releases import first_given_way
+from support.rules.edits import problems_after
+from support.rules.locks import Problem
+from support.rules.versions import order_key, read_version
 
 SESSIONS = 2000 if IS_LONG else 200
 STAYS = re.compile(r"(\S+) stays at (\S+), since the lock has it; with (\S+) no name that is taken before it would change\. (.*)")

@@ -2,10 +2,10 @@
 
 import unittest
 
-from made.environments import LINUX
-from made.releases import SHARED
-from program import Program
-from rules.locks import Problem, is_refutation, read_index, read_refutation
+from support.made.environments import LINUX
+from support.made.releases import SHARED
+from support.program import Program
+from support.rules.locks import Problem, is_refutation, read_index, read_refutation
 
 # `b` 2 asks for a newer Python, `c` 2 was taken back, and `d` 2 is a pre-release
 KEPT_BACK = (

@@ -7,9 +7,9 @@ import subprocess
 import sys
 import unittest
 
-from made.refused import boto_of
-from places import IS_LONG, TOOLS
-from program import Program
+from support.made.refused import boto_of
+from support.places import IS_LONG, TOOLS
+from support.program import Program
 
 SCRIPT = TOOLS / "check_refutation.py"
 SECONDS = 120

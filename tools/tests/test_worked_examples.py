@@ -7,8 +7,8 @@ import re
 import stat
 import unittest
 
-from made.releases import SHARED, UNMET_EXTRA, file_of
-from program import HEAD, Program
+from support.made.releases import SHARED, UNMET_EXTRA, file_of
+from support.program import HEAD, Program
 
 # Indexes: releases of a name and a version, what they need, and what else their objects have.
 A_C = ("a", "1", []), ("c", "1", []), ("c", "2", [])

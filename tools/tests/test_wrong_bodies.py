@@ -10,7 +10,7 @@ import unittest.mock
 from collections.abc import Iterator
 from pathlib import Path
 
-from places import TOP, new_folder
+from support.places import TOP, new_folder
 
 import try_plants  # (it stands in tools/, as does the next)
 from wrong_bodies import MUST_FAIL, PLANTS, Unappliable, edited_files, edits_of, folder_names

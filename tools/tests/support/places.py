@@ -1,0 +1,33 @@
+"""Where things stand, which tests are asked for, and a folder for a test. With this imported, the modules of tools/ are found by
+their names."""
+
+import os
+import sys
+import tempfile
+from pathlib import Path
+
+SUPPORT = Path(__file__).resolve().parent
+TESTS = SUPPORT.parent
+TOOLS = TESTS.parent
+TOP = TOOLS.parent
+IS_LONG = os.environ.get("LONG_TESTS") == "1"
+IS_WITHOUT_PROGRAM = os.environ.get("WITHOUT_PROGRAM") == "1"
+
+sys.path.insert(0, str(TOOLS))
+# (a job that runs the tests is told more of the program's calls than what they test)
+os.environ.pop("CI", None)
+
+
+def built(crate: str) -> Path:
+    """The program of a crate. Where tests without a program are asked for, it isn't there."""
+    return TOP / "crates" / crate / ("none" if IS_WITHOUT_PROGRAM else "out") / crate
+
+
+PROGRAM = built("reqlock")
+
+
+def new_folder(add_cleanup):
+    """A new folder. What removes it is given to the `addCleanup` of a test, or to the `addClassCleanup` of a class."""
+    folder = tempfile.TemporaryDirectory()
+    add_cleanup(folder.cleanup)
+    return Path(folder.name)

@@ -1,0 +1,17 @@
+"""Why a lock hasn't a release that could be had: what the walk takes first, by a second reading of the rules."""
+
+from support.rules.locks import needed_nodes, solutions
+
+
+def first_given_way(problem, asked, name):
+    """The first name that is taken before this one and that no solution of `asked`, the problem with a line on the release, keeps at its
+    locked version beside what is taken before it, with the place of the newest release that goes with that; None where each stays."""
+    left, taken = list(solutions(asked)), {}
+    while True:
+        other = min((it for it, _ in needed_nodes(problem, taken) if it not in taken), default=name)
+        if other == name:
+            return None
+        kept = [it for it in left if it[other] == problem.kept.get(other)]
+        if not kept:
+            return other, min(it[other] for it in left)
+        left, taken[other] = kept, problem.kept[other]

@@ -1,0 +1,61 @@
+"""Files of pins, and what an edit with them keeps: the rules read plainly, for tests that ask what an answer must be. It is written from the
+rules alone, so that it shares no mistake with the program."""
+
+from support.rules.edits import kept_after, locked
+from support.rules.lock_tables import read_lock
+from support.rules.locks import Problem
+from support.rules.requirements import cut_lines, holds, order_key, read_line, read_version, want
+
+
+def pinned(requirement):
+    """The version that a requirement pins: its one clause is `==` without `.*`."""
+    [clause] = requirement.clauses if len(requirement.clauses) == 1 else [None]
+    want(clause is not None and clause.operator == "==" and not clause.is_prefix, "no-pin")
+    return clause.version
+
+
+def pins_of_lines(data, environment):
+    """The names with versions that the lines of a file pin, whose markers hold in an environment."""
+    asked = [it for it in map(read_line, cut_lines(data.decode())) if it is not None]
+    found = [(it, pinned(it)) for it in asked]
+    return [(it.name, version) for it, version in found if it.marker is None or holds(it.marker, environment)]
+
+
+def pins_of_lock(data):
+    return [(name, read_version(entry["version"])) for name, entry in read_lock(data)[2].items()]
+
+
+def newer_of(own, others, index):
+    """The own versions and the others: of each name the newest one that the index has, or else the newest, and of equal ones the own."""
+    found = {}
+    for name in [*own, *(name for name, _ in others)]:
+        versions = [version for other, version in [*own.items(), *others] if other == name]
+        keys = {order_key(release.version) for release in index.releases.get(name, [])}
+        found[name] = max([it for it in versions if order_key(it) in keys] or versions, key=order_key)
+    return found
+
+
+def pins_for(files, target, environment):
+    """What files pin for a target: those with its name, or where there are none those without a name. A file is its target, its name
+    and its bytes."""
+    own = [it for it in files if it[0] == target] or [it for it in files if it[0] == ""]
+    rows = [pins_of_lock(data) if name.endswith(".toml") else pins_of_lines(data, environment) for _, name, data in own]
+    return [pin for row in rows for pin in row]
+
+
+def replaced(state, lines, files, index, only_kept=False):
+    """The state with other lines in the place of all, which keeps of the locked versions and those that are handed in the newest
+    that the index has."""
+    problems = {
+        name: Problem(lines, it.environment, index, newer_of(kept_after(it.entries, []), pins_for(files, name, it.environment), index), only_kept)
+        for name, it in state.targets.items()
+    }
+    return locked(lines, problems, index)
+
+
+def begun_with(lines, environments, files, index):
+    """The first state of a history that keeps what files pin."""
+    problems = {
+        name: Problem(lines, it, index, newer_of({}, pins_for(files, name, it), index)) for name, it in sorted(environments.items())
+    }
+    return locked(lines, problems, index)

@@ -1,0 +1,135 @@
+"""What states and changes are: the rules read plainly, for tests that ask what an answer must be. It is written from the rules alone, so that
+it shares no mistake with the program."""
+
+from typing import NamedTuple
+
+from support.rules.requirements import Fault, active_requirements, cut_lines, matches, read_set, read_version
+from support.rules.values import LARGEST, is_rising
+
+
+class Target(NamedTuple):
+    """The texts of an environment, and the entries of the lock for it by name."""
+
+    environment: dict[str, str]
+    entries: dict[str, dict]
+
+
+class State(NamedTuple):
+    """Lines, the digest of the index, and the targets by name."""
+
+    lines: list[str]
+    digest: str
+    targets: dict[str, Target]
+
+    @classmethod
+    def of_one(cls, lines, environment, digest, entries):
+        """A state whose one target has the empty name."""
+        return cls(lines, digest, {"": Target(environment, entries)})
+
+    def entries(self, name=""):
+        return self.targets[name].entries
+
+
+class Change(NamedTuple):
+    """Splices as (place, old lines, new lines), entries as (target, name, old, new), and two digests or none."""
+
+    splices: list[tuple]
+    entries: list[tuple]
+    digests: tuple | None
+
+
+def meets(requirement, entry, environment):
+    """Whether an entry's version, and the Python that it asks for, fit a requirement in an environment."""
+    python = read_version(environment["python_full_version"])
+    fits = entry["requires_python"] is None or matches(read_set(entry["requires_python"]), python)
+    return fits and matches(requirement.clauses, read_version(entry["version"]))
+
+
+def reached(names, entries):
+    """The names that dependencies lead to from these."""
+    found, rest = set(), list(names)
+    while rest:
+        name = rest.pop()
+        if name not in found:
+            found.add(name)
+            rest += entries[name]["dependencies"]
+    return found
+
+
+def is_lock_for(lines, target):
+    """Whether the entries of a target are a lock for lines: each active line is met, and each entry is reached. Each entry is of the
+    right form."""
+    try:
+        asked = active_requirements(lines, target.environment)
+    except Fault:
+        return False
+    entries = target.entries
+    if cut_lines("".join(lines)) != lines or not is_rising(list(entries)):
+        return False
+    if not all(it.name in entries and meets(it, entries[it.name], target.environment) for it in asked):
+        return False
+    if not all(other in entries for entry in entries.values() for other in entry["dependencies"]):
+        return False
+    return reached([it.name for it in asked], entries) == set(entries)
+
+
+def is_state(state):
+    """What holds of every state. Environments and the digest stand in its locks by the way in which it is kept here."""
+    if not state.targets or not is_rising(list(state.targets)):
+        return False
+    return all(is_lock_for(state.lines, target) for target in state.targets.values())
+
+
+def places_of(change):
+    """The places of the splices in the old list of lines, and in the new one."""
+    moved, places = 0, []
+    for place, old, new in change.splices:
+        places.append((place, place + moved))
+        moved += len(new) - len(old)
+    return places
+
+
+def is_minimal(change):
+    behind = [place + len(old) for place, old, _ in change.splices]
+    if not all(splice[0] > end for splice, end in zip(change.splices[1:], behind)):
+        return False
+    for _, old, new in change.splices:
+        if not old and not new or old and new and (old[0] == new[0] or old[-1] == new[-1]):
+            return False
+    if not is_rising([entry[:2] for entry in change.entries]) or any(old == new for _, _, old, new in change.entries):
+        return False
+    if change.digests is not None and change.digests[0] == change.digests[1]:
+        return False
+    return all(place <= LARGEST for pair in places_of(change) for place in pair)
+
+
+def inverse(change):
+    places = [behind for _, behind in places_of(change)]
+    splices = [(place, new, old) for place, (_, old, new) in zip(places, change.splices)]
+    entries = [(target, name, new, old) for target, name, old, new in change.entries]
+    return Change(splices, entries, change.digests and change.digests[::-1])
+
+
+def with_entries(targets, changes):
+    """The targets with other entries; None where a target or an old entry isn't there."""
+    found = {name: dict(target.entries) for name, target in targets.items()}
+    for target, name, old, new in changes:
+        if target not in found or found[target].pop(name, None) != old:
+            return None
+        found[target] |= {} if new is None else {name: new}
+    return {name: Target(targets[name].environment, dict(sorted(entries.items()))) for name, entries in found.items()}
+
+
+def after(state, change):
+    """The state that a change leads to; None where an old part of it isn't there."""
+    lines, done = [], 0
+    for place, old, new in change.splices:
+        if state.lines[place : place + len(old)] != old or place > len(state.lines):
+            return None
+        lines += state.lines[done:place] + new
+        done = place + len(old)
+    targets = with_entries(state.targets, change.entries)
+    if targets is None or change.digests is not None and change.digests[0] != state.digest:
+        return None
+    digest = state.digest if change.digests is None else change.digests[1]
+    return State(lines + state.lines[done:], digest, targets)

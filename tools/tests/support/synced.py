@@ -1,0 +1,170 @@
+"""What tests of `rql sync` share: a virtual environment of the system's Python with its pip, an index, and locks over it. Each call is a
+process of its own."""
+
+import atexit
+import json
+import os
+import re
+import shutil
+import subprocess
+import tempfile
+import unittest
+from functools import cache
+from pathlib import Path
+from urllib.parse import urljoin
+
+from support.made.journals import journal_of_targets, lock_text
+from support.made.served_index import MadeIndex, wheel_of
+from support.places import TOOLS, new_folder
+from support.wanted_libraries import want_libraries
+
+from reqlock_tools.environment import VARIABLES
+from reqlock_tools.rql.sync_installed import read_environment
+
+PYTHON = "/usr/bin/python3"
+CALL = """
+import json, pathlib, sys
+sys.path.insert(0, sys.argv[1])
+from reqlock_tools.refusal import Refusal
+from reqlock_tools.rql.faults import status_of
+from reqlock_tools.rql.sync import Sync, say, sync
+from reqlock_tools.simple.plan import IndexAddress
+asked = json.loads(sys.argv[2])
+asked = {key: tuple(it) if isinstance(it, list) else it for key, it in asked.items()}
+asked["indexes"] = tuple(IndexAddress(url, tuple(only)) for url, only in asked.pop("indexes"))
+base, folder = pathlib.Path(asked.pop("base")), pathlib.Path(asked.pop("folder"))
+try:
+    sys.exit(sync(Sync(base, folder, **asked)))
+except Refusal as fault:
+    for line in str(fault).splitlines():
+        say(line)
+    sys.exit(status_of(fault))
+"""
+
+
+def variables(**more):
+    """The variables of a person for whom nothing is configured."""
+    strange = "PIP_", "PYTHON", "REQLOCK_", "VIRTUAL_ENV", "XDG_"
+    kept = {name: it for name, it in os.environ.items() if not name.startswith(strange) and "proxy" not in name.lower()}
+    return {**kept, "PIP_CONFIG_FILE": os.devnull, "PIP_RETRIES": "0", "NETRC": os.devnull, **more}
+
+
+@cache
+def template():
+    """An environment of which tests make copies; None where none can be made. It has pip alone, which a link leads to, so that a copy is
+    small."""
+    top = tempfile.mkdtemp()
+    atexit.register(shutil.rmtree, top)
+    place = Path(top) / "venv"
+    if subprocess.run([PYTHON, "-m", "venv", place], capture_output=True, check=False, env=variables()).returncode != 0:
+        return None
+    site = site_of(place)
+    for path in [*site.glob("setuptools*"), *site.glob("pkg_resources*"), *site.glob("*distutils*")]:
+        shutil.rmtree(path) if path.is_dir() else path.unlink()
+    (site / "pip").rename(Path(top) / "pip")
+    (site / "pip").symlink_to(Path(top) / "pip")
+    return place
+
+
+def site_of(venv):
+    """Where an environment has its packages."""
+    return next((venv / "lib").glob("python3.*")) / "site-packages"
+
+
+def locked_entry(index, name, version, *files, dependencies=()):
+    """The entry of a lock with these files of an index."""
+    told = [{"name": it.name, "sha256": it.sha256, "size": len(it.data), "url": urljoin(index.url, f"../files/{it.name}")} for it in files]
+    wheels = [it for it in told if it["name"].endswith(".whl")]
+    sdist = next((it for it in told if not it["name"].endswith(".whl")), None)
+    return {"dependencies": list(dependencies), "requires_python": None, "sdist": sdist, "version": version, "wheels": wheels}
+
+
+@want_libraries("packaging.version")
+class Synced(unittest.TestCase):
+    """A test with a project, whose environment .venv has pip, and an index with two versions of a and of b, b needing a."""
+
+    @classmethod
+    def setUpClass(cls):
+        super().setUpClass()
+        cls.template = template()
+        if cls.template is None:
+            raise unittest.SkipTest("the system's python3 makes no venv: apt-get install python3-venv")
+        cls.told = {name: read_environment(cls.template).told[name] for name in VARIABLES}
+
+    def setUp(self):
+        self.project = Path(os.path.realpath(new_folder(self.addCleanup)))
+        self.venv = self.project / ".venv"
+        shutil.copytree(self.template, self.venv, symlinks=True)
+        self.home = self.project / "home"
+        self.home.mkdir()
+        self.index = MadeIndex()
+        self.addCleanup(self.index.close)
+        self.files = {}
+        for name, version, *needs in ("a", "1"), ("a", "2"), ("b", "1", "a"), ("b", "2", "a"):
+            self.files[name, version] = wheel_of(name, version, *needs)
+            self.index.add(name, self.files[name, version])
+
+    def lock(self, versions, target="", environment=None, others=None):
+        """Writes the lock of these versions by name, and the journal; `others` are more targets, each an environment and its lock."""
+        entries = {name: locked_entry(self.index, name, it, self.files[name, it]) for name, it in versions.items()}
+        self.write_locks({target: (environment or self.told, lock_text(environment or self.told, entries)), **(others or {})})
+
+    def write_locks(self, targets):
+        (self.project / "requirements.txt").write_bytes(b"b\n")
+        for name, (_, text) in targets.items():
+            (self.project / (f"pylock.{name}.toml" if name else "pylock.toml")).write_bytes(text)
+        environments, locks = ({name: it[place] for name, it in targets.items()} for place in (0, 1))
+        (self.project / "reqlock.journal").write_bytes(journal_of_targets(b"b\n", locks, environments, 0))
+
+    def start(self, more=None, python=PYTHON, **asked):
+        """A call that goes on by itself."""
+        told = {"base": str(self.project), "folder": str(self.project), "indexes": [[self.index.url, []]], **asked}
+        own = variables(HOME=str(self.home), **(more or {}))
+        return subprocess.Popen(
+            [python, "-B", "-c", CALL, TOOLS, json.dumps(told)], env=own, cwd=self.project, stdin=subprocess.DEVNULL,
+            stdout=subprocess.PIPE, stderr=subprocess.PIPE, encoding="utf-8", start_new_session=True,
+        )
+
+    def call(self, more=None, **asked):
+        """The status of a call, and the lines of its output and of its errors."""
+        with self.start(more, **asked) as child:
+            output, errors = child.communicate(timeout=120)
+        return child.returncode, output.splitlines(), [re.sub(r"^rql(\.py)?: ", "", it) for it in errors.splitlines()]
+
+    def syncs(self, *lines, told=(), **asked):
+        """A call prints these lines, tells these on standard error, and its status is 0."""
+        status, output, errors = self.call(**asked)
+        self.assertEqual((status, output, errors), (0, list(lines), list(told)))
+
+    def refuses(self, pattern, status=2, **asked):
+        """A call is refused with a text, and changes nothing."""
+        before = self.installed()
+        found, output, errors = self.call(**asked)
+        self.assertEqual(found, status, errors)
+        self.assertRegex("\n".join(errors), pattern)
+        self.assertEqual(self.installed(), before)
+
+    def installed(self, venv=None):
+        """The versions by name of what an environment has beside pip."""
+        found = read_environment(venv or self.venv).installed
+        return {name: it.version for name, it in found.items() if name != "pip"}
+
+    def pip(self, *words):
+        """Has the environment's pip do something."""
+        own = variables(HOME=str(self.home), PIP_DISABLE_PIP_VERSION_CHECK="1")
+        command = [self.venv / "bin" / "python", "-m", "pip", "--quiet", *words]
+        done = subprocess.run(command, cwd=self.project, env=own, capture_output=True, encoding="utf-8", check=False)
+        self.assertEqual(done.returncode, 0, done.stderr)
+
+    def put(self, name, version, requires=(), origin=None):
+        """Has a distribution stand in the environment as if it was installed. `origin` is what PEP 610 tells."""
+        place = site_of(self.venv) / f"{name}-{version}.dist-info"
+        place.mkdir()
+        head = f"Metadata-Version: 2.1\nName: {name}\nVersion: {version}\n" + "".join(f"Requires-Dist: {it}\n" for it in requires)
+        (place / "METADATA").write_text(head, encoding="utf-8")
+        (place / "INSTALLER").write_text("pip\n", encoding="utf-8")
+        members = ["METADATA", "INSTALLER", "RECORD"]
+        if origin is not None:
+            (place / "direct_url.json").write_text(json.dumps(origin), encoding="utf-8")
+            members.append("direct_url.json")
+        (place / "RECORD").write_text("".join(f"{place.name}/{it},,\n" for it in members), encoding="utf-8")
