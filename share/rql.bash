@@ -15,7 +15,7 @@ _rql() {
     COMPREPLY=()
     for ((place = 1; place < COMP_CWORD; place++)); do
         case ${COMP_WORDS[place]} in
-        -C | --program) ((place++)) ;;
+        -C | --timeout | --retries | --program) ((place++)) ;;
         -*) ;;
         *)
             command=${COMP_WORDS[place]}
@@ -24,7 +24,7 @@ _rql() {
         esac
     done
     case $command in
-    "") words="init add remove set upgrade constrain relock lock sync check index env undo redo show tree outdated why log diff export skipped fleet merge check-refutation -h --help -C --offline --refresh -v --verbose -q --quiet --program" ;;
+    "") words="init add remove set upgrade constrain relock lock sync check index env undo redo show tree outdated why log diff export skipped fleet merge check-refutation -h --help -C --offline --refresh -v --verbose -q --quiet --timeout --retries --program" ;;
     init) words="-h --help --index --python --platform --from" ;;
     add) words="-h --help --keep-locked --dry-run" ;;
     remove) words="-h --help --keep-locked --dry-run" ;;

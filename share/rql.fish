@@ -6,6 +6,8 @@ complete -c rql -n '__fish_use_subcommand' -l offline -d 'ask nobody: take all f
 complete -c rql -n '__fish_use_subcommand' -l refresh -d 'ask also for pages that are said to be fresh yet'
 complete -c rql -n '__fish_use_subcommand' -s v -l verbose -d 'print each call of reqlock so that it can be typed'
 complete -c rql -n '__fish_use_subcommand' -s q -l quiet -d 'tell nothing of what the index is asked; reqlock tells nothing beside its answer'
+complete -c rql -n '__fish_use_subcommand' -l timeout -r -d 'longest wait for an answer of a server; 30, and of pip its own'
+complete -c rql -n '__fish_use_subcommand' -l retries -r -d 'how often a request is tried again; 5, and by pip as it has it'
 complete -c rql -n '__fish_use_subcommand' -l program -r -d 'reqlock, where it isn\'t on the PATH'
 complete -c rql -f -n __fish_use_subcommand -a init -d 'begin: settings, environments, index and lock'
 complete -c rql -n '__fish_seen_subcommand_from init' -s h -l help -d 'show this help message and exit'

@@ -53,7 +53,7 @@ def run_each(options: Options, words: Sequence[str]) -> int:
 
 def called_in(options: Options, folder: str, call: Sequence[str]) -> Done:
     """A call of rql in a folder, by a process of its own."""
-    told = ["--offline"] * options.is_offline + ["--refresh"] * options.is_refreshed + ["-q"] * options.is_quiet
+    told = ["--offline"] * options.is_offline + ["--refresh"] * options.is_refreshed + ["-q"] * options.is_quiet + options.ways()
     program = ["--program", os.path.abspath(options.program)] if options.program else []
     command = [sys.executable, sys.argv[0], "-C", folder, *told, *program, *call]
     found = subprocess.run(command, stdin=subprocess.DEVNULL, capture_output=True, encoding="utf-8", errors="replace", check=False)

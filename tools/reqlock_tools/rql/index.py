@@ -47,14 +47,14 @@ def asking_of(options: Options, is_asked: bool) -> "Asking":
     """How the index is asked."""
     from reqlock_tools.limits import limits_of
     from reqlock_tools.simple.cache import default_folder
-    from reqlock_tools.simple.plan import JOBS, Asking
+    from reqlock_tools.simple.plan import JOBS, RETRIES, SECONDS, Asking
 
     cache = default_folder()
     if cache is None:
         raise IndexFault("no folder for a cache is known, since neither platformdirs nor pip is there")
     return Asking(
-        jobs=JOBS, timeout=30.0, retries=5, cache=cache, is_offline=options.is_offline, is_refreshed=is_asked or options.is_refreshed,
-        limits=limits_of([]),
+        jobs=JOBS, timeout=SECONDS if options.timeout is None else options.timeout, retries=RETRIES if options.retries is None else options.retries,
+        cache=cache, is_offline=options.is_offline, is_refreshed=is_asked or options.is_refreshed, limits=limits_of([]),
     )
 
 

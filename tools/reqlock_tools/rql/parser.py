@@ -2,14 +2,17 @@
 
 import argparse
 from collections.abc import Callable, Sequence
-from typing import TYPE_CHECKING
+from typing import TYPE_CHECKING, Any
 
+from reqlock_tools.number_words import number
 from reqlock_tools.rql.requests import (
     CheckRequest, EditRequest, EnvRequest, IndexRequest, InitRequest, LockRequest, Options, PassedRequest, Request, SyncRequest,
 )
 
 DESCRIPTION = """Keep a project's requirements and its locks together: rql keeps the index fresh, and then calls the program reqlock,
-which decides every version. docs/RQL.md tells it by task."""
+which decides every version."""
+# Behind the commands: what tells more, wherever rql is installed.
+MORE = "rql COMMAND --help tells the words of one command, and man rql those of all."
 EPILOG = """The status is that of the program; or 1 where a check found something; 2 where words or settings are no good; 6 where the index
 or the network failed; 130 after Ctrl-C."""
 # What is handed to the program with all words behind it, and what of it is told in help.
@@ -39,13 +42,18 @@ FLAGS = {
     ("-v", "--verbose"): "print each call of reqlock so that it can be typed",
     ("-q", "--quiet"): "tell nothing of what the index is asked; reqlock tells nothing beside its answer",
 }
+# Those that a value stands behind, as pip has them.
+VALUES: dict[str, tuple[str, Callable[[str], Any], str]] = {
+    "--timeout": ("SECONDS", number(float, 0.01), "longest wait for an answer of a server; 30, and of pip its own"),
+    "--retries": ("N", number(int, 0), "how often a request is tried again; 5, and by pip as it has it"),
+}
 if TYPE_CHECKING:
     Subparsers = argparse._SubParsersAction[argparse.ArgumentParser]
 
 
 def parser_of(only: str | None = None) -> argparse.ArgumentParser:
     """The parser of all words; or of one command alone, which begins sooner."""
-    parser = argparse.ArgumentParser(prog="rql", description=DESCRIPTION, epilog=EPILOG, allow_abbrev=False)
+    parser = argparse.ArgumentParser(prog="rql", description=DESCRIPTION, epilog=f"{MORE} {EPILOG}", allow_abbrev=False)
     add_options(parser)
     words = parser.add_subparsers(dest="word", metavar="COMMAND", required=True)
     for name in [only] if only in BUILDERS else BUILDERS:
@@ -64,6 +72,8 @@ def own_parser(words: "Subparsers", name: str, told: str, description: str | Non
     parser = words.add_parser(name, help=told, description=description, allow_abbrev=False)
     for forms in FLAGS:
         parser.add_argument(*forms, action="store_true", default=argparse.SUPPRESS, help=argparse.SUPPRESS)
+    for form, (metavar, kind, _) in VALUES.items():
+        parser.add_argument(form, metavar=metavar, type=kind, default=argparse.SUPPRESS, help=argparse.SUPPRESS)
     return parser
 
 
@@ -71,6 +81,8 @@ def add_options(parser: argparse.ArgumentParser) -> None:
     parser.add_argument("-C", metavar="DIR", dest="start", default=".", help="look for the project's settings in DIR and above")
     for forms, told in FLAGS.items():
         parser.add_argument(*forms, action="store_true", help=told)
+    for form, (metavar, kind, told) in VALUES.items():
+        parser.add_argument(form, metavar=metavar, type=kind, help=told)
     parser.add_argument("--program", metavar="FILE", help="reqlock, where it isn't on the PATH")
 
 
@@ -160,7 +172,7 @@ def parsed(arguments: Sequence[str]) -> tuple[Options, Request]:
     # (help in front of a word is that of all words)
     asks_help = any(it in ("-h", "--help") for it in arguments[:place])
     told = parser_of(None if asks_help else word).parse_args(list(arguments[: place + 1] if is_handed_on else arguments))
-    options = Options(told.start, told.offline, told.refresh, told.verbose, told.quiet, told.program)
+    options = Options(told.start, told.offline, told.refresh, told.verbose, told.quiet, told.program, told.timeout, told.retries)
     if is_handed_on:
         return options, PassedRequest(told.word, tuple(arguments[place + 1 :]))
     return options, READERS.get(told.word, edit_request)(told)
@@ -170,7 +182,7 @@ def place_of_word(arguments: Sequence[str]) -> int:
     """The place of the word that says which call it is, behind the options of each call."""
     place = 0
     while place < len(arguments) and arguments[place].startswith("-"):
-        place += 2 if arguments[place] in ("-C", "--program") else 1
+        place += 2 if arguments[place] in ("-C", "--program", *VALUES) else 1
     return place
 
 

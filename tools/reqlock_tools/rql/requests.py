@@ -5,7 +5,8 @@ from dataclasses import dataclass
 
 @dataclass(frozen=True)
 class Options:
-    """What counts for each call: where it begins to look for settings, and how it asks and tells."""
+    """What counts for each call: where it begins to look for settings, and how it asks and tells. How long an answer is waited for, and how
+    often a request is tried again, is None where nobody typed it."""
 
     start: str
     is_offline: bool
@@ -13,6 +14,13 @@ class Options:
     is_verbose: bool
     is_quiet: bool
     program: str | None
+    timeout: float | None = None
+    retries: int | None = None
+
+    def ways(self) -> list[str]:
+        """What was typed of how a server is asked, as pip takes it too."""
+        told = {"--timeout": self.timeout, "--retries": self.retries}
+        return [word for option, value in told.items() if value is not None for word in (option, str(value))]
 
 
 @dataclass(frozen=True)

@@ -29,7 +29,8 @@ say = speaker("rql")
 
 @dataclass(frozen=True)
 class Sync:
-    """What a sync is for: the folder of the settings, that of the program's files, the indexes, and what a person asks."""
+    """What a sync is for: the folder of the settings, that of the program's files, the indexes, and what a person asks; `ways` are pip's words
+    of how a server is asked."""
 
     base: Path
     folder: Path
@@ -42,6 +43,7 @@ class Sync:
     is_offline: bool = False
     is_verbose: bool = False
     is_quiet: bool = False
+    ways: tuple[str, ...] = ()
 
 
 def run_sync(project: "Project", request: "SyncRequest") -> int:
@@ -53,6 +55,7 @@ def run_sync(project: "Project", request: "SyncRequest") -> int:
         base=project.base, folder=project.folder, indexes=tuple(IndexAddress(it.url, it.only) for it in settings.index),
         venv=request.venv, target=request.target, keep=request.keep, is_exact=request.is_exact, is_dry=request.is_dry,
         is_offline=options.is_offline, is_verbose=options.is_verbose, is_quiet=options.is_quiet,
+        ways=tuple(options.ways()),
     ))
 
 
@@ -121,7 +124,7 @@ def done(asked: Sync, environment: Environment, locked: dict[str, Locked], plan:
     words = pip_of(environment)
     with mended_end(), netrc_file(text_for(asked, environment, installs)) as netrc:
         pip = Pip(words, variables_for(words, environment, netrc), asked.is_verbose)
-        status = pip.install(installs, asked.indexes)
+        status = pip.install(installs, asked.indexes, asked.ways)
         if status != 0:
             return left(environment, locked, status)
         status = pip.uninstall([it.name for it in plan.removals]) if plan.removals else 0

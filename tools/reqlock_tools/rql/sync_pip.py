@@ -175,11 +175,12 @@ class Pip:
             child.wait()
             raise
 
-    def install(self, locked: Sequence[Locked], indexes: Sequence[IndexAddress]) -> int:
-        """The status of installing what is locked: that of the first call that fails, behind which nothing is installed."""
+    def install(self, locked: Sequence[Locked], indexes: Sequence[IndexAddress], ways: Sequence[str] = ()) -> int:
+        """The status of installing what is locked: that of the first call that fails, behind which nothing is installed. `ways` are words
+        of how a server is asked."""
         for words, several in calls_for(locked, indexes).items():
             with tempfile.TemporaryDirectory(prefix="rql-") as name:
-                status = self.run(*install_words(Path(name), several, *words))
+                status = self.run(*install_words(Path(name), several, *words, *ways))
             if status != 0:
                 return status
         return 0

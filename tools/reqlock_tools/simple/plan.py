@@ -10,6 +10,8 @@ from reqlock_tools.tags import Built, built_of
 
 # So many requests are under way at the same time, unless it is told otherwise.
 JOBS = 32
+# So long an answer is waited for, and so often a request is tried again.
+SECONDS, RETRIES = 30.0, 5
 
 
 @dataclass(frozen=True)

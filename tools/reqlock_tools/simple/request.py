@@ -6,11 +6,11 @@ import urllib.parse
 from collections.abc import Callable, Iterable
 from dataclasses import dataclass, replace
 from functools import partial
-from typing import Any
 
 from reqlock_tools.libraries import absent_text, library
 from reqlock_tools.limits import limits_of, limits_text
 from reqlock_tools.names import called, tool
+from reqlock_tools.number_words import number
 from reqlock_tools.refusal import Refusal
 from reqlock_tools.requirements import doubt_of, fault_of, read_lines
 from reqlock_tools.simple.addresses import plain_url, without_password
@@ -18,7 +18,7 @@ from reqlock_tools.simple.bounds import read_constraints
 from reqlock_tools.simple.cache import default_folder
 from reqlock_tools.simple.locked import locked_versions, texts_of
 from reqlock_tools.simple.made import is_moment, is_pattern, read_plan
-from reqlock_tools.simple.plan import JOBS, Asking, IndexAddress, Options, Plan, followed_texts
+from reqlock_tools.simple.plan import JOBS, RETRIES, SECONDS, Asking, IndexAddress, Options, Plan, followed_texts
 from reqlock_tools.simple.targets import read_targets
 from reqlock_tools.snapshot_output import say
 
@@ -64,19 +64,6 @@ class Request:
     output: str | None
 
 
-def number(kind: Callable[[str], Any], least: float, most: float = 1_000_000) -> Callable[[str], Any]:
-    """What reads a number within bounds, with the name that argparse tells."""
-
-    def read(text: str) -> Any:
-        found = kind(text)
-        if not least <= found <= most:
-            raise ValueError
-        return found
-
-    read.__name__ = f"number from {least} to {most}"
-    return read
-
-
 def add_limits(parser: argparse.ArgumentParser) -> None:
     parser.add_argument(
         "--limit", metavar="NAME=NUMBER", action="append", default=[],
@@ -106,9 +93,11 @@ def add_requests(parser: argparse.ArgumentParser) -> None:
     group = parser.add_argument_group("how the index is asked")
     group.add_argument("--jobs", metavar="N", type=number(int, 1, MOST_JOBS), default=JOBS, help=f"requests at the same time; {JOBS}")
     group.add_argument(
-        "--timeout", metavar="SECONDS", type=number(float, 0.01), default=30.0, help="longest wait for an answer; 30"
+        "--timeout", metavar="SECONDS", type=number(float, 0.01), default=SECONDS, help=f"longest wait for an answer; {SECONDS:g}"
     )
-    group.add_argument("--retries", metavar="N", type=number(int, 0), default=5, help="how often a request is tried again; 5")
+    group.add_argument(
+        "--retries", metavar="N", type=number(int, 0), default=RETRIES, help=f"how often a request is tried again; {RETRIES}"
+    )
     group.add_argument("--cache", metavar="DIR", default=default_folder(), help="what is fetched is kept in DIR; %(default)s")
     group.add_argument("--refresh", action="store_true", help="ask also for pages that are said to be fresh yet")
     group.add_argument("--offline", action="store_true", help="ask nobody, and take all from the cache")
