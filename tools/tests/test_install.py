@@ -1,6 +1,7 @@
-"""Tests of ./install, of the manual page and of the completions: what is installed runs, what is removed is gone, bash completes, and
-the words of all of them are those that `--help` tells."""
+"""Tests of ./install, of the manual page and of the completions: what is installed runs, its list says what was put where, what is removed
+is gone, bash completes, and the words of all of them are those that `--help` tells."""
 
+import hashlib
 import json
 import os
 import re
@@ -16,6 +17,8 @@ from support.program import NOBODY
 
 INSTALL = TOP / "install"
 SHARE = TOP / "share"
+RECORD = Path("lib") / "reqlock" / "installed"
+NOTHING = hashlib.sha256(b"").hexdigest()
 EVERYWHERE = {"--verbose", "--quiet", "--color", "--help"}  # the options of each subcommand
 COMMANDS = (
     "reqlock", "reqlock-adopt", "reqlock-check-refutation", "reqlock-environment", "reqlock-fleet", "reqlock-hashes",
@@ -70,15 +73,15 @@ class Places(unittest.TestCase):
         place = self.prefix / "share" / "bash-completion" / "completions"
         fault = f"install: {place}: it can't be written; give a PREFIX that can, as ~/.local\n"
         self.assertEqual(self.install(status=1, user=user), fault)
-        self.assertEqual([path for path in self.prefix.rglob("*") if path.is_file()], [])
+        self.assertEqual(sorted(self.prefix.rglob("*")), [self.prefix / "share", self.prefix / "share" / "man"])
         self.install()
         stood = sorted(self.prefix.rglob("*"))
-        fault = f"install: {place}: it can't be written, so nothing is removed\n"
+        fault = f"install: {self.prefix / 'bin'}: it can't be written, so nothing is removed\n"
         self.assertEqual(self.install("--remove", status=1, user=user), fault)
         self.assertEqual(sorted(self.prefix.rglob("*")), stood)
 
     def test_what_an_older_version_installed_goes(self):
-        """A newer version has other modules, and a command less."""
+        """A newer version has other modules, and a command less. The list of 0.1.0 has paths alone."""
         older = self.tree / "tools" / "reqlock_tools" / "older"
         older.mkdir()
         (older / "one.py").write_bytes(b"")
@@ -87,7 +90,10 @@ class Places(unittest.TestCase):
         (self.tree / "install").write_text(text.replace("scripts=(", "scripts=(gone "), encoding="utf-8")
         self.install()
         self.assertTrue((self.prefix / "bin" / "reqlock-gone").exists())
-        (self.prefix / "lib" / "reqlock" / "reqlock_tools" / "older" / "__pycache__").mkdir()
+        cache = self.prefix / "lib" / "reqlock" / "reqlock_tools" / "older" / "__pycache__"
+        cache.mkdir()
+        (cache / "one.cpython-311.pyc").write_bytes(b"")
+        shutil.copytree(self.prefix, self.folder / "first", symlinks=True)
         (self.tree / "install").write_text(text, encoding="utf-8")
         shutil.rmtree(older)
         for words, left in ([], True), (["--remove"], False):
@@ -95,18 +101,104 @@ class Places(unittest.TestCase):
             self.assertEqual([path for path in self.prefix.rglob("*") if path.name in ("older", "one.py", "gone.py", "reqlock-gone")], [])
             self.assertEqual((self.prefix / "bin" / "reqlock").exists(), left)
         self.assertEqual(list(self.prefix.rglob("*")), [])
-
-    def test_what_no_list_has_stays_and_is_told(self):
+        self.prefix = self.folder / "first"
+        lines = (self.prefix / RECORD).read_text(encoding="utf-8").splitlines()
+        paths = [line.split(" ")[2] for line in lines if not line.startswith("folder ")]
+        (self.prefix / RECORD).write_text("\n".join([*paths, str(RECORD), ""]), encoding="utf-8")
         self.install()
-        place = self.prefix / "lib" / "reqlock" / "reqlock_tools" / "mine.py"
-        place.write_bytes(b"")
-        (self.outside / "x").write_bytes(b"")
-        with (self.prefix / "lib" / "reqlock" / "installed").open("a", encoding="utf-8") as file:
-            file.write("bin/../../outside/x\n../outside/x\nbin/other\n/etc/none\n")
+        self.assertEqual([path for path in self.prefix.rglob("*") if path.name in ("older", "one.py", "gone.py", "reqlock-gone")], [])
+        self.install("--remove")
+        self.assertEqual([path for path in self.prefix.rglob("*") if not path.is_dir()], [])
+
+    def stood(self):
+        """All that stands below the prefix and outside of it, with what is in it."""
+        paths = [*self.prefix.rglob("*"), *self.outside.rglob("*")]
+        return {path: os.readlink(path) if path.is_symlink() else path.read_bytes() if path.is_file() else None for path in paths}
+
+    def test_the_list_says_what_was_put_where(self):
+        (self.prefix / "share").mkdir(parents=True)
+        self.install()
+        found = {RECORD}
+        for line in (self.prefix / RECORD).read_text(encoding="utf-8").splitlines():
+            kind, sign, name = line.split(" ")
+            path = self.prefix / name
+            if kind == "file":
+                self.assertEqual(sign, hashlib.sha256(path.read_bytes()).hexdigest())
+                self.assertFalse(path.is_symlink())
+            elif kind == "link":
+                self.assertEqual(sign, os.readlink(path))
+            else:
+                self.assertEqual((kind, sign, path.is_dir()), ("folder", "-", True))
+            found.add(Path(name))
+        self.assertEqual({path.relative_to(self.prefix) for path in self.prefix.rglob("*")} - found, {Path("share")})
+        self.install("--remove")
+        self.assertEqual(list(self.prefix.rglob("*")), [self.prefix / "share"])
+        fault = f"install: {self.prefix}/lib/reqlock/installed isn't there: ./install put nothing below {self.prefix}\n"
+        self.assertEqual(self.install("--remove", status=1), fault)
+
+    def test_what_somebody_changed_or_added_stays_and_is_told(self):
+        self.install()
+        library = self.prefix / "lib" / "reqlock"
+        (self.outside / "toml.py").write_bytes((library / "reqlock_tools" / "toml.py").read_bytes())
+        (self.outside / "names.cpython-311.pyc").write_bytes(b"")
+        changed = [library / "reqlock_tools" / "files.py", library / "reqlock_tools" / "toml.py", self.prefix / "bin" / "reqlock-merge"]
+        changed[0].write_bytes(b"# mine\n")
+        for path, target in (changed[1], self.outside / "toml.py"), (changed[2], self.outside / "none"):
+            path.unlink()
+            path.symlink_to(target)
+        added = [library / "reqlock_tools" / "mine.py", self.prefix / "bin" / "other", library / "reqlock_tools" / "__pycache__"]
+        added[0].write_bytes(b"")
+        added[1].write_bytes(b"")
+        added[2].symlink_to(self.outside)
+        outside = sorted(self.outside.iterdir())
+        told = self.install("--remove").splitlines()
+        self.assertEqual(told[0], f"reqlock is removed from {self.prefix}")
+        self.assertEqual(told[1:-1], [f"install: {path}: it was changed since it was installed, so it stays" for path in sorted(changed, key=str)])
+        self.assertEqual(told[-1], f"install: {library}: files that aren't in the list of what was installed stay there")
+        left = {path for path in self.prefix.rglob("*") if path.is_symlink() or not path.is_dir()}
+        self.assertEqual((left, sorted(self.outside.iterdir())), ({*changed, *added}, outside))
+
+    def test_a_list_that_somebody_wrote_is_refused(self):
+        self.install()
+        (self.outside / "reqlock.1").write_bytes(b"")
+        for place in self.prefix / "share" / "away", self.prefix / "lib" / "reqlock" / "away", self.prefix / "bin" / "reqlock-away":
+            place.symlink_to(self.outside)
         (self.prefix / "bin" / "other").write_bytes(b"")
-        told = self.install("--remove")
-        self.assertIn(f"{self.prefix}/lib/reqlock: files that aren't in the list of what was installed stay there\n", told)
-        self.assertTrue(place.exists() and (self.outside / "x").exists() and (self.prefix / "bin" / "other").exists())
+        text, stood = (self.prefix / RECORD).read_text(encoding="utf-8"), self.stood()
+        number = f"line {len(text.splitlines()) + 1} was written by somebody else; mend it or remove the list"
+        paths = (
+            "../outside/reqlock.1", "bin/../../outside/reqlock.1", "lib/reqlock/../../../outside/reqlock.1", str(self.outside / "reqlock.1"),
+            "bin/other", "bin/reqlock-away/reqlock.1", "share/./reqlock.1", "share//reqlock.1", "lib/reqlock/a*", "",
+        )
+        lines = [*(f"file {NOTHING} {path}" for path in paths), *paths[:-1], f"link {self.outside} ../outside", "folder - ..", "folder - etc"]
+        links = [(f"file {NOTHING} {name}/away/reqlock.1", f"{self.prefix}/{name}/away: a link stands there") for name in ("share", "lib/reqlock")]
+        for line, fault in [*((line, f"{self.prefix / RECORD}: {number}") for line in lines), *links]:
+            with self.subTest(line=line):
+                (self.prefix / RECORD).write_text(f"{text}{line}\n", encoding="utf-8")
+                for words in (["--remove"], []) if line in (lines[0], links[0][0]) else (["--remove"],):
+                    self.assertTrue(self.install(*words, status=1).startswith(f"install: {fault}"))
+                (self.prefix / RECORD).write_text(text, encoding="utf-8")
+                self.assertEqual(self.stood(), stood)
+
+    def test_a_list_that_is_a_link_is_refused(self):
+        self.install()
+        (self.prefix / RECORD).rename(self.outside / "list")
+        (self.prefix / RECORD).symlink_to(self.outside / "list")
+        stood = self.stood()
+        for words in [], ["--remove"]:
+            self.assertEqual(self.install(*words, status=1), f"install: {self.prefix / RECORD}: a link stands there; remove it first\n")
+        self.assertEqual(self.stood(), stood)
+
+    def test_an_install_that_was_cut_off_is_removed(self):
+        (self.folder / "words").mkdir()
+        count = self.folder / "count"
+        script = f"#!/bin/sh\necho >>{count}\n[ $(wc -l <{count}) -lt 9 ] || exit 1\nexec {shutil.which('mv')} \"$@\"\n"
+        (self.folder / "words" / "mv").write_text(script, encoding="utf-8")
+        (self.folder / "words" / "mv").chmod(0o755)
+        self.install(status=1, PATH=f"{self.folder / 'words'}:{os.environ['PATH']}")
+        self.assertTrue((self.prefix / "bin" / "reqlock").exists())
+        self.install("--remove")
+        self.assertEqual([path for path in self.prefix.rglob("*") if ".py." not in path.name and not path.is_dir()], [])
 
     def test_another_tree_of_the_path_is_not_taken(self):
         copy_tree(self.outside / "tree")
