@@ -3,11 +3,11 @@
 import re
 import unittest
 
-from completed import SHARE
-from made.served_index import wheel_of
-from places import TOP
-from rql_projects import Served
-from synced import Synced
+from support.completed import SHARE
+from support.made.served_index import wheel_of
+from support.places import TOP
+from support.rql_projects import Served
+from support.synced import Synced
 
 from reqlock_tools.rql.parser import BUILDERS, FLAGS, VALUES, parser_of
 
