@@ -20,7 +20,7 @@ pub struct Details {
     // where the files stand that an index is made for, and the index
     requirements: String,
     index: String,
-    environment: String,
+    environments: String,
     maker: IndexMaker,
     /// What a command changed.
     pub changes: String,
@@ -58,7 +58,7 @@ impl Details {
             options: String::new(alloc),
             requirements: String::new(alloc),
             index: String::new(alloc),
-            environment: String::new(alloc),
+            environments: String::new(alloc),
             maker: IndexMaker::First,
             changes: String::new(alloc),
             known: String::new(alloc),
@@ -101,12 +101,10 @@ impl Details {
             self.maker = maker_of(rt, files.dir, index)?;
         }
         for target in files.targets.as_slice() {
-            self.options.push_str(" --env")?;
-            add_word(&mut self.options, target.value(alloc)?.as_str())?;
+            self.environments.push_str(" --env")?;
+            add_word(&mut self.environments, target.value(alloc)?.as_str())?;
         }
-        if let Some(target) = files.targets.as_slice().first() {
-            self.environment.push_str(target.path())?;
-        }
+        self.options.push_str(self.environments.as_str())?;
         self.requirements = requirements_path(alloc, files.dir)?;
         if is_environment_idle {
             self.add_idle_environment()?;
@@ -116,14 +114,9 @@ impl Details {
 
     /// How an index is made for the files of the call.
     pub(crate) fn plan(&self) -> IndexPlan<'_> {
-        let environment = self.environment.as_str();
         IndexPlan {
             requirements: self.requirements.as_str(),
-            environment: if environment.is_empty() {
-                None
-            } else {
-                Some(environment)
-            },
+            environments: self.environments.as_str(),
             index: self.index.as_str(),
             is_there: false,
             maker: self.maker,

@@ -40,7 +40,7 @@ impl Details {
             )?;
             let plan = IndexPlan {
                 requirements: "requirements.txt",
-                environment: None,
+                environments: "",
                 index: INDEX,
                 is_there: false,
                 maker: IndexMaker::First,

@@ -26,8 +26,8 @@ pub enum IndexMaker {
 #[derive(Clone, Copy)]
 pub struct IndexPlan<'a> {
     pub requirements: &'a str,
-    /// Where the environment stands, if a call names it.
-    pub environment: Option<&'a str>,
+    /// The words of a call that name environments, each with a space before it.
+    pub environments: &'a str,
     pub index: &'a str,
     /// Whether an index stands where these pages have it.
     pub is_there: bool,
@@ -57,10 +57,7 @@ impl IndexPlan<'_> {
         add_words(text, packages)?;
         text.push_str(" --for")?;
         add_word(text, self.requirements)?;
-        if let Some(environment) = self.environment {
-            text.push_str(" --env")?;
-            add_word(text, environment)?;
-        }
+        text.push_str(self.environments)?;
         self.add_output(text)
     }
 
