@@ -11,8 +11,10 @@ import unittest
 from support.places import PROGRAM, TOOLS
 from support.program import Program
 from support.rql_projects import SCRIPT, Projects
+from support.terminals import shown_on_terminal
 
 HANDED_ON = ("undo", "redo", "log", "diff", "show", "export", "skipped")
+LATE = "#!/bin/sh\nsleep 2.3\necho done\n"
 WAITS = "#!/bin/sh\ntrap 'echo ended; exit 7' INT\necho begun\nwhile :; do sleep 0.05; done\n"
 
 
@@ -75,6 +77,18 @@ class StandIn(Projects):
         os.killpg(done.pid, signal.SIGINT)
         self.assertEqual(done.stdout.read(), "ended\n")
         self.assertEqual(done.wait(timeout=60), 130)
+
+    def test_a_person_is_told_that_a_long_call_goes_on(self):
+        """On a terminal, and not under -q; nobody else is told."""
+        self.stand_in(LATE)
+        told = "rql: reqlock is still at it; Ctrl-C ends it\r\n"
+        for words, shown in (["log"], told), (["-q", "log"], ""):
+            with self.subTest(words=words):
+                found = shown_on_terminal(lambda terminal, words=words: subprocess.Popen(
+                    [sys.executable, "-B", SCRIPT, *words], cwd=self.folder, env=self.variables, stdout=subprocess.DEVNULL, stderr=terminal
+                ))
+                self.assertEqual(found, (0, shown))
+        self.assertEqual(self.rql("log"), (0, "done\n", ""))
 
     def test_a_call_that_is_handed_on_waits_for_no_library(self):
         code = "import sys; sys.argv[0] = 'rql.py'; from reqlock_tools.rql import main; main(['log']); print(*sys.modules, file=sys.stderr)"

@@ -1,5 +1,6 @@
 """Calls of the program: its output and its status are handed on untouched."""
 
+import contextlib
 import os
 import shlex
 import shutil
@@ -12,6 +13,9 @@ from reqlock_tools.program import program_path
 from reqlock_tools.refusal import Refusal, shown
 from reqlock_tools.rql.faults import STOPPED
 from reqlock_tools.rql.requests import Options
+
+# How many seconds a call may take before a person is told that it goes on.
+PATIENCE = 2.0
 
 
 @dataclass(frozen=True)
@@ -64,7 +68,7 @@ class Caller:
         except OSError as fault:
             raise self.absent(fault) from None
         try:
-            status = done.wait()
+            status = self.waited(done)
         except KeyboardInterrupt:
             done.wait()
             status = STOPPED
@@ -86,11 +90,35 @@ class Caller:
 
     def asked(self, command: list[str], text: str | None) -> Answer:
         given = b"" if text is None else text.encode(errors="surrogateescape")
+        pipe = subprocess.PIPE
         try:
-            done = subprocess.run(command, input=given, capture_output=True, check=False)
+            with subprocess.Popen(command, stdin=pipe, stdout=pipe, stderr=pipe) as done:
+                output, errors = self.written(done, given)
         except OSError as fault:
             raise self.absent(fault) from None
-        return Answer(self.status(done.returncode), done.stdout, done.stderr)
+        return Answer(self.status(done.returncode), output, errors)
+
+    def waited(self, done: "subprocess.Popen[bytes]") -> int:
+        """The status of a call that has ended. Of a long one a person is told that it goes on."""
+        with contextlib.suppress(subprocess.TimeoutExpired):
+            return done.wait(PATIENCE)
+        self.tell_waiting()
+        return done.wait()
+
+    def written(self, done: "subprocess.Popen[bytes]", given: bytes) -> tuple[bytes, bytes]:
+        """What a call that is given this writes up to its end. Of a long one a person is told that it goes on."""
+        try:
+            with contextlib.suppress(subprocess.TimeoutExpired):
+                return done.communicate(given, PATIENCE)
+            self.tell_waiting()
+            return done.communicate()
+        except BaseException:
+            done.kill()
+            raise
+
+    def tell_waiting(self) -> None:
+        if sys.stderr.isatty() and not self.options.is_quiet:
+            print("rql: reqlock is still at it; Ctrl-C ends it", file=sys.stderr, flush=True)
 
     def absent(self, fault: OSError) -> Refusal:
         return Refusal(f"{self.program}: {fault.strerror}; give the program by --program")
