@@ -1,15 +1,18 @@
-//! What the subcommands share: the call that they are done for, what an edit is made of and chosen from, and what changed
-//! between two places of a history.
+//! What the subcommands share: the call that they are done for, the files that each reads, what an edit is made of and chosen from, and
+//! what changed between two places of a history.
 //!
 //! A subcommand is given a `Call` and prints to its output.
 #![tactic(auto)]
 
 mod call;
 mod difference;
+mod first_files;
 mod pool;
 mod replacement;
+pub mod subcommand_files;
 
 pub use crate::call::Call;
 pub use crate::difference::change_between;
+pub use crate::first_files::first_paths;
 pub use crate::pool::pool_of;
 pub use crate::replacement::{ReplacedHistory, replaced, replaced_to_save};

@@ -1,17 +1,12 @@
 //! `reqlock`: a locker for Python requirements files, with undo and redo.
 #![tactic(auto)]
 
-mod given_words;
 mod program;
-mod question;
-mod repeated;
-mod screen;
-mod subcommand_files;
 
-use crate::given_words::{given_words, report_words};
 use crate::program::{Given, program};
-use crate::repeated::Repeated;
-use crate::screen::{Screen, Terminals};
+use shell::given_words::{given_words, report_words};
+use shell::repeated::Repeated;
+use shell::screen::{Screen, Terminals};
 use std::io::IsTerminal;
 use std::process::ExitCode;
 

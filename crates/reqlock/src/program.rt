@@ -1,12 +1,9 @@
 // The program: what each subcommand does.
 
-use crate::given_words::has_option;
-use crate::question::{answer_why, first_paths};
-use crate::screen::{Screen, shown_stop};
-use crate::subcommand_files::{
+use calls::subcommand_files::{
     environments_of, has_old_lines, index_of, lines_of, locked, named_in, refuse_no_folder,
 };
-use calls::Call;
+use calls::{Call, first_paths};
 use clap::error::ErrorKind;
 use command_line::command;
 use command_line::request::{
@@ -24,12 +21,14 @@ use saves::{
     add_near_names, begin_history, edit_once, rehearse_edit, rehearse_init, rehearse_replace,
     rehearse_step, replace_once, run_batch, step_once, try_commands,
 };
+use shell::given_words::has_option;
+use shell::screen::{Screen, shown_stop};
 use std::alloc::{AllocError, Global};
 use std::io::{Read, Write};
 use std::rt::Files;
 use texts::diff_text::diff_text;
 use views::{
-    print_check, print_diff, print_export, print_history, print_outdated, print_shown,
+    answer_why, print_check, print_diff, print_export, print_history, print_outdated, print_shown,
     print_skipped,
 };
 

@@ -22,7 +22,7 @@ use std::rt::Files;
 /// Prints why an edit of the saved state has no solution over an index: a refutation that `check`
 /// accepts, of the first target that has none. Where each one has a solution, that is printed.
 /// It is told in sentences where that is asked for, long ones too. All files are read before a fault in one is told.
-pub fn print_why<R: Files + AllocGlobal, O: Write>(
+pub(crate) fn print_why<R: Files + AllocGlobal, O: Write>(
     call: &mut Call<'_, R, O>,
     lacks: &mut Lacks,
     edit: &Edit,
@@ -45,7 +45,7 @@ where
 }
 
 /// The same of other lines in the place of all lines. The lines that are told are the new ones.
-pub fn print_why_replace<R: Files + AllocGlobal, I: Read + Drop, O: Write>(
+pub(crate) fn print_why_replace<R: Files + AllocGlobal, I: Read + Drop, O: Write>(
     call: &mut Call<'_, R, O>,
     lacks: &mut Lacks,
     replacement: &Replacement<'_>,
@@ -76,7 +76,7 @@ where
 
 /// The same of the lock that `init` would make of the requirements file, with this line behind the others
 /// where there is one. No history and no lock is read.
-pub fn print_why_init<R: Files + AllocGlobal, I: Read + Drop, O: Write>(
+pub(crate) fn print_why_init<R: Files + AllocGlobal, I: Read + Drop, O: Write>(
     call: &mut Call<'_, R, O>,
     lacks: &mut Lacks,
     line: Option<&str>,

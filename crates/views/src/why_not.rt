@@ -39,7 +39,7 @@ struct NamedRelease {
 /// Prints why the present lock hasn't the release that the text names, as `NAME==VERSION`, or the newest
 /// final one of the index, as `NAME`: of the first target whose lock has the name and not the release. It is always told in
 /// sentences, in long ones where these are asked for.
-pub fn print_why_not<R: Files + AllocGlobal, O: Write>(
+pub(crate) fn print_why_not<R: Files + AllocGlobal, O: Write>(
     call: &mut Call<'_, R, O>,
     lacks: &mut Lacks,
     text: &str,

@@ -4,8 +4,8 @@ use Rattle.std.specs.List.{before_first}
 use Rattle.std.specs.Str.{bytes_eq}
 use Rattle.std.specs.declared.io.ErrorKind.{ErrorKind}
 use Rattle.std.specs.declared.io.ErrorKind.TheVariants as kinds
-use Rattle.reqlock.specs.declared.given_words.NoWords.{NoWords}
-use Rattle.reqlock.specs.declared.given_words.NoWords.TheVariants.{BadVariable, BadWord, OutOfMemory}
+use Rattle.shell.specs.declared.given_words.NoWords.{NoWords}
+use Rattle.shell.specs.declared.given_words.NoWords.TheVariants.{BadVariable, BadWord, OutOfMemory}
 use Rattle.reports.specs.declared.report.Status.{Status}
 use Rattle.reports.specs.declared.report.Status.TheVariants as statuses
 

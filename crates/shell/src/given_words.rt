@@ -2,8 +2,8 @@
 
 ghost use Rattle.std.specs.IoError.{error_kind};
 ghost use Rattle.std.specs.Prelude.{◌≡◌, map, string_bytes};
-ghost use Rattle.reqlock.specs.GivenWords.{gives, has_option, no_words_by, status_without};
-ghost use Rattle.reqlock.specs.declared.given_words.NoWords.TheVariants as no_words;
+ghost use Rattle.shell.specs.GivenWords.{gives, has_option, no_words_by, status_without};
+ghost use Rattle.shell.specs.declared.given_words.NoWords.TheVariants as no_words;
 
 use commands::batch::BatchFault;
 use reports::report::{Status, report_fault};

@@ -1,17 +1,15 @@
 // What `why` answers.
 
-use calls::Call;
-use command_line::request::{Inputs, Question, Told};
-use files::first_inputs::FirstPaths;
+use crate::why::{print_why, print_why_init, print_why_replace};
+use crate::why_not::print_why_not;
+use calls::{Call, first_paths};
+use command_line::request::{Question, Told};
 use inputs::LockFile;
-use inputs::pins_files::pins_paths;
 use inputs::target_files::TargetFile;
 use notes::Lacks;
 use reports::Stop;
-use std::alloc::Global;
 use std::io::{Read, Write};
 use std::rt::Files;
-use views::{print_why, print_why_init, print_why_not, print_why_replace};
 
 /// Answers a question, of which these are the targets where it is about a first lock. A question about a release is
 /// always answered in sentences.
@@ -37,18 +35,4 @@ where
         }
         Question::Release(text, index) => print_why_not(call, lacks, text, index, told),
     }
-}
-
-/// Where the files stand that a first lock is made of.
-pub fn first_paths<'a>(
-    alloc: Global,
-    inputs: &Inputs<'a>,
-    targets: Vec<TargetFile>,
-) -> Result<FirstPaths<'a>, Stop> {
-    let pins = pins_paths(alloc, inputs.pins.as_slice())?;
-    Ok(FirstPaths {
-        index: inputs.index,
-        targets,
-        pins,
-    })
 }

@@ -1,7 +1,7 @@
 // The files that a subcommand reads, and the lock on its folder.
 
 ghost use Rattle.std.specs.Prelude.{◌≡◌, ◌≢◌, ◌⊎◌, [], IfErr, OnOk, true};
-ghost use Rattle.reqlock.specs.SubcommandFiles.{StopsForNoFolder, environments_of, file_of, index_of, is_old, new_lines_of, reads_no_folder};
+ghost use Rattle.calls.specs.SubcommandFiles.{StopsForNoFolder, environments_of, file_of, index_of, is_old, new_lines_of, reads_no_folder};
 
 use command_line::request::{NewLines, Question, Saving, Shown, Subcommand};
 use inputs::{InputFault, InputFile, LockFile, lock_to_save};

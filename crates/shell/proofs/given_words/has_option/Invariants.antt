@@ -1,7 +1,7 @@
 use Rattle.std.proofs.Common.{◌≡◌, drop, map}
 use Rattle.std.specs.Prelude.{string_bytes}
-use Rattle.reqlock.specs.GivenWords.{has_option}
-use Rattle.reqlock.proofs.given_words.has_option.Given as goal
+use Rattle.shell.specs.GivenWords.{has_option}
+use Rattle.shell.proofs.given_words.has_option.Given as goal
 
 -- whether a word gives the option is left to the others
 abbrev pub invariant-loop-place : goal.invariant-loop-place

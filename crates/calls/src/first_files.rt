@@ -1,0 +1,22 @@
+// The files that a first lock is made of.
+
+use command_line::request::Inputs;
+use files::first_inputs::FirstPaths;
+use inputs::pins_files::pins_paths;
+use inputs::target_files::TargetFile;
+use reports::Stop;
+use std::alloc::Global;
+
+/// Where the files stand that a first lock is made of.
+pub fn first_paths<'a>(
+    alloc: Global,
+    inputs: &Inputs<'a>,
+    targets: Vec<TargetFile>,
+) -> Result<FirstPaths<'a>, Stop> {
+    let pins = pins_paths(alloc, inputs.pins.as_slice())?;
+    Ok(FirstPaths {
+        index: inputs.index,
+        targets,
+        pins,
+    })
+}

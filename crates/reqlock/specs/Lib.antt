@@ -1,2 +1,0 @@
-pub mod GivenWords
-pub mod SubcommandFiles
