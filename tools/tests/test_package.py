@@ -1,23 +1,33 @@
-"""Tests of ./package: the wheel that it makes of a program is the same each time, is for the machines on which the program runs, and
-holds what is to be installed; what is wrong is told."""
+"""Tests of ./package: what it makes of a commit and a program is the same each time; the wheel is for the machines on which the program
+runs, and holds what is to be installed; the source archive is what git has; what is wrong is told."""
 
 import os
 import re
 import shutil
 import subprocess
+import tarfile
+import time
 import unittest
 import zipfile
 
-from support.packaged import VERSION_FILE, Packaged
+from support.packaged import TIME, VERSION_FILE, Packaged
 from support.places import TOP
 from support.program import NOBODY
+
+NO_ARCHIVE = "package: this is no git checkout, so no source archive is made\n"
+
+
+def version():
+    """The version of the program's source."""
+    return re.search('const VERSION: &str = "(.*)";', (TOP / VERSION_FILE).read_text(encoding="utf-8"))[1]
 
 
 class Package(Packaged):
     def test_it_is_the_same_each_time(self):
         told = self.build()
         first = self.wheel()
-        self.assertEqual(told, f"{first}\ninstall it by: pipx install {first}\n")
+        sums = first.parent / "SHA256SUMS"
+        self.assertEqual(told, f"{sums}\n{first}\ninstall it by: pipx install {first}\n{NO_ARCHIVE}")
         os.utime(self.tree / "README.md", (1, 1))
         os.chmod(self.tree / "README.md", 0o600)
         os.chmod(self.tree / "tools" / "reqlock_tools" / "toml.py", 0o600)
@@ -25,8 +35,7 @@ class Package(Packaged):
         second = self.wheel(self.folder / "other")
         self.assertEqual(first.name, second.name)
         self.assertEqual(first.read_bytes(), second.read_bytes())
-        version = re.search('const VERSION: &str = "(.*)";', (TOP / VERSION_FILE).read_text(encoding="utf-8"))[1]
-        self.assertRegex(first.name, rf"^reqlock-{re.escape(version)}-py3-none-[a-z0-9_.]+\.whl$")
+        self.assertRegex(first.name, rf"^reqlock-{re.escape(version())}-py3-none-[a-z0-9_.]+\.whl$")
 
     def test_it_is_for_the_machines_on_which_the_program_runs(self):
         self.build()
@@ -55,12 +64,76 @@ class Package(Packaged):
         sources = (TOP / "tools" / "reqlock_tools").rglob("*.py")
         self.assertEqual(names, {str(path.relative_to(TOP / "tools")) for path in sources})
         self.assertTrue(any(name.endswith("/LICENSE") for name in others), others)
-        for line in "License: MIT", "Requires-Python: >=3.11", "Provides-Extra: index", "Provides-Extra: dask":
+        for line in (
+            f"Version: {version()}", "License: MIT", "Requires-Python: >=3.11", "Provides-Extra: index", "Provides-Extra: dask",
+            "Classifier: License :: OSI Approved :: MIT License", "Classifier: Operating System :: POSIX :: Linux",
+        ):
             self.assertIn(line, metadata.splitlines())
         asked = re.findall("(?m)^Requires-Dist: ([a-z0-9]+)[^;\n]*(?:; extra == '([a-z]+)')?$", metadata)
         self.assertEqual(len(asked), metadata.count("\nRequires-Dist:"))
         wanted = [(name, "") for name in ("packaging", "platformdirs", "rich", "tomlkit", "urllib3")]
         self.assertEqual(sorted(asked), [("distributed", "dask"), *wanted])
+
+
+@unittest.skipUnless(shutil.which("git"), "there is no git")
+class Release(Packaged):
+    """What is made of a commit."""
+
+    def test_two_clones_give_the_same_bytes(self):
+        self.commit()
+        told = self.build(SOURCE_DATE_EPOCH="")
+        first = {path.name: path.read_bytes() for path in (self.tree / "dist").iterdir()}
+        wheel, archive = self.wheel().name, f"reqlock-{version()}-source.tar.gz"
+        self.assertEqual(sorted(first), ["SHA256SUMS", wheel, archive])
+        self.assertEqual(told.splitlines(), [*(str(self.tree / "dist" / name) for name in sorted(first)), f"install it by: pipx install {self.wheel()}"])
+        other = self.folder / "elsewhere" / "clone"
+        other.parent.mkdir()
+        self.git("clone", "--quiet", self.tree, other)
+        (self.folder / "attributes").write_text("* text eol=crlf\n", encoding="utf-8")
+        (self.folder / "config").write_text(f"[core]\nattributesFile={self.folder}/attributes\n[tar]\numask=0\n", encoding="utf-8")
+        self.tree, before = other, os.umask(0o077)
+        self.addCleanup(os.umask, before)
+        os.utime(other / "README.md", (1, 1))
+        self.build(SOURCE_DATE_EPOCH="", TZ="Asia/Tokyo", PYTHONHASHSEED="7", GIT_CONFIG_GLOBAL=str(self.folder / "config"), GZIP="-1")
+        self.assertEqual({path.name: path.read_bytes() for path in (other / "dist").iterdir()}, first)
+        self.assertEqual({path.stat().st_mode & 0o777 for path in (other / "dist").iterdir()}, {0o644})
+
+    def test_the_sums_are_those_of_the_files(self):
+        self.commit()
+        self.build()
+        self.assertEqual(self.run_in(self.tree / "dist", "sha256sum", "--strict", "-c", "SHA256SUMS").count(": OK\n"), 2)
+        with self.wheel().open("ab") as file:
+            file.write(b"x")
+        self.assertIn(".whl: FAILED\n", self.run_in(self.tree / "dist", "sha256sum", "-c", "SHA256SUMS", status=1))
+
+    def test_the_source_archive_is_what_git_has_and_makes_the_same_wheel(self):
+        self.commit()
+        self.build(SOURCE_DATE_EPOCH="")
+        wheel, top = self.wheel().read_bytes(), f"reqlock-{version()}"
+        with zipfile.ZipFile(self.wheel()) as archive:
+            self.assertEqual({member.date_time for member in archive.infolist()}, {time.gmtime(TIME)[:6]})
+        files = self.git("ls-files").splitlines()
+        with tarfile.open(self.one("*-source.tar.gz")) as archive:
+            members = [member for member in archive.getmembers() if not member.isdir()]
+            self.assertEqual([member.name for member in members], [f"{top}/{name}" for name in files])
+            self.assertEqual({(member.mtime, member.uid, member.gid, member.uname) for member in archive.getmembers()}, {(TIME, 0, 0, "root")})
+            self.assertEqual({member.mode for member in members}, {0o644, 0o755})
+            for name in files:
+                content = archive.extractfile(f"{top}/{name}").read()
+                self.assertEqual(content, f"{TIME}\n".encode() if name == ".commit-time" else (self.tree / name).read_bytes(), name)
+            archive.extractall(self.folder / "unpacked")
+        self.tree = self.folder / "unpacked" / top
+        self.assertIn(NO_ARCHIVE, self.build(SOURCE_DATE_EPOCH=""))
+        self.assertEqual(self.wheel().read_bytes(), wheel)
+
+    def test_what_is_not_committed_is_told(self):
+        self.git("init", "--quiet")
+        self.assertEqual(self.build(status=1), "package: nothing is committed yet\n")
+        self.commit()
+        with (self.tree / "README.md").open("a", encoding="utf-8") as file:
+            file.write("more\n")
+        self.assertEqual(self.build(status=1), "package: README.md isn't as the last commit has it: commit it first\n")
+        self.assertFalse(list(self.tree.glob("dist/*")))
 
 
 @unittest.skipUnless(shutil.which("git"), "there is no git")
@@ -73,19 +146,15 @@ class Strays(Packaged):
         self.secret.write_bytes(b"s3cr3t")
         self.place = self.tree / "tools" / "reqlock_tools" / "stray.py"
 
-    def git(self, *words):
-        subprocess.run(["git", *words], cwd=self.tree, stdout=subprocess.DEVNULL, check=True)
-
     def test_what_git_does_not_list_is_left_out(self):
-        self.git("init", "--quiet")
-        self.git("add", "--all")
+        self.commit()
         (self.place.parent / "strays").mkdir()
         (self.place.parent / "strays" / "__init__.py").write_bytes(b"")
         self.place.symlink_to(self.secret)
         self.build()
         with zipfile.ZipFile(self.wheel()) as archive:
             self.assertEqual([name for name in archive.namelist() if "stray" in name], [])
-        self.git("add", "--all")
+        self.commit()
         self.assertEqual(self.build(status=1), "package: tools/reqlock_tools/stray.py: a link leads elsewhere; remove it first\n")
 
     def test_no_link_is_followed_where_there_is_no_git(self):
@@ -104,6 +173,10 @@ class Faults(Packaged):
         self.assertIn("usage: ./package", self.build("--delete", status=2))
         self.assertIn("the FOLDER is empty", self.build("", status=2))
         self.assertIn("usage: ./package", self.build("--help"))
+
+    def test_no_time(self):
+        fault = "package: nothing says when this was committed: set SOURCE_DATE_EPOCH, in seconds since 1970\n"
+        self.assertEqual(self.build(status=1, SOURCE_DATE_EPOCH=""), fault)
 
     def test_no_build_backend(self):
         (self.folder / "hatchling").mkdir()
@@ -134,6 +207,13 @@ class Faults(Packaged):
         for place in self.folder / "closed", self.folder / "closed" / "below":
             told = self.build(str(place), status=1, user=user)
             self.assertEqual(told, f"package: {place}: it can't be written; give a FOLDER that can\n")
+
+
+class Version(unittest.TestCase):
+    def test_pages_have_that_of_the_program(self):
+        newest = re.search("(?m)^## (.*)$", (TOP / "CHANGELOG.md").read_text(encoding="utf-8"))[1]
+        shown = re.findall(r"reqlock-([0-9][^-\s]*)-", "".join(path.read_text(encoding="utf-8") for path in (TOP / "README.md", *TOP.glob("docs/**/*.md"))))
+        self.assertEqual((newest, set(shown)), (version(), {version()}))
 
 
 if __name__ == "__main__":

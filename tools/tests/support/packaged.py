@@ -1,5 +1,5 @@
-"""What tests of ./package share: a copy of the files of which the wheel is made, and the wheel. Where the program isn't built, another
-one stands in its place."""
+"""What tests of ./package share: a copy of the files of which the wheel is made, as one commit or outside of git, and the wheel. Where the
+program isn't built, another one stands in its place."""
 
 import os
 import shutil
@@ -9,9 +9,13 @@ import unittest
 
 from support.places import PROGRAM, TOP, new_folder
 
-COPIED = "pyproject.toml", "package", "README.md", "LICENSE", "share", "tools/reqlock_tools", "tools/wheel_hook.py"
+COPIED = (
+    "pyproject.toml", "package", "README.md", "LICENSE", "share", "tools/reqlock_tools", "tools/wheel_hook.py", ".commit-time",
+    ".gitattributes",
+)
 VERSION_FILE = "crates/command_line/src/command_words.rt"
 OTHER = shutil.which("true")
+TIME = 1700000000  # of the commit, and what a tree outside of git is told
 PAGES = (
     "man/man1/reqlock.1", "bash-completion/completions/reqlock", "zsh/site-functions/_reqlock", "fish/vendor_completions.d/reqlock.fish",
     "man/man1/rql.1", "bash-completion/completions/rql", "zsh/site-functions/_rql", "fish/vendor_completions.d/rql.fish",
@@ -60,14 +64,29 @@ class Packaged(unittest.TestCase):
             shutil.copy(program, place / "reqlock")
         done = subprocess.run(
             [self.tree / "package", *words], cwd=self.folder, capture_output=True, encoding="utf-8", check=False,
-            env={**os.environ, **variables}, **user or {},
+            env={**os.environ, "SOURCE_DATE_EPOCH": str(TIME), **variables}, **user or {},
         )
         self.assertEqual(done.returncode, status, done.stdout + done.stderr)
         return done.stdout + done.stderr
 
     def wheel(self, folder=None):
-        [path] = (folder or self.tree / "dist").glob("*.whl")
+        return self.one("*.whl", folder)
+
+    def one(self, pattern, folder=None):
+        """The one file of this form that ./package left in a folder."""
+        [path] = (folder or self.tree / "dist").glob(pattern)
         return path
+
+    def git(self, *words):
+        """What git prints in the tree, for an author whose commits have all one time."""
+        author = {f"GIT_{who}_{what}": it for who in ("AUTHOR", "COMMITTER") for what, it in (("NAME", "a"), ("EMAIL", "a@x"), ("DATE", f"{TIME} +0000"))}
+        return self.run_in(self.tree, "git", *words, GIT_CONFIG_GLOBAL=os.devnull, GIT_CONFIG_NOSYSTEM="1", **author)
+
+    def commit(self):
+        """All of the tree becomes a commit."""
+        self.git("init", "--quiet")
+        self.git("add", "--all")
+        self.git("commit", "--quiet", "--message=all")
 
     def run_in(self, folder, *words, status=0, **variables):
         """What a command prints in a folder, for a user with nothing else at home."""
