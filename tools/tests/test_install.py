@@ -1,5 +1,5 @@
-"""Tests of ./install, of the manual page and of the completions: what is installed runs, its list says what was put where, what is removed
-is gone, bash completes, and the words of all of them are those that `--help` tells."""
+"""Tests of ./install: what is installed runs, its list says what was put where, what is removed is gone, bash completes. The words of the
+completions and of the manual page are those that `--help` tells."""
 
 import hashlib
 import json
@@ -202,7 +202,7 @@ class Places(unittest.TestCase):
 
     def test_another_tree_of_the_path_is_not_taken(self):
         copy_tree(self.outside / "tree")
-        (self.outside / "tree" / "share" / "reqlock.1").write_text("another", encoding="utf-8")
+        (self.outside / "tree" / "share" / "man" / "reqlock.1").write_text("another", encoding="utf-8")
         told = self.install(CDPATH=str(self.outside))
         self.assertTrue(told.startswith("reqlock is installed in "), told)
         self.assertNotEqual((self.prefix / "share/man/man1/reqlock.1").read_text(encoding="utf-8"), "another")
@@ -320,106 +320,41 @@ class Installed(unittest.TestCase):
         return {line for line in lines if line not in ("", "complete -F _reqlock reqlock")}
 
 
-def fish_options(text):
-    """The options of each subcommand that has some of its own, by the completions of fish."""
-    found = {}
-    for names, option in re.findall(r"(?m)^complete .*'__reqlock_in ([a-z ]+)'(?: -s [a-z])? -l ([a-z-]+)", text):
-        for name in names.split():
-            found.setdefault(name, set()).add(f"--{option}")
-    return found
-
-
-def zsh_options(text):
-    """The same by those of zsh."""
-    lists = {
-        "$dir": {"--dir"}, "$index": {"--index"}, "$environments": {"--env"}, "$keeping": {"--keep-locked"}, "$saving": {"--dry-run"},
-        "$needed": {"--if-needed"}, "$json": {"--json"}, "$lines": {"--was", "--line"}, "$pins": {"--pins"},
-    }
-    found = {}
-    arms = text.split("case $line[1] in")[1].split("esac")[0]
-    for names, words in re.findall(r"(?ms)^ {8}([a-z][a-z |]*)\)(.*?);;", arms):
-        options = set(re.findall(r"'(--[a-z-]+)\[", words))
-        for name, more in lists.items():
-            if name in words:
-                options |= more
-                words = words.replace(name, "")
-        for name in names.split(" | "):
-            if options:
-                found[name] = options
-    return found
-
-
 @unittest.skipUnless(PROGRAM.exists(), "the program isn't built")
 class Words(unittest.TestCase):
-    """The words of the completions and of the manual page are those of `--help`."""
+    """The words of the completions and of the manual page are those of `--help`, and no others."""
 
-    def setUp(self):
-        told = self.help_of()
-        self.subcommands = set(re.findall(r"(?m)^  ([a-z]+) ", told.split("Commands:")[1].split("Options:")[0])) | {"help"}
-        self.options = self.options_of(told)
-        self.own = {name: self.options_of(self.help_of(name)) - EVERYWHERE for name in self.subcommands - {"help"}}
-        self.assertIn("init", self.subcommands)
-        self.assertLess(EVERYWHERE, self.options)
+    @classmethod
+    def setUpClass(cls):
+        told = cls.help_of()
+        cls.subcommands = set(re.findall(r"(?m)^  ([a-z]+) ", told.split("Commands:")[1].split("Options:")[0])) | {"help"}
+        helps = [told, *(cls.help_of(name) for name in cls.subcommands - {"help"})]
+        cls.options = {option for text in helps for option in re.findall(r"(?m)^ +(?:-[A-Za-z], )?(--[a-z-]+)", text)}
 
     @staticmethod
     def help_of(*subcommand):
         return subprocess.run([PROGRAM, *subcommand, "--help"], capture_output=True, encoding="utf-8", check=True).stdout
 
-    @staticmethod
-    def options_of(told):
-        return set(re.findall(r"(?m)^ +(?:-[A-Za-z], )?(--[a-z-]+)", told))
+    def check(self, text, subcommand, option):
+        """A file has each subcommand and each option, as these patterns find them."""
+        self.assertEqual(set(re.findall(subcommand, text)), self.subcommands)
+        self.assertEqual({f"--{name.lstrip('-')}" for name in re.findall(option, text)}, self.options)
 
-    def all_options(self):
-        return self.options.union(*self.own.values())
+    def test_each_file_has_them(self):
+        self.assertGreater(len(self.subcommands), 15)
+        for path, subcommand, option in (
+            ("zsh/_reqlock", r"(?m)^ +'([a-z]+):", r"'(?:\*|\([^()]*\))?(--[a-z-]+)\["),
+            ("fish/reqlock.fish", r"__reqlock_before -a ([a-z]+)", r"(?m)^complete.* -l ([a-z-]+)"),
+            ("man/reqlock.1", r"(?m)^\.SS \\fB([a-z]+)", r"(?m)^(?:\\fB-[a-zA-Z]\\fR, )?\\fB(--[a-z-]+)\\fR"),
+        ):
+            with self.subTest(path=path):
+                text = (SHARE / path).read_text(encoding="utf-8")
+                self.check(text.replace("\\-", "-") if path.startswith("man") else text, subcommand, option)
 
-    def read(self, name):
-        return (SHARE / name).read_text(encoding="utf-8")
-
-    def test_bash(self):
-        text = self.read("reqlock.bash")
-        self.assertEqual(set(re.search('subcommands="([^"]*)"', text)[1].split()), self.subcommands)
-        common = set(re.search('common="([^"]*)"', text)[1].split())
-        self.assertEqual(common | set(re.search('options="([^"]*)"', text)[1].split()) - {"$common"}, self.options)
-        self.assertEqual(common, EVERYWHERE)
-        for name, options in self.own.items():
-            if options:
-                self.assertEqual(set(re.search(rf'\b{name}\) words="([^"]*)"', text)[1].split()), options | {"$common"})
-
-    def test_zsh_and_fish(self):
-        zsh, fish = self.read("_reqlock"), self.read("reqlock.fish")
-        self.assertEqual(set(re.findall(r"(?m)^        '([a-z]+):", zsh)), self.subcommands)
-        self.assertEqual(set(re.findall(r"__reqlock_before -a ([a-z]+)", fish)), self.subcommands)
-        self.assertEqual(set(re.search("__reqlock_in help' -a '([^']*)'", fish)[1].split()), self.subcommands)
-        self.assertEqual(set(re.findall(r"['{,*](--[a-z-]+)", zsh)), self.all_options())
-        self.assertEqual({f"--{name}" for name in re.findall(r"(?m)^complete.* -l ([a-z-]+)", fish)}, self.all_options())
-        for name in self.subcommands - {"help"}:
-            about = self.help_of(name).splitlines()[0]
-            self.assertIn(f"'{name}:{about}'", zsh)
-            self.assertIn(f"-a {name} -d '{about}'", fish)
-
-    def test_zsh_and_fish_know_the_options_of_each_subcommand(self):
-        self.assertEqual(fish_options(self.read("reqlock.fish")), {name: options for name, options in self.own.items() if options})
-        found = zsh_options(self.read("_reqlock"))
-        self.assertEqual(found, {name: options for name, options in self.own.items() if options})
-
-    def test_other_shells_read_them(self):
-        for shell, name in ("bash", "reqlock.bash"), ("zsh", "_reqlock"), ("fish", "reqlock.fish"):
-            with self.subTest(shell=shell):
-                if not shutil.which(shell):
-                    self.skipTest(f"there is no {shell}: apt-get install {shell}")
-                done = subprocess.run([shell, "-n", SHARE / name], capture_output=True, encoding="utf-8", check=False)
-                self.assertEqual((done.returncode, done.stderr), (0, ""))
-
-    def test_the_manual_page(self):
-        text = self.read("reqlock.1").replace("\\-", "-")
-        section = text.split(".SH SUBCOMMANDS")[1].split(".SH FILES")[0]
-        self.assertEqual(set(re.findall(r'(?m)^\.TP\n\.[A-Z]+ "?([a-z]+)', section)), self.subcommands)
-        self.assertEqual(set(re.findall(r"--[a-z][a-z-]*", text)), self.all_options())
-
-    @unittest.skipUnless(shutil.which("groff"), "there is no groff: apt-get install groff")
-    def test_groff_reads_the_manual_page(self):
-        done = subprocess.run(["groff", "-man", "-Tascii", "-ww", SHARE / "reqlock.1"], capture_output=True, encoding="utf-8", check=False)
-        self.assertEqual((done.returncode, done.stderr), (0, ""))
+    def test_bash_has_them(self):
+        text = (SHARE / "bash" / "reqlock").read_text(encoding="utf-8")
+        self.assertEqual(set(re.search('commands="([^"]+)"', text)[1].split()), self.subcommands)
+        self.assertEqual({word for words in re.findall(' words="(--[^"]*)"', text) for word in words.split()}, self.options)
 
 
 if __name__ == "__main__":

@@ -55,7 +55,7 @@ class Help(unittest.TestCase):
         text = parser_of().format_help()
         self.assertNotIn("docs/", text)
         self.assertIn("man rql", text)
-        self.assertIn('"share/rql.1" = "share/man/man1/rql.1"', (TOP / "pyproject.toml").read_text(encoding="utf-8"))
+        self.assertIn('"share/man" = "share/man/man1"', (TOP / "pyproject.toml").read_text(encoding="utf-8"))
         manual = (SHARE / "rql.1").read_text(encoding="utf-8").replace("\\-", "-")
         for word in [*BUILDERS, *(forms[-1] for forms in FLAGS), *VALUES]:
             self.assertRegex(manual, rf"\\fB{re.escape(word)}( \w+)?\\fR")

@@ -16,7 +16,7 @@ source "$2"
 shift 2
 COMP_WORDS=("$name" "$@" "")
 COMP_CWORD=$(($# + 1))
-"_$name"
+"_${name//-/_}"
 printf '%s\\n' "${COMPREPLY[@]}"
 """
 # (compadd is zsh's own, and works at a prompt alone)
@@ -27,7 +27,7 @@ source "$2"
 folder=.
 case $3 in
 remove) _reqlock_line_names ;;
-*) _reqlock_names ;;
+*) _reqlock_locked_names ;;
 esac
 :
 """
@@ -53,9 +53,9 @@ class Completed(unittest.TestCase):
     def all_offered(self, shell, *words):
         """What a shell offers behind these words. Nothing of what the files say is run."""
         starts = {
-            "bash": ("bash", "-c", BASH, "bash", self.name, SHARE / f"{self.name}.bash"),
-            "zsh": ("zsh", "-f", "-c", ZSH, "zsh", self.name, SHARE / f"_{self.name}"),
-            "fish": ("fish", "--no-config", "-c", FISH, self.name, SHARE / f"{self.name}.fish"),
+            "bash": ("bash", "-c", BASH, "bash", self.name, SHARE / "bash" / self.name),
+            "zsh": ("zsh", "-f", "-c", ZSH, "zsh", self.name, SHARE / "zsh" / f"_{self.name}"),
+            "fish": ("fish", "--no-config", "-c", FISH, self.name, SHARE / "fish" / f"{self.name}.fish"),
         }
         done = subprocess.run(
             [*starts[shell], *words], cwd=self.folder, env=self.variables(), capture_output=True, check=False, timeout=SECONDS

@@ -9,6 +9,8 @@ import unittest
 
 from support.places import PROGRAM, TOP, new_folder
 
+from reqlock_tools.names import COMMANDS
+
 COPIED = (
     "pyproject.toml", "package", "README.md", "LICENSE", "share", "tools/reqlock_tools", "tools/wheel_hook.py", ".commit-time",
     ".gitattributes",
@@ -16,10 +18,10 @@ COPIED = (
 VERSION_FILE = "crates/command_line/src/command_words.rt"
 OTHER = shutil.which("true")
 TIME = 1700000000  # of the commit, and what a tree outside of git is told
-PAGES = (
-    "man/man1/reqlock.1", "bash-completion/completions/reqlock", "zsh/site-functions/_reqlock", "fish/vendor_completions.d/reqlock.fish",
-    "man/man1/rql.1", "bash-completion/completions/rql", "zsh/site-functions/_rql", "fish/vendor_completions.d/rql.fish",
-)
+PAGES = [
+    page for name in ("reqlock", *COMMANDS.values())
+    for page in (f"man/man1/{name}.1", f"bash-completion/completions/{name}", f"zsh/site-functions/_{name}", f"fish/vendor_completions.d/{name}.fish")
+]
 
 
 def has_backend():

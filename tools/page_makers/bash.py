@@ -1,0 +1,93 @@
+"""Makes completions of bash."""
+
+from collections.abc import Iterable
+
+from page_makers.command import Command, Kind
+from page_makers.filling import filled
+from page_makers.shells import FOLDER_OPTIONS, behind, below, has_names, id_of, key, offers, option_words
+
+ARM, INNER = " " * 8, " " * 12
+
+
+def arms(pairs: Iterable[tuple[str, str]], indent: str = ARM) -> str:
+    """The arms of a `case`, those that do the same in one."""
+    found: dict[str, list[str]] = {}
+    for pattern, done in pairs:
+        found.setdefault(done, []).append(pattern)
+    return "".join(f"{indent}{' | '.join(patterns)}) {done} ;;\n" for done, patterns in found.items())
+
+
+def chosen(kind: Kind, choices: tuple[str, ...]) -> str:
+    """What is done where such a value stands; nothing is offered of one that nobody knows."""
+    if choices:
+        return f'words="{" ".join(choices)}"'
+    return f"kind={kind.value}" if kind is not Kind.OTHER else "return"
+
+
+def places(top: Command) -> str:
+    """How a word before the one that is completed is read."""
+    valued = {form: "" for it in below(top) for option in it.options for form in option.forms if option.values and option.values[0].is_needed}
+    step = '[ "${COMP_WORDS[place + 1]}" = = ] || ((place++))'
+    text = ""
+    if has_names(top):
+        folder = FOLDER_OPTIONS[top.name]
+        del valued[folder]
+        text = f"{ARM}{folder}) folder=${{COMP_WORDS[++place]:-.}} ;;\n"
+    text += f"{ARM}{' | '.join(valued)}) {step} ;;\n" if valued else ""
+    return text + f"{ARM}=) ((place++)) ;;\n{ARM}-*) ;;\n" + commands(top)
+
+
+def commands(top: Command) -> str:
+    """How a word is read that is no option."""
+    if not top.inner:
+        return f"{ARM}*) ((given++)) ;;\n"
+    first = '"") command=${COMP_WORDS[place]} ;;\n'
+    if top.words:
+        names = " | ".join(it.name for it in top.inner)
+        first = (
+            f'"")\n{INNER}    case ${{COMP_WORDS[place]}} in\n{INNER}    {names}) command=${{COMP_WORDS[place]}} ;;\n'
+            f"{INNER}    *) ((given++)) ;;\n{INNER}    esac\n{INNER}    ;;\n"
+        )
+    more = "".join(f"{INNER}{it.name}) command+=/${{COMP_WORDS[place]}} ;;\n" for it in top.inner if it.inner)
+    return f"{ARM}*)\n{INNER}case $command in\n{INNER}{first}{more}{INNER}*) ((given++)) ;;\n{INNER}esac\n{INNER};;\n"
+
+
+def values(top: Command) -> str:
+    """What stands behind options. One means the same in each command that has it."""
+    found: dict[str, str] = {}
+    for option in (option for it in below(top) for option in it.options):
+        for value, kind in list(behind(top, option))[:1]:
+            for form in option.forms:
+                if found.setdefault(f"*,{form},*", chosen(kind, value.choices)) != chosen(kind, value.choices):
+                    raise ValueError(f"{form} means several things")
+    return arms(found.items(), ARM[4:])
+
+
+def words(top: Command) -> str:
+    """What stands behind commands."""
+    found = [
+        (f"{key(it)},{place}", chosen(kind, value.choices))
+        for it in below(top) for place, value, kind in offers(top, it) if kind is not Kind.OTHER or value.choices
+    ]
+    return arms(found + [(f"{key(it)},*", "kind=files") for it in below(top) if it.passes])
+
+
+def options(top: Command) -> str:
+    found = []
+    for it in below(top):
+        named = f' commands="{" ".join(inner.name for inner in it.inner)}"' if it.inner else ""
+        if it.options or it.inner:
+            found.append((key(it) or '""', f'words="{" ".join(option_words(it))}"{named}'))
+    return arms(found)
+
+
+def bash(top: Command) -> str:
+    """The completion of a command."""
+    shared = {"ID": id_of(top), "NAME": top.name}
+    functions = ""
+    if has_names(top):
+        locked = filled("locked.bash", **shared) if top.name == "reqlock" else ""
+        functions = filled("names.bash", **shared, LOCKED=locked)
+    return filled(
+        "completion.bash", **shared, FUNCTIONS=functions, PLACES=places(top), BEHIND=values(top), OPTIONS=options(top), WORDS=words(top)
+    )

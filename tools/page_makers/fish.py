@@ -1,0 +1,89 @@
+"""Makes completions of fish."""
+
+from page_makers.command import Command, Kind, Option, Value
+from page_makers.filling import filled
+from page_makers.shells import behind, below, brief, has_names, id_of, key, offers
+
+
+# What is done behind commands that have others below them.
+DEEPER = """\
+                else if contains -- $command[1] {}
+                    set command $command[1]/$words[1]
+                    break
+"""
+
+
+def quoted(text: str) -> str:
+    escaped = text.replace("\\", "\\\\").replace("'", "\\'")
+    return f"'{escaped}'"
+
+
+def action(top: Command, value: Value, kind: Kind) -> str:
+    """What offers the words that may stand for a value."""
+    if value.choices:
+        return f" -a {quoted(' '.join(value.choices))}"
+    if kind is Kind.FILE:
+        return " -F"
+    if kind is Kind.FOLDER:
+        return " -a '(__fish_complete_directories)'"
+    return "" if kind is Kind.OTHER else f" -a {quoted(f'(__{id_of(top)}_{kind.value})')}"
+
+
+def option_text(top: Command, option: Option) -> str:
+    forms = "".join(f" -l {it[2:]}" if it.startswith("--") else f" -s {it[1:]}" for it in option.forms)
+    for value, kind in behind(top, option):
+        forms += f" {'-r' if kind is Kind.FILE else '-x'}{action(top, value, kind)}"
+        break
+    return f"{forms} -d {quoted(brief(option))}"
+
+
+def condition(top: Command, commands: list[Command]) -> str:
+    """Where something is offered: behind some of the commands, before all of them, or everywhere."""
+    keys = [key(it) for it in commands]
+    if not top.inner or len(keys) == len([it for it in below(top) if it.options]):
+        return ""
+    if keys == [""]:
+        return f" -n __{id_of(top)}_before"
+    inner = f"__{id_of(top)}_in {' '.join(filter(None, keys))}"
+    return f" -n {quoted(f'__{id_of(top)}_before; or {inner}' if '' in keys else inner)}"
+
+
+def lines(top: Command) -> list[str]:
+    """What is offered: options, commands and words; what is the same of several commands in one line."""
+    found: dict[str, list[Command]] = {}
+    texts = []
+    for it in below(top):
+        for option in it.options:
+            found.setdefault(option_text(top, option), []).append(it)
+        for inner in it.inner:
+            texts.append(f"{condition(top, [it])} -a {inner.name} -d {quoted(inner.first_line)}")
+    words: dict[str, list[Command]] = {}
+    for it in below(top):
+        for _, value, kind in offers(top, it):
+            if text := action(top, value, kind):
+                words.setdefault(text, []).append(it)
+        if it.passes:
+            words.setdefault(" -F", []).append(it)
+    texts += [f"{condition(top, places)}{text}" for text, places in words.items()]
+    return [*texts, *(f"{condition(top, places)}{text}" for text, places in found.items())]
+
+
+def functions(top: Command) -> str:
+    shared = {"ID": id_of(top), "NAME": top.name}
+    valued = {form: "" for it in below(top) for option in it.options for form in option.forms if option.values and option.values[0].is_needed}
+    inner = " ".join(it.name for it in top.inner if it.inner)
+    deeper = DEEPER.format(inner) if inner else ""
+    text = filled("commands.fish", **shared, VALUED=" ".join(valued), DEEPER=deeper) if top.inner else ""
+    if has_names(top):
+        text += filled("names.fish", **shared, LOCKED=filled("locked.fish", **shared) if top.name == "reqlock" else "")
+    return text
+
+
+def fish(top: Command) -> str:
+    """The completion of a command. Files are offered where they are meant."""
+    told = "".join(f"complete -c {top.name}{line}\n" for line in ["" if takes_files(top) else " -f", *lines(top)] if line)
+    return filled("completion.fish", NAME=top.name, FUNCTIONS=functions(top), LINES=told)
+
+
+def takes_files(top: Command) -> bool:
+    return not top.inner and any(kind is Kind.FILE for _, _, kind in offers(top, top))

@@ -1,0 +1,5 @@
+# fish completion for @NAME@,
+# @MADE@
+@FUNCTIONS@
+
+@LINES@
