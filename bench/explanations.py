@@ -4,7 +4,7 @@
 Each problem of tools/tests/support/made/refused.py is put into an index of its own on 127.0.0.1, and told to the pip of the Python that runs
 this, to `pdm`, `poetry` and `reqlock` of the PATH, of reqlock by `why --init --explain`. What a person reads is printed, without progress,
 without what is fetched and without the address of the index; with --whole all of it. What has no answer in so many seconds (120) is
-cut off. No other index is asked. docs/EXPLANATIONS.md has the answers beside one another.
+cut off. No other index is asked. docs/EXPLANATIONS.md has reqlock's answers, and docs/OTHER_TOOLS.md those of the others.
 """
 import argparse
 import json

@@ -1,5 +1,5 @@
-"""What docs/EXPLANATIONS.md shows of reqlock is what the program prints of its problems (made/refused.py). What it shows of other tools
-isn't asked here: bench/explanations.py asks them. It needs the program, which ./check builds first."""
+"""What docs/EXPLANATIONS.md shows of reqlock is what the program prints of its problems (made/refused.py). docs/OTHER_TOOLS.md has the same
+problems; what other tools print of them isn't asked here, but by bench/explanations.py. It needs the program, which ./check builds first."""
 
 import json
 import unittest
@@ -10,7 +10,7 @@ from support.places import TOP
 from support.program import Program
 from support.shown import indented_blocks
 
-PAGE = (TOP / "docs" / "EXPLANATIONS.md").read_text(encoding="utf-8")
+PAGE, OTHERS = ((TOP / "docs" / name).read_text(encoding="utf-8") for name in ("EXPLANATIONS.md", "OTHER_TOOLS.md"))
 # the Python that the others ran on
 PYTHON = {"python_full_version": "3.11.7", "python_version": "3.11", "implementation_version": "3.11.7"}
 
@@ -19,8 +19,8 @@ class Page(Program):
     environments = {"": LINUX | PYTHON}
 
     def test_has_each_problem(self):
-        titles = [part.partition("\n")[0] for part in PAGE.split("\n## ")[1:]]
-        self.assertEqual(titles, list(PROBLEMS))
+        for page in PAGE, OTHERS:
+            self.assertEqual([part.partition("\n")[0] for part in page.split("\n## ")[1:]], list(PROBLEMS))
 
     def test_each_answer_is_what_the_program_prints(self):
         for part in PAGE.split("\n## ")[1:]:

@@ -17,7 +17,7 @@ from support.program import Program
 from support.rql_projects import Served
 from support.shown import indented_blocks, printed_by, typed_blocks
 
-PAGES = "README.md", "docs/SESSIONS.md", "docs/ANSWERS.md", "docs/RULES.md", "docs/FAULTS.md", "docs/ADVICE.md"
+PAGES = "README.md", "docs/SESSIONS.md", "docs/QUESTIONS.md", "docs/ANSWERS.md", "docs/RULES.md", "docs/FAULTS.md", "docs/ADVICE.md"
 ADDRESS = "https://index.example/simple/"
 EXAMPLE = TOP / "examples" / "web" / "index.json"
 REFERENCE = (TOP / "docs" / "REFERENCE.md").read_text(encoding="utf-8")

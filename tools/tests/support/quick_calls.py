@@ -9,7 +9,7 @@ from support.made.environments import LINUX
 from support.places import TOP
 from support.shown import typed_blocks
 
-PAGES = "README.md", "docs/SESSIONS.md", "docs/ANSWERS.md"
+PAGES = "README.md", "docs/SESSIONS.md", "docs/QUESTIONS.md", "docs/ANSWERS.md"
 
 
 class Call(NamedTuple):
