@@ -56,7 +56,7 @@ class Help(unittest.TestCase):
         self.assertNotIn("docs/", text)
         self.assertIn("man rql", text)
         self.assertIn('"share/man" = "share/man/man1"', (TOP / "pyproject.toml").read_text(encoding="utf-8"))
-        manual = (SHARE / "rql.1").read_text(encoding="utf-8").replace("\\-", "-")
+        manual = (SHARE / "man" / "rql.1").read_text(encoding="utf-8").replace("\\-", "-")
         for word in [*BUILDERS, *(forms[-1] for forms in FLAGS), *VALUES]:
             self.assertRegex(manual, rf"\\fB{re.escape(word)}( \w+)?\\fR")
 
