@@ -7,8 +7,8 @@ from definitions.reading import Module
 PROMISES: tuple[tuple[str, str, tuple[tuple[str, str, str], ...]], ...] = (
     (
         "Each lock is the best solution, `no-solution` is exact, undo loses nothing",
-        "`Session::apply` and `Session::begin` of `journal`",
-        (("journal", "Steps", "Step"), ("journal", "Steps", "IsStart")),
+        "`Session::apply` and `Session::init_keeping` of `journal`",
+        (("journal", "Steps", "Step"), ("journal", "Steps", "BeginsWith")),
     ),
     (
         "What is saved comes back",

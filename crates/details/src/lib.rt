@@ -19,4 +19,4 @@ mod word_details;
 pub use crate::change_details::{Changed, Place};
 pub use crate::details::{CallFiles, Details};
 pub use crate::manner::Manner;
-pub use crate::refusal_details::FirstQuestion;
+pub use crate::refusal_details::{FirstQuestion, environments_of};

@@ -297,7 +297,7 @@ fn first_problems<'a>(
 }
 
 /// The environments of the targets, in their order.
-fn environments_of(alloc: Global, targets: &Targets) -> Result<Vec<&Environment>, AllocError>
+pub fn environments_of(alloc: Global, targets: &Targets) -> Result<Vec<&Environment>, AllocError>
     ensures { IfOk result (λ environments. map (λ environment. environment.now) environments.items
         ≡ map (λ target. target.1) targets.now) }
 {

@@ -16,5 +16,6 @@ pub mod saved_history;
 mod stopped_save;
 
 pub use crate::links_out::link_out;
+pub use crate::replacement::Replacement;
 pub use crate::saved_files::SavedFiles;
 pub use crate::stopped_save::{Beside, end_left, remove_left};

@@ -148,7 +148,7 @@ impl SavedFiles {
 
     /// The files that are to hold other bytes than were read, with these: the requirements file, the locks by
     /// name, and the journal.
-    fn replacements<'a>(
+    pub fn replacements<'a>(
         &self,
         alloc: Global,
         saved: &'a Saved,

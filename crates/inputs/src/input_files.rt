@@ -155,7 +155,7 @@ pub fn read_bytes<R: Files + AllocGlobal>(
 }
 
 /// What was read of a file, or why it can't be read.
-pub(crate) fn read_as<T>(file: InputFile, read: io::Result<T>) -> Result<T, Fault>
+pub fn read_as<T>(file: InputFile, read: io::Result<T>) -> Result<T, Fault>
     ensures { result ≡ read_as file read }
 {
     match read {

@@ -27,8 +27,8 @@ pub mod target_files;
 pub use crate::fault::{Fault, in_file, passed_over, unwritten};
 pub use crate::folder_lock::{LockFile, lock_to_read, lock_to_save, sync_folder};
 pub use crate::input_files::{
-    InputFault, InputFile, NO_REGULAR_FILE, TOO_LONG, path_of, read_bytes, read_environment,
-    read_file, read_index, read_requirements,
+    InputFault, InputFile, NO_REGULAR_FILE, TOO_LONG, path_of, read_as, read_bytes,
+    read_environment, read_file, read_index, read_requirements,
 };
 pub use crate::link_out::LinkOut;
 pub use crate::pin_fault::PinFault;

@@ -216,7 +216,7 @@ fn versions_for(
 }
 
 /// What the files pin for each of the targets.
-fn pins_for(
+pub fn pins_for(
     alloc: Global,
     files: &[PinsFile],
     targets: &[PinsTarget<'_>],

@@ -8,5 +8,5 @@ mod output;
 pub mod report;
 mod stop;
 
-pub use crate::output::{print, show};
+pub use crate::output::{is_closed, print, show};
 pub use crate::stop::{Stop, UsageText, stop_of_request, stop_of_usage, unless_refused};

@@ -41,7 +41,7 @@ pub fn show<O: Write>(output: &mut O, text: &[u8]) -> Result<bool, BatchFault>
 }
 
 /// Whether an error tells that who reads the output has closed it.
-fn is_closed(error: &io::Error) -> bool
+pub fn is_closed(error: &io::Error) -> bool
     ensures { result ≡ tells_closed (error_kind error.now) }
 {
     match error.kind() {

@@ -62,8 +62,9 @@ fn print_place<O: Write>(
     }
 }
 
-/// A lock that isn't current is told by the stop, which has its own status.
-fn print_current<O: Write>(
+/// Prints that the lock is current over an index, and answers the change of a new lock that would change the digest of
+/// the index alone. A lock that isn't current is told by the stop, which has its own status.
+pub fn print_current<O: Write>(
     alloc: Global,
     session: &Session,
     snapshot: &Snapshot,
@@ -125,7 +126,11 @@ fn current_text(
 }
 
 /// What a new lock over the index would change; nothing where it would change nothing.
-fn relock_change(alloc: Global, state: &State, snapshot: &Snapshot) -> Result<Option<Change>, Stop>
+pub fn relock_change(
+    alloc: Global,
+    state: &State,
+    snapshot: &Snapshot,
+) -> Result<Option<Change>, Stop>
     ensures change { IfOk result (λ change. MatchOption change
         (IsCurrent state.now snapshot.now None)
         (IsRelock state.now snapshot.now)) }

@@ -35,7 +35,7 @@ where
 }
 
 /// The two places, in a history that stands in this one. Behind the first state no step has led there.
-fn places_of(range: DiffRange, cursor: usize) -> (usize, usize)
+pub fn places_of(range: DiffRange, cursor: usize) -> (usize, usize)
     ensures { result ≡ places_in range cursor }
 {
     match range {

@@ -14,11 +14,13 @@ mod skipped;
 mod why;
 mod why_not;
 
-pub use crate::check::print_check;
-pub use crate::diff::print_diff;
+pub use crate::check::{print_check, print_current, relock_change};
+pub use crate::diff::{places_of, print_diff};
 pub use crate::export::print_export;
 pub use crate::log::print_history;
 pub use crate::outdated::print_outdated;
 pub use crate::question::answer_why;
 pub use crate::show::print_shown;
 pub use crate::skipped::print_skipped;
+pub use crate::why::{Asked, answer};
+pub use crate::why_not::{NamedRelease, first_lacking, is_locked};

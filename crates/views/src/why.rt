@@ -104,16 +104,16 @@ pub(crate) fn print_why_init<R: Files + AllocGlobal, I: Read + Drop, O: Write>(
     answer(alloc, lacks, asked, problems.as_slice(), &mut call.output)
 }
 
-// Which lines are asked about, and how it is told.
+/// Which lines are asked about, and how it is told.
 #[derive(Clone, Copy)]
-struct Asked<'a> {
-    changed: ChangedLines<'a>,
-    told: Told,
+pub struct Asked<'a> {
+    pub changed: ChangedLines<'a>,
+    pub told: Told,
 }
 
 /// Tells of the first target without a solution why it has none, or that each has one. What the index lacks for that target is
 /// noted.
-fn answer<O: Write>(
+pub fn answer<O: Write>(
     alloc: Global,
     lacks: &mut Lacks,
     asked: Asked<'_>,

@@ -29,11 +29,12 @@ use std::rt::Files;
 
 /// What a question is about: a release, or a name that the index has no release of.
 #[derive(Drop)]
-struct NamedRelease {
-    name: Name,
-    version: Option<Version>,
+pub struct NamedRelease {
+    pub name: Name,
+    /// None where the index has no release of the name.
+    pub version: Option<Version>,
     /// The requirement that takes it.
-    text: Text,
+    pub text: Text,
 }
 
 /// Prints why the present lock hasn't the release that the text names, as `NAME==VERSION`, or the newest
@@ -212,14 +213,14 @@ impl Lacking<'_> {
 }
 
 /// Whether the lock of some target has the name.
-fn is_locked(targets: &[Target], name: &Name) -> bool
+pub fn is_locked(targets: &[Target], name: &Name) -> bool
     ensures { result ≡ is_locked_for targets.now name.now }
 {
     targets.iter().any(|target| target.locked(name).is_some())
 }
 
 /// The place of the first target whose lock has the name and not the release.
-fn first_lacking(targets: &[Target], named: &NamedRelease) -> Option<usize>
+pub fn first_lacking(targets: &[Target], named: &NamedRelease) -> Option<usize>
     ensures first { result ≡ position (lacks named.now) targets.now }
     ensures within { IfSome result (λ place. place < length targets.now) }
 {
