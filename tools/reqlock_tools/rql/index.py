@@ -151,16 +151,23 @@ def made_index(project: Project, kept: Kept, wanted: Wanted) -> Path:
     has accepted what is asked."""
     refuse_absent()
     plan = plan_of(project, kept, wanted)
-    data = index_bytes(plan, asking_of(project.options, wanted.is_asked), project.options)
+    data = index_bytes(plan, asking_of(project.options, wanted.is_asked), project.options, is_first(project, wanted))
     if kept.index.is_file() and not kept.index.is_symlink() and kept.index.read_bytes() == data:
         return kept.index
     return kept.write(kept.asked.name, data)
 
 
-def index_bytes(plan: "Plan", asking: "Asking", options: Options) -> bytes:
-    """The index that a plan gives, as a file has it."""
+def is_first(project: Project, wanted: Wanted) -> bool:
+    """Whether lines are asked for the first time, so that an index which has nothing of them may be asked for a name that is mistyped."""
+    from reqlock_tools.simple.locked import locked_versions
+
+    return not wanted.pins and not wanted.locks and not locked_versions(map(str, locks_of(project)))
+
+
+def index_bytes(plan: "Plan", asking: "Asking", options: Options, may_be_none: bool = False) -> bytes:
+    """The index that a plan gives, as a file has it. Where it has nothing of what is asked for, that is told, or else refused."""
     from reqlock_tools.simple.credentials import Credentials
-    from reqlock_tools.simple.run import Run
+    from reqlock_tools.simple.run import IS_ADDRESS, Run
     from reqlock_tools.snapshot_output import say as say_index
     from reqlock_tools.snapshot_output import snapshot_text
 
@@ -168,11 +175,15 @@ def index_bytes(plan: "Plan", asking: "Asking", options: Options) -> bytes:
         with telling(is_told(options)):
             # (settings are a file, which may be a stranger's)
             credentials = Credentials((it.url for it in plan.indexes), say_index, are_typed=False)
-            return snapshot_text(Run(plan, asking, credentials).snapshot()).encode()
+            run = Run(plan, asking, credentials)
+            data = snapshot_text(run.snapshot(may_be_none)).encode()
     except (Refusal, OSError) as fault:
         from reqlock_tools.simple.addresses import hidden
 
         raise IndexFault(hidden(fault_text(fault))) from None
+    if run.none is not None and not options.is_quiet:
+        say(f"{run.none}; is the name right? And {IS_ADDRESS}")
+    return data
 
 
 def present_index(project: Project, kept: Kept) -> Path:

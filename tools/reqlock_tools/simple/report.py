@@ -1,6 +1,5 @@
 """What is told at the end of a run."""
 
-from reqlock_tools.refusal import Refusal
 from reqlock_tools.simple.choices import Choices
 from reqlock_tools.simple.left import Left
 from reqlock_tools.simple.plan import Plan
@@ -21,12 +20,11 @@ class Report:
     def __init__(self, plan: Plan, result: Result, choices: Choices) -> None:
         self.plan, self.result, self.choices = plan, result, choices
 
-    def refuse_none(self, bases: list[str]) -> None:
-        """Refuses where no index has any file of what is asked for."""
-        if self.result.walk.asked and not any(project.versions for project in self.result.projects.values()):
-            names = " ".join(sorted(self.result.walk.asked))
-            hint = "is it the address of a Simple API, as https://HOST/simple/?"
-            raise Refusal(f"{'/, '.join(bases)}/: it has no file of {names}; {hint}")
+    def none_text(self, bases: list[str]) -> str | None:
+        """What is told where no index has any file of what is asked for; None where one has."""
+        if not self.result.walk.asked or any(project.versions for project in self.result.projects.values()):
+            return None
+        return f"{'/, '.join(bases)}/: it has no file of {' '.join(sorted(self.result.walk.asked))}"
 
     def tell(self) -> None:
         self.tell_absent()

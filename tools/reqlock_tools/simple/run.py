@@ -5,6 +5,7 @@ from functools import partial
 
 from reqlock_tools.markers import Markers
 from reqlock_tools.progress import Progress
+from reqlock_tools.refusal import Refusal
 from reqlock_tools.releases import Release
 from reqlock_tools.simple.cache import Cache
 from reqlock_tools.simple.choices import Choices
@@ -21,6 +22,8 @@ from reqlock_tools.snapshot_output import Snapshot, plural, say
 from reqlock_tools.walk import Walk
 
 PAGES, RELEASES = 0, 1
+# What is asked back where an index has nothing of what it is asked for.
+IS_ADDRESS = "is it the address of a Simple API, as https://HOST/simple/?"
 
 
 class Run:
@@ -40,6 +43,8 @@ class Run:
         self.absent: set[str] = set()
         self.under_way: dict[str, int] = {}
         self.whole_packages = 0
+        # What is told where no index has any file of what is asked for.
+        self.none: str | None = None
 
     def say(self, text: str) -> None:
         self.progress.clear()
@@ -51,8 +56,9 @@ class Run:
             text = f"{self.whole_packages} of {plural(count, 'package')}, {size_text(self.client.bytes)}"
             self.progress.show(text, self.whole_packages, count)
 
-    def snapshot(self) -> Snapshot:
-        """The packages by normal name, and how they were made."""
+    def snapshot(self, may_be_none: bool = False) -> Snapshot:
+        """The packages by normal name, and how they were made. That no index has any file of what is asked for is refused, unless the names
+        may be wrong and not the address."""
         try:
             self.read_pages(self.walk.ask([*self.plan.names, *self.plan.lines]))
             self.crew.run(self.show)
@@ -64,8 +70,11 @@ class Run:
             self.progress.clear()
         result = Result(self.plan, self.walk, self.projects, self.absent, self.choices)
         report = Report(self.plan, result, self.choices)
-        report.refuse_none([index.base for index in self.indexes.all])
-        report.tell()
+        self.none = report.none_text([index.base for index in self.indexes.all])
+        if self.none is None:
+            report.tell()
+        elif not may_be_none:
+            raise Refusal(f"{self.none}; {IS_ADDRESS}")
         asked = f"{plural(self.client.requests, 'request')}, {size_text(self.client.bytes)}"
         say(f"{report.counted()}, {asked}, {self.progress.seconds():.1f} s")
         return Snapshot(result.packages(), made_json(self.plan, result.findings([index.base for index in self.indexes.all])))
