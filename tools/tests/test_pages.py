@@ -1,5 +1,5 @@
 """Each relative link of a page leads to a file, and its part behind `#` to a heading of that file. Each page that is named in words stands
-there too. Links of README.md lead to every page of docs/, by one other page at most."""
+there too. Links of README.md lead to every page of docs/, by one other page at most. Pages for users are short, and so are their sentences."""
 
 import re
 import unittest
@@ -28,6 +28,23 @@ def linked(page: Path) -> set[Path]:
     return {path for path in found if path.suffix == ".md" and path.is_file()}
 
 
+def for_users() -> set[Path]:
+    """README.md and the pages that its list has for those who use reqlock: the rows before that of what is trusted."""
+    readme = TOP / "README.md"
+    rows = readme.read_text(encoding="utf-8").split("## Pages\n")[1].split("\n| trust it |")[0]
+    return {readme, *((TOP / path).resolve() for path, _ in LINK.findall(rows))}
+
+
+def sentences(text: str) -> list[str]:
+    """The sentences of a page, and what stands before a colon, without tables and indented or fenced blocks. Code is one word."""
+    found = []
+    for block in re.split(r"\n\s*\n|\n(?=- |\d+\. |\|)", re.sub(r"(?ms)^```.*?^```$", "", text)):
+        if not block.startswith(("    ", "#", "|", "![", "<!--")):
+            plain = re.sub(r"\]\([^)]*\)", "]", re.sub(r"`[^`]*`", "`x`", " ".join(block.split())))
+            found += re.split(r"(?<=[a-z0-9`)\]][.!?:])\s+|(?<=[.!?]\*\*)\s+", plain)
+    return [sentence for sentence in found if sentence]
+
+
 class Pages(unittest.TestCase):
     def test_each_link_leads_somewhere(self) -> None:
         for page in pages():
@@ -48,6 +65,17 @@ class Pages(unittest.TestCase):
             for name in NAMED.findall(page.read_text(encoding="utf-8")):
                 with self.subTest(page=page.relative_to(TOP), name=name):
                     self.assertTrue((TOP / name).exists())
+
+    def test_pages_for_users_are_short(self) -> None:
+        """At most 1,200 words, and nine of ten sentences have fewer than 25. The tables of REFERENCE.md are made of what `--help` prints."""
+        found = for_users()
+        self.assertGreater(len(found), 20)
+        for page in found:
+            text = page.read_text(encoding="utf-8")
+            long = [sentence for sentence in sentences(text) if len(sentence.split()) >= 25]
+            with self.subTest(page=page.name, long=long):
+                self.assertTrue(len(text.split()) <= 1200 or page.name == "REFERENCE.md")
+                self.assertLessEqual(10 * len(long), len(sentences(text)))
 
 
 if __name__ == "__main__":
