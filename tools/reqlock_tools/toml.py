@@ -37,6 +37,20 @@ def read_toml(text: str) -> dict[str, Any]:
         raise Refusal(f"it is no TOML: {error}") from None
 
 
+def value_at(table: dict[str, Any], *keys: str) -> Any:
+    """The value at these keys, one in the other; None where it isn't there."""
+    found: Any = table
+    for key in keys:
+        found = found.get(key) if isinstance(found, dict) else None
+    return found
+
+
+def table_at(table: dict[str, Any], *keys: str) -> dict[str, Any]:
+    """The table at these keys; an empty one where there is none."""
+    found = value_at(table, *keys)
+    return found if isinstance(found, dict) else {}
+
+
 def array_end(text: str, start: int) -> int | None:
     """The place behind the bracket that ends an array of texts, which begins at a place; None where none does."""
     marks = (found for found in TOKEN.finditer(text, start) if found["mark"] == "]" or found["open"])

@@ -1,15 +1,18 @@
 """Tests that what rql advises leads on: each advice that is told here is followed to its end."""
 
+import json
 import re
+import subprocess
 import unittest
 
 from support.completed import SHARE
 from support.made.served_index import wheel_of
 from support.places import TOP
 from support.rql_projects import Served
-from support.synced import Synced
+from support.synced import Synced, variables
 
 from reqlock_tools.rql.parser import BUILDERS, FLAGS, VALUES, parser_of
+from reqlock_tools.rql.texts import outside
 
 
 class Server(Served):
@@ -25,7 +28,8 @@ class Server(Served):
         path = f"{self.index.prefix}rich/"
         failing = [lambda answer: answer.give(500)] * 2
         place[path] = [*failing, self.index.usual]
-        self.assertIn("asked 1 time, so try again later, or with a larger --retries or --timeout", self.refuses("add", "rich", "--retries", "0", status=6))
+        told = self.refuses("add", "rich", "--retries", "0", status=6)
+        self.assertIn("asked 1 time, so try again later, or with a larger --retries or --timeout", told)
         place[path] = [*failing, self.index.usual]
         self.accepts("--retries", "2", "add", "rich", answer="ok 1\n")
 
@@ -39,6 +43,187 @@ class Server(Served):
     def test_they_stand_in_front_of_a_word_that_is_handed_on(self):
         self.accepts("--timeout", "5", "--retries", "1", "log")
         self.assertIn("--retries: invalid number from 0 to", self.rql("--retries", "-1", "log")[2])
+
+
+class First(Served):
+    """A name that is mistyped before the index has given anything."""
+
+    def setUp(self):
+        super().setUp()
+        self.serve(flask=[wheel_of("flask", "1")])
+
+    def refused(self, *words, told=True):
+        status, output, errors = self.rql(*words)
+        self.assertEqual((status, output), (3, "refused no-solution\n"), errors)
+        self.assertEqual("/simple/: it has no file of flsk; is the name right? And is it the address of a Simple API" in errors, told, errors)
+
+    def test_in_an_empty_project(self):
+        self.begin()
+        self.refused("add", "flsk")
+        self.assertEqual(self.rql("-q", "add", "flsk"), (3, "refused no-solution\n", ""))
+        self.accepts("add", "flask", answer="ok 1\n")
+        with self.subTest("a later one ends so too"):
+            self.refused("add", "flsk", told=False)
+
+    def test_in_the_lines_that_a_project_begins_with(self):
+        self.put("requirements.txt", "flsk\n")
+        self.refused("init", "--index", self.index.url)
+        self.assertEqual([path.name for path in self.folder.iterdir()], ["requirements.txt"])
+
+    def test_an_index_that_has_nothing_any_more_takes_no_place(self):
+        self.begin("flask\n")
+        before = (self.folder / ".reqlock" / "index.json").read_bytes()
+        self.index.instead[f"{self.index.prefix}flask/"] = [lambda answer: answer.give(404)]
+        for words in ["upgrade"], ["relock"], ["index"]:
+            self.assertIn("it has no file of flask; is it the address of a Simple API", self.rql(*words)[2])
+        self.assertEqual((self.folder / ".reqlock" / "index.json").read_bytes(), before)
+
+    def test_a_url_is_no_name_to_ask_for(self):
+        self.begin("flask\n")
+        self.index.counts()
+        self.assertEqual(self.rql("add", "git+https://git.example/x")[:2], (1, "refused bad-text\n"))
+        self.assertNotIn(("GET", f"{self.index.prefix}git/"), self.index.counts())
+
+
+class Coming(Served):
+    """A project of another tool, over an index that has what it locked."""
+
+    def setUp(self):
+        super().setUp()
+        self.serve(**{
+            name: [wheel_of(name, version, *needs) for version in ("1", "2")]
+            for name, *needs in (["flask"], ["rich"], ["pytest", "iniconfig"], ["iniconfig"], ["ruff"], ["sphinx"])
+        })
+
+    def init(self, pyproject, **others):
+        """What `rql init` tells of these files, which pin the versions 1 of uv.lock, or of poetry.lock."""
+        self.put("pyproject.toml", pyproject)
+        for name, names in others.items():
+            source = '\nsource = { registry = "https://index.example/simple" }' if name == "uv" else ""
+            packages = (f'[[package]]\nname = "{it}"\nversion = "1"{source}\n' for it in names)
+            self.put(f"{name}.lock", "\n".join(packages))
+        status, output, errors = self.rql("init", "--index", self.index.url, "--python", "3.11", "--platform", "linux-x86_64")
+        self.assertEqual((status, output), (0, "ok 0\n"), errors)
+        return errors.splitlines()
+
+    def locked(self):
+        return [row.split()[:2] for row in self.rql("show")[1].splitlines()[1:]]
+
+    def write_sources(self, *sources):
+        path = self.folder / "pyproject.toml"
+        text = path.read_text(encoding="utf-8")
+        path.write_text(re.sub(r"sources = \[.*\]", f"sources = {json.dumps(sources)}", text), encoding="utf-8")
+
+
+UV = """[project]
+name = "app"
+dependencies = ["flask"]
+
+[project.optional-dependencies]
+net = ["rich"]
+
+[dependency-groups]
+dev = ["pytest", { include-group = "lint" }]
+lint = ["ruff"]
+docs = ["sphinx"]
+"""
+
+
+class Groups(Coming):
+    def test_what_uv_installs_by_itself_is_locked_with_its_pins(self):
+        told = self.init(UV, uv=["flask", "pytest", "iniconfig", "ruff", "sphinx"])
+        self.assertEqual(self.lines(), "flask  # from pyproject.toml\npytest  # from pyproject.toml:dev\nruff  # from pyproject.toml:lint\n")
+        self.assertEqual(self.locked(), [["flask", "1"], ["iniconfig", "1"], ["pytest", "1"], ["ruff", "1"]])
+        self.assertIn("sphinx 1: it isn't taken over: nothing needs it", told)
+        names = "pyproject.toml:docs", "pyproject.toml[net]"
+        way = f'to lock them too, write "{names[0]}", "{names[1]}" into sources in the settings, and call rql lock'
+        self.assertIn(f"{', '.join(names)}: not locked; {way}", told)
+        with self.subTest("which takes them in"):
+            self.write_sources("pyproject.toml", "pyproject.toml:dev", *names)
+            self.accepts("lock", answer="ok 1\n")
+            self.assertEqual([name for name, _ in self.locked()], ["flask", "iniconfig", "pytest", "rich", "ruff", "sphinx"])
+        with self.subTest("what is taken out of sources isn't locked"):
+            self.assertTrue(any(it.startswith("pyproject.toml:dev: locked too, as `uv sync` installs it") for it in told), told)
+            self.write_sources("pyproject.toml")
+            self.accepts("lock", answer="ok 2\n")
+            self.assertEqual(self.locked(), [["flask", "1"]])
+
+    def test_of_a_project_that_is_none_of_uv(self):
+        told = self.init(UV)
+        self.assertEqual(self.lines(), "flask  # from pyproject.toml\n")
+        names = "pyproject.toml:dev, pyproject.toml:lint, pyproject.toml:docs, pyproject.toml[net]"
+        self.assertTrue(any(it.startswith(f"{names}: not locked") for it in told), told)
+
+    def test_what_uv_knows_in_tables_of_its_own(self):
+        tables = '[tool.uv]\ndefault-groups = ["docs"]\ndev-dependencies = ["rich"]\n[tool.uv.sources]\nflask = { path = "../flask" }\n'
+        told = self.init(f"{UV}{tables}")
+        self.assertEqual(self.lines(), "flask  # from pyproject.toml\nsphinx  # from pyproject.toml:docs\n")
+        self.assertIn(
+            "tool.uv.dev-dependencies: not locked: put its lines into dev in [dependency-groups], which uv reads too, write \"pyproject.toml:dev\""
+            " into sources in the settings, and call rql lock", told,
+        )
+        self.assertIn("tool.uv.sources isn't followed: flask: the index is asked for it, whose package of this name may be another one", told)
+        self.assertNotIn("rich", self.lines())
+
+    def test_a_group_with_a_url_is_told_and_left(self):
+        told = self.init(UV.replace('"pytest",', '"x @ git+https://git.example/x",'), uv=["flask"])
+        self.assertEqual(self.lines(), "flask  # from pyproject.toml\n")
+        pattern = r"dependency-groups.dev\[0\]: .*only what an index has can be locked, and not x: .*: so pyproject.toml:dev isn't locked$"
+        self.assertRegex(told[0], pattern)
+
+    def test_of_poetry(self):
+        told = self.init(
+            '[tool.poetry.dependencies]\nflask = "*"\nnear = { path = "../near" }\n[tool.poetry.dev-dependencies]\nruff = "^1"\n'
+            '[tool.poetry.group.test.dependencies]\npytest = "*"\nflask = "*"\nmine = { git = "https://git.example/mine" }\n'
+            '[tool.poetry.group.docs]\noptional = true\n[tool.poetry.group.docs.dependencies]\nsphinx = "^1"\n',
+            poetry=["flask", "pytest", "iniconfig", "ruff"],
+        )
+        self.assertEqual(self.lines(), "flask\nruff>=1,<2  # group dev\npytest  # group test\n")
+        self.assertEqual(self.locked(), [["flask", "1"], ["iniconfig", "1"], ["pytest", "1"], ["ruff", "1"]])
+        group = "tool.poetry.group"
+        self.assertIn(f"{group}.test.dependencies: it is locked too, as `poetry install` installs it: rql remove takes a line out", told)
+        self.assertIn(f"{group}.docs.dependencies: sphinx: it is optional, so it isn't taken over: rql add 'sphinx>=1,<2' adds it", told)
+        self.accepts("add", "sphinx>=1,<2", answer="ok 1\n")
+        self.accepts("remove", "pytest", answer="ok 2\n")
+        self.assertTrue(any(it.startswith("only what an index has can be locked, and not near, mine: publish it") for it in told), told)
+
+    def test_of_poetry_beside_dependencies_of_the_project(self):
+        told = self.init('[project]\nname = "app"\ndependencies = ["flask"]\n[tool.poetry.group.test.dependencies]\npytest = "^1"\n')
+        line = 'test = ["pytest>=1,<2"]'
+        self.assertIn(
+            f"tool.poetry.group.test.dependencies: it isn't locked: write {line} in [dependency-groups], write \"pyproject.toml:test\" into sources"
+            " in the settings, and call rql lock", told,
+        )
+        self.put("pyproject.toml", f"[dependency-groups]\n{line}\n{(self.folder / 'pyproject.toml').read_text(encoding='utf-8')}")
+        self.write_sources("pyproject.toml", "pyproject.toml:test")
+        self.accepts("lock", answer="ok 1\n")
+        self.assertEqual([name for name, _ in self.locked()], ["flask", "iniconfig", "pytest"])
+
+
+class Pins(Coming):
+    def test_of_what_nothing_leads_to(self):
+        told = self.init('[project]\nname = "app"\ndependencies = ["rich"]\n', uv=["rich", "pytest"])
+        self.assertIn("pytest 1: it isn't taken over: nothing needs it", told)
+
+    def test_of_what_the_index_was_asked_for_and_lacks(self):
+        self.serve(app=[wheel_of("app", "1"), wheel_of("app", "2", "gone")])
+        told = self.init('[project]\nname = "own"\ndependencies = ["app"]\n', uv=["app", "gone"])
+        self.assertIn("gone 1: it isn't taken over: the index hasn't the package", told)
+
+
+class Outside(Synced):
+    """What no index has is installed beside what is locked, and stays as it is told."""
+
+    def test_it_stays(self):
+        told = outside(["b"])
+        self.assertEqual(told.rpartition(" by ")[2], "rql sync --keep b")
+        self.lock({"a": "1"})
+        wheel = self.project / self.files["b", "1"].name
+        wheel.write_bytes(self.files["b", "1"].data)
+        self.syncs("+ a 1")
+        subprocess.run([self.venv / "bin" / "python", "-m", "pip", "install", "--quiet", "--no-deps", wheel], env=variables(), check=True)
+        self.syncs("nothing to do", told=["b 1 stays: --keep"], keep=["b"])
+        self.syncs("- b 1")
 
 
 class OfSync(Synced):

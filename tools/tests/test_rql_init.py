@@ -190,7 +190,7 @@ class Begin(Served):
         self.assertEqual(self.locked(), {"rich": "1", "flask": "2.0", "werkzeug": "2"})
         self.assertEqual((self.folder / "uv.lock").read_text(encoding="utf-8"), UV)
         for line in (
-            "uv.lock: mine: it isn't taken over: it comes from no index", "gone 7: it isn't taken over: the index hasn't the package",
+            "uv.lock: mine: it isn't taken over: it comes from no index", "gone 7: it isn't taken over: nothing needs it",
             "rich 2: it isn't taken over: 1 is locked", "werkzeug: it is locked, and no pin was taken over for it", "2 of 4 pins are taken over",
         ):
             self.assertIn(line, errors)
@@ -201,8 +201,8 @@ class Begin(Served):
         errors = self.init()
         self.assertEqual(self.lines(), "rich>=1,<2\nflask[async]>=2.0,<2.1\n")
         self.assertEqual(self.locked(), {"rich": "1", "flask": "2.0", "werkzeug": "2"})
-        for name in "mine", "other":
-            self.assertIn(f"tool.poetry.dependencies: {name}: it can't be translated: add it by rql add", errors)
+        self.assertIn("tool.poetry.dependencies: mine: it comes from a folder or a file, so it isn't locked\n", errors)
+        self.assertIn("tool.poetry.dependencies: other: it can't be translated: rql add 'other>=1' adds it, with the versions that", errors)
         self.assertIn("poetry.lock: mine: it isn't taken over: it comes from no index", errors)
         self.assertIn("1 of 1 pins are taken over", errors)
 

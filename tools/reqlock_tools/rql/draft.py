@@ -11,7 +11,7 @@ from reqlock_tools.rql.faults import SettingsFault
 from reqlock_tools.rql.pins import has_pins_alone, is_compiled
 from reqlock_tools.rql.project import JOURNAL, REQUIREMENTS
 from reqlock_tools.rql.settings import PROJECT_FILE
-from reqlock_tools.toml import read_toml
+from reqlock_tools.toml import read_toml, value_at
 
 LINES_OF_PIP_TOOLS = "requirements.in"
 LOCKS_OF_OTHERS = "uv.lock", "poetry.lock", "pylock.toml"
@@ -45,14 +45,6 @@ def project_table(base: Path) -> dict[str, Any]:
         raise SettingsFault(f"{path}: {str(fault).removeprefix(f'{path}: ')}") from None
 
 
-def inner(table: dict[str, Any], *keys: str) -> Any:
-    """The value at these keys, one in the other; None where it isn't there."""
-    found: Any = table
-    for key in keys:
-        found = found.get(key) if isinstance(found, dict) else None
-    return found
-
-
 def locks_of_others(base: Path) -> tuple[Path, ...]:
     """The lock of another tool that stands there. Of several a person says which counts."""
     found = [base / name for name in LOCKS_OF_OTHERS if (base / name).is_file()]
@@ -82,12 +74,14 @@ def draft_of(base: Path, given: tuple[str, ...]) -> Draft:
         return Draft(BESIDE, (LINES_OF_PIP_TOOLS,), REQUIREMENTS if is_free else compiled, pinned)
     if (base / REQUIREMENTS).is_file() and compiled is None:
         return Draft(folder, (REQUIREMENTS,) if taken else (), None, pinned)
-    if inner(table, "project", "dependencies") is not None:
-        return Draft(folder, (PROJECT_FILE,), compiled, pinned)
-    if isinstance(inner(table, "tool", "poetry", "dependencies"), dict) and compiled is None:
+    if value_at(table, "project", "dependencies") is not None:
+        from reqlock_tools.rql.groups import default_groups
+
+        return Draft(folder, (PROJECT_FILE, *default_groups(base, table)), compiled, pinned)
+    if isinstance(value_at(table, "tool", "poetry", "dependencies"), dict) and compiled is None:
         from reqlock_tools.rql.poetry import lines_of_poetry
 
-        return Draft(folder, (), None, pinned, lines_of_poetry(inner(table, "tool", "poetry", "dependencies"), say))
+        return Draft(folder, (), None, pinned, lines_of_poetry(value_at(table, "tool", "poetry"), say))
     if compiled is not None:
         raise SettingsFault(
             f"{base / REQUIREMENTS}: it was compiled of other lines, which aren't there. Rename it (git mv {REQUIREMENTS} compiled.txt),"

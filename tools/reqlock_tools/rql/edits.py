@@ -15,6 +15,7 @@ from reqlock_tools.rql.kept import Kept
 from reqlock_tools.rql.project import JOURNAL, REQUIREMENTS, Project
 from reqlock_tools.rql.requests import EditRequest
 from reqlock_tools.rql.telling import is_told
+from reqlock_tools.rql.texts import is_url
 
 # Those that change one line for each of their texts.
 OF_LINES = "add", "remove", "set"
@@ -57,7 +58,7 @@ class Edit:
         word = self.request.word
         if word == "remove":
             return present_index(self.project, self.kept)
-        texts = self.request.texts if word in ("add", "set") else ()
+        texts = tuple(it for it in self.request.texts if not is_url(it)) if word in ("add", "set") else ()
         return made_index(self.project, self.kept, Wanted(texts=texts, is_asked=word in ASKING))
 
     def given(self, folder: Path | None = None) -> list[str]:

@@ -12,7 +12,7 @@ from reqlock_tools.refusal import speaker
 from reqlock_tools.rql.calls import Caller, typed_path
 from reqlock_tools.rql.compiled import Pin
 from reqlock_tools.rql.defaults import indexes, own_platform, own_python, platform_name, refuse_platform, refuse_python, target_names
-from reqlock_tools.rql.draft import Draft, draft_of
+from reqlock_tools.rql.draft import Draft, draft_of, project_table
 from reqlock_tools.rql.edits import accepted
 from reqlock_tools.rql.environments import environments
 from reqlock_tools.rql.faults import IndexFault, SettingsFault
@@ -20,7 +20,7 @@ from reqlock_tools.rql.history import content, is_whole, journal_of
 from reqlock_tools.rql.index import Wanted, made_index
 from reqlock_tools.rql.kept import MODE, NAME, Kept
 from reqlock_tools.rql.pins import read_pins
-from reqlock_tools.rql.pins_fit import Outcome, fits, releases_by_name
+from reqlock_tools.rql.pins_fit import Outcome, absent_names, fits, releases_by_name
 from reqlock_tools.rql.project import REQUIREMENTS, Project, project_of, settings_in
 from reqlock_tools.rql.requests import InitRequest, Options
 from reqlock_tools.rql.settings import OWN_FILE, PROJECT_FILE, EnvironmentSetting, ExportSetting, settings_of
@@ -50,6 +50,10 @@ def begun(options: Options, request: InitRequest) -> int:
     if request.python:
         refuse_python(request.python)
     draft = draft_of(base, request.pinned)
+    if found is None and PROJECT_FILE in draft.sources:
+        from reqlock_tools.rql.groups import tell_rest
+
+        tell_rest(base, project_table(base), draft.sources)
     if found is not None:
         return Beginning(project_of(found, options), draft, None, bool(request.pinned)).run()
     file, text = new_settings(base, draft, request)
@@ -142,7 +146,8 @@ class Beginning:
         pins = [pin for several, _ in read for pin in several]
         index = self.index(kept, pins)
         packages = releases_by_name(str(index))
-        taken = [pin for pin in pins if fits(pin, packages)]
+        absent = absent_names(str(index))
+        taken = [pin for pin in pins if fits(pin, packages, absent)]
         words = ["--dir", typed_path(self.project.folder), "--index", typed_path(index), *self.environment_words(kept)]
         status = self.caller.hand_over(*words, "init", *self.pin_words(kept, taken))
         if status != 0:

@@ -6,7 +6,7 @@ from collections.abc import Sequence
 from pathlib import Path
 from typing import Any
 
-from reqlock_tools.refusal import speaker
+from reqlock_tools.refusal import Refusal, speaker
 from reqlock_tools.rql.calls import Caller, typed_path
 from reqlock_tools.rql.compiled import Pin, read_text
 from reqlock_tools.versions import normal, read_version, version_of
@@ -40,12 +40,24 @@ def must_be_named(pin: Pin, packages: Packages) -> bool:
     return release is not None and (release.get("yanked") or version_of(pin.version).is_prerelease)
 
 
-def fits(pin: Pin, packages: Packages) -> bool:
-    """Whether the index has the release that is pinned; else it is said why the pin isn't taken over."""
+def absent_names(path: str) -> frozenset[str] | None:
+    """The names that an index was asked for and hadn't; None where it doesn't tell that."""
+    from reqlock_tools.simple.made import read_made
+
+    try:
+        return frozenset(read_made(path).member("lacks").member("names").texts())
+    except Refusal:
+        return None
+
+
+def fits(pin: Pin, packages: Packages, absent: frozenset[str] | None) -> bool:
+    """Whether the index has the release that is pinned; else it is said why the pin isn't taken over. Names that were never asked for, as
+    nothing leads to them, aren't among those that are absent."""
     release = release_of(pin, packages)
     if release is None:
-        has = "this release of it" if pin.name in packages else "the package"
-        say(f"{pin.told()}: it isn't taken over: the index hasn't {has}")
+        is_asked = absent is None or pin.name in absent
+        why = "the index hasn't this release of it" if pin.name in packages else "the index hasn't the package" if is_asked else "nothing needs it"
+        say(f"{pin.told()}: it isn't taken over: {why}")
         return False
     others = [file["name"] for file in release["files"] if file["sha256"].lower() not in pin.digests]
     if pin.digests and len(others) == len(release["files"]):

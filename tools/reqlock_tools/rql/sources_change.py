@@ -145,7 +145,7 @@ def only_line(now: Gathered, name: str) -> Line:
 
 def checked_word(text: str) -> str:
     """A requirement that was typed; a comment of it stays out of the sources' lists."""
-    return checked(re.sub(r"\s#.*", "", text), repr(text))
+    return checked(re.sub(r"\s#.*", "", text), "a line that was typed", is_typed=True)
 
 
 def constrained(text: str, specifiers: str) -> str:

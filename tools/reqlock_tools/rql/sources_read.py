@@ -2,6 +2,7 @@
 
 import contextlib
 import os
+import re
 from collections.abc import Iterator, Mapping
 from dataclasses import dataclass
 from pathlib import Path
@@ -11,8 +12,10 @@ from reqlock_tools.regular_file import read_bytes
 from reqlock_tools.requirements import doubt_of, fault_of
 from reqlock_tools.rql.faults import SettingsFault
 from reqlock_tools.rql.places import place_in
+from reqlock_tools.rql.texts import outside
 
 FROM = "  # from "
+NAME_OF_URL = re.compile(r"([A-Za-z0-9._-]+)\s*(?:\[[^\]]*\]\s*)?@")
 
 
 @dataclass(frozen=True)
@@ -101,14 +104,22 @@ class Files:
             raise SettingsFault(f"{path}: it isn't UTF-8") from None
 
 
-def checked(text: str, where: str) -> str:
+def way_of_url(text: str, is_typed: bool) -> str:
+    """What to do about a text that asks for a URL, and about the line of a source that has it; nothing where it doesn't."""
+    name = NAME_OF_URL.match(text)
+    if name is None:
+        return ""
+    return f": {'' if is_typed else 'take the line out of the source, or name another source; '}{outside([name[1]])}"
+
+
+def checked(text: str, where: str, is_typed: bool = False) -> str:
     """A requirement as a line has it. What PEP 508 can't read is refused, and so is a URL, with the place."""
     found = text.strip()
     if not found.isprintable():
         raise SettingsFault(f"{where}: {found!a}: a requirement has visible characters alone")
     fault = fault_of(found) or doubt_of(found)
     if fault:
-        raise SettingsFault(f"{where}: {found!a}: {fault}")
+        raise SettingsFault(f"{where}: {found!a}: {fault}{way_of_url(found, is_typed)}")
     if "#" in found:
         raise SettingsFault(f"{where}: {found!a}: a requirement has no #")
     return found

@@ -1,7 +1,23 @@
 """Texts of requirements, as they are typed."""
 
+import re
+from collections.abc import Sequence
+
 from reqlock_tools.requirements import need_of
 from reqlock_tools.rql.faults import SettingsFault
+
+
+def outside(names: Sequence[str]) -> str:
+    """What to do about packages that no index has."""
+    return (
+        f"only what an index has can be locked, and not {', '.join(names)}: publish it to one; or install it after rql sync, by pip install"
+        f" --no-deps, add what it needs by rql add, and have it stay by rql sync {' '.join(f'--keep {it}' for it in names)}"
+    )
+
+
+def is_url(text: str) -> bool:
+    """Whether a text begins with the address of something, where a name would stand."""
+    return re.match(r"\s*[A-Za-z0-9+.-]+://", text) is not None
 
 
 def name_in(text: str) -> str:
