@@ -13,7 +13,7 @@ from pathlib import Path
 
 from support.made.archives import wheel
 from support.made.served_index import wheel_of
-from support.places import PROGRAM, TOOLS, TOP
+from support.places import PROGRAM, TOOLS, TOP, needs_program
 from support.program import FILES, Program
 from support.rql_projects import Served
 from support.shown import indented_blocks
@@ -36,7 +36,7 @@ def compiled(*pins):
     return "".join(texts).encode()
 
 
-@unittest.skipUnless(PROGRAM.exists(), "the program isn't built")
+@needs_program
 class Adopt(Program):
     def setUp(self):
         super().setUp()
@@ -186,7 +186,7 @@ class Adopt(Program):
         self.assertEqual((done.returncode, done.stderr), (1, "adopt.py: none: No such file or directory; give the program by --program\n"))
 
 
-@unittest.skipUnless(PROGRAM.exists(), "the program isn't built")
+@needs_program
 class Page(unittest.TestCase):
     """The lines of docs/FROM_PIP_TOOLS.md."""
 

@@ -7,7 +7,7 @@ import sys
 import unittest
 from collections import namedtuple
 
-from support.places import PROGRAM, TOOLS, new_folder
+from support.places import PROGRAM, TOOLS, needs_program, new_folder
 from support.pythons import pythons
 from support.wanted_libraries import want_libraries
 
@@ -172,7 +172,7 @@ class Described(unittest.TestCase):
         for text in "3", "2.7", "4.0", "3.x", "3.9.", "3.09":
             self.assertNotEqual(run("--python", text, "--platform", "windows-x86_64").returncode, 0, text)
 
-    @unittest.skipUnless(PROGRAM.exists(), "the program isn't built")
+    @needs_program
     def test_are_read_by_reqlock(self):
         folder = new_folder(self.addCleanup)
         (folder / "requirements.txt").write_text("a ; sys_platform == 'darwin'\n", encoding="utf-8")

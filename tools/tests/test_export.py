@@ -8,9 +8,8 @@ import tomllib
 import unittest
 from xml.etree import ElementTree
 
-from support.checked_files import knows
 from support.made.environments import LINUX, WINDOWS
-from support.places import TOOLS, TOP
+from support.places import TOOLS, TOP, needs_program
 from support.program import Program
 from support.rules.journals import file_name
 from support.rules.lock_tables import read_lock
@@ -38,7 +37,6 @@ RELEASES = (
 ODD = 'd  # "]; \\N \\" <b> &amp; {|} \t é -> "a"\n'
 LINES = f"a[e]>=1\n# only a comment\nw; os_name == 'nt'\n{ODD}"
 SVG = "{http://www.w3.org/2000/svg}"
-IS_KNOWN = knows("export")
 
 
 def hashed(path):
@@ -75,7 +73,7 @@ def graph_of(lock, target, lines):
     return nodes, edges
 
 
-@unittest.skipUnless(IS_KNOWN, "the program isn't built, or doesn't know export")
+@needs_program
 class Export(Program):
     def lock_of(self, target):
         return read_lock((self.folder / file_name(target)).read_bytes())[2]
@@ -127,7 +125,7 @@ class Export(Program):
         self.assertEqual(self.told("export"), self.told("show"))
 
 
-@unittest.skipUnless(IS_KNOWN, "the program isn't built, or doesn't know export")
+@needs_program
 class Targets(Export):
     environments = TWO
 
@@ -159,7 +157,7 @@ class Targets(Export):
         self.assertEqual((status, output, error.splitlines()[0]), (2, "", "error: no target has the name 'mac' of '--target <NAME>': the targets are linux, win"))
 
 
-@unittest.skipUnless(IS_KNOWN, "the program isn't built, or doesn't know export")
+@needs_program
 class Installed(Shell):
     def test_pip_installs_by_the_hashes(self):
         make_wheels(self.folder / "wheels")
@@ -193,7 +191,8 @@ def is_read(environment):
     return Marker('python_full_version > "1"').evaluate(environment)
 
 
-@unittest.skipUnless(IS_KNOWN and Marker, "there is no program with export, or python3 has neither packaging nor pip")
+@needs_program
+@unittest.skipUnless(Marker, "python3 has neither packaging nor pip")
 class Pylock(Program):
     """The lock that travels: it is a lock of the same packages, and where its marker holds a new lock has these too."""
 
@@ -277,14 +276,15 @@ class Page(unittest.TestCase):
     def setUp(self):
         self.picture = ElementTree.fromstring((TOP / "docs" / "lock.svg").read_text(encoding="utf-8"))
 
-    @unittest.skipUnless(IS_KNOWN and shutil.which("dot"), "there is no program with export, or no Graphviz: apt-get install graphviz")
+    @needs_program
+    @unittest.skipUnless(shutil.which("dot"), "there is no Graphviz: apt-get install graphviz")
     def test_the_picture_is_of_the_program(self):
         done = subprocess.run(["python3", "-B", TOOLS / "lock_picture.py", "-"], capture_output=True, check=True)
         made = ElementTree.fromstring(done.stdout)
         for kind in "node", "edge", "cluster":
             self.assertEqual(texts_of(self.picture, kind), texts_of(made, kind))
 
-    @unittest.skipUnless(IS_KNOWN, "the program isn't built, or doesn't know export")
+    @needs_program
     def test_what_is_printed(self):
         page = (TOP / "docs" / "EXPORT.md").read_text(encoding="utf-8")
         for command, shown in [it for block in typed_blocks(page) for it in block]:

@@ -6,12 +6,11 @@ import tomllib
 import unittest
 from collections import Counter
 
-from support.checked_files import knows
 from support.drawn_files import DrawnFiles
 from support.made.environments import LINUX
 from support.made.releases import file_of
 from support.made.sessions import SETS, Draw
-from support.places import IS_LONG
+from support.places import IS_LONG, needs_program
 from support.rules.edits import Refused, begun
 from support.rules.lock_tables import read_lock
 from support.rules.requirements import cut_lines
@@ -86,7 +85,8 @@ class DrawnIndex(Draw):
         return found
 
 
-@unittest.skipUnless(knows("export") and Marker, "there is no program with export, or python3 has neither packaging nor pip")
+@needs_program
+@unittest.skipUnless(Marker, "python3 has neither packaging nor pip")
 class Drawn(DrawnFiles):
     def test_a_new_lock_is_the_same_wherever_the_marker_holds(self):
         self.seen = Counter()

@@ -11,7 +11,7 @@ import unittest
 from pathlib import Path
 
 from support.fleets import ASKED, SCRIPT, table
-from support.places import PROGRAM, TOP
+from support.places import PROGRAM, TOP, needs_program
 from support.program import Program
 from support.shown import printed_by, typed_blocks
 
@@ -106,7 +106,7 @@ class OverProgram(Program):
         self.assertEqual(self.bytes_of("docs"), before)
 
 
-@unittest.skipUnless(PROGRAM.exists(), "the program isn't built")
+@needs_program
 class Page(unittest.TestCase):
     def test_what_is_typed_prints_what_is_shown(self):
         text = (TOP / "docs" / "FLEET.md").read_text(encoding="utf-8")

@@ -10,7 +10,7 @@ import time
 import unittest
 
 from support.fleets import ASKED, Fleet, table
-from support.places import PROGRAM, TOP, new_folder
+from support.places import PROGRAM, TOP, needs_program, new_folder
 
 from reqlock_tools.fleet_dask import INSTALL, Dask
 from reqlock_tools.fleet_request import Request, read_words
@@ -112,7 +112,7 @@ class Workers(Fleet):
         processes = {int((self.folder / name / "worker").read_text(encoding="utf-8")) for name in "ab"}
         self.assertEqual(processes, {worker.pid for worker in self.workers if worker.poll() is None})
 
-    @unittest.skipUnless(PROGRAM.exists(), "the program isn't built")
+    @needs_program
     def test_the_program_saves_at_workers(self):
         self.program = PROGRAM
         shutil.copytree(TOP / "examples" / "fleet", self.folder / "fleet")

@@ -9,7 +9,7 @@ import unittest
 from pathlib import Path
 
 from support.checkouts import VARIABLES
-from support.places import PROGRAM, TOOLS, TOP
+from support.places import PROGRAM, TOOLS, TOP, needs_program
 from support.shown import indented_blocks, printed_by, typed_blocks
 
 BEGIN = """
@@ -26,7 +26,8 @@ def is_printed(shown, printed):
     return re.fullmatch(pattern, printed) is not None
 
 
-@unittest.skipUnless(PROGRAM.exists() and shutil.which("git"), "the program isn't built, or there is no git")
+@needs_program
+@unittest.skipUnless(shutil.which("git"), "there is no git")
 class Page(unittest.TestCase):
     def setUp(self):
         self.text = (TOP / "docs" / "GIT.md").read_text(encoding="utf-8")

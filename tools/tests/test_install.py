@@ -12,7 +12,7 @@ from pathlib import Path
 
 from support.made.environments import LINUX
 from support.made.releases import index_of
-from support.places import PROGRAM, TOP, new_folder
+from support.places import PROGRAM, TOP, needs_program, new_folder
 from support.program import NOBODY
 
 INSTALL = TOP / "install"
@@ -218,7 +218,7 @@ def copy_tree(place):
     shutil.copy(shutil.which("true"), program)
 
 
-@unittest.skipUnless(PROGRAM.exists(), "the program isn't built")
+@needs_program
 class Installed(unittest.TestCase):
     def setUp(self):
         self.folder = new_folder(self.addCleanup)
@@ -320,7 +320,7 @@ class Installed(unittest.TestCase):
         return {line for line in lines if line not in ("", "complete -F _reqlock reqlock")}
 
 
-@unittest.skipUnless(PROGRAM.exists(), "the program isn't built")
+@needs_program
 class Words(unittest.TestCase):
     """The words of the completions and of the manual page are those of `--help`, and no others."""
 

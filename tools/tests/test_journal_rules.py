@@ -2,9 +2,10 @@
 
 import unittest
 
-from support.checked_files import IS_BUILT, checked, told
+from support.checked_files import checked, told
 from support.made.environments import LINUX
 from support.made.journals import ZEROS, altered, compact, entry, header, in_version, journal, lock_text, step
+from support.places import PROGRAM
 from support.program import FILES
 from support.rules.journals import digest_of, opens, opens_in, read_header, read_step
 from support.rules.requirements import Fault
@@ -54,7 +55,7 @@ class Example(unittest.TestCase):
     def check_files(self, wanted, files):
         """What files stand for, by their names, and what the program answers of them."""
         self.assertEqual(opens_in(files), wanted)
-        if IS_BUILT:
+        if PROGRAM.exists():
             self.assertEqual(checked(files), told(*wanted))
 
 

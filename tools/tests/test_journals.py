@@ -5,10 +5,10 @@ hundredth alteration is tried, or with LONG_TESTS=1 each."""
 import unittest
 from itertools import islice, product
 
-from support.checked_files import IS_BUILT, checked, told
+from support.checked_files import checked, told
 from support.made.environments import LINUX, OLDER, WINDOWS
 from support.made.journals import altered, entry, journal, journal_of_targets, lock_text, step
-from support.places import IS_LONG
+from support.places import IS_LONG, needs_program
 from support.rules.journals import file_name, opens_in
 
 PACE = 1 if IS_LONG else 100
@@ -82,7 +82,7 @@ class Rules(unittest.TestCase):
         self.assertEqual(STEPS_OF_TARGETS[0]["entries"][0], ["", "c", None, ENTRIES[1]["c"]])
 
 
-@unittest.skipUnless(IS_BUILT, "the program isn't built, or doesn't know check")
+@needs_program
 class Program(unittest.TestCase):
     def check(self, given, text):
         """The program answers of these files what the rules do, and leaves them."""

@@ -9,7 +9,7 @@ import unittest
 from support.made.environments import LINUX, WINDOWS
 from support.made.releases import index_of
 from support.made.served_index import wheel_of
-from support.places import PROGRAM
+from support.places import PROGRAM, needs_program
 from support.program import Program
 from support.simple_index import Simple
 
@@ -190,7 +190,7 @@ class Packages(Lacking):
         self.assertEqual(self.notes("relock"), told + self.call_with("gone"))
 
 
-@unittest.skipUnless(PROGRAM.exists(), "the program isn't built")
+@needs_program
 class Mended(Simple):
     """The call that is told, done over an index that has what is lacking."""
 

@@ -124,6 +124,8 @@ class Scenarios(unittest.TestCase):
 @unittest.skipUnless(PROGRAM.exists(), "the program `conformance` isn't built")
 @unittest.skipUnless(sys.platform == "linux" and growths.compiler(), "there is no C compiler, or no glibc")
 class Calls(unittest.TestCase):
+    needs_program = True
+
     @classmethod
     def setUpClass(cls):
         cls.library = growths.compiled(new_folder(cls.addClassCleanup))

@@ -10,7 +10,7 @@ import test_faults
 import test_file_calls
 import test_inputs
 import test_program
-from support.places import PROGRAM, SUPPORT, TESTS, TOOLS, TOP
+from support.places import PROGRAM, SUPPORT, TESTS, TOOLS, TOP, needs_program
 from support.rules import requirements as rules
 from support.rules import sentences
 
@@ -25,7 +25,7 @@ DRAWN = (
 )
 
 
-@unittest.skipUnless(PROGRAM.exists(), "the program isn't built")
+@needs_program
 class Subcommands(unittest.TestCase):
     """Each list is held to what `--help` of the program lists."""
 

@@ -11,9 +11,8 @@ import tempfile
 import unittest
 from pathlib import Path
 
-from support.checked_files import knows
 from support.made.environments import LINUX, WINDOWS
-from support.places import IS_LONG, PROGRAM, new_folder
+from support.places import IS_LONG, PROGRAM, needs_program, new_folder
 from support.terminals import shown_on_terminal
 
 import growths  # (these stand in tools/)
@@ -123,7 +122,7 @@ class Law(unittest.TestCase):
         self.assertFalse(lawful(5, b"ok 1\n", OUT_OF_MEMORY))
 
 
-@unittest.skipUnless(knows("init"), "the program isn't built, or doesn't know init")
+@needs_program
 @unittest.skipUnless(sys.platform == "linux" and growths.compiler(), "there is no C compiler, or no glibc")
 class Growths(unittest.TestCase):
     """A test with a folder of files, in which it refuses growths of the program. It locks for these environments."""

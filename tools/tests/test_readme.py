@@ -12,7 +12,7 @@ import unittest
 from pathlib import Path
 
 from support.made.served_index import MadeIndex, wheel_of
-from support.places import PROGRAM, TOOLS, TOP
+from support.places import PROGRAM, TOOLS, TOP, needs_program
 from support.program import Program
 from support.rql_projects import Served
 from support.shown import indented_blocks, printed_by, typed_blocks
@@ -42,7 +42,7 @@ class Blocks(unittest.TestCase):
         self.assertEqual(typed_blocks(text), [[("one", ["1"]), ("two", [])], [("three", ["3", "4"])]])
 
 
-@unittest.skipUnless(PROGRAM.exists(), "the program isn't built")
+@needs_program
 class Readme(unittest.TestCase):
     def test_each_command_prints_what_is_shown(self):
         for page in PAGES:

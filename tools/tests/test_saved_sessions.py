@@ -7,7 +7,7 @@ import shutil
 import unittest
 
 from support.made.journals import compact
-from support.places import PROGRAM, SUPPORT
+from support.places import SUPPORT, needs_program
 from support.program import FILES, Program
 from support.rules.journals import opens_in, read_header, read_step
 from support.rules.lock_tables import read_lock
@@ -90,7 +90,7 @@ def steps_of(log):
     return steps
 
 
-@unittest.skipUnless(PROGRAM.exists(), "the program isn't built")
+@needs_program
 class Sessions(Calls):
     def test_what_only_reads_tells_what_it_told_and_leaves_the_files(self):
         for name in PLACES:
@@ -173,7 +173,7 @@ class Sessions(Calls):
         self.assertEqual(self.files()["requirements.txt"], saved("crlf")["requirements.txt"])
 
 
-@unittest.skipUnless(PROGRAM.exists(), "the program isn't built")
+@needs_program
 class StoppedSaves(Calls):
     """An `undo` of the session `crlf`, whose save was stopped behind the first of the three files, or the second. What it left
     beside is of version 1."""

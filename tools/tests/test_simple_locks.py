@@ -11,7 +11,7 @@ import unittest
 from concurrent.futures import ThreadPoolExecutor
 
 from support.made.served_index import sdist_of, wheel_of
-from support.places import IS_LONG, PROGRAM, TOOLS
+from support.places import IS_LONG, PROGRAM, TOOLS, needs_program
 from support.simple_index import Simple
 
 WORLDS = 300 if IS_LONG else 30
@@ -62,7 +62,7 @@ def pip(*words):
     return done.returncode, done.stdout
 
 
-@unittest.skipUnless(PROGRAM.exists(), "the program isn't built")
+@needs_program
 class Locks(Simple):
     def setUp(self):
         super().setUp()

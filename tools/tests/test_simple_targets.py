@@ -8,7 +8,7 @@ import sys
 import unittest
 
 from support.made.served_index import sdist_of, wheel_of
-from support.places import IS_LONG, PROGRAM, TOOLS
+from support.places import IS_LONG, PROGRAM, TOOLS, needs_program
 from support.simple_index import Simple
 from test_simple_locks import pip
 
@@ -40,7 +40,7 @@ def releases(chance, name):
     return found
 
 
-@unittest.skipUnless(PROGRAM.exists(), "the program isn't built")
+@needs_program
 class Targets(Simple):
     def setUp(self):
         super().setUp()

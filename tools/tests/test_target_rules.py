@@ -3,9 +3,10 @@ answers each of them alike."""
 
 import unittest
 
-from support.checked_files import IS_BUILT, checked, told
+from support.checked_files import checked, told
 from support.made.environments import LINUX, OLDER, WINDOWS
 from support.made.journals import ZEROS, compact, entry, header_of_targets, lock_text, step
+from support.places import PROGRAM
 from support.rules.journals import file_name, is_target_name, opens, opens_in, read_header, read_step
 from support.rules.requirements import Fault
 from support.rules.states import Change, State, Target, after, inverse, is_minimal, is_state
@@ -59,7 +60,7 @@ class Files(unittest.TestCase):
         given = self.requirements if requirements is None else requirements
         files = {"requirements.txt": given, **found, "reqlock.journal": self.whole(header)}
         self.assertEqual(opens_in(files), wanted)
-        if IS_BUILT:
+        if PROGRAM.exists():
             self.assertEqual(checked(files), told(*wanted))
 
     def test_open(self):

@@ -8,7 +8,7 @@ import unittest
 import xml.etree.ElementTree as xml
 
 from support.made.environments import LINUX, WINDOWS
-from support.places import PROGRAM, TOP
+from support.places import PROGRAM, TOP, needs_program
 from support.program import Program
 from support.terminals import shown_on_terminal
 
@@ -268,7 +268,7 @@ class Output(Terminal):
 
 
 class Picture(unittest.TestCase):
-    @unittest.skipUnless(PROGRAM.exists(), "the program isn't built")
+    @needs_program
     def test_is_what_the_program_shows(self):
         script = TOP / "share" / "session_picture.py"
         made = subprocess.run([script], capture_output=True, check=True).stdout

@@ -13,7 +13,7 @@ from support.made.environments import LINUX
 from support.made.library_wheels import make_library_wheels, needed_names, python_with_libraries
 from support.made.releases import index_of
 from support.packaged import PAGES, Packaged, own_variables
-from support.places import PROGRAM, TOP
+from support.places import PROGRAM, TOP, needs_program
 from test_install import COMMANDS
 
 TOOLS = [command for command in COMMANDS if command != "reqlock"]
@@ -117,7 +117,7 @@ class Installed(Wheeled):
         self.assertEqual([path.name for path in local.rglob("*reqlock*") if not path.name.endswith(".log")], [])
 
 
-@unittest.skipUnless(PROGRAM.exists(), "the program isn't built")
+@needs_program
 class Job(Wheeled):
     """The file that a user copies."""
 

@@ -9,10 +9,9 @@ import subprocess
 import tomllib
 import unittest
 
-from support.checked_files import knows
 from support.made.archives import wheel
 from support.made.environments import LINUX, WINDOWS
-from support.places import PROGRAM, TOP, new_folder
+from support.places import PROGRAM, TOP, needs_program, new_folder
 from support.program import FILES
 from support.shown import indented_blocks, typed_blocks
 
@@ -56,13 +55,11 @@ def make_newer_wheels(folder):
     wheel(folder, "Flask", "2.1", "Werkzeug>=2.1", "click (>=7)", "asgiref>=3.2; extra == 'async'")
 
 
-@unittest.skipUnless(PROGRAM.exists(), "the program isn't built")
+@needs_program
 class Shell(unittest.TestCase):
     """A test of lines that a shell runs in a folder with the repository's tools and a requirements file."""
 
     def setUp(self):
-        if not knows("init"):
-            self.skipTest("the program doesn't know init")
         if subprocess.run(["python3", "-m", "pip", "--version"], capture_output=True, check=False).returncode != 0:
             self.skipTest("python3 has no pip")
         self.folder = new_folder(self.addCleanup)
@@ -163,14 +160,11 @@ class Wheels(Shell):
 
     def test_the_job_that_checks(self):
         lines = [line.removeprefix("  - run: ") for line in self.job.splitlines()[1:]]
-        subcommand = lines[0].removeprefix("reqlock ").split()[0]
-        if not knows(subcommand):
-            self.skipTest(f"the program doesn't know {subcommand}")
         make_wheels(self.folder / "wheels")
         self.check_runs(self.begin, "ok 0", "ok 1")
         job = "\n".join(lines) + " --target site\n"
         stands = {path: path.read_bytes() for path in self.folder.glob("*") if path.is_file()}
-        self.check_runs(job, *["ok 1"][: subcommand == "check"])
+        self.check_runs(job, "ok 1")
         self.assertEqual({path: path.read_bytes() for path in stands}, stands)
         for name in "requirements.txt", "pylock.toml":
             (self.folder / name).write_bytes(stands[self.folder / name] + b"# by hand\n")

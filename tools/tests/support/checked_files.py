@@ -9,13 +9,6 @@ from pathlib import Path
 from support.places import PROGRAM
 
 
-def knows(subcommand):
-    return PROGRAM.exists() and subprocess.run([PROGRAM, subcommand, "--help"], capture_output=True, check=False).returncode == 0
-
-
-IS_BUILT = knows("check")
-
-
 def told(answer, *others):
     """What `checked` gives for an answer of the rules."""
     if answer == "ok":

@@ -4,6 +4,7 @@ their names."""
 import os
 import sys
 import tempfile
+import unittest
 from pathlib import Path
 
 SUPPORT = Path(__file__).resolve().parent
@@ -24,6 +25,12 @@ def built(crate: str) -> Path:
 
 
 PROGRAM = built("reqlock")
+
+
+def needs_program(test):
+    """A test, or a class of tests, that is skipped where the program isn't built."""
+    test.needs_program = True
+    return unittest.skipUnless(PROGRAM.exists(), "the program isn't built")(test)
 
 
 def new_folder(add_cleanup):

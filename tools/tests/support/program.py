@@ -12,7 +12,7 @@ from pathlib import Path
 
 from support.made.environments import LINUX
 from support.made.releases import index_of
-from support.places import PROGRAM, new_folder
+from support.places import PROGRAM, needs_program, new_folder
 from support.rules.journals import file_name
 from support.rules.lock_tables import read_lock
 
@@ -22,7 +22,7 @@ NOBODY = 65534
 HEAD = "name  version  line  needed by\n"
 
 
-@unittest.skipUnless(PROGRAM.exists(), "the program isn't built")
+@needs_program
 class Program(unittest.TestCase):
     """A test with a folder of the program's files. It locks for these environments, by the names of targets."""
 

@@ -12,7 +12,7 @@ from unittest import mock
 
 from support.checkouts import VARIABLES
 from support.made.served_index import MadeIndex
-from support.places import PROGRAM, TOOLS, TOP, new_folder
+from support.places import PROGRAM, TOOLS, TOP, needs_program, new_folder
 from support.wanted_libraries import ASKING, want_libraries
 
 from reqlock_tools.rql import main
@@ -87,7 +87,7 @@ class Projects(unittest.TestCase):
 
 
 @want_libraries(*ASKING)
-@unittest.skipUnless(PROGRAM.exists(), "the program isn't built")
+@needs_program
 class Served(Projects):
     """A test over an index of its own, with the built program first on the PATH."""
 
