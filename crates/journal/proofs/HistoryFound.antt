@@ -23,13 +23,13 @@ count_by changes states before (Ok xs) others h go_on =
 count_by changes states before (Err e) others h go_on = absurd cc
 
 -- there is a state for each change that leads back
-count-before : (changes : List ChangeParts) (state : State) (states : List State) → StatesBefore changes state (Ok states) → length states ≡ length changes
+pub count-before : (changes : List ChangeParts) (state : State) (states : List State) → StatesBefore changes state (Ok states) → length states ≡ length changes
 count-before [] state states h = let none : states ≡ [] = cc in ap length none
 count-before (change ∷ changes) state states (inl h) = let n = count_by changes states h.0 h.2.0 (count-before changes h.0) h.2.1 h.2.2 in omega (arith, n)
 count-before (change ∷ changes) state states (inr h) = absurd (let is : Ok states ≡ Err (JournalBroken (length changes + 2)) = h.1 in cc)
 
 -- the state behind others stands in their number's place
-behind-others : (before : List State) (state : State) (behind : List State) (n : ℕ) → length before ≡ n → slice_get (before ++ state ∷ behind) n ≡ Some state
+pub behind-others : (before : List State) (state : State) (behind : List State) (n : ℕ) → length before ≡ n → slice_get (before ++ state ∷ behind) n ≡ Some state
 behind-others [] state behind zero count = refl
 behind-others [] state behind (suc n) count = absurd (omega (arith, count))
 behind-others (s ∷ before) state behind zero count = absurd (omega (arith, count))

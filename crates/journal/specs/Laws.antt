@@ -1,6 +1,6 @@
 -- Laws of the steps, and of what is saved.
-use Rattle.std.specs.Prelude.{ℕ, ◌≡◌, List, Result}
-use Rattle.journal.specs.Values.{Edit, Pool, Refusal, OutOfMemory}
+use Rattle.std.specs.Prelude.{ℕ, ◌≡◌, List, Some, Result, Ok}
+use Rattle.journal.specs.Values.{Edit, Pool, Refusal, State, OutOfMemory}
 use Rattle.journal.specs.declared.commands.Reply.{Reply}
 use Rattle.journal.specs.declared.commands.Reply.TheVariants.{Done, Refused}
 use Rattle.journal.specs.Past.{Past, present}
@@ -9,7 +9,7 @@ use Rattle.journal.specs.Commands.{Asked, Editing, Undoing, Redoing}
 use Rattle.journal.specs.Histories.{RunWithChanges}
 use Rattle.journal.specs.Steps.{Run, Step}
 use Rattle.journal.specs.Locks.{LockTexts}
-use Rattle.journal.specs.Opens.{Opens}
+use Rattle.journal.specs.Opens.{Opens, ToldBy}
 
 -- an undo after an accepted edit gives back the present state before the edit, and its cursor
 abbrev pub UndoGivesTheStateBack : Type 0
@@ -31,3 +31,9 @@ ARunWithChangesIsARun = (old new : HistoryParts) (asked : List Asked) (replies :
 abbrev pub FilesStandForOneHistory : Type 0
 FilesStandForOneHistory =
     (requirements : List ℕ) (locks : LockTexts) (journal : List ℕ) (one another : Result HistoryParts Refusal) → Opens requirements locks journal one → Opens requirements locks journal another → one ≡ another
+
+-- where files stand for a history, the locks and the journal tell its cursor, its changes and the targets of its present state
+abbrev pub WhatOpensIsTold : Type 0
+WhatOpensIsTold =
+    (requirements : List ℕ) (locks : LockTexts) (journal : List ℕ) (history : HistoryParts) (state : State) → Opens requirements locks journal (Ok history) → present history.past ≡ Some state
+    → ToldBy locks journal (Ok (record { cursor = history.past.cursor; changes = history.changes; targets = state.targets }))

@@ -1,6 +1,6 @@
 //! Laws of the steps and of what is saved, each the contract of a function that does nothing.
 
-ghost use Rattle.journal.specs.Laws.{UndoGivesTheStateBack, RedoGivesTheEditAgain, AnEditCanBeUndone, ARunWithChangesIsARun, FilesStandForOneHistory};
+ghost use Rattle.journal.specs.Laws.{UndoGivesTheStateBack, RedoGivesTheEditAgain, AnEditCanBeUndone, ARunWithChangesIsARun, FilesStandForOneHistory, WhatOpensIsTold};
 
 use edits::laws::a_change_leads_to_one_state;
 
@@ -30,3 +30,9 @@ pub fn files_stand_for_one_history()
 {
     a_change_leads_to_one_state();
 }
+
+/// Where files stand for a history, the locks and the journal tell it without the requirements file: its cursor, its
+/// changes, and the targets of its present state.
+pub fn what_opens_is_told()
+    ensures law { WhatOpensIsTold }
+{}
