@@ -3,6 +3,7 @@ adds. The changes that it tells in JSON are applied as the rules have it to the 
 people are those of that JSON. There are 12 sessions, or 200 with LONG_TESTS=1."""
 
 import fcntl
+import itertools
 import json
 import os
 import unittest
@@ -185,6 +186,7 @@ class DrawnChanges(Changes):
                 self.check_pair(first, second, old, new)
         status = self.told("diff", str(steps)), self.told("diff", "0", str(steps))
         self.assertEqual(status, ((2, "", f"reqlock: the history has no place {steps}\n"),) * 2)
+        self.check_changed(states)
 
     def check_pair(self, first, second, old, new):
         told = json.loads(self.succeeds("diff", "--json", str(first), str(second)))
@@ -196,6 +198,21 @@ class DrawnChanges(Changes):
         if first < second:
             self.assertEqual(self.change(second, first), inverse(change))
         self.assertEqual(self.succeeds("diff", str(first), str(second)), text_of(change))
+
+
+    def check_changed(self, states):
+        """Where the requirements file was changed by hand the changes are made of those of the steps alone, and lead where they must."""
+        with (self.folder / "requirements.txt").open("ab") as file:
+            file.write(b"# by hand")
+        for (first, old), (second, new) in itertools.product(enumerate(states), repeat=2):
+            status, output, _ = self.told("diff", "--json", str(first), str(second))
+            self.assertEqual(status, 0)
+            told = json.loads(output)
+            self.assertEqual((told["from"], told["to"], told["requirements_changed"]), (first, second, True))
+            change = change_in(told)
+            self.assertEqual(after(old, change), new)
+            self.assertTrue(is_minimal(change))
+            self.assertEqual(self.told("diff", str(first), str(second))[:2], (0, text_of(change)))
 
 
 class Histories(Changes):

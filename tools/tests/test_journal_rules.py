@@ -56,7 +56,7 @@ class Example(unittest.TestCase):
         """What files stand for, by their names, and what the program answers of them."""
         self.assertEqual(opens_in(files), wanted)
         if PROGRAM.exists():
-            self.assertEqual(checked(files), told(*wanted))
+            self.assertEqual(checked(files), told(files, *wanted))
 
 
 class Opening(Example):

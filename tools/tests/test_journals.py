@@ -86,7 +86,7 @@ class Rules(unittest.TestCase):
 class Program(unittest.TestCase):
     def check(self, given, text):
         """The program answers of these files what the rules do, and leaves them."""
-        self.assertEqual(checked(given), told(*opens_in(given)), text)
+        self.assertEqual(checked(given), told(given, *opens_in(given)), text)
 
     def test_opens_at_each_place(self):
         for kind, cursor in product(KINDS, range(4)):

@@ -226,6 +226,20 @@ class Program(Growths):
         ):
             self.check_single(*words, starts=starts)
 
+    def test_what_is_told_of_lines_that_were_changed(self):
+        """It is said first that they were, and then that memory was refused."""
+        self.prepare("init")
+        self.prepare("add", "d")
+        (self.folder / "requirements.txt").write_bytes(b"a\n")
+        for words in ["show"], ["log"], ["diff"], ["diff", "1", "0", "--json"], ["export", "--format", "dot"]:
+            before, ample = growths.files_in(self.folder), self.ample_run(self.words(*words))
+            self.assertTrue(ample.errors.startswith(b"reqlock: requirements.txt was changed since reqlock saved it. "), ample)
+            for number in numbers(ample, LAST):
+                run = growths.run_once(self.words(*words), self.library, number, folder=self.folder)
+                is_said = run.errors in (OUT_OF_MEMORY, ample.errors + OUT_OF_MEMORY)
+                is_refused = (run.status, run.output, run.files, is_said) == (5, b"", before, True)
+                self.assertTrue(run == ample or is_refused, (words, run))
+
     def test_inputs_that_are_refused(self):
         self.prepare("init")
         (self.folder / "requirements.txt").write_bytes(b"a\nb ; os_name\n")

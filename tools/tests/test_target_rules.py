@@ -61,7 +61,7 @@ class Files(unittest.TestCase):
         files = {"requirements.txt": given, **found, "reqlock.journal": self.whole(header)}
         self.assertEqual(opens_in(files), wanted)
         if PROGRAM.exists():
-            self.assertEqual(checked(files), told(*wanted))
+            self.assertEqual(checked(files), told(files, *wanted))
 
     def test_open(self):
         self.check(("ok", 1, 1))

@@ -1,7 +1,7 @@
 // What is told of a file for which a call stops: why, and what to type next.
 
 use crate::details::{CallFiles, Details};
-use edits::{Cause, Refusal, State};
+use edits::{Cause, Refusal, Target};
 use inputs::target_files::environment_path;
 use inputs::{InputFault, InputFile, LinkOut, NO_REGULAR_FILE, TOO_LONG, path_of, read_file};
 use notes::{
@@ -60,14 +60,14 @@ impl Details {
     pub fn add_not_locked(
         &mut self,
         alloc: Global,
-        state: &State,
+        targets: &[Target],
         name: &str,
     ) -> Result<(), AllocError> {
         if !self.tells() || !self.known.is_empty() {
             return Ok(());
         }
         write!(self.known, "{name} is not locked")?;
-        add_near_locked(alloc, &mut self.known, state, name)?;
+        add_near_locked(alloc, &mut self.known, targets, name)?;
         if self.manner.is_person {
             self.steps
                 .push_str("What is locked is told by:\n    reqlock show\n")?;

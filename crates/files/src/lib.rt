@@ -9,6 +9,7 @@
 
 pub mod first_inputs;
 pub mod hand_changed;
+pub mod held;
 mod links_out;
 mod replacement;
 mod saved_files;

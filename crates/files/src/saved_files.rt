@@ -1,7 +1,7 @@
 // The files of the folder: the requirements file, the lock of each target, and the journal.
 
 ghost use Rattle.std.specs.Prelude.{◌≡◌, ◌⊎◌, ◌++◌, [], IfErr, IfOk, OnOk, Ok, Err, string_bytes, ℕ};
-ghost use Rattle.journal.specs.Opens.{NamesTargets, Opens};
+ghost use Rattle.journal.specs.Opens.{NamesTargets, Opens, ToldBy};
 ghost use Rattle.states.specs.declared.refusal.Refusal.TheVariants.{JournalBroken};
 ghost use Rattle.files.specs.Beside.{StandFor};
 ghost use Rattle.inputs.specs.Faults.{TellsFault};
@@ -12,7 +12,7 @@ use crate::replacement::{Places, Replacement, places_at, replace_all};
 use crate::stopped_save::{Beside, end_save, remove_left_of_opened};
 use edits::{Refusal, TargetName};
 use inputs::{Fault, InputFault, InputFile, LockFile, path_of, read_bytes};
-use journal::{Journal, Saved, Session};
+use journal::{Journal, Saved, Session, Told};
 use lists::{Seq, Text};
 use std::alloc::{AllocError, Global};
 use std::collections::BTreeMap;
@@ -102,6 +102,13 @@ impl SavedFiles {
             result }
     {
         Ok(Session::open(alloc, requirements, &self.locks, &self.journal)?)
+    }
+
+    /// What the locks and the journal tell, whatever the requirements file holds.
+    pub fn told(&self, alloc: Global) -> Result<Told, Fault>
+        ensures { TellsFault (ToldBy self.now.locks.entries self.now.journal) result }
+    {
+        Ok(Told::read(alloc, &self.locks, &self.journal)?)
     }
 
     /// The files, with the history that they stand for, to save another in their place. Where they

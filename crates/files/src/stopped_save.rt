@@ -149,6 +149,12 @@ pub fn remove_left<R: Files + AllocGlobal>(
     Ok(())
 }
 
+/// Whether a save that was stopped has left a file beside its place.
+pub(crate) fn is_left<R: Files + AllocGlobal>(rt: &R, dir: &str) -> Result<bool, Fault> {
+    let named = named_files(rt, dir)?;
+    is_any_left(rt, dir, &named)
+}
+
 /// Whether one of these files stands beside its place.
 fn is_any_left<R: Files + AllocGlobal>(rt: &R, dir: &str, named: &Beside) -> Result<bool, Fault> {
     for places in all_places(rt, dir, named)? {

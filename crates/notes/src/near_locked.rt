@@ -1,6 +1,6 @@
 // Names that are locked, or have a line, and are nearly a given one.
 
-use edits::{Cause, Edit, Name, State};
+use edits::{Cause, Edit, Name, State, Target};
 use phrases::add_near_of;
 use std::alloc::{AllocError, Global};
 
@@ -8,14 +8,14 @@ use std::alloc::{AllocError, Global};
 pub fn add_near_locked(
     alloc: Global,
     text: &mut String,
-    state: &State,
+    targets: &[Target],
     name: &str,
 ) -> Result<(), AllocError> {
     let Some(name) = read_name(alloc, name)? else {
         return Ok(());
     };
     let length = text.len();
-    for target in state.targets() {
+    for target in targets {
         if text.len() == length {
             let mut names = Vec::new(alloc);
             for entry in target.lock.entries() {

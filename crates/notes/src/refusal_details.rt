@@ -31,7 +31,7 @@ pub fn add_refusal_details(
     } = refused;
     write!(text, "{refusal}")?;
     match refusal {
-        Refusal::NotLocked(name) => add_near_locked(alloc, text, state, name.as_str())?,
+        Refusal::NotLocked(name) => add_near_locked(alloc, text, state.targets(), name.as_str())?,
         Refusal::NotPresent => add_near_lines(alloc, text, state, edit)?,
         _ => {}
     }

@@ -77,6 +77,7 @@ where
         names_environment,
         input,
         &mut details,
+        errors,
     );
     let status = match done {
         Ok(()) => Status::Done,
@@ -166,12 +167,13 @@ fn verbosity_in(words: &[String]) -> Verbosity {
 }
 
 /// What is known of a file that is refused is noted behind all else.
-fn obey<R: Files + AllocGlobal, I: Read + Drop, O: Write>(
+fn obey<R: Files + AllocGlobal, I: Read + Drop, O: Write, E: Write>(
     call: &mut Call<'_, R, O>,
     subcommand: Subcommand<'_>,
     names_environment: bool,
     input: I,
     details: &mut Details,
+    errors: &mut E,
 ) -> Result<(), Stop>
 where
     R::File: LockFile,
@@ -190,7 +192,7 @@ where
         Ok(targets) => {
             files.targets = targets.clone()?;
             details.tell_of(rt, &files, is_environment_idle)?;
-            obey_in(call, subcommand, targets, input, details)
+            obey_in(call, subcommand, targets, input, details, errors)
         }
         Err(fault) => Err(Stop::from(fault)),
     };
@@ -201,12 +203,13 @@ where
     done
 }
 
-fn obey_in<R: Files + AllocGlobal, I: Read + Drop, O: Write>(
+fn obey_in<R: Files + AllocGlobal, I: Read + Drop, O: Write, E: Write>(
     call: &mut Call<'_, R, O>,
     subcommand: Subcommand<'_>,
     targets: Vec<TargetFile>,
     input: I,
     details: &mut Details,
+    errors: &mut E,
 ) -> Result<(), Stop>
 where
     R::File: LockFile,
@@ -231,14 +234,14 @@ where
             run_batch(call, details, inputs, is_all_or_none, input)
         }
         Subcommand::Try(inputs) => try_commands(call, inputs.index, targets, input),
-        Subcommand::Show(shown, format) => print_shown(call, shown, format),
-        Subcommand::Log(long, format) => print_history(call, long, format),
-        Subcommand::Diff(range, format) => print_diff(call, range, format),
+        Subcommand::Show(shown, format) => print_shown(call, errors, shown, format),
+        Subcommand::Log(long, format) => print_history(call, errors, long, format),
+        Subcommand::Diff(range, format) => print_diff(call, errors, range, format),
         Subcommand::Check(index, format) => check(call, details, index, format),
         Subcommand::Outdated(index, format) => {
             print_outdated(call, &mut details.lacks, index, format)
         }
-        Subcommand::Export(export) => print_export(call, &export),
+        Subcommand::Export(export) => print_export(call, errors, &export),
         Subcommand::Skipped(index) => print_skipped(call, index),
         Subcommand::Why(question, told) => {
             answer_why(call, &mut details.lacks, question, told, targets, input)

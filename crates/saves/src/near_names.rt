@@ -3,11 +3,12 @@
 use details::Details;
 use edits::Refusal;
 use files::SavedFiles;
+use files::held::held_in;
 use reports::Stop;
 use std::alloc::AllocError;
 use std::rt::Files;
 
-/// Notes them where a call stops since a name isn't locked. A history that can't be opened again has none.
+/// Notes them where a call stops since a name isn't locked. Files that tell no history have none.
 pub fn add_near_names<R: Files + AllocGlobal>(
     rt: &R,
     dir: &str,
@@ -23,8 +24,8 @@ pub fn add_near_names<R: Files + AllocGlobal>(
     let Ok(files) = SavedFiles::read(rt, dir) else {
         return Ok(());
     };
-    match files.open(rt.alloc()) {
-        Ok(session) => details.add_not_locked(rt.alloc(), session.state(), name.as_str()),
+    match held_in(rt, dir, &files) {
+        Ok(held) => details.add_not_locked(rt.alloc(), held.targets(), name.as_str()),
         Err(_) => Ok(()),
     }
 }

@@ -1,7 +1,7 @@
 // What a change did, as JSON.
 
 use crate::entry_json::entry_value;
-use crate::json_text::{json_text, text_value};
+use crate::json_text::{json_text, put_other_lines, text_value};
 use edits::{Change, DigestChange, Entry, EntryChange, Splice};
 use lists::Text;
 use serde_json::{Map, Value, put};
@@ -11,12 +11,13 @@ use std::alloc::{AllocError, Global};
 pub fn diff_json(
     alloc: Global,
     change: &Change,
-    from: usize,
-    to: usize,
+    (from, to): (usize, usize),
+    has_other_lines: bool,
 ) -> Result<String, AllocError> {
     let mut members = diff_members(alloc, change)?;
     put(&mut members, alloc, "from", Value::from(from))?;
     put(&mut members, alloc, "to", Value::from(to))?;
+    put_other_lines(alloc, &mut members, has_other_lines)?;
     json_text(alloc, &Value::Object(members))
 }
 

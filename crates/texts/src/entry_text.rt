@@ -3,7 +3,8 @@
 use crate::lock_text::place_of;
 use crate::required_by::{RequiredBy, Requirer, problem_over, requirers_of};
 use crate::requirer_text::{add_line_text, add_requirer};
-use edits::{Entry, FileEntry, Name, Snapshot, State, Target};
+use crate::shown::ShownLocks;
+use edits::{Entry, FileEntry, Name, Snapshot, Target};
 use phrases::{add_plain, add_requirement, add_target_line};
 use std::alloc::{AllocError, Global};
 
@@ -11,19 +12,19 @@ use std::alloc::{AllocError, Global};
 /// other entries require is told where an index is at hand that has their releases.
 pub fn entry_text(
     alloc: Global,
-    state: &State,
+    locks: ShownLocks<'_>,
     snapshot: Option<&Snapshot>,
     name: &Name,
 ) -> Result<String, AllocError> {
     let mut text = String::new(alloc);
-    for target in state.targets() {
+    for target in locks.targets {
         let entries = target.lock.entries();
         if let Some(place) = place_of(entries, name.normal()) {
             if !text.is_empty() {
                 text.push_str("\n")?;
             }
-            let problem = problem_over(alloc, state, target, snapshot)?;
-            let lines = state.lines().lines();
+            let problem = problem_over(alloc, locks.lines, target, snapshot)?;
+            let lines = locks.lines.lines();
             let requirers = requirers_of(alloc, lines, target, problem.as_ref())?;
             add_target(&mut text, target, place, requirers.as_slice())?;
         }

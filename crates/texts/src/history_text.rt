@@ -3,8 +3,8 @@
 use crate::diff_text::add_entry_change;
 use crate::line_edit::{LineEdit, line_edit};
 use crate::new_lock_text::add_new_lock;
+use crate::shown::ShownSteps;
 use edits::{Cause, Change, EntryChange, Line, Splice, TargetName};
-use journal::Session;
 use lists::Text;
 use phrases::{add_plain, add_specifiers};
 use std::alloc::{AllocError, Global};
@@ -15,18 +15,22 @@ const WIDTH: usize = 100;
 /// A line for the first state, and one for each step behind it that tells what it did, as far as its
 /// change shows that. The present state is marked. A longer line is cut. With `long`, a line for each
 /// entry that came, went or changed stands under the step's.
-pub fn history_text(alloc: Global, session: &Session, long: bool) -> Result<String, AllocError> {
+pub fn history_text(
+    alloc: Global,
+    steps: ShownSteps<'_>,
+    long: bool,
+) -> Result<String, AllocError> {
     let mut text = String::new(alloc);
-    add_number(&mut text, 0, session.cursor())?;
+    add_number(&mut text, 0, steps.cursor)?;
     text.push_str("init\n")?;
-    for step in 1..=session.steps() {
+    for (place, change) in steps.changes.iter().enumerate() {
         let mut line = String::new(alloc);
-        add_number(&mut line, step, session.cursor())?;
-        add_step(alloc, &mut line, session.change(step))?;
+        add_number(&mut line, place.saturating_add(1), steps.cursor)?;
+        add_step(alloc, &mut line, change)?;
         add_cut(&mut text, line.as_str())?;
         text.push_str("\n")?;
         if long {
-            add_entries(&mut text, session.change(step).entries())?;
+            add_entries(&mut text, change.entries())?;
         }
     }
     Ok(text)

@@ -23,10 +23,27 @@ pub fn json_text(alloc: Global, value: &Value) -> Result<String, AllocError> {
 }
 
 /// The line of an object with these targets.
-pub(crate) fn targets_text(alloc: Global, targets: Vec<Value>) -> Result<String, AllocError> {
+pub(crate) fn targets_text(
+    alloc: Global,
+    targets: Vec<Value>,
+    has_other_lines: bool,
+) -> Result<String, AllocError> {
     let mut members = Map::new(alloc);
     put(&mut members, alloc, "targets", Value::Array(targets))?;
+    put_other_lines(alloc, &mut members, has_other_lines)?;
     json_text(alloc, &Value::Object(members))
+}
+
+/// Puts in that the requirements file was changed since it was saved, where it was.
+pub(crate) fn put_other_lines(
+    alloc: Global,
+    members: &mut Map<String, Value>,
+    has_other_lines: bool,
+) -> Result<(), AllocError> {
+    if has_other_lines {
+        put(members, alloc, "requirements_changed", Value::Bool(true))?;
+    }
+    Ok(())
 }
 
 /// A target's name, and what is told of it under a key.

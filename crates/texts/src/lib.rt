@@ -18,4 +18,5 @@ mod outdated;
 pub mod outdated_text;
 mod required_by;
 mod requirer_text;
+pub mod shown;
 pub mod tree_text;

@@ -5,7 +5,8 @@ use crate::json_text::{pin_value, target_object, targets_text};
 use crate::lock_text::place_of;
 use crate::required_by::{RequiredBy, problem_over, requirers_of};
 use crate::requirer_text::requirers_value;
-use edits::{Entry, Name, Snapshot, State, Target};
+use crate::shown::ShownLocks;
+use edits::{Entry, Name, Snapshot, Target};
 use serde_json::{Map, Value, put};
 use std::alloc::{AllocError, Global};
 
@@ -13,27 +14,27 @@ use std::alloc::{AllocError, Global};
 /// given. What other entries require is told where an index is at hand that has their releases.
 pub fn lock_json(
     alloc: Global,
-    state: &State,
+    locks: ShownLocks<'_>,
     snapshot: Option<&Snapshot>,
     name: Option<&Name>,
 ) -> Result<String, AllocError> {
-    let mut targets = Vec::with_capacity(alloc, state.targets().len())?;
-    for target in state.targets() {
-        let entries = entries_value(alloc, state, target, snapshot, name)?;
+    let mut targets = Vec::with_capacity(alloc, locks.targets.len())?;
+    for target in locks.targets {
+        let entries = entries_value(alloc, locks, target, snapshot, name)?;
         targets.push(target_object(alloc, target, "entries", entries)?)?;
     }
-    targets_text(alloc, targets)
+    targets_text(alloc, targets, locks.has_other_lines)
 }
 
 fn entries_value(
     alloc: Global,
-    state: &State,
+    locks: ShownLocks<'_>,
     target: &Target,
     snapshot: Option<&Snapshot>,
     name: Option<&Name>,
 ) -> Result<Value, AllocError> {
-    let problem = problem_over(alloc, state, target, snapshot)?;
-    let requirers = requirers_of(alloc, state.lines().lines(), target, problem.as_ref())?;
+    let problem = problem_over(alloc, locks.lines, target, snapshot)?;
+    let requirers = requirers_of(alloc, locks.lines.lines(), target, problem.as_ref())?;
     let entries = target.lock.entries();
     let mut values = Vec::new(alloc);
     for (entry, own) in entries.iter().zip(requirers.as_slice()) {

@@ -1,6 +1,7 @@
 // Locks as tables for people: what is locked, and what requires it.
 
-use edits::{Entry, Environment, Line, State, Target};
+use crate::shown::ShownLocks;
+use edits::{Entry, Environment, Line, Target};
 use phrases::{add_table, add_target_line};
 use std::alloc::{AllocError, Global};
 
@@ -15,16 +16,16 @@ struct Row {
     needed_by: String,
 }
 
-/// A table for each target of the state, in the order of the names, with an empty line between two.
+/// A table for each target, in the order of the names, with an empty line between two.
 /// Above the table of a named target stands its name.
-pub fn lock_text(alloc: Global, state: &State) -> Result<String, AllocError> {
+pub fn lock_text(alloc: Global, locks: ShownLocks<'_>) -> Result<String, AllocError> {
     let mut text = String::new(alloc);
-    for target in state.targets() {
+    for target in locks.targets {
         if !text.is_empty() {
             text.push_str("\n")?;
         }
         add_target_line(&mut text, target.name.as_str())?;
-        add_lock(alloc, &mut text, state.lines().lines(), target)?;
+        add_lock(alloc, &mut text, locks.lines.lines(), target)?;
     }
     Ok(text)
 }

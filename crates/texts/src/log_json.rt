@@ -2,21 +2,21 @@
 
 use crate::diff_json::diff_members;
 use crate::history_text::step_text;
-use crate::json_text::{json_text, text_value};
-use journal::Session;
+use crate::json_text::{json_text, put_other_lines, text_value};
+use crate::shown::ShownSteps;
 use serde_json::{Map, Value, put};
 use std::alloc::{AllocError, Global};
 
 /// An object on a line for the first state, and one for each step, with what `log` tells of it, not cut, and its change.
-pub fn log_json(alloc: Global, session: &Session) -> Result<String, AllocError> {
+pub fn log_json(alloc: Global, steps: ShownSteps<'_>) -> Result<String, AllocError> {
     let mut text = String::new(alloc);
-    let first = step_value(alloc, Map::new(alloc), session, 0, "init")?;
+    let first = step_value(alloc, Map::new(alloc), steps, 0, "init")?;
     text.push_str(json_text(alloc, &first)?.as_str())?;
-    for step in 1..=session.steps() {
-        let change = session.change(step);
+    for (place, change) in steps.changes.iter().enumerate() {
         let members = diff_members(alloc, change)?;
         let told = step_text(alloc, change)?;
-        let value = step_value(alloc, members, session, step, told.as_str())?;
+        let step = place.saturating_add(1);
+        let value = step_value(alloc, members, steps, step, told.as_str())?;
         text.push_str(json_text(alloc, &value)?.as_str())?;
     }
     Ok(text)
@@ -26,13 +26,14 @@ pub fn log_json(alloc: Global, session: &Session) -> Result<String, AllocError> 
 fn step_value(
     alloc: Global,
     mut members: Map<String, Value>,
-    session: &Session,
+    steps: ShownSteps<'_>,
     step: usize,
     told: &str,
 ) -> Result<Value, AllocError> {
     put(&mut members, alloc, "step", Value::from(step))?;
-    let is_current = step == session.cursor();
+    let is_current = step == steps.cursor;
     put(&mut members, alloc, "current", Value::Bool(is_current))?;
     put(&mut members, alloc, "told", text_value(alloc, told)?)?;
+    put_other_lines(alloc, &mut members, steps.has_other_lines)?;
     Ok(Value::Object(members))
 }

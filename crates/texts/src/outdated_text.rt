@@ -41,7 +41,7 @@ fn target_text(
     target: &Target,
     snapshot: &Snapshot,
 ) -> Result<String, AllocError> {
-    let problem = problem_of(alloc, state, target, snapshot)?;
+    let problem = problem_of(alloc, state.lines(), target, snapshot)?;
     let found = outdated_of(alloc, state.lines().lines(), target, &problem)?;
     let mut text = String::new(alloc);
     if !found.is_empty() {
@@ -163,7 +163,7 @@ pub fn outdated_json(
     for target in state.targets() {
         targets.push(target_value(alloc, state, target, snapshot)?)?;
     }
-    targets_text(alloc, targets)
+    targets_text(alloc, targets, false)
 }
 
 fn target_value(
@@ -172,7 +172,7 @@ fn target_value(
     target: &Target,
     snapshot: &Snapshot,
 ) -> Result<Value, AllocError> {
-    let problem = problem_of(alloc, state, target, snapshot)?;
+    let problem = problem_of(alloc, state.lines(), target, snapshot)?;
     let found = outdated_of(alloc, state.lines().lines(), target, &problem)?;
     let mut outdated = Vec::with_capacity(alloc, found.len())?;
     for one in found.as_slice() {

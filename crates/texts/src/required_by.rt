@@ -1,7 +1,7 @@
 // What requires the entries of a lock.
 
 use crate::lock_text::{is_active, place_of};
-use edits::{Entry, Environment, Line, Name, Problem, Requirement, Snapshot, State, Target};
+use edits::{Entry, Environment, Line, Name, Problem, ReqFile, Requirement, Snapshot, Target};
 use problems::Node;
 use problems::parts::counts;
 use std::alloc::{AllocError, Global};
@@ -26,23 +26,23 @@ pub(crate) struct RequiredBy<'a> {
 /// The problem that a relock of a target would solve over the index.
 pub(crate) fn problem_of<'a>(
     alloc: Global,
-    state: &State,
+    lines: &ReqFile,
     target: &Target,
     snapshot: &'a Snapshot,
 ) -> Result<Problem<'a>, AllocError> {
     let kept = target.kept(alloc)?;
-    Problem::new(alloc, state.lines(), &target.environment, snapshot, kept)
+    Problem::new(alloc, lines, &target.environment, snapshot, kept)
 }
 
 /// The same, where an index is at hand.
 pub(crate) fn problem_over<'a>(
     alloc: Global,
-    state: &State,
+    lines: &ReqFile,
     target: &Target,
     snapshot: Option<&'a Snapshot>,
 ) -> Result<Option<Problem<'a>>, AllocError> {
     match snapshot {
-        Some(snapshot) => Ok(Some(problem_of(alloc, state, target, snapshot)?)),
+        Some(snapshot) => Ok(Some(problem_of(alloc, lines, target, snapshot)?)),
         None => Ok(None),
     }
 }

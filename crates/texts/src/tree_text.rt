@@ -3,7 +3,8 @@
 use crate::json_text::{target_object, targets_text, text_value, version_value};
 use crate::lock_text::{is_active, place_of};
 use crate::requirer_text::add_line_text;
-use edits::{Entry, Line, Name, State, Target};
+use crate::shown::ShownLocks;
+use edits::{Entry, Line, Name, Target};
 use phrases::add_target_line;
 use serde_json::{Map, Value, put};
 use std::alloc::{AllocError, Global};
@@ -28,16 +29,16 @@ struct Walk {
     told: Vec<bool>,
 }
 
-/// A tree for each target of the state: each active line, and below it the entries that it leads to. What an entry
+/// A tree for each target: each active line, and below it the entries that it leads to. What an entry
 /// needs stands below it where its name comes first.
-pub fn tree_text(alloc: Global, state: &State) -> Result<String, AllocError> {
+pub fn tree_text(alloc: Global, locks: ShownLocks<'_>) -> Result<String, AllocError> {
     let mut text = String::new(alloc);
-    for target in state.targets() {
+    for target in locks.targets {
         if !text.is_empty() {
             text.push_str("\n")?;
         }
         add_target_line(&mut text, target.name.as_str())?;
-        for row in rows_of(alloc, state.lines().lines(), target)?.as_slice() {
+        for row in rows_of(alloc, locks.lines.lines(), target)?.as_slice() {
             add_row(&mut text, *row)?;
         }
     }
@@ -175,17 +176,17 @@ fn was_told(walk: &mut Walk, place: usize) -> bool {
 }
 
 /// The same as a JSON object, the rows in their order.
-pub fn tree_json(alloc: Global, state: &State) -> Result<String, AllocError> {
-    let mut targets = Vec::with_capacity(alloc, state.targets().len())?;
-    for target in state.targets() {
-        let rows = rows_of(alloc, state.lines().lines(), target)?;
+pub fn tree_json(alloc: Global, locks: ShownLocks<'_>) -> Result<String, AllocError> {
+    let mut targets = Vec::with_capacity(alloc, locks.targets.len())?;
+    for target in locks.targets {
+        let rows = rows_of(alloc, locks.lines.lines(), target)?;
         let mut values = Vec::with_capacity(alloc, rows.len())?;
         for row in rows.as_slice() {
             values.push(row_value(alloc, *row)?)?;
         }
         targets.push(target_object(alloc, target, "tree", Value::Array(values))?)?;
     }
-    targets_text(alloc, targets)
+    targets_text(alloc, targets, locks.has_other_lines)
 }
 
 fn row_value(alloc: Global, row: TreeRow<'_>) -> Result<Value, AllocError> {

@@ -1,15 +1,17 @@
 // What `export` prints.
 
+use crate::held_texts::{Printed, say_changed};
 use calls::Call;
 use clap::error::ErrorKind;
 use command_line::command;
 use command_line::request::{Export, ExportFormat};
-use edits::{State, Target};
+use edits::Target;
 use exports::{
     conditions_of, graph_text, marker_text_of, portable_text, requirements_text, target_named,
     unbound_text,
 };
-use files::saved_history::{saved_session, session_over};
+use files::held::held_history;
+use files::saved_history::session_over;
 use inputs::LockFile;
 use reports::{Stop, print, stop_of_usage};
 use std::alloc::{AllocError, Global};
@@ -18,16 +20,17 @@ use std::rt::Files;
 use std::slice;
 
 /// Prints the locks of the targets, or that of one, as another tool reads it.
-pub fn print_export<R: Files + AllocGlobal, O: Write>(
+pub fn print_export<R: Files + AllocGlobal, O: Write, E: Write>(
     call: &mut Call<'_, R, O>,
+    errors: &mut E,
     export: &Export<'_>,
 ) -> Result<(), Stop>
 where
     R::File: LockFile,
 {
     let text = match export.format {
-        ExportFormat::Hashes => hashes_of(call.rt, call.dir, export.target)?,
-        ExportFormat::Dot => graph_of(call.rt, call.dir, export.target)?,
+        ExportFormat::Hashes => hashes_of(call.rt, call.dir, export.target, errors)?,
+        ExportFormat::Dot => graph_of(call.rt, call.dir, export.target, errors)?,
         ExportFormat::Pylock => portable_lock(call.rt, call.dir, export)?,
     };
     print(&mut call.output, text.as_bytes())?;
@@ -35,26 +38,37 @@ where
 }
 
 /// The lock of a target, for pip.
-fn hashes_of<R: Files + AllocGlobal>(rt: &R, dir: &str, name: Option<&str>) -> Result<String, Stop>
+fn hashes_of<R: Files + AllocGlobal, E: Write>(
+    rt: &R,
+    dir: &str,
+    name: Option<&str>,
+    errors: &mut E,
+) -> Result<String, Stop>
 where
     R::File: LockFile,
 {
     let alloc = rt.alloc();
-    let session = saved_session(rt, dir)?;
-    let targets = wanted_targets(alloc, session.state(), name)?;
+    let held = held_history(rt, dir)?;
+    say_changed(alloc, dir, &held, Printed::Locks, errors)?;
+    let targets = wanted_targets(alloc, held.targets(), name)?;
     Ok(requirements_text(alloc, &only_target(alloc, targets)?.lock)?)
 }
 
 /// The graph of the locks, for Graphviz.
-fn graph_of<R: Files + AllocGlobal>(rt: &R, dir: &str, name: Option<&str>) -> Result<String, Stop>
+fn graph_of<R: Files + AllocGlobal, E: Write>(
+    rt: &R,
+    dir: &str,
+    name: Option<&str>,
+    errors: &mut E,
+) -> Result<String, Stop>
 where
     R::File: LockFile,
 {
     let alloc = rt.alloc();
-    let session = saved_session(rt, dir)?;
-    let state = session.state();
-    let targets = wanted_targets(alloc, state, name)?;
-    Ok(graph_text(alloc, state.lines().lines(), targets)?)
+    let held = held_history(rt, dir)?;
+    say_changed(alloc, dir, &held, Printed::LocksWithLines, errors)?;
+    let targets = wanted_targets(alloc, held.targets(), name)?;
+    Ok(graph_text(alloc, held.lines().lines(), targets)?)
 }
 
 /// The lock of a target, with what was asked of its environment over the index that it was made of.
@@ -75,7 +89,10 @@ where
     if state.digest() != snapshot.digest() {
         return Err(other_index(alloc));
     }
-    let target = only_target(alloc, wanted_targets(alloc, state, export.target)?)?;
+    let target = only_target(
+        alloc,
+        wanted_targets(alloc, state.targets(), export.target)?,
+    )?;
     let conditions = conditions_of(alloc, state.lines(), &snapshot, &target.environment)?;
     let marker = marker_text_of(alloc, conditions.as_slice(), &target.environment)?;
     if marker.is_empty() {
@@ -87,10 +104,9 @@ where
 /// The target of the name, or all where there is no name.
 fn wanted_targets<'s>(
     alloc: Global,
-    state: &'s State,
+    targets: &'s [Target],
     name: Option<&str>,
 ) -> Result<&'s [Target], Stop> {
-    let targets = state.targets();
     let Some(name) = name else {
         return Ok(targets);
     };

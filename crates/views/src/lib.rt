@@ -6,7 +6,11 @@
 mod check;
 mod diff;
 pub mod export;
+mod held_texts;
 mod log;
+mod net_change;
+mod net_entries;
+mod net_lines;
 mod outdated;
 mod question;
 mod show;

@@ -1,8 +1,9 @@
 // What `log` prints.
 
+use crate::held_texts::{Printed, say_changed, steps_of};
 use calls::Call;
 use command_line::request::Format;
-use files::saved_history::saved_session;
+use files::held::held_history;
 use inputs::LockFile;
 use reports::{Stop, show};
 use std::io::Write;
@@ -11,8 +12,9 @@ use texts::history_text::history_text;
 use texts::log_json::log_json;
 
 /// Prints the history, a line for each step, and where the log is long one for each entry that it changed.
-pub fn print_history<R: Files + AllocGlobal, O: Write>(
+pub fn print_history<R: Files + AllocGlobal, O: Write, E: Write>(
     call: &mut Call<'_, R, O>,
+    errors: &mut E,
     long: bool,
     format: Format,
 ) -> Result<(), Stop>
@@ -20,12 +22,14 @@ where
     R::File: LockFile,
 {
     let alloc = call.rt.alloc();
-    let session = saved_session(call.rt, call.dir)?;
+    let held = held_history(call.rt, call.dir)?;
+    say_changed(alloc, call.dir, &held, Printed::Steps, errors)?;
+    let steps = steps_of(&held);
     let text = match format {
         Format::Lines => call
             .style
-            .history(alloc, history_text(alloc, &session, long)?)?,
-        Format::Json => log_json(alloc, &session)?,
+            .history(alloc, history_text(alloc, steps, long)?)?,
+        Format::Json => log_json(alloc, steps)?,
     };
     show(&mut call.output, text.as_bytes())?;
     Ok(())

@@ -1,11 +1,11 @@
 // What `show` prints.
 
+use crate::held_texts::{Printed, locks_of, say_changed};
 use calls::Call;
 use command_line::request::{Format, Shown};
-use edits::{Name, Refusal, State};
-use files::saved_history::{saved_session, session_over};
-use inputs::LockFile;
-use journal::Session;
+use edits::{Name, Refusal, Target};
+use files::held::{Held, held_history, held_over};
+use inputs::{Fault, LockFile};
 use lists::Text;
 use pep508::Cause;
 use phrases::Style;
@@ -17,75 +17,90 @@ use std::rt::Files;
 use texts::entry_text::entry_text;
 use texts::lock_json::lock_json;
 use texts::lock_text::lock_text;
+use texts::shown::ShownLocks;
 use texts::tree_text::{tree_json, tree_text};
 
 /// Prints the lock of each target, or a part of it.
-pub fn print_shown<R: Files + AllocGlobal, O: Write>(
+pub fn print_shown<R: Files + AllocGlobal, O: Write, E: Write>(
     call: &mut Call<'_, R, O>,
+    errors: &mut E,
     shown: Shown<'_>,
     format: Format,
 ) -> Result<(), Stop>
 where
     R::File: LockFile,
 {
-    let (alloc, dir) = (call.rt.alloc(), call.dir);
+    let (held, snapshot) = read_for(call.rt, call.dir, shown)?;
+    let (alloc, locks) = (call.rt.alloc(), locks_of(&held));
+    say_changed(alloc, call.dir, &held, Printed::LocksWithLines, errors)?;
     let text = match shown {
-        Shown::Table => table_text(alloc, &saved_session(call.rt, dir)?, format, call.style)?,
-        Shown::Tree => told_tree(alloc, &saved_session(call.rt, dir)?, format)?,
-        Shown::Entry(name, None) => {
-            let session = saved_session(call.rt, dir)?;
-            told_entry(alloc, session.state(), None, name, format)?
-        }
-        Shown::Entry(name, Some(index)) => {
-            let (session, snapshot) = session_over(call.rt, dir, index)?;
-            told_entry(alloc, session.state(), Some(&snapshot), name, format)?
-        }
+        Shown::Table => table_text(alloc, locks, format, call.style)?,
+        Shown::Tree => told_tree(alloc, locks, format)?,
+        Shown::Entry(name, _) => told_entry(alloc, locks, snapshot.as_ref(), name, format)?,
     };
     show(&mut call.output, text.as_bytes())?;
     Ok(())
 }
 
+/// The history, and the index where one is given.
+fn read_for<R: Files + AllocGlobal>(
+    rt: &R,
+    dir: &str,
+    shown: Shown<'_>,
+) -> Result<(Held, Option<Snapshot>), Fault>
+where
+    R::File: LockFile,
+{
+    match shown {
+        Shown::Table | Shown::Tree | Shown::Entry(_, None) => Ok((held_history(rt, dir)?, None)),
+        Shown::Entry(_, Some(index)) => {
+            let (held, snapshot) = held_over(rt, dir, index)?;
+            Ok((held, Some(snapshot)))
+        }
+    }
+}
+
 fn table_text(
     alloc: Global,
-    session: &Session,
+    locks: ShownLocks<'_>,
     format: Format,
     style: Style,
 ) -> Result<String, AllocError> {
     match format {
-        Format::Lines => style.table(alloc, lock_text(alloc, session.state())?),
-        Format::Json => lock_json(alloc, session.state(), None, None),
+        Format::Lines => style.table(alloc, lock_text(alloc, locks)?),
+        Format::Json => lock_json(alloc, locks, None, None),
     }
 }
 
-fn told_tree(alloc: Global, session: &Session, format: Format) -> Result<String, AllocError> {
+fn told_tree(alloc: Global, locks: ShownLocks<'_>, format: Format) -> Result<String, AllocError> {
     match format {
-        Format::Lines => tree_text(alloc, session.state()),
-        Format::Json => tree_json(alloc, session.state()),
+        Format::Lines => tree_text(alloc, locks),
+        Format::Json => tree_json(alloc, locks),
     }
 }
 
 /// The entry of a name, which is locked for some target.
 fn told_entry(
     alloc: Global,
-    state: &State,
+    locks: ShownLocks<'_>,
     snapshot: Option<&Snapshot>,
     name: &str,
     format: Format,
 ) -> Result<String, Stop> {
-    let name = locked_name(alloc, state, name)?;
+    let name = locked_name(alloc, locks.targets, name)?;
     match format {
-        Format::Lines => Ok(entry_text(alloc, state, snapshot, &name)?),
-        Format::Json => Ok(lock_json(alloc, state, snapshot, Some(&name))?),
+        Format::Lines => Ok(entry_text(alloc, locks, snapshot, &name)?),
+        Format::Json => Ok(lock_json(alloc, locks, snapshot, Some(&name))?),
     }
 }
 
-fn locked_name(alloc: Global, state: &State, text: &str) -> Result<Name, Stop> {
+fn locked_name(alloc: Global, targets: &[Target], text: &str) -> Result<Name, Stop> {
     let name = match Name::read(alloc, text) {
         Ok(name) => name,
         Err(Cause::OutOfMemory) => return Err(Stop::from(AllocError)),
         Err(_) => return Err(Stop::Refused(Refusal::BadText)),
     };
-    for target in state.targets() {
+    for target in targets {
         if target.locked(&name).is_some() {
             return Ok(name);
         }

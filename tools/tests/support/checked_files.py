@@ -7,17 +7,22 @@ import tempfile
 from pathlib import Path
 
 from support.places import PROGRAM
+from support.rules.journals import REQUIREMENTS, tells_in
 
 
-def told(answer, *others):
+def told(files, answer, *others):
     """What `checked` gives for an answer of the rules."""
     if answer == "ok":
-        cursor, steps = others
-        heads = [f"{'*' if place == cursor else ' '} {place} " for place in range(steps + 1)]
-        return 0, f"ok {cursor}\n", "", heads
+        return 0, f"ok {others[0]}\n", "", heads_at(*others)
     if answer in ("files-disagree", "unreadable"):
-        return 4, "", f"reqlock: {others[0]}: {answer}\n", []
+        history = tells_in(files) if (answer, *others) == ("files-disagree", REQUIREMENTS) else None
+        return 4, "", f"reqlock: {others[0]}: {answer}\n", [] if history is None else heads_at(*history)
     return 4, "", f"reqlock: reqlock.journal: line {others[0]}: journal-broken\n", []
+
+
+def heads_at(cursor, steps):
+    """What the lines of a log of so many steps begin with, whose history stands here."""
+    return [f"{'*' if place == cursor else ' '} {place} " for place in range(steps + 1)]
 
 
 def heads_of(log):
@@ -26,8 +31,8 @@ def heads_of(log):
 
 
 def checked(files):
-    """What `check` answers in a folder of these files, by their names: status, standard output and standard error; and where it finds no
-    fault, what the lines of `log` begin with. The files stay."""
+    """What `check` answers in a folder of these files, by their names: status, standard output and standard error; and what the lines of
+    `log` begin with, where it has some. Where it has none, it tells what `check` does. The files stay."""
     with tempfile.TemporaryDirectory() as name:
         folder = Path(name)
         for file, data in files.items():
@@ -37,7 +42,9 @@ def checked(files):
             return subprocess.run([PROGRAM, "--dir", folder, subcommand], capture_output=True, encoding="utf-8", check=False)
 
         done = call("check")
-        heads = heads_of(call("log").stdout) if done.returncode == 0 else []
+        log = call("log")
+        if log.returncode != 0 and (log.returncode, log.stdout, log.stderr) != (done.returncode, done.stdout, done.stderr):
+            raise AssertionError("`log` tells another fault than `check`")
         if {path.name: path.read_bytes() for path in folder.iterdir()} != files:
             raise AssertionError("`check` or `log` changed a file")
-    return done.returncode, done.stdout, done.stderr, heads
+    return done.returncode, done.stdout, done.stderr, heads_of(log.stdout)

@@ -1,7 +1,8 @@
 """What a requirements file, locks and a journal stand for: the rules of journals read plainly, for tests that ask what an answer must
 be. It is written from the rules alone, so that it shares no mistake with the program. Journals are of version 1 or 2.
 
-`opens` answers ("ok", cursor, steps), ("files-disagree", FILE) or ("journal-broken", LINE), and `opens_in` also ("unreadable", FILE)."""
+`opens` answers ("ok", cursor, steps), ("files-disagree", FILE) or ("journal-broken", LINE), and `opens_in` also ("unreadable", FILE). `tells_in`
+is what is told without the lines."""
 
 import hashlib
 import json
@@ -211,6 +212,17 @@ def first_unfit(lines, targets, digests):
     return next(unfit, None)
 
 
+def read_locks(locks, header):
+    """What the lock of each target is read as, by name, and None; or None and the first fault of them."""
+    read = {target.name: read_or_none(read_lock, locks[target.name]) for target in header.targets}
+    unread = [name for name, lock in read.items() if lock is None]
+    if unread:
+        return None, ("files-disagree", file_name(unread[0]))
+    if any(read[target.name][0] != marker_text(target.environment) for target in header.targets):
+        return None, ("journal-broken", 1)
+    return read, None
+
+
 def present_state(requirements, locks, header):
     """The state of the files, and None; or None and the first fault of them beside the header."""
     if digest_of(requirements) != header.requirements:
@@ -221,12 +233,9 @@ def present_state(requirements, locks, header):
     lines = read_or_none(read_lines, requirements)
     if lines is None:
         return None, ("files-disagree", REQUIREMENTS)
-    read = {target.name: read_or_none(read_lock, locks[target.name]) for target in header.targets}
-    unread = [name for name, lock in read.items() if lock is None]
-    if unread:
-        return None, ("files-disagree", file_name(unread[0]))
-    if any(read[target.name][0] != marker_text(target.environment) for target in header.targets):
-        return None, ("journal-broken", 1)
+    read, fault = read_locks(locks, header)
+    if fault is not None:
+        return None, fault
     targets = {target.name: Target(target.environment, read[target.name][2]) for target in header.targets}
     digests = {name: digest for name, (_, digest, _) in read.items()}
     unfit = first_unfit(lines, targets, digests)
@@ -249,6 +258,19 @@ def opens(requirements, locks, journal):
     if broken is None:
         broken = walk(state, header.cursor, changes)
     return ("ok", header.cursor, header.steps) if broken is None else ("journal-broken", broken)
+
+
+def tells_in(files):
+    """What the journal of a folder and the locks that it names tell, whatever the requirements file holds: the cursor and the count of steps;
+    None where one of them is at fault. That the steps lead somewhere isn't asked."""
+    lines = whole_lines(files[JOURNAL])
+    header = line_at(lines, 0, read_header)
+    if header is None:
+        return None
+    locks = {target.name: files[file_name(target.name)] for target in header.targets}
+    if odd_lock(header.targets, locks) is not None or read_locks(locks, header)[0] is None or read_steps(lines, header)[0] is None:
+        return None
+    return header.cursor, header.steps
 
 
 def opens_in(files):
