@@ -41,9 +41,11 @@ def option_texts(top: Command, option: Option) -> Iterator[str]:
 
 
 def word_texts(top: Command, command: Command) -> Iterator[str]:
+    """The words of a command for which something is offered. (One of which nothing is known would keep zsh from putting an option in.)"""
     for place, value, kind in offers(top, command):
         head = "*" if place == "*" else f"{int(place) + 1}{':' * (not value.is_needed)}"
-        yield quoted(f"{head}:{told(value.name.lower())}:{action(top, value, kind)}")
+        if text := action(top, value, kind):
+            yield quoted(f"{head}:{told(value.name.lower())}:{text}")
 
 
 def called(indent: str, words: list[str], flag: str = "") -> str:

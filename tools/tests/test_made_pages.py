@@ -135,9 +135,16 @@ class OfATool(Completed):
 
 
 class AtATerminal(unittest.TestCase):
-    """What bash makes of a line at TAB: a name of a file is quoted, so that what it says isn't run."""
+    """What a shell makes of a line at TAB: a name of a file is quoted, so that what it says isn't run."""
 
     FILES = "a b.json", "c$(id>PWNED).json", "d';id>PWNED.json", "e`id>PWNED`", "f.json"
+    STARTS = {
+        "bash": (
+            ("bash", "--norc", "--noprofile", "-i"),
+            "bind 'set bell-style none'; bind 'set enable-bracketed-paste off'; for name in {0}/bash/*; do source $name; done",
+        ),
+        "zsh": (("zsh", "-f", "-i"), "fpath=({0}/zsh $fpath); autoload -U compinit; compinit -D; unsetopt beep"),
+    }
 
     def setUp(self):
         self.folder = new_folder(self.addCleanup)
@@ -152,16 +159,19 @@ class AtATerminal(unittest.TestCase):
             shown += os.read(terminal, 4096).decode()
         return shown
 
-    def completed(self, line, wanted):
-        """The line behind TAB, which should be the wanted one."""
+    def check(self, shell, lines):
+        """Each line is another one behind TAB."""
+        for line, wanted in lines.items():
+            with self.subTest(shell=shell, line=line):
+                self.assertIn(wanted, self.completed(*self.STARTS[shell], line, wanted))
+        self.assertFalse((self.folder / "PWNED").exists())
+
+    def completed(self, words, begin, line, wanted):
         ours, theirs = pty.openpty()
-        variables = {"PATH": os.environ["PATH"], "HOME": str(self.folder), "TERM": "dumb", "INPUTRC": os.devnull, "LC_ALL": "C.UTF-8"}
-        shell = subprocess.Popen(
-            ["bash", "--norc", "--noprofile", "-i"], cwd=self.folder, env=variables, stdin=theirs, stdout=theirs, stderr=theirs,
-            start_new_session=True,
-        )
+        variables = {"PATH": os.environ["PATH"], "HOME": str(self.folder), "TERM": "dumb", "INPUTRC": os.devnull, "LC_ALL": "C.UTF-8", "COLUMNS": "200"}
+        shell = subprocess.Popen(words, cwd=self.folder, env=variables, stdin=theirs, stdout=theirs, stderr=theirs, start_new_session=True)
         os.close(theirs)
-        os.write(ours, f"bind 'set bell-style none'; bind 'set enable-bracketed-paste off'; source '{SHARE}/bash/reqlock'; PS1=RE''ADY\n".encode())
+        os.write(ours, f"{begin.format(SHARE)}; PS1=RE''ADY\n".encode())
         self.assertIn("READY", self.shown(ours, "READY"))
         os.write(ours, f"{line}\t".encode())
         shown = self.shown(ours, wanted)
@@ -169,18 +179,23 @@ class AtATerminal(unittest.TestCase):
         shell.wait(timeout=60)
         return shown
 
-    def test_files_are_quoted(self):
-        wanted = {
+    def test_bash_quotes_files(self):
+        self.check("bash", {
             "reqlock --index a": r"reqlock --index a\ b.json ", r"reqlock --index a\ ": r"reqlock --index a\ b.json ",
             'reqlock --index "a': 'reqlock --index "a b.json" ', "reqlock --index c": r"reqlock --index c\$\(id\>PWNED\).json ",
             "reqlock --env one=c": r"reqlock --env one=c\$\(id\>PWNED\).json ", "reqlock replace d": r"reqlock replace d\'\;id\>PWNED.json ",
             "reqlock init --pins e": r"reqlock init --pins e\`id\>PWNED\` ", "reqlock --index=f": "reqlock --index=f.json ",
-            "reqlock --dir g": r"reqlock --dir g\ h/", "reqlock --color=al": "reqlock --color=always ",
-        }
-        for line, told in wanted.items():
-            with self.subTest(line=line):
-                self.assertEqual(self.completed(line, told), told)
-        self.assertFalse((self.folder / "PWNED").exists())
+            "reqlock --dir g": r"reqlock --dir g\ h/", "reqlock --color=al": "reqlock --color=always ", "rql -C g": r"rql -C g\ h/",
+            "reqlock-hashes a": r"reqlock-hashes a\ b.json ",
+        })
+
+    @unittest.skipUnless(shutil.which("zsh"), "there is no zsh: apt-get install zsh")
+    def test_zsh_quotes_files_and_puts_options_in(self):
+        self.check("zsh", {
+            "reqlock --index a": r"reqlock --index a\ b.json ", "reqlock --env one=c": r"reqlock --env one=c\$\(id\>PWNED\).json ",
+            "reqlock why --expl": "reqlock why --explain ", "reqlock export --format d": "reqlock export --format dot ",
+            "rql env add --pyt": "rql env add --python ", "reqlock-snapshot simple --cach": "reqlock-snapshot simple --cache ",
+        })
 
 
 if __name__ == "__main__":
