@@ -2,8 +2,8 @@
 use Rattle.std.specs.Prelude.{◌≡◌, ◌⊎◌, ℕ, ◌<◌, ◌≤◌, length}
 use Rattle.commands.specs.declared.batch.BatchFault.TheVariants as batches
 use Rattle.journal.specs.Past.{Past}
-use Rattle.reports.specs.declared.stop.Stop.{Stop}
-use Rattle.reports.specs.declared.stop.Stop.TheVariants as stops
+use Rattle.stops.specs.declared.stop.Stop.{Stop}
+use Rattle.stops.specs.declared.stop.Stop.TheVariants as stops
 
 -- at the first place that the history hasn't, or for want of memory
 abbrev pub StopsBetween : Past → ℕ → ℕ → Stop → Type 0

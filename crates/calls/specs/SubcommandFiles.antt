@@ -1,8 +1,8 @@
 -- The files that a subcommand reads. All of it is reqlock's own rule.
 use Rattle.std.specs.Prelude.{◌≡◌, ℕ, Bool, true, false, List, [], Option, None, Some}
 use Rattle.std.specs.Borrow.{Bor}
-use Rattle.reports.specs.declared.stop.Stop.{Stop}
-use Rattle.reports.specs.declared.stop.Stop.TheVariants as stops
+use Rattle.stops.specs.declared.stop.Stop.{Stop}
+use Rattle.stops.specs.declared.stop.Stop.TheVariants as stops
 use Rattle.command_line.specs.declared.invocation.NewLines.{NewLines}
 use Rattle.command_line.specs.declared.invocation.NewLines.TheVariants as lines
 use Rattle.command_line.specs.declared.invocation.Question.TheVariants as questions

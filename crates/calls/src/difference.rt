@@ -6,8 +6,8 @@ ghost use Rattle.journal.specs.Places.{IsBetween};
 
 use edits::Change;
 use journal::Session;
-use reports::Stop;
 use std::alloc::Global;
+use stops::Stop;
 
 /// The change that leads from one place of the history to another. The first place behind its last one is refused.
 pub fn change_between(

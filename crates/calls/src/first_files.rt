@@ -4,8 +4,8 @@ use command_line::request::Inputs;
 use files::first_inputs::FirstPaths;
 use inputs::pins_files::pins_paths;
 use inputs::target_files::TargetFile;
-use reports::Stop;
 use std::alloc::Global;
+use stops::Stop;
 
 /// Where the files stand that a first lock is made of.
 pub fn first_paths<'a>(

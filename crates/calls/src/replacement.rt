@@ -10,10 +10,10 @@ use inputs::pins_files::{PinsBytes, PinsTarget, pins_of, pins_paths, read_pins};
 use inputs::{Fault, InputFile, LockFile, in_file, read_bytes, read_index, read_requirements};
 use journal::Session;
 use lists::{Seq, Text};
-use reports::Stop;
 use std::alloc::Global;
 use std::io::Read;
 use std::rt::Files;
+use stops::Stop;
 
 /// The history that a replacement is made in, and the edit that it is.
 #[derive(Drop)]

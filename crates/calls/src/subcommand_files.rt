@@ -6,8 +6,8 @@ ghost use Rattle.calls.specs.SubcommandFiles.{StopsForNoFolder, environments_of,
 use command_line::request::{NewLines, Question, Saving, Shown, Subcommand};
 use inputs::{InputFault, InputFile, LockFile, lock_to_save};
 use lists::Text;
-use reports::Stop;
 use std::rt::Files;
+use stops::Stop;
 
 /// The index of a subcommand, where it is given one.
 pub fn index_of<'a>(subcommand: &Subcommand<'a>) -> Option<&'a str>

@@ -5,9 +5,9 @@ use crate::details::Details;
 use edits::{Change, Edit, Pool, Refusal, Snapshot, State, edit};
 use journal::{Command, Session};
 use notes::{AppliedEdit, add_change_notes, add_lock_notes, add_moved, has_moved};
-use reports::Stop;
 use resolve::RESOLVER;
 use std::alloc::{AllocError, Global};
+use stops::Stop;
 
 /// Where a history stood before a command, and how many steps it had.
 #[derive(Clone, Copy)]

@@ -9,11 +9,11 @@ use notes::{
     add_environment_note, add_index_note, add_named_step, add_near_locked, form_of, is_address,
 };
 use phrases::add_plain;
-use reports::Stop;
 use std::alloc::{AllocError, Global};
 use std::io::ErrorKind;
 use std::rt::Files;
 use std::{fs, str};
+use stops::Stop;
 
 impl Details {
     /// Notes why a call stops, and what to do, where that is known.

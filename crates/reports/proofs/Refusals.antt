@@ -1,7 +1,7 @@
 -- Refusals that are told by their word, with the status of a refusal.
 use Rattle.std.proofs.Common.{◌⊎◌, ℕ, List, inl, inr}
 use Rattle.std.specs.Prelude.{Option}
-use Rattle.reports.specs.declared.stop.Stop.TheVariants as stops
+use Rattle.stops.specs.declared.stop.Stop.TheVariants as stops
 use Rattle.states.specs.declared.refusal.Refusal.{Refusal}
 use Rattle.states.specs.declared.refusal.Refusal.TheVariants as refusals
 use Rattle.reports.specs.Statuses.{HasStatus, IsPrinted, refusal_line}

@@ -1,3 +1,2 @@
 pub mod Printed
 pub mod Statuses
-pub mod Stops

@@ -3,8 +3,8 @@ use Rattle.std.specs.Prelude.{◌≡◌, ◌⊎◌, ℕ, List, Option, string_by
 use Rattle.std.specs.Io.KnownBytes.{Appends}
 use Rattle.clap.specs.declared.error.kind.ErrorKind.{ErrorKind}
 use Rattle.clap.specs.declared.error.kind.ErrorKind.TheVariants as kinds
-use Rattle.reports.specs.declared.stop.Stop.{Stop}
-use Rattle.reports.specs.declared.stop.Stop.TheVariants as stops
+use Rattle.stops.specs.declared.stop.Stop.{Stop}
+use Rattle.stops.specs.declared.stop.Stop.TheVariants as stops
 use Rattle.commands.specs.Replies.{text_of_reply}
 use Rattle.commands.specs.Runs.{IsCutOff}
 use Rattle.journal.specs.declared.commands.Reply.TheVariants as replies

@@ -2,20 +2,20 @@
 
 ghost use Rattle.std.specs.Io.KnownBytes.{Appends};
 ghost use Rattle.std.specs.Prelude.{◌≡◌, ◌⊎◌, OnErr, OnOk, string_bytes};
-ghost use Rattle.reports.specs.declared.stop.Stop.TheVariants as stops;
+ghost use Rattle.stops.specs.declared.stop.Stop.TheVariants as stops;
 ghost use Rattle.commands.specs.Runs.{IsCutOff};
 ghost use Rattle.reports.specs.Statuses.{HasStatus, HasUsageStatus, IsPrinted, number_of, refusal_line, status_of_none_saved};
 ghost use Rattle.reports.specs.declared.report.Status.TheVariants as statuses;
 
 use crate::input_fault_text::InputFaultText;
 use crate::output::{print, show};
-use crate::stop::{Stop, UsageText};
 use clap::error::ErrorKind;
 use command_line::request::NeededOption;
 use commands::batch::BatchFault;
 use commands::refusal_word;
 use edits::Refusal;
 use std::io::Write;
+use stops::{Stop, UsageText};
 
 /// The status that the program ends with.
 #[derive(Clone, Copy, Debug, PartialEq, Eq)]

@@ -16,7 +16,6 @@ use inputs::target_files::{TargetFile, target_files};
 use journal::Command;
 use phrases::Style;
 use reports::report::{Status, report, report_fault};
-use reports::{Stop, stop_of_request};
 use saves::{
     add_near_names, begin_history, edit_once, rehearse_edit, rehearse_init, rehearse_replace,
     rehearse_step, replace_once, run_batch, step_once, try_commands,
@@ -26,6 +25,7 @@ use shell::screen::{Screen, shown_stop};
 use std::alloc::{AllocError, Global};
 use std::io::{Read, Write};
 use std::rt::Files;
+use stops::{Stop, stop_of_request};
 use texts::diff_text::diff_text;
 use views::{
     answer_why, print_check, print_diff, print_export, print_history, print_outdated, print_shown,

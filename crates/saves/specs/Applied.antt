@@ -1,8 +1,8 @@
 -- How a call goes on from a command, or stops at it. All of it is reqlock's own rule.
 use Rattle.std.specs.Prelude.{◌≡◌, ◌⊎◌, Bool}
-use Rattle.reports.specs.Stops.{stop_of}
-use Rattle.reports.specs.declared.stop.Stop.{Stop}
-use Rattle.reports.specs.declared.stop.Stop.TheVariants as stops
+use Rattle.stops.specs.Stops.{stop_of}
+use Rattle.stops.specs.declared.stop.Stop.{Stop}
+use Rattle.stops.specs.declared.stop.Stop.TheVariants as stops
 use Rattle.commands.specs.Needed.{IsApplied}
 use Rattle.commands.specs.declared.batch.BatchFault.TheVariants as batches
 use Rattle.inputs.specs.Faults.{fault_of}

@@ -12,10 +12,11 @@ use files::saved_history::{SavedHistory, history_to_save};
 use inputs::LockFile;
 use inputs::target_files::TargetFile;
 use journal::Session;
-use reports::{Stop, print};
+use reports::print;
 use std::alloc::Global;
 use std::io::{Read, Write};
 use std::rt::Files;
+use stops::Stop;
 
 /// Does the commands of the input over an index, prints the replies, and saves at the end where one
 /// was accepted. Where all or none are to be done, nothing is saved if one was refused, and the call stops.

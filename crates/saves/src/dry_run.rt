@@ -9,9 +9,10 @@ use edits::Edit;
 use files::saved_history::{saved_session, session_over};
 use inputs::LockFile;
 use journal::{Command, Session};
-use reports::{Stop, print};
+use reports::print;
 use std::io::Write;
 use std::rt::Files;
+use stops::Stop;
 use texts::diff_text::diff_text;
 
 /// Makes one edit over an index, and prints the reply and what changed. A save that was stopped isn't ended:

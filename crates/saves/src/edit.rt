@@ -13,10 +13,11 @@ use files::SavedFiles;
 use files::saved_history::{SavedHistory, history_to_save};
 use inputs::LockFile;
 use journal::{Command, Reply, Session};
-use reports::{Stop, print, unless_refused};
+use reports::print;
 use std::alloc::Global;
 use std::io::Write;
 use std::rt::Files;
+use stops::{Stop, unless_refused};
 use texts::diff_text::diff_text;
 
 /// Makes one edit over an index.

@@ -8,11 +8,12 @@ use files::saved_history::SavedHistory;
 use files::{SavedFiles, end_left, link_out, remove_left};
 use inputs::{Fault, LinkOut, LockFile};
 use journal::{Reply, Session};
-use reports::{Stop, print};
+use reports::print;
 use resolve::RESOLVER;
 use std::alloc::AllocError;
 use std::io::{Read, Write};
 use std::rt::Files;
+use stops::Stop;
 use texts::diff_text::first_lock_text;
 
 /// Locks the requirements file, keeping the pins that are handed in, and saves the history that begins with it. A save that was stopped is

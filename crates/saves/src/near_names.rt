@@ -4,9 +4,9 @@ use details::Details;
 use edits::Refusal;
 use files::SavedFiles;
 use files::held::held_in;
-use reports::Stop;
 use std::alloc::AllocError;
 use std::rt::Files;
+use stops::Stop;
 
 /// Notes them where a call stops since a name isn't locked. Files that tell no history have none.
 pub fn add_near_names<R: Files + AllocGlobal>(

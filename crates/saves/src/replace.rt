@@ -8,9 +8,9 @@ use details::Details;
 use files::saved_history::SavedHistory;
 use inputs::LockFile;
 use journal::Command;
-use reports::Stop;
 use std::io::{Read, Write};
 use std::rt::Files;
+use stops::Stop;
 
 /// Puts other lines in the place of all lines, and keeps of the locked versions and those that are handed in the newer
 /// ones that the index has.

@@ -4,10 +4,10 @@ use crate::given_words::NoWords;
 use command_line::request::{ColorChoice, Verbosity};
 use details::Manner;
 use phrases::Style;
-use reports::Stop;
 use std::alloc::{AllocError, Global};
 use std::env::VarError;
 use std::rt::Env;
+use stops::Stop;
 
 /// The least width that lines are broken for.
 const LEAST_WIDTH: usize = 20;

@@ -12,9 +12,9 @@ use Rattle.edits.specs.Edits.{EditResult}
 use Rattle.edits.specs.declared.request.Edit.TheVariants.{Relock}
 use Rattle.commands.specs.declared.batch.BatchFault.TheVariants as batches
 use Rattle.inputs.specs.Faults.{fault_of}
-use Rattle.reports.specs.Stops.{stop_of}
-use Rattle.reports.specs.declared.stop.Stop.{Stop}
-use Rattle.reports.specs.declared.stop.Stop.TheVariants as stops
+use Rattle.stops.specs.Stops.{stop_of}
+use Rattle.stops.specs.declared.stop.Stop.{Stop}
+use Rattle.stops.specs.declared.stop.Stop.TheVariants as stops
 
 -- the two places that a range names in a history that stands in this one; no step has led to the first state
 abbrev pub places_in : DiffRange → ℕ → ℕ × ℕ

@@ -12,12 +12,13 @@ use edits::{Change, Edit, Pool, Refusal, State, edit};
 use files::saved_history::{saved_session, session_over};
 use inputs::LockFile;
 use journal::{Reply, Session};
-use reports::{Stop, print};
+use reports::print;
 use resolve::RESOLVER;
 use snapshot::Snapshot;
 use std::alloc::{AllocError, Global};
 use std::io::Write;
 use std::rt::Files;
+use stops::Stop;
 use texts::check_json::{check_json, current_json};
 use texts::diff_text::diff_text;
 

@@ -10,10 +10,11 @@ use command_line::request::{DiffRange, Format};
 use edits::Change;
 use files::held::{Held, held_history};
 use inputs::{InputFault, InputFile, LockFile};
-use reports::{Stop, show};
+use reports::show;
 use std::alloc::Global;
 use std::io::Write;
 use std::rt::Files;
+use stops::Stop;
 use texts::diff_json::diff_json;
 use texts::diff_text::diff_text;
 

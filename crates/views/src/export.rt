@@ -13,11 +13,12 @@ use exports::{
 use files::held::held_history;
 use files::saved_history::session_over;
 use inputs::LockFile;
-use reports::{Stop, print, stop_of_usage};
+use reports::print;
 use std::alloc::{AllocError, Global};
 use std::io::Write;
 use std::rt::Files;
 use std::slice;
+use stops::{Stop, stop_of_usage};
 
 /// Prints the locks of the targets, or that of one, as another tool reads it.
 pub fn print_export<R: Files + AllocGlobal, O: Write, E: Write>(

@@ -5,9 +5,10 @@ use calls::Call;
 use command_line::request::Format;
 use files::held::held_history;
 use inputs::LockFile;
-use reports::{Stop, show};
+use reports::show;
 use std::io::Write;
 use std::rt::Files;
+use stops::Stop;
 use texts::history_text::history_text;
 use texts::log_json::log_json;
 

@@ -5,9 +5,10 @@ use command_line::request::Format;
 use files::saved_history::session_over;
 use inputs::LockFile;
 use notes::Lacks;
-use reports::{Stop, show};
+use reports::show;
 use std::io::Write;
 use std::rt::Files;
+use stops::Stop;
 use texts::outdated_text::{outdated_json, outdated_text};
 
 /// Prints the entries of each target that have newer releases in the index, and who holds them back. What the index lacks for

@@ -7,9 +7,9 @@ use command_line::request::{Question, Told};
 use inputs::LockFile;
 use inputs::target_files::TargetFile;
 use notes::Lacks;
-use reports::Stop;
 use std::io::{Read, Write};
 use std::rt::Files;
+use stops::Stop;
 
 /// Answers a question, of which these are the targets where it is about a first lock. A question about a release is
 /// always answered in sentences.

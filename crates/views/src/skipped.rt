@@ -3,9 +3,10 @@
 use calls::Call;
 use inputs::{InputFile, in_file, read_bytes, read_index};
 use phrases::skipped_text::skipped_text;
-use reports::{Stop, show};
+use reports::show;
 use std::io::Write;
 use std::rt::Files;
+use stops::Stop;
 
 /// Prints what was left out of an index.
 pub fn print_skipped<R: Files + AllocGlobal, O: Write>(

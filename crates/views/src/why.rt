@@ -14,10 +14,11 @@ use files::saved_history::session_over;
 use inputs::LockFile;
 use lists::Text;
 use notes::Lacks;
-use reports::{Stop, print};
+use reports::print;
 use std::alloc::Global;
 use std::io::{Read, Write};
 use std::rt::Files;
+use stops::Stop;
 
 /// Prints why an edit of the saved state has no solution over an index: a refutation that `check`
 /// accepts, of the first target that has none. Where each one has a solution, that is printed.

@@ -20,12 +20,13 @@ use lists::Text;
 use notes::Lacks;
 use pep440::Version;
 use phrases::add_target_line;
-use reports::{Stop, show};
+use reports::show;
 use resolve::Answer;
 use snapshot::{Release, Snapshot};
 use std::alloc::{AllocError, Global};
 use std::io::Write;
 use std::rt::Files;
+use stops::Stop;
 
 /// What a question is about: a release, or a name that the index has no release of.
 #[derive(Drop)]

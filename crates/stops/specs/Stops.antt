@@ -10,8 +10,8 @@ use Rattle.inputs.specs.declared.fault.Fault.{Fault}
 use Rattle.inputs.specs.declared.fault.Fault.TheVariants as faults
 use Rattle.journal.specs.declared.commands.Reply.{Reply}
 use Rattle.journal.specs.declared.commands.Reply.TheVariants.{Done, Same, Refused}
-use Rattle.reports.specs.declared.stop.Stop.{Stop}
-use Rattle.reports.specs.declared.stop.Stop.TheVariants as stops
+use Rattle.stops.specs.declared.stop.Stop.{Stop}
+use Rattle.stops.specs.declared.stop.Stop.TheVariants as stops
 
 -- how a call stops at a fault of the files
 abbrev pub stop_of : Fault → Stop

@@ -4,8 +4,8 @@ ghost use Rattle.std.specs.Prelude.{◌≡◌};
 ghost use Rattle.clap.specs.Words.{kind_of};
 ghost use Rattle.commands.specs.declared.batch.BatchFault.TheVariants as batches;
 ghost use Rattle.inputs.specs.Faults.{fault_of};
-ghost use Rattle.reports.specs.Stops.{IsStopOfRequest, IsUsage, stop_of, unless_refused};
-ghost use Rattle.reports.specs.declared.stop.Stop.TheVariants as stops;
+ghost use Rattle.stops.specs.Stops.{IsStopOfRequest, IsUsage, stop_of, unless_refused};
+ghost use Rattle.stops.specs.declared.stop.Stop.TheVariants as stops;
 
 use clap::error::ErrorKind;
 use command_line::request::{NeededOption, RequestFault};
