@@ -2,6 +2,7 @@
 own pip; the graph, as Graphviz reads it and draws it; and which targets are told. They need the program, which ./check builds first."""
 
 import re
+import shlex
 import shutil
 import subprocess
 import tomllib
@@ -9,12 +10,14 @@ import unittest
 from xml.etree import ElementTree
 
 from support.made.environments import LINUX, WINDOWS
-from support.places import TOOLS, TOP, needs_program
+from support.places import TOOLS, TOP, needs_program, new_folder
 from support.program import Program
 from support.rules.journals import file_name
 from support.rules.lock_tables import read_lock
 from support.shown import indented_blocks, typed_blocks
 from test_wheels import FIRST, HEAD, Shell, make_wheels, section
+
+from picture_makers.lock import answered
 
 try:
     from packaging.markers import Marker
@@ -271,26 +274,14 @@ class Pylock(Program):
 
 
 class Page(unittest.TestCase):
-    """docs/EXPORT.md and its picture."""
-
-    def setUp(self):
-        self.picture = ElementTree.fromstring((TOP / "docs" / "lock.svg").read_text(encoding="utf-8"))
-
-    @needs_program
-    @unittest.skipUnless(shutil.which("dot"), "there is no Graphviz: apt-get install graphviz")
-    def test_the_picture_is_of_the_program(self):
-        done = subprocess.run(["python3", "-B", TOOLS / "lock_picture.py", "-"], capture_output=True, check=True)
-        made = ElementTree.fromstring(done.stdout)
-        for kind in "node", "edge", "cluster":
-            self.assertEqual(texts_of(self.picture, kind), texts_of(made, kind))
+    """docs/EXPORT.md. Its picture is made anew in test_pictures.py."""
 
     @needs_program
     def test_what_is_printed(self):
         page = (TOP / "docs" / "EXPORT.md").read_text(encoding="utf-8")
         for command, shown in [it for block in typed_blocks(page) for it in block]:
-            words = command.replace("reqlock", str(TOOLS / "lock_picture.py") + " run", 1)
-            done = subprocess.run(["bash", "-c", f"python3 -B {words}"], capture_output=True, encoding="utf-8", check=False)
-            printed = re.sub("[0-9a-f]{64}", "..", re.sub("(?<=^# for ).*", "..", done.stdout + done.stderr, flags=re.M))
+            done = answered(new_folder(self.addCleanup), *shlex.split(command)[1:])
+            printed = re.sub("[0-9a-f]{64}", "..", re.sub("(?<=^# for ).*", "..", (done.stdout + done.stderr).decode(), flags=re.M))
             self.assertEqual(printed.splitlines(), shown, command)
 
 

@@ -9,7 +9,7 @@ import subprocess
 import unittest
 
 from support.completed import RUNS, SHARE, Completed
-from support.places import PROGRAM, new_folder
+from support.places import needs_program, new_folder
 
 import pages
 from page_makers.command import Command, Option, Value
@@ -49,7 +49,7 @@ class Pages(unittest.TestCase):
     def test_of_the_parsers(self):
         self.check(pages.tool_files())
 
-    @unittest.skipUnless(PROGRAM.exists(), "the program isn't built")
+    @needs_program
     def test_of_the_program(self):
         self.check(pages.program_files())
 

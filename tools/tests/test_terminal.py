@@ -5,7 +5,6 @@ import os
 import re
 import subprocess
 import unittest
-import xml.etree.ElementTree as xml
 
 from support.made.environments import LINUX, WINDOWS
 from support.places import PROGRAM, TOP, needs_program
@@ -265,15 +264,6 @@ class Output(Terminal):
         self.begin_plugins()
         self.call("add", "aa  # \x9b31m")
         self.assertEqual(self.output_at_terminal("diff").splitlines()[0], f"{GREEN}+ 2: aa  # \\u{{9b}}31m{END}")
-
-
-class Picture(unittest.TestCase):
-    @needs_program
-    def test_is_what_the_program_shows(self):
-        script = TOP / "share" / "session_picture.py"
-        made = subprocess.run([script], capture_output=True, check=True).stdout
-        xml.fromstring(made)
-        self.assertEqual(made.decode(), (TOP / "share" / "session.svg").read_text(encoding="utf-8"))
 
 
 if __name__ == "__main__":

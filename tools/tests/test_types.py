@@ -15,7 +15,7 @@ class Types(unittest.TestCase):
             scripts = sorted(path.name for path in TOOLS.glob("*.py"))
             # (hatchling and packaging need not be there: what mypy then can't know is no fault of the tools)
             options = "--strict", "--no-warn-unused-ignores", "--ignore-missing-imports", "--allow-subclassing-any"
-            command = ["mypy", *options, "--cache-dir", cache, "reqlock_tools", "definitions", "page_makers", *scripts]
+            command = ["mypy", *options, "--cache-dir", cache, "reqlock_tools", "definitions", "page_makers", "picture_makers", *scripts]
             done = subprocess.run(command, cwd=TOOLS, capture_output=True, encoding="utf-8", check=False)
         self.assertEqual(done.returncode, 0, done.stdout + done.stderr)
 

@@ -1,0 +1,1 @@
+"""What makes the pictures of pages, of what commands show."""
