@@ -18,6 +18,11 @@ def call(module: str) -> int:
     if sys.version_info < OLDEST:
         print(f"{tool(module)}: Python {OLDEST[0]}.{OLDEST[1]} or later is needed, and this is {sys.version.split()[0]}", file=sys.stderr)
         return FAILED
+    if sys.stderr is None:
+        sys.stderr = open(os.devnull, "w")  # (which is closed: nothing is told)
+    if sys.stdout is None:
+        say(module, "standard output: it is closed")
+        return FAILED
     try:
         importlib.import_module("reqlock_tools.moved").tell_moved(module)
         status: int = importlib.import_module(f"reqlock_tools.{module}").main(sys.argv[1:])

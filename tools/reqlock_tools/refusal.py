@@ -1,5 +1,6 @@
 """What a tool refuses, and how it tells so."""
 
+import os
 import sys
 from collections.abc import Callable
 
@@ -19,11 +20,19 @@ def shown(text: str) -> str:
     return "".join(it if it.isprintable() else it.encode("unicode_escape").decode() for it in text)
 
 
+def tell(text: str) -> None:
+    """Prints a line on standard error. Where it can't be written nothing more is told, and nothing else changes."""
+    try:
+        print(text, file=sys.stderr, flush=True)
+    except OSError:
+        os.dup2(os.open(os.devnull, os.O_WRONLY), sys.stderr.fileno())
+
+
 def speaker(module: str) -> Say:
     """What tells lines on standard error, each behind the name of the tool that has this module."""
 
     def say(text: str) -> None:
-        print(f"{speaking(module)}: {shown(text[:LONGEST_LINE])}{' ..' if len(text) > LONGEST_LINE else ''}", file=sys.stderr)
+        tell(f"{speaking(module)}: {shown(text[:LONGEST_LINE])}{' ..' if len(text) > LONGEST_LINE else ''}")
 
     return say
 

@@ -1,18 +1,23 @@
 """Tests that what rql advises leads on: each advice that is told here is followed to its end."""
 
+import contextlib
+import io
 import json
 import re
 import subprocess
+import sys
 import unittest
 
 from support.completed import SHARE
 from support.made.served_index import wheel_of
 from support.places import TOP
-from support.rql_projects import Served
+from support.rql_projects import SCRIPT, Served
 from support.synced import Synced, variables
+from support.terminals import shown_on_terminal
 
-from reqlock_tools.rql.parser import BUILDERS, FLAGS, VALUES, parser_of
+from reqlock_tools.rql.parser import BUILDERS, FLAGS, VALUES, parsed, parser_of
 from reqlock_tools.rql.texts import outside
+from reqlock_tools.rql.words import COMMANDS, OPTIONS
 
 
 class Server(Served):
@@ -232,6 +237,117 @@ class OfSync(Synced):
         status, output, errors = self.call(is_verbose=True, ways=["--timeout", "7.0", "--retries", "0"])
         self.assertEqual((status, output), (0, ["+ a 1"]), errors)
         self.assertIn(" --timeout 7.0 --retries 0 ", errors[0])
+
+
+class Words(unittest.TestCase):
+    """Words of other tools: what is told in their place are words that rql takes."""
+
+    def told(self, *words):
+        errors = io.StringIO()
+        with contextlib.redirect_stderr(errors), self.assertRaises(SystemExit) as end:
+            parsed(words)
+        self.assertEqual(end.exception.code, 2)
+        return errors.getvalue().splitlines()[-1]
+
+    def test_of_commands(self):
+        for word, told in ("install", COMMANDS["install"]), ("ad", "rql add?"), ("zzz", "rql --help names all"):
+            self.assertEqual(self.told("-q", word, "x"), f"rql: error: there is no command {word!r}: {told}")
+
+    def test_of_options(self):
+        for command, option, *more in ("add", "--dev", "pytest"), ("add", "-r", "more.txt"), ("upgrade", "--all"), ("sync", "--frozen"):
+            self.assertEqual(self.told(command, option, *more), f"rql {command}: error: it doesn't take {option}: {OPTIONS[command][option]}")
+        self.assertEqual(self.told("lock", "more"), "rql lock: error: it doesn't take more")
+        self.assertEqual(self.told("--bogus", "log"), "rql: error: it doesn't take --bogus")
+
+    def test_that_are_told_are_taken(self):
+        texts = {*COMMANDS.values(), *(it for told in OPTIONS.values() for it in told.values())}
+        calls = {call for text in texts for call in re.findall(r"\brql ([a-z]+)", text)}
+        self.assertGreater(len(calls), 8)
+        self.assertLessEqual(calls, BUILDERS.keys())
+        for text in "env add NAME --python VERSION", "export --format hashes":
+            self.assertTrue(any(f"rql {text}" in it for it in texts), text)
+        parsed(["env", "add", "one", "--python", "3.12"])
+
+
+class Told(Served):
+    """What rql tells of a call that isn't as it was meant."""
+
+    def setUp(self):
+        super().setUp()
+        self.serve(rich=[wheel_of("rich", "1"), wheel_of("rich", "2")], flask=[wheel_of("flask", "1")])
+        self.begin("rich\n")
+
+    def test_a_name_that_no_index_has_is_not_remembered(self):
+        before = (self.folder / ".reqlock" / "index.json").read_bytes()
+        self.assertIn("no index of the settings has flsk: nothing is changed; is the name right?", self.refuses("index", "flask", "flsk", status=6))
+        self.assertIn("'https://x'", self.refuses("index", "https://x"))
+        self.assertEqual((self.folder / ".reqlock" / "index.json").read_bytes(), before)
+        self.accepts("index", "flask")
+
+    def test_of_several_the_one_that_is_refused_is_told_with_a_question(self):
+        status, output, errors = self.rql("add", "flask", "ricj")
+        self.assertEqual((status, output), (3, "refused no-solution\n"))
+        call = re.search("'ricj' is refused: rql (why .*) tells why\n", errors)[1]
+        self.assertIn("the index has no package ricj; near names: rich", " ".join(self.rql(*call.split())[1].split()))
+
+    def test_an_environment_that_there_is_not(self):
+        self.assertIn("'x' isn't among them: rql env list prints them", self.refuses("env", "remove", "x"))
+
+    def test_at_a_terminal_calls_of_reqlock_are_told_as_calls_of_rql(self):
+        told = "typed as rql here, without --dir and --index"
+        call = [sys.executable, "-B", str(SCRIPT), "add", "rich==1"]
+        settings = {"cwd": self.folder, "env": {**self.variables, "TERM": "dumb"}, "stdin": subprocess.DEVNULL, "stdout": subprocess.DEVNULL}
+        _, shown = shown_on_terminal(lambda terminal: subprocess.Popen(call, stderr=terminal, **settings))
+        self.assertIn("constrain rich '==1'", shown)
+        self.assertIn(told, shown)
+        self.assertNotIn(told, self.rql(*call[3:])[2])
+        self.accepts("constrain", "rich", "==1", answer="ok 1\n")
+
+
+class Unwritten(Served):
+    """Output and errors that can't be written. What the program has saved stays a project that is whole."""
+
+    def setUp(self):
+        super().setUp()
+        self.serve(rich=[wheel_of("rich", "1"), wheel_of("rich", "2")], flask=[wheel_of("flask", "1")])
+
+    def shell(self, text):
+        """The status of a call of rql in a shell, and what it writes elsewhere."""
+        self.put_on_path()
+        done = subprocess.run(["sh", "-c", text], cwd=self.folder, env=self.variables, capture_output=True, encoding="utf-8", check=False)
+        self.assertNotIn("Traceback", done.stdout + done.stderr)
+        return done.returncode, done.stdout, done.stderr
+
+    def test_of_what_is_saved(self):
+        self.put("pyproject.toml", '[project]\nname = "app"\ndependencies = ["rich"]\n')
+        self.assertEqual(self.shell(f"rql -q init --index {self.index.url} >/dev/full")[0], 5)
+        self.accepts("check", answer="ok 0\n")
+        for words, wanted in ("add flask", "ok 1\n"), ("constrain rich '<2'", "ok 2\n"), ("undo", "ok 1\n"), ("redo", "ok 2\n"):
+            with self.subTest(words=words):
+                self.assertEqual(self.shell(f"rql {words} >/dev/full")[0], 5)
+                self.accepts("check", answer=wanted)
+                self.assertEqual((self.folder / ".reqlock" / "requirements.txt").read_text(encoding="utf-8"), self.lines())
+
+    def test_of_several(self):
+        self.begin()
+        status, _, errors = self.shell("rql add rich flask >/dev/full")
+        self.assertEqual(status, 5)
+        self.assertIn("standard output: No space left on device", errors)
+        self.assertEqual((self.folder / ".reqlock" / "requirements.txt").read_text(encoding="utf-8"), "rich\nflask\n")
+        self.accepts("check", answer="ok 2\n")
+
+    def test_of_its_own_prints(self):
+        self.begin()
+        self.assertEqual(self.shell("rql env list >/dev/full")[0], 1)
+        self.assertEqual(self.shell("rql env list >&-")[0], 1)
+        self.assertEqual(self.shell("rql --help >/dev/full")[0], 1)
+        self.assertEqual(self.shell("rql env list | true")[0], 0)
+
+    def test_of_errors(self):
+        self.begin()
+        for place, name in ("2>/dev/full", "rich"), ("2>&-", "flask"):
+            status, output, _ = self.shell(f"CI=1 rql add {name} {place}")
+            self.assertEqual((status, output), (0, f"ok {1 if name == 'rich' else 2}\n"))
 
 
 class Help(unittest.TestCase):

@@ -8,14 +8,19 @@ import subprocess
 import sys
 from collections.abc import Sequence
 from dataclasses import dataclass
+from typing import TextIO
 
 from reqlock_tools.program import program_path
-from reqlock_tools.refusal import Refusal, shown
+from reqlock_tools.refusal import Refusal, shown, speaker, tell
 from reqlock_tools.rql.faults import STOPPED
 from reqlock_tools.rql.requests import Options
 
 # How many seconds a call may take before a person is told that it goes on.
 PATIENCE = 2.0
+# The program's status where its answer couldn't be written.
+UNWRITTEN = 5
+
+say = speaker("rql")
 
 
 @dataclass(frozen=True)
@@ -27,18 +32,30 @@ class Answer:
     errors: bytes
 
     def hand_on(self) -> int:
-        """Writes what the call wrote, to the byte, and answers its status."""
-        for stream, data in (sys.stdout, self.output), (sys.stderr, self.errors):
-            stream.flush()
-            stream.buffer.write(data)
-            stream.flush()
-        return self.status
+        """Writes what the call wrote, to the byte, and answers its status; or that of the program where its answer can't be written."""
+        is_written = handed_on(sys.stdout, self.output)
+        handed_on(sys.stderr, self.errors)
+        return self.status or (0 if is_written else UNWRITTEN)
+
+
+def handed_on(stream: TextIO, data: bytes) -> bool:
+    """Whether bytes could be written. Where they can't, nothing more is written there, and what was called is done all the same."""
+    try:
+        stream.flush()
+        stream.buffer.write(data)
+        stream.flush()
+    except OSError as fault:
+        os.dup2(os.open(os.devnull, os.O_WRONLY), stream.fileno())
+        if stream is sys.stdout and not isinstance(fault, BrokenPipeError):
+            say(f"standard output: {fault.strerror}")
+        return False
+    return True
 
 
 def tell_call(words: Sequence[str], text: str | None = None) -> None:
     """Prints a call so that it can be typed."""
     given = f"printf %s {shlex.quote(text)} | " if text is not None else ""
-    print(f"+ {shown(given + shlex.join(words))}", file=sys.stderr, flush=True)
+    tell(f"+ {shown(given + shlex.join(words))}")
 
 
 class Caller:
@@ -118,7 +135,7 @@ class Caller:
 
     def tell_waiting(self) -> None:
         if sys.stderr.isatty() and not self.options.is_quiet:
-            print("rql: reqlock is still at it; Ctrl-C ends it", file=sys.stderr, flush=True)
+            tell("rql: reqlock is still at it; Ctrl-C ends it")
 
     def absent(self, fault: OSError) -> Refusal:
         return Refusal(f"{self.program}: {fault.strerror}; give the program by --program")

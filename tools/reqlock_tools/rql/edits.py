@@ -1,5 +1,6 @@
 """Edits: the index is brought up to date for what is asked, and then the program decides."""
 
+import shlex
 import shutil
 import tempfile
 from collections.abc import Sequence
@@ -9,12 +10,12 @@ from pathlib import Path
 from reqlock_tools.refusal import speaker
 from reqlock_tools.rql.calls import Caller, typed_path
 from reqlock_tools.rql.exports import write_exports
-from reqlock_tools.rql.history import tell_changed
+from reqlock_tools.rql.history import Saving, tell_changed
 from reqlock_tools.rql.index import Wanted, made_index, present_index
 from reqlock_tools.rql.kept import Kept
 from reqlock_tools.rql.project import JOURNAL, REQUIREMENTS, Project
 from reqlock_tools.rql.requests import EditRequest
-from reqlock_tools.rql.telling import is_told
+from reqlock_tools.rql.telling import is_told, tell_own_words
 from reqlock_tools.rql.texts import is_url
 
 # Those that change one line for each of their texts.
@@ -23,6 +24,9 @@ OF_LINES = "add", "remove", "set"
 ASKING = "upgrade", "relock"
 # The program's status where its files don't read, or don't belong together.
 BAD_INPUT = 4
+NO_SOLUTION = b"refused no-solution"
+# The program's status where an edit is refused, but for want of a solution.
+REFUSED = 1
 
 say = speaker("rql")
 
@@ -40,6 +44,8 @@ def run_edit(project: Project, request: EditRequest) -> int:
         status = Edit(project, kept, request).run()
     if status == BAD_INPUT and is_told(project.options):
         tell_changed(project)
+    if status == REFUSED:
+        tell_own_words(project.options)
     return status
 
 
@@ -74,12 +80,12 @@ class Edit:
         return [self.request.word, *(["--"] * any(it.startswith("-") for it in texts)), *texts]
 
     def run(self) -> int:
-        request = self.request
+        request, saving = self.request, Saving(self.project)
         if request.word in OF_LINES and len(request.texts) > 1:
             status = self.run_several()
         else:
             status = self.caller.hand_over(*self.given(), *self.keeping, *self.drying, *self.words(*request.texts))
-        if status == 0 and not request.is_dry:
+        if saving.is_done(status) and not request.is_dry:
             accepted(self.project, self.kept, self.caller, self.index)
         return status
 
@@ -113,7 +119,9 @@ class Edit:
         refused = [place for place, reply in enumerate(replies) if reply.startswith(b"refused ")]
         if answer.status == 0 or not refused:
             return answer.hand_on()
-        say(f"nothing is changed: {self.request.texts[refused[0]]!a} is refused")
+        text = self.request.texts[refused[0]]
+        is_unsolved = replies[refused[0]].strip() == NO_SOLUTION and self.request.word == "add"
+        say(f"nothing is changed: {text!a} is refused" + (f": {shlex.join(['rql', 'why', '--explain', text])} tells why" if is_unsolved else ""))
         return replace(answer, output=replies[refused[0]]).hand_on()
 
 

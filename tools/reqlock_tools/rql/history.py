@@ -40,6 +40,23 @@ def is_whole(project: Project, journal: Journal) -> bool:
     return all(digest_of(content(project.folder / lock_name(target))) == digest for target, digest in journal.locks.items())
 
 
+class Saving:
+    """Whether a call of the program saves something in a project: it says so, or the history is another one though its answer couldn't be
+    written, or Ctrl-C came behind it."""
+
+    def __init__(self, project: Project) -> None:
+        self.project, self.before = project, content(project.folder / JOURNAL)
+
+    def is_done(self, status: int) -> bool:
+        """Whether something is saved, or the call says that all is as it is to be."""
+        if status == 0:
+            return True
+        if content(self.project.folder / JOURNAL) == self.before:
+            return False
+        journal = journal_of(self.project)
+        return journal is not None and is_whole(self.project, journal)
+
+
 def tell_changed(project: Project) -> None:
     """Tells what has lines and locks fit again that somebody changed since they were saved."""
     journal = journal_of(project)

@@ -196,15 +196,37 @@ def run_index(project: Project, request: IndexRequest) -> int:
     kept = Kept(project)
     with kept.locked():
         refuse_no_names(request.names)
-        kept.accept(made_index(project, kept, Wanted(names=request.names, is_asked=True)))
+        index = made_index(project, kept, Wanted(names=request.names, is_asked=True))
+        refuse_absent_names(index, request.names)
+        kept.accept(index)
     return 0
 
 
 def refuse_no_names(names: Iterable[str]) -> None:
-    from reqlock_tools.requirements import fault_of
+    from reqlock_tools.requirements import doubt_of, fault_of
 
     for text in names:
-        if fault := fault_of(text):
+        if fault := fault_of(text) or doubt_of(text):
             raise SettingsFault(f"{text!a}: {fault}")
+
+
+def absent_names(path: Path) -> frozenset[str] | None:
+    """The names that an index was asked for and hadn't; None where it doesn't tell that."""
+    from reqlock_tools.simple.made import read_made
+
+    try:
+        return frozenset(read_made(str(path)).member("lacks").member("names").texts())
+    except Refusal:
+        return None
+
+
+def refuse_absent_names(index: Path, names: Iterable[str]) -> None:
+    """Refuses names that are mistyped, as they would be asked for again each time."""
+    from reqlock_tools.requirements import need_of
+
+    lacking = absent_names(index) or frozenset()
+    told = [need.name for text in names if (need := need_of(text)) is not None and need.name in lacking]
+    if told:
+        raise IndexFault(f"no index of the settings has {', '.join(told)}: nothing is changed; is the name right?")
 
 

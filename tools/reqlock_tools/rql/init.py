@@ -16,11 +16,11 @@ from reqlock_tools.rql.draft import Draft, draft_of, project_table
 from reqlock_tools.rql.edits import accepted
 from reqlock_tools.rql.environments import environments
 from reqlock_tools.rql.faults import IndexFault, SettingsFault
-from reqlock_tools.rql.history import content, is_whole, journal_of
-from reqlock_tools.rql.index import Wanted, made_index
+from reqlock_tools.rql.history import Saving, content, is_whole, journal_of
+from reqlock_tools.rql.index import Wanted, absent_names, made_index
 from reqlock_tools.rql.kept import MODE, NAME, Kept
 from reqlock_tools.rql.pins import read_pins
-from reqlock_tools.rql.pins_fit import Outcome, absent_names, fits, releases_by_name
+from reqlock_tools.rql.pins_fit import Outcome, fits, releases_by_name
 from reqlock_tools.rql.project import REQUIREMENTS, Project, project_of, settings_in
 from reqlock_tools.rql.requests import InitRequest, Options
 from reqlock_tools.rql.settings import OWN_FILE, PROJECT_FILE, EnvironmentSetting, ExportSetting, settings_of
@@ -146,11 +146,12 @@ class Beginning:
         pins = [pin for several, _ in read for pin in several]
         index = self.index(kept, pins)
         packages = releases_by_name(str(index))
-        absent = absent_names(str(index))
+        absent = absent_names(index)
         taken = [pin for pin in pins if fits(pin, packages, absent)]
         words = ["--dir", typed_path(self.project.folder), "--index", typed_path(index), *self.environment_words(kept)]
+        saving = Saving(self.project)
         status = self.caller.hand_over(*words, "init", *self.pin_words(kept, taken))
-        if status != 0:
+        if not saving.is_done(status):
             self.take_back()
             return status
         self.is_made.clear()

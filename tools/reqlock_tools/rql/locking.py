@@ -14,7 +14,7 @@ from reqlock_tools.rql.calls import Caller, tell_call, typed_path
 from reqlock_tools.rql.edits import accepted
 from reqlock_tools.rql.exports import stale_exports, write_exports
 from reqlock_tools.rql.faults import FOUND, SettingsFault
-from reqlock_tools.rql.history import content, is_whole, wanted_journal
+from reqlock_tools.rql.history import Saving, content, is_whole, wanted_journal
 from reqlock_tools.rql.index import Wanted, made_index, requirements_in
 from reqlock_tools.rql.kept import MODE, Kept
 from reqlock_tools.rql.project import JOURNAL, REQUIREMENTS, Project
@@ -107,8 +107,9 @@ class Locking:
     def replaced(self, lines: bytes, *words: str) -> int:
         index = made_index(self.project, self.kept, Wanted(texts=tuple(requirements_in(lines))))
         place = ["--dir", typed_path(self.project.folder), "--index", typed_path(index)]
+        saving = Saving(self.project)
         status = self.caller.hand_over(*place, "replace", *words)
-        if status == 0:
+        if saving.is_done(status):
             accepted(self.project, self.kept, self.caller, index)
         return status
 

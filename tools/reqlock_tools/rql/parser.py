@@ -8,6 +8,7 @@ from reqlock_tools.number_words import number
 from reqlock_tools.rql.requests import (
     CheckRequest, EditRequest, EnvRequest, IndexRequest, InitRequest, LockRequest, Options, PassedRequest, Request, SyncRequest,
 )
+from reqlock_tools.rql.words import in_place_of_command, in_place_of_options
 
 DESCRIPTION = """Keep a project's requirements and its locks together: rql keeps the index fresh, and then calls the program reqlock,
 which decides every version."""
@@ -171,11 +172,24 @@ def parsed(arguments: Sequence[str]) -> tuple[Options, Request]:
     is_handed_on = word in PASSED or word in TOOLS
     # (help in front of a word is that of all words)
     asks_help = any(it in ("-h", "--help") for it in arguments[:place])
-    told = parser_of(None if asks_help else word).parse_args(list(arguments[: place + 1] if is_handed_on else arguments))
+    parser = parser_of(None if asks_help else word)
+    if word and word not in BUILDERS and not asks_help:
+        parser.error(f"there is no command {word!a}: {in_place_of_command(word, BUILDERS)}")
+    told, rest = parser.parse_known_args(list(arguments[: place + 1] if is_handed_on else arguments))
+    if rest:
+        refuse_rest(parser, told.word, rest)
     options = Options(told.start, told.offline, told.refresh, told.verbose, told.quiet, told.program, told.timeout, told.retries)
     if is_handed_on:
         return options, PassedRequest(told.word, tuple(arguments[place + 1 :]))
     return options, READERS.get(told.word, edit_request)(told)
+
+
+def refuse_rest(parser: argparse.ArgumentParser, word: str, rest: Sequence[str]) -> None:
+    """Ends with the words that a command doesn't take, and with what does their work."""
+    hint = in_place_of_options(word, rest)
+    choices = next(it.choices for it in parser._actions if isinstance(it, argparse._SubParsersAction))
+    # (what stands in front of a word that is handed on is rql's own)
+    (parser if word in PASSED or word in TOOLS else choices[word]).error(f"it doesn't take {' '.join(rest)}" + (f": {hint}" if hint else ""))
 
 
 def place_of_word(arguments: Sequence[str]) -> int:

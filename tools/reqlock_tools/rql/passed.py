@@ -50,15 +50,17 @@ def index_words(indexes: list[Path]) -> list[str]:
 def moved(project: Project, kept: Kept, caller: Caller, given: list[str], call: list[str]) -> int:
     """Goes to another state, and has the sources and the exports follow."""
     from reqlock_tools.rql.edits import accepted
+    from reqlock_tools.rql.history import Saving
 
     with kept.locked():
+        saving = Saving(project)
         if project.settings.sources:
             from reqlock_tools.rql.sources_calls import moved_sources
 
             status = moved_sources(project, kept, call, lambda: caller.hand_over(*given, *call))
         else:
             status = caller.hand_over(*given, *call)
-        if status == 0 and "--dry-run" not in call:
+        if saving.is_done(status) and "--dry-run" not in call:
             accepted(project, kept, caller, None)
     return status
 

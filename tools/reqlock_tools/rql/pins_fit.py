@@ -6,7 +6,7 @@ from collections.abc import Sequence
 from pathlib import Path
 from typing import Any
 
-from reqlock_tools.refusal import Refusal, speaker
+from reqlock_tools.refusal import speaker
 from reqlock_tools.rql.calls import Caller, typed_path
 from reqlock_tools.rql.compiled import Pin, read_text
 from reqlock_tools.versions import normal, read_version, version_of
@@ -38,16 +38,6 @@ def must_be_named(pin: Pin, packages: Packages) -> bool:
     """Whether the release that is pinned may count only where a line names it."""
     release = release_of(pin, packages)
     return release is not None and (release.get("yanked") or version_of(pin.version).is_prerelease)
-
-
-def absent_names(path: str) -> frozenset[str] | None:
-    """The names that an index was asked for and hadn't; None where it doesn't tell that."""
-    from reqlock_tools.simple.made import read_made
-
-    try:
-        return frozenset(read_made(path).member("lacks").member("names").texts())
-    except Refusal:
-        return None
 
 
 def fits(pin: Pin, packages: Packages, absent: frozenset[str] | None) -> bool:

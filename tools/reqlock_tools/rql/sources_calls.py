@@ -8,7 +8,7 @@ from pathlib import Path
 from reqlock_tools.rql.calls import Caller, typed_path
 from reqlock_tools.rql.edits import accepted, copied
 from reqlock_tools.rql.faults import SettingsFault
-from reqlock_tools.rql.history import content
+from reqlock_tools.rql.history import Saving, content
 from reqlock_tools.rql.index import Wanted, made_index, present_index
 from reqlock_tools.rql.kept import Kept
 from reqlock_tools.rql.project import REQUIREMENTS, Project
@@ -34,8 +34,9 @@ def edit_sources(project: Project, kept: Kept, request: EditRequest) -> int:
     words = [*["--keep-locked"] * request.keeps_locked, *["--dry-run"] * request.is_dry]
     new = kept.write("requirements.new.txt", change.data)
     given = ["--dir", typed_path(project.folder), "--index", typed_path(index)]
+    saving = Saving(project)
     status = Caller(project.options).hand_over(*given, *words, "replace", typed_path(new))
-    if status == 0 and not request.is_dry:
+    if saving.is_done(status) and not request.is_dry:
         change.write()
         accepted(project, kept, Caller(project.options), index)
     return status
@@ -53,7 +54,8 @@ def moved_sources(project: Project, kept: Kept, words: Sequence[str], move: Call
         trial = copied(project.folder, Path(name))
         answer = caller.quietly("--dir", str(trial), *words)
         change = sources.followed(content(trial / REQUIREMENTS)) if answer.status == 0 else None
+    saving = Saving(project)
     status = move()
-    if status == 0 and change is not None and "--dry-run" not in words:
+    if saving.is_done(status) and change is not None and "--dry-run" not in words:
         change.write()
     return status

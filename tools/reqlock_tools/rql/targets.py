@@ -13,7 +13,7 @@ from reqlock_tools.rql.defaults import family_name, own_python, refuse_platform,
 from reqlock_tools.rql.edits import accepted
 from reqlock_tools.rql.environments import described, environments, label_of, place_of
 from reqlock_tools.rql.faults import SettingsFault
-from reqlock_tools.rql.history import content, is_whole, journal_of, wanted_journal
+from reqlock_tools.rql.history import Saving, content, is_whole, journal_of, wanted_journal
 from reqlock_tools.rql.index import Wanted, made_index
 from reqlock_tools.rql.kept import MODE, Kept
 from reqlock_tools.rql.project import Project, project_of
@@ -63,8 +63,9 @@ class Change:
             self.refuse_loss(journal)
         settings = replace(before, environments=changed, exports=exports)
         project = project_of(settings, self.project.options)
+        saving = Saving(project)
         status = self.begin_anew(project, journal) if journal is not None else 0
-        if status == 0:
+        if saving.is_done(status):
             write_whole(str(before.file), text, MODE)
             if read_settings(before.file) != settings:
                 raise SettingsFault(f"{before.file}: it doesn't read as it was written: mend it by hand")
@@ -97,8 +98,9 @@ class Change:
             path = typed_path(self.kept.environment(name, told))
             words += ["--env", f"{name}={path}" if name else path]
             pins += ["--pins", self.pins_for(name, journal)]
+        saving = Saving(project)
         status = self.caller.hand_over(*words, "init", *pins)
-        if status == 0:
+        if saving.is_done(status):
             self.remove_old(project, journal)
             accepted(project, self.kept, self.caller, index)
         return status
@@ -158,7 +160,7 @@ def removed(settings: Settings, name: str) -> tuple[EnvironmentSetting, ...]:
     """The environments with one less."""
     others = tuple(it for it in settings.environments if it.name != name)
     if len(others) == len(settings.environments):
-        raise SettingsFault(f"{settings.file}: environments: {name!a} isn't among them")
+        raise SettingsFault(f"{settings.file}: environments: {name!a} isn't among them: rql env list prints them")
     if not others:
         raise SettingsFault(f"{settings.file}: environments: {name} is the only one")
     for number, export in enumerate(settings.exports):

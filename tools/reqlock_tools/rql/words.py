@@ -1,0 +1,50 @@
+"""Words of other tools, and words that are mistyped: what rql has in their place."""
+
+import difflib
+from collections.abc import Iterable, Sequence
+
+ADDED = "put the lines into requirements.txt, or into the file that sources in the settings names, and then: rql lock"
+GROUPED = (
+    'write the line into its group or extra in pyproject.toml, have sources in the settings name it, as "pyproject.toml:dev", and then: rql lock'
+)
+UPGRADED = "rql upgrade takes newer releases of all that is locked, and rql upgrade NAME of one"
+SYNCED = "rql sync installs what is locked, and changes no lock; what is locked is said by sources in the settings"
+# What does the work of a command of pip, uv, Poetry or pip-tools.
+COMMANDS = {
+    "install": "rql sync installs what is locked, and rql add NAME puts a line there",
+    "update": UPGRADED, "up": UPGRADED, "outdate": "rql outdated", "delete": "rql remove NAME", "rm": "rql remove NAME",
+    "uninstall": "rql remove NAME, and then rql sync",
+    "list": "rql show", "freeze": "rql show, or rql export --format hashes for pip", "compile": "rql lock",
+    "run": "rql sync, and then .venv/bin/python", "shell": "rql sync, and then . .venv/bin/activate",
+    "venv": "python3 -m venv .venv, and then rql sync",
+    "pip": "rql sync installs what is locked; pip itself stays as it is",
+    "python": "rql env add NAME --python VERSION locks for another Python",
+    "status": "rql check", "history": "rql log", "new": "rql init", "verify": "rql check",
+}
+# What does the work of an option of theirs, by the commands of rql.
+OPTIONS = {
+    "add": {
+        **dict.fromkeys(("-r", "--requirement", "--requirements"), ADDED), **dict.fromkeys(("--dev", "-D", "--group", "-G", "--optional"), GROUPED),
+        **dict.fromkeys(("-e", "--editable"), "a folder isn't locked: rql sync leaves what pip install -e put into the environment"),
+        **dict.fromkeys(("-U", "--upgrade"), UPGRADED),
+    },
+    "remove": dict.fromkeys(("--dev", "-D", "--group", "-G", "--optional"), "rql remove NAME takes the line out wherever it stands"),
+    "upgrade": dict.fromkeys(("-a", "--all", "-U", "--upgrade"), UPGRADED),
+    "lock": dict.fromkeys(("-U", "--upgrade", "-P", "--upgrade-package"), UPGRADED),
+    "sync": dict.fromkeys(("--frozen", "--locked", "--dev", "--no-dev", "--group", "--no-group", "--extra", "--all-extras", "--only"), SYNCED),
+    "init": dict.fromkeys(("--index-url", "-i", "--extra-index-url"), "--index URL, several times where there are several, in order"),
+}
+
+
+def in_place_of_command(word: str, commands: Iterable[str]) -> str:
+    """What to type in the place of a command that there isn't."""
+    if word in COMMANDS:
+        return COMMANDS[word]
+    near = difflib.get_close_matches(word, list(commands), 1)
+    return f"rql {near[0]}?" if near else "rql --help names all"
+
+
+def in_place_of_options(command: str, words: Sequence[str]) -> str | None:
+    """What to type in the place of words that a command doesn't take; None where nobody knows."""
+    found = (OPTIONS.get(command, {}).get(word.partition("=")[0]) for word in words)
+    return next((it for it in found if it is not None), None)
