@@ -1,4 +1,4 @@
-"""The base classes of tests of tools/rql.py: each has a folder for a project, and calls rql in it as a process of its own."""
+"""The base classes of tests of tools/rql.py: each has a folder for a project, and calls rql in it."""
 
 import contextlib
 import io
@@ -13,6 +13,7 @@ from unittest import mock
 from support.checkouts import VARIABLES
 from support.made.served_index import MadeIndex
 from support.places import PROGRAM, TOOLS, TOP, needs_program, new_folder
+from support.tool_calls import called
 from support.wanted_libraries import ASKING, want_libraries
 
 from reqlock_tools.rql import main
@@ -41,10 +42,7 @@ class Projects(unittest.TestCase):
 
     def rql(self, *words, folder=None, text="", **variables):
         """The status of a call, its standard output, and its standard error without the name of the script."""
-        done = subprocess.run(
-            [sys.executable, "-B", SCRIPT, *map(str, words)], cwd=folder or self.folder, env={**self.variables, **variables}, input=text,
-            capture_output=True, encoding="utf-8", check=False,
-        )
+        done = called("rql", words, cwd=folder or self.folder, env={**self.variables, **variables}, text=text)
         self.assertNotIn("Traceback", done.stderr)
         return done.returncode, done.stdout, done.stderr.replace("rql.py: ", "")
 
