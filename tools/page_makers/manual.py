@@ -66,6 +66,7 @@ def manual(command: Command, page: str) -> str:
     return filled(
         page, TITLE=quoted(command.name.upper()), NAME=quoted(command.name), FIRST=quoted(first.rstrip(".")),
         SYNOPSIS=quoted(command.usage) if command.usage else "\n.br\n".join(words), ABOUT=paragraphs(rest), WHOLE_ABOUT=paragraphs(command.about),
-        WORDS=told_words(command), OPTIONS=told_options(command), COMMANDS=section("COMMANDS", "".join(told_command(it, command) for it in command.inner)),
-        MORE=paragraphs(command.more), VALUES=section("VALUES", paragraphs(command.more)),
+        WORDS=told_words(command), OPTIONS=told_options(command), MORE=paragraphs(command.more),
+        COMMANDS=section("COMMANDS", "".join(told_command(it, command) for it in command.inner)),
+        VALUES=section("VALUES", paragraphs(command.more)),
     )

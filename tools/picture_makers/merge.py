@@ -20,7 +20,10 @@ reqlock constrain flask '<3'
 git commit --quiet --all --message='Keep flask back'
 """
 GRAPH = "git log --graph --all --format=%s"
-SESSION = GRAPH, "git merge other >/dev/null 2>&1 || git status --short", "reqlock-merge", "git commit --quiet --message='Merge other'", GRAPH, "reqlock show", "reqlock log"
+SESSION = (
+    GRAPH, "git merge other >/dev/null 2>&1 || git status --short", "reqlock-merge", "git commit --quiet --message='Merge other'", GRAPH,
+    "reqlock show", "reqlock log",
+)
 PERSON = {
     "GIT_CONFIG_GLOBAL": os.devnull, "GIT_CONFIG_NOSYSTEM": "1", "GIT_PAGER": "cat", "GIT_EDITOR": "true", "GIT_CONFIG_COUNT": "1",
     "GIT_CONFIG_KEY_0": "color.ui", "GIT_CONFIG_VALUE_0": "never",

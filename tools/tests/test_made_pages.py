@@ -168,7 +168,8 @@ class AtATerminal(unittest.TestCase):
 
     def completed(self, words, begin, line, wanted):
         ours, theirs = pty.openpty()
-        variables = {"PATH": os.environ["PATH"], "HOME": str(self.folder), "TERM": "dumb", "INPUTRC": os.devnull, "LC_ALL": "C.UTF-8", "COLUMNS": "200"}
+        own = {"HOME": str(self.folder), "TERM": "dumb", "INPUTRC": os.devnull, "LC_ALL": "C.UTF-8", "COLUMNS": "200"}
+        variables = {"PATH": os.environ["PATH"], **own}
         shell = subprocess.Popen(words, cwd=self.folder, env=variables, stdin=theirs, stdout=theirs, stderr=theirs, start_new_session=True)
         os.close(theirs)
         os.write(ours, f"{begin.format(SHARE)}; PS1=RE''ADY\n".encode())

@@ -20,7 +20,9 @@ OTHER = shutil.which("true")
 TIME = 1700000000  # of the commit, and what a tree outside of git is told
 PAGES = [
     page for name in ("reqlock", *COMMANDS.values())
-    for page in (f"man/man1/{name}.1", f"bash-completion/completions/{name}", f"zsh/site-functions/_{name}", f"fish/vendor_completions.d/{name}.fish")
+    for page in (
+        f"man/man1/{name}.1", f"bash-completion/completions/{name}", f"zsh/site-functions/_{name}", f"fish/vendor_completions.d/{name}.fish",
+    )
 ]
 
 
