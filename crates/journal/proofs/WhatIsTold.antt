@@ -1,6 +1,6 @@
 -- What files that stand for a history tell without the requirements file.
-use Rattle.std.proofs.Common.{◌≡◌, ℕ, ◌+◌, ◌≤◌, List, [], ◌∷◌, ◌++◌, drop, length, take, Option, Some, None, Result, Ok, Err, refl, sym, ap, subst, ◌∙◌, inl, inr, arith}
-use Rattle.std.specs.Prelude.{reverse, slice_get}
+use Rattle.std.proofs.Common.{◌≡◌, ◌⊎◌, ℕ, ◌+◌, ◌≤◌, List, [], ◌∷◌, ◌++◌, drop, length, take, Option, Some, None, Result, Ok, Err, refl, sym, ap, subst, ◌∙◌, inl, inr, arith}
+use Rattle.std.specs.Prelude.{reverse}
 use Rattle.std.specs.List.{AllByRecursion}
 use Rattle.std.proofs.lemmas.List.{length-reverse, length-take-le}
 use Rattle.pep508.specs.Requirement.{file_of}
@@ -10,13 +10,14 @@ use Rattle.states.specs.State.{Fits}
 use Rattle.states.specs.StateParts.{digest_of}
 use Rattle.states.specs.declared.refusal.Refusal.TheVariants.{FilesDisagree, JournalBroken}
 use Rattle.states.specs.declared.refusal.SavedFile.TheVariants.{Lock, Requirements}
-use Rattle.journal.specs.Values.{State, Target, Refusal}
+use Rattle.journal.specs.Values.{State, Target, Refusal, OutOfMemory}
 use Rattle.journal.specs.Past.{Past, present}
 use Rattle.journal.specs.Changes.{HistoryParts, parts_of}
 use Rattle.journal.specs.Locks.{LockTexts, odd_lock}
 use Rattle.journal.specs.Opens.{Agrees, BeginsWith, Checks, Finds, Fit, GoesOn, IsAnswer, NamesEnvironment, Opens, PastOf, Present, PresentParts, StatesBefore, StatesBehind, StepLines, TargetsRead, Then, ToldBy}
 use Rattle.journal.specs.declared.told.Told.{Told}
 use Rattle.journal_format.specs.declared.header.Header.{Header}
+use Rattle.journal_format.specs.declared.header.HeaderTarget.{HeaderTarget}
 use Rattle.journal_format.proofs.HeaderFacts.{header-read}
 use Rattle.journal.proofs.PresentFacts.{reads_present}
 use Rattle.journal.proofs.HistoryFound.{behind-others, count-before}
@@ -59,12 +60,41 @@ tells_behind locks header steps =
     Then (StepLines header header.steps 2 steps) (λ changes.
     IsAnswer (record { cursor = header.cursor; changes = changes; targets = targets }))))
 
+behind-locks : (locks : LockTexts) (journal : List ℕ) (begin : Header × List ℕ) (answer : Result Told Refusal) → BeginsWith journal begin → odd_lock begin.0 locks ≡ None → tells_behind locks begin.0 begin.1 answer
+    → ToldBy locks journal answer
+behind-locks locks journal begin answer begins none behind = inl (begin, begins, subst (λ odd. Agrees odd (tells_behind locks begin.0 begin.1) answer) (sym none) behind)
+
 told : (locks : LockTexts) (journal : List ℕ) (begin : Header × List ℕ) (targets : List Target) (changes : List ChangeParts) (answer : Told) → BeginsWith journal begin → odd_lock begin.0 locks ≡ None
     → TargetsRead locks begin.0.targets (Ok targets) → AllByRecursion NamesEnvironment targets → StepLines begin.0 begin.0.steps 2 begin.1 (Ok changes)
     → answer ≡ record { cursor = begin.0.cursor; changes = changes; targets = targets } → ToldBy locks journal (Ok answer)
 told locks journal begin targets changes answer begins none read named steps is =
-    let behind : tells_behind locks begin.0 begin.1 (Ok answer) = (Ok targets, read, inl (named, (Ok changes, steps, λ i. Ok (is i)))) in
-    inl (begin, begins, subst (λ odd. Agrees odd (tells_behind locks begin.0 begin.1) (Ok answer)) (sym none) behind)
+    behind-locks locks journal begin (Ok answer) begins none (Ok targets, read, inl (named, (Ok changes, steps, λ i. Ok (is i))))
+
+-- what a reading answers behind its locks, over the targets as they are lent
+module _ (locks : LockTexts) (journal : List ℕ) (begin : Header × List ℕ) (given : List HeaderTarget) (targets lent : List Target) (begins : BeginsWith journal begin) (none : odd_lock begin.0 locks ≡ None)
+    (is_given : given ≡ begin.0.targets) (read : TargetsRead locks given (Ok targets)) (is_lent : lent ≡ targets) where
+  read-again : TargetsRead locks begin.0.targets (Ok targets)
+  read-again = subst (λ (ts : List HeaderTarget). TargetsRead locks ts (Ok targets)) is_given read
+
+  named-again : AllByRecursion NamesEnvironment lent → AllByRecursion NamesEnvironment targets
+  named-again named = subst (λ (ts : List Target). AllByRecursion NamesEnvironment ts) is_lent named
+
+  -- a lock names another environment, or memory is refused
+  pub environments-refused : (e : Refusal) → (e ≡ OutOfMemory) ⊎ ((e ≡ JournalBroken 1) × (AllByRecursion NamesEnvironment lent → ⊥)) → (e ≡ OutOfMemory) ⊎ ToldBy locks journal (Err e)
+  environments-refused e (inl memory) = inl memory
+  environments-refused e (inr other) =
+      let not : AllByRecursion NamesEnvironment targets → ⊥ = λ named. other.1 (subst (λ (ts : List Target). AllByRecursion NamesEnvironment ts) (sym is_lent) named) in
+      inr (behind-locks locks journal begin (Err e) begins none (Ok targets, read-again, inr (not, ap Err other.0)))
+
+  -- a step isn't one, or memory is refused
+  pub steps-refused : AllByRecursion NamesEnvironment lent → (e : Refusal) → (e ≡ OutOfMemory) ⊎ StepLines begin.0 begin.0.steps 2 begin.1 (Err e) → (e ≡ OutOfMemory) ⊎ ToldBy locks journal (Err e)
+  steps-refused named e (inl memory) = inl memory
+  steps-refused named e (inr other) = inr (behind-locks locks journal begin (Err e) begins none (Ok targets, read-again, inl (named-again named, (Err e, other, refl))))
+
+  -- all is read
+  pub all-told : AllByRecursion NamesEnvironment lent → (changes : List ChangeParts) → StepLines begin.0 begin.0.steps 2 begin.1 (Ok changes)
+      → ToldBy locks journal (Ok (record { cursor = begin.0.cursor; changes = changes; targets = targets }))
+  all-told named changes steps = told locks journal begin targets changes (record { cursor = begin.0.cursor; changes = changes; targets = targets }) begins none read-again (named-again named) steps refl
 
 -- the parts of a present state that was read
 record AreParts (header : Header) (requirements : List ℕ) (locks : LockTexts) (state : State) : Type 0 where
@@ -135,6 +165,7 @@ what-opens requirements locks journal history state opens at =
     let pasts : history.past ≡ past.0 = ap (λ (h : HistoryParts). h.past) whole in
     let changes : history.changes ≡ steps.0 = ap (λ (h : HistoryParts). h.changes) whole in
     let cursor : history.past.cursor ≡ header.cursor = ap (λ (p : Past). p.cursor) pasts ∙ at_cursor.0 in
-    let states : state ≡ now.0 = let both : Some state ≡ Some now.0 = sym at ∙ ap (λ (p : Past). present p) pasts ∙ at_cursor.1 in cc in
+    let now_at : present history.past ≡ Some now.0 = ap (λ (p : Past). present p) pasts ∙ at_cursor.1 in
+    let states : state ≡ now.0 = let both : Some state ≡ Some now.0 = sym at ∙ now_at in cc in
     told locks journal begin.0 now.0.targets steps.0 (record { cursor = history.past.cursor; changes = history.changes; targets = state.targets })
     begin.1 are.none are.read are.named steps.1 (λ i. record { cursor = cursor i; changes = changes i; targets = (states i).targets })
