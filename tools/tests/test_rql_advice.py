@@ -11,7 +11,7 @@ import unittest
 from support.completed import SHARE
 from support.made.served_index import wheel_of
 from support.places import TOP
-from support.rql_projects import SCRIPT, Served
+from support.rql_projects import ENVIRONMENT, SCRIPT, Served
 from support.synced import Synced, variables
 from support.terminals import shown_on_terminal
 
@@ -302,6 +302,22 @@ class Told(Served):
         self.assertIn(told, shown)
         self.assertNotIn(told, self.rql(*call[3:])[2])
         self.accepts("constrain", "rich", "==1", answer="ok 1\n")
+
+
+class OfSources(Served):
+    """The same where the lines come from a source, which an edit changes too."""
+
+    def test_a_version_alone_is_no_part_of_a_name(self):
+        self.serve(rich=[wheel_of("rich", "1"), wheel_of("rich", "2")])
+        self.put("requirements.in", "rich\n")
+        self.put("reqlock.toml", f'folder = "locks"\nsources = ["requirements.in"]\nindex = ["{self.index.url}"]\n{ENVIRONMENT}')
+        self.accepts("init", answer="ok 0\n")
+        self.index.counts()
+        for text, hint in ("1", "'==1' takes this version alone"), ("rich==1", "as '>=2,<3'"), ("latest", "as '>=2,<3'"):
+            self.assertIn(f"{text!r}: specifiers are wanted, each with a comparison: {hint}", self.refuses("constrain", "rich", text))
+        self.assertEqual(self.index.counts(), {})
+        self.accepts("constrain", "rich", "==1", answer="ok 1\n")
+        self.assertEqual((self.folder / "requirements.in").read_text(encoding="utf-8"), "rich==1\n")
 
 
 class Unwritten(Served):

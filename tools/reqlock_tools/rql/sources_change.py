@@ -16,7 +16,7 @@ from reqlock_tools.rql.sources_read import Files, Line, Section, checked
 from reqlock_tools.rql.sources_splice import Splice
 from reqlock_tools.rql.sources_toml import changed_array
 from reqlock_tools.rql.texts import name_in
-from reqlock_tools.versions import is_name, normal
+from reqlock_tools.versions import is_name, normal, read_version
 
 BEGINNING = re.compile(r"[A-Za-z0-9._-]+(?:[ \t]*\[[^\]]*\])?")
 MODE = 0o644
@@ -149,7 +149,10 @@ def checked_word(text: str) -> str:
 
 
 def constrained(text: str, specifiers: str) -> str:
-    """A requirement with other specifiers; nothing else of it changes."""
+    """A requirement with other specifiers; nothing else of it changes. What would become a part of its name is refused."""
+    if re.match(r"\s*[^\s<>=!~(]", specifiers):
+        hint = f"'=={specifiers.strip()}' takes this version alone" if read_version(specifiers.strip()) else "as '>=2,<3'"
+        raise SettingsFault(f"{specifiers!a}: specifiers are wanted, each with a comparison: {hint}")
     head = BEGINNING.match(text)
     if head is None:
         raise SettingsFault(f"{text!a}: it begins with no name")
