@@ -31,7 +31,12 @@ TOLD_BY: dict[Key, tuple[str, tuple[Key, ...]]] = {
     ("Rattle.markers.specs.Tied.MarkerReading", "tree_of"): (
         "a_text_reads_as_the_marker_that_it_spells", (("Rattle.markers.specs.MarkerSpelling", "SpellsMarker"),),
     ),
+    ("Rattle.pep508.specs.Parts", "comment_place"): (
+        "a_comment_begins_where_it_first_may", (("Rattle.pep508.specs.Parts", "IsCommentPlace"),),
+    ),
 }
+# The crates whose definitions are those of the PEPs.
+STANDARDS = "pep440", "markers", "pep508"
 HEAD = """# What to read to believe the promises
 
 A promise is a theorem over definitions. To know what a promise says, read its definitions, and nothing else of the code: that the code does
@@ -43,7 +48,7 @@ makes this page. `python3 tools/definitions CRATE` prints the functions of a cra
 second readings of the rules.
 """
 TIED = """
-Three functions go over a text as the program does. A law of their crate says what holds of their answer, and that it holds of no other, so
+Four functions go over a text as the program does. A law of their crate says what holds of their answer, and that it holds of no other, so
 this page lists what the law says in place of these functions:
 """
 
@@ -51,6 +56,17 @@ this page lists what the law says in place of these functions:
 def path_of(module: str) -> str:
     crate, *inner = module.removeprefix("Rattle.").split(".")
     return "/".join(["crates", crate, *inner]) + ".antt"
+
+
+def is_standard(it: Needed) -> bool:
+    return it.module.split(".")[1] in STANDARDS
+
+
+def counted(files: list[Needed]) -> str:
+    """How many lines the files have, and how many of them say what the PEPs say."""
+    lines, of_peps = sum(it.lines for it in files), sum(it.lines for it in files if is_standard(it))
+    told = f", of which {of_peps} say what the PEPs say ({', '.join(f'`{it}`' for it in STANDARDS)})" if of_peps else ""
+    return f"{len(files)} files, {lines} lines{told}:"
 
 
 def row(it: Needed, place: str) -> str:
@@ -78,7 +94,7 @@ def page(modules: dict[str, Module], place: str = "../") -> str:
     for sentence, contracts, roots in PROMISES:
         files = reader.new(roots)
         lines += [
-            f"## {sentence}", "", f"The contracts are those of {contracts}. {len(files)} files, {sum(it.lines for it in files)} lines:", "",
+            f"## {sentence}", "", f"The contracts are those of {contracts}. {counted(files)}", "",
             "| File | Lines | Definitions |", "|---|---|---|", *(row(it, place) for it in files), "",
         ]
     lines += ["## What laws say in place of a loop", TIED]
