@@ -3,7 +3,8 @@ of these names, as test_x or test_x.Class.test_y. pytest runs them where it is t
 are processors. Else the standard library does. The last line is 'N passed, N failed, N skipped'; each that failed or is skipped is told
 above it.
 With REQUIRE_ALL=1 one that is skipped has failed, unless its reason begins with 'optional': what Debian has no package for, what needs
-the rights of root, and what LONG_TESTS=1 alone asks for. With WITHOUT_PROGRAM=1 those that need the built program are left out."""
+the rights of root, and what LONG_TESTS=1 alone asks for. With WITHOUT_PROGRAM=1 those that need the built program are left out. Another
+REQLOCK_SEED than 0 has others drawn where a test draws what it tries; the first line tells it, and so do failures."""
 
 import argparse
 import importlib.util
@@ -13,7 +14,7 @@ import sys
 from pathlib import Path
 
 from support import by_unittest
-from support.outcomes import Outcomes
+from support.outcomes import Outcomes, told_seed
 from support.places import IS_WITHOUT_PROGRAM, TESTS
 
 
@@ -32,6 +33,7 @@ def main() -> int:
     signal.signal(signal.SIGINT, signal.default_int_handler)
     call, outcomes = chosen(), Outcomes()
     place, names = (Path(call.names[0]), []) if len(call.names) == 1 and Path(call.names[0]).is_dir() else (TESTS, call.names)
+    print(told_seed(), flush=True)
     if call.by == "pytest":
         from support import by_pytest  # (pytest may be absent)
 

@@ -6,7 +6,7 @@ import unittest
 
 import pytest
 from support.marks import MEASURED, SLOW, is_among
-from support.outcomes import name_of
+from support.outcomes import name_of, told_seed
 
 
 def pytest_configure(config):
@@ -14,6 +14,15 @@ def pytest_configure(config):
     # (a shell's background job ignores SIGINT, and so would each program that a test interrupts)
     if threading.current_thread() is threading.main_thread():
         signal.signal(signal.SIGINT, signal.default_int_handler)
+
+
+def pytest_report_header():
+    return told_seed()
+
+
+def pytest_terminal_summary(terminalreporter):
+    if terminalreporter.stats.get("failed"):
+        terminalreporter.write_line(f"what is drawn is drawn so again: {told_seed()}")
 
 
 def begins_once(test_class: type) -> bool:

@@ -1,4 +1,4 @@
-"""Tests of .ci/run with stand-ins for the programs that know packages and install them, and for ./check."""
+"""Tests of .ci/run and .ci/daily with stand-ins for the programs that know packages and install them, and for ./check."""
 
 import os
 import shutil
@@ -73,6 +73,15 @@ class Run(unittest.TestCase):
         self.give(0)
         calls = ["apt-get update -q", *(f"{INSTALL} {names}" for names in ("fish zsh none", "fish", "zsh", "none"))]
         self.assertEqual(self.run_all(), (self.absent("none"), calls))
+
+    def test_draws_by_the_day(self):
+        shutil.copy(TOP / ".ci" / "daily", self.copy / ".ci")
+        self.put(self.copy / ".ci" / "run", 'echo "$REQLOCK_SEED"')
+        self.put(self.programs / "date", 'echo "$*"')
+        for more, seed in ({}, "-u +%Y%m%d"), ({"REQLOCK_SEED": "7"}, "7"):
+            variables = {"PATH": str(self.programs), **more}
+            done = subprocess.run([self.copy / ".ci" / "daily"], env=variables, capture_output=True, encoding="utf-8", check=True)
+            self.assertEqual(done.stdout, f"{seed}\n")
 
     def test_tells_what_is_missing_where_nothing_can_be_installed(self):
         self.give(1000)

@@ -2,11 +2,11 @@
 pyproject.toml means is told by PEP 621, 685 and 735, and what files of lines mean by pip."""
 
 import os
-import random
 import tomllib
 import unittest
 from pathlib import Path
 
+from support.made.chance import drawing
 from support.made.served_index import wheel_of
 from support.places import new_folder
 from support.rql_projects import ENVIRONMENT, Served
@@ -254,7 +254,7 @@ class Changes(Sourced):
                     self.assertEqual(self.path.read_bytes(), states[place][0])
 
     def test_drawn_lists_lead_to_each_other(self):
-        chance = random.Random(7)
+        chance = drawing(7)
         for _ in range(60):
             old, new = (chance.sample("abcdefgh", chance.randrange(8)) for _ in "12")
             for name, text in ("base.in", "# of all\n{}# end\n"), ("pyproject.toml", "[project]\nname = 'x'\ndependencies = [{}]\n"):

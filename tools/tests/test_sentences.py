@@ -2,10 +2,10 @@
 which one thing is changed."""
 
 import json
-import random
 import re
 import unittest
 
+from support.made.chance import drawing
 from support.made.environments import LINUX
 from support.made.releases import index_in, index_of
 from support.made.unsolved import NAMES, Draw
@@ -332,7 +332,7 @@ class Drawn(Program):
     def begin_chain(self, seed, count, most):
         """A chain of so many packages whose releases ask each for a range of its own of the next one, which goes up by two from link to link at
         most. The last line asks for more. Some releases are in nobody's range."""
-        chance, releases = random.Random(seed), []
+        chance, releases = drawing(seed), []
         for place in range(count):
             for version in range(1, most + 1):
                 first = min(max(1, version + chance.randint(-1, 1)), most - 1)

@@ -3,20 +3,19 @@ program and the machine's own pip are given. Nothing else is asked."""
 
 import json
 import os
-import random
 import subprocess
 import sys
 import tomllib
 import unittest
 from concurrent.futures import ThreadPoolExecutor
 
+from support.made.chance import drawing
 from support.made.served_index import sdist_of, wheel_of
 from support.places import IS_LONG, PROGRAM, TOOLS, needs_program
 from support.simple_index import Simple
 
 WORLDS = 300 if IS_LONG else 30
 SIDE_BY_SIDE = 4
-SEED = 11
 NAMES = "ant", "bee", "cow", "dog", "elk", "fly"
 SETS = "", "", "", ">=2", "<3", "==1", "==2", "!=3", ">=1,<3", "~=1.0", "<=2", ">1"
 MARKERS = "", "", "", "; os_name == 'nt'", "; python_version >= '3'", "; extra == 'more'", "; extra == 'more' and os_name != 'nt'"
@@ -113,7 +112,7 @@ class Locks(Simple):
         self.assertRegex(output, "ResolutionImpossible|No matching distribution")
 
     def test_of_drawn_worlds_are_what_pip_installs(self):
-        chance = random.Random(SEED)
+        chance = drawing(11)
         tests = []
         for number in range(WORLDS):
             # pip 23.2 refuses by hashes what a dependency asks for with an extra

@@ -2,18 +2,17 @@
 the program and fetched by the machine's own pip, which is told platform and Python. Nothing else is asked."""
 
 import json
-import random
 import subprocess
 import sys
 import unittest
 
+from support.made.chance import drawing
 from support.made.served_index import sdist_of, wheel_of
 from support.places import IS_LONG, PROGRAM, TOOLS, needs_program
 from support.simple_index import Simple
 from test_simple_locks import pip
 
 WORLDS = 40 if IS_LONG else 4
-SEED = 5
 NAMES = "ant", "bee", "cow"
 ENVIRONMENTS = {
     "linux": ("3.9", "linux-x86_64"), "mac": ("3.12", "macos-arm64"), "musl": ("3.11", "musllinux-x86_64"), "windows": ("3.8", "windows-x86_64"),
@@ -75,7 +74,7 @@ class Targets(Simple):
         return f"{name}-{version}.tar.gz" in self.files
 
     def test_can_install_what_is_locked_for_them(self):
-        chance, count = random.Random(SEED), 0
+        chance, count = drawing(5), 0
         for number in range(WORLDS):
             packages = {name: releases(chance, name) for name in NAMES}
             self.files = {file.name for files in packages.values() for file in files}

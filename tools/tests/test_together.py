@@ -2,13 +2,13 @@
 
 import itertools
 import json
-import random
 import shutil
 import subprocess
 import time
 import unittest
 from collections import Counter
 
+from support.made.chance import drawing
 from support.made.environments import LINUX, WINDOWS
 from support.made.releases import index_of
 from support.places import IS_LONG, PROGRAM
@@ -16,7 +16,6 @@ from support.program import Fifty, limited
 
 NAMES = Fifty.NAMES
 STOPS = 3000 if IS_LONG else 300
-SEED = 4
 
 
 class Together(Fifty):
@@ -122,7 +121,7 @@ class Stopped(Fifty):
         return "before" if found == before else "after" if found == after else "between"
 
     def test_a_call_that_is_killed_leaves_what_the_next_one_heals(self):
-        chance = random.Random(SEED)
+        chance = drawing(4)
         self.begin_all()
         usual = self.usual()
         came = Counter()

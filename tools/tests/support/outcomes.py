@@ -3,6 +3,8 @@
 from dataclasses import dataclass, field
 from pathlib import Path
 
+from support.made.chance import SEED
+
 OPTIONAL = "optional: "
 NEEDS_PROGRAM = "the program", "there is no program"
 
@@ -11,6 +13,11 @@ def name_of(node: str) -> str:
     """The name of a test, test_x.Class.test_y, of what pytest calls it."""
     place, *inner = node.partition("@")[0].split("::")
     return ".".join([Path(place).stem, *inner])
+
+
+def told_seed() -> str:
+    """What has the same drawn once more."""
+    return f"REQLOCK_SEED={SEED}"
 
 
 @dataclass
@@ -55,6 +62,8 @@ class Outcomes:
             print(f"{'FAILED, as it was skipped' if is_missed else 'skipped'}: {name}: {reason}")
             missed += is_missed
             skipped += not is_missed
+        if self.failed:
+            print(f"what is drawn is drawn so again: {told_seed()}")
         for name in self.failed:
             print(f"FAILED: {name}")
         return len(self.passed.difference(self.failed, self.skipped)), len(self.failed) + missed, skipped

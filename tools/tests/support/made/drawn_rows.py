@@ -4,6 +4,7 @@ drawn_rows.py rows|answers. The rows are a part of crates/conformance/stdin, the
 versions is tried."""
 
 import json
+import random
 import sys
 from pathlib import Path
 
@@ -38,6 +39,10 @@ TOLD = {
 
 
 class Draw(Chance):
+    def __init__(self, seed):
+        # (the rows are stored, so that no other ones are drawn)
+        self.random = random.Random(seed)
+
     def requirement(self, names):
         return self.one(names) + self.one(EXTRAS) + self.one(SETS)
 
