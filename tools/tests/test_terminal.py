@@ -7,7 +7,7 @@ import subprocess
 import unittest
 
 from support.made.environments import LINUX, WINDOWS
-from support.places import PROGRAM, TOP, needs_program
+from support.places import PROGRAM
 from support.program import Program
 from support.terminals import shown_on_terminal
 
