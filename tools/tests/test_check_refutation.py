@@ -20,6 +20,7 @@ from support.program import Program
 from support.rules.edits import KEEP
 from support.rules.locks import Problem, is_refutation, read_index, read_refutation
 from support.rules.requirements import Fault, cut_lines, holds, matches, read_line, read_marker, read_requirement, read_set, read_version
+from support.tool_calls import called
 
 from reqlock_tools import check_refutation
 from reqlock_tools.libraries import library
@@ -123,8 +124,7 @@ class Faults(Program):
 
     def run_on(self, text, *words):
         paths = self.outside / "index.json", self.outside / "environment.json", self.folder / "requirements.txt"
-        command = [sys.executable, "-B", SCRIPT, *paths, *words]
-        done = subprocess.run(command, input=text, capture_output=True, encoding="utf-8", check=False)
+        done = called("check_refutation", [*paths, *words], text=text)
         return done.returncode, done.stdout, done.stderr.replace(f"{self.folder}/", "").replace(f"{self.outside}/", "")
 
     def check_fault(self, told, text=LINES, *words):

@@ -7,6 +7,7 @@ import unittest
 from pathlib import Path
 
 from support.places import TOOLS
+from support.tool_calls import called
 from support.wanted_libraries import want_libraries
 
 SCRIPT = TOOLS / "hashed_requirements.py"
@@ -67,8 +68,7 @@ class HashedRequirements(unittest.TestCase):
         with tempfile.TemporaryDirectory() as folder:
             path = Path(folder) / "pylock.toml"
             path.write_bytes(text if isinstance(text, bytes) else spelled(text).encode())
-            command = [sys.executable, "-B", SCRIPT, path]
-            done = subprocess.run(command, capture_output=True, encoding="utf-8", check=False)
+            done = called("hashed_requirements", [path])
             return done.returncode, done.stdout, done.stderr.replace(f"{path}: ", "")
 
     def check_refused(self, fault, old, new):

@@ -4,8 +4,6 @@ same to packaging."""
 import hashlib
 import json
 import re
-import subprocess
-import sys
 import time
 import tomllib
 import unittest
@@ -13,7 +11,8 @@ import unittest
 from support.made.environments import LINUX
 from support.made.journals import entry, lock_text
 from support.made.releases import index_of
-from support.places import TOOLS, new_folder
+from support.places import new_folder
+from support.tool_calls import called
 
 from reqlock_tools.environment import VARIABLES
 
@@ -25,7 +24,6 @@ except ImportError:
     except ImportError:
         Marker = None
 
-SCRIPT = TOOLS / "portable_lock.py"
 LINES = b"# web\na[e]>=1\nb ; sys_platform == 'linux'\nc ; os_name == 'nt' or 'x' == 'y'\nd ; implementation_name == 'pypy' and 'x' == 'y'\n"
 RELEASES = (
     ("a", "1.0", ["b>=1 ; platform_machine == 'x86_64'", "d ; extra == 'e' and python_version < '4'", "z ; extra == 'f' and os_name == 'nt'"]),
@@ -52,9 +50,8 @@ class PortableLock(unittest.TestCase):
         (self.folder / "pylock.toml").write_bytes(lock)
 
     def run_on(self, *words):
-        command = [sys.executable, "-B", SCRIPT, *(words or ("pylock.toml", "--index", "index.json"))]
-        done = subprocess.run(command, cwd=self.folder, capture_output=True, check=False)
-        return done.returncode, done.stdout, done.stderr.decode()
+        done = called("portable_lock", words or ("pylock.toml", "--index", "index.json"), self.folder)
+        return done.returncode, done.stdout.encode(errors="surrogateescape"), done.stderr
 
     def check_keeps(self, *names):
         """The lock keeps these variables and all else; what was cut is told."""

@@ -2,6 +2,7 @@
 of a short call. Where the start itself is tested, or the end by a signal, a test begins a process of its own."""
 
 import importlib
+import io
 import os
 import pkgutil
 import signal
@@ -9,8 +10,10 @@ import subprocess
 import sys
 import tempfile
 import traceback
+from collections.abc import Callable, Iterable, Mapping
 from functools import cache
 from pathlib import Path
+from typing import IO, NoReturn
 
 from support.places import TOOLS
 
@@ -39,40 +42,53 @@ def read_all() -> None:
             importlib.import_module(module.name)
 
 
-def called(module: str, words, *, cwd: Path, env: dict[str, str], text: str = "") -> subprocess.CompletedProcess:
+def called(
+    module: str, words: Iterable[object], cwd: Path | None = None, env: Mapping[str, str] | None = None, text: str = ""
+) -> "subprocess.CompletedProcess[str]":
     """What a call of the script tools/MODULE.py would end with: its status, and what it writes. `text` is its input."""
     read_all()
     with tempfile.TemporaryFile() as given, tempfile.TemporaryFile() as output, tempfile.TemporaryFile() as errors:
         given.write(text.encode(errors="surrogateescape"))
         given.seek(0)
-        words = [str(TOOLS / f"{module}.py"), *map(str, words)]
+        command = [str(TOOLS / f"{module}.py"), *map(str, words)]
         child = os.fork()
         if child == 0:
-            run(module, words, cwd, env, (given.fileno(), output.fileno(), errors.fileno()))
+            run(module, command, lambda: begin(cwd, env, (given.fileno(), output.fileno(), errors.fileno())))
         _, status = os.waitpid(child, 0)
-        told = []
-        for stream in output, errors:
-            stream.seek(0)
-            told.append(stream.read().decode(errors="surrogateescape"))
-    return subprocess.CompletedProcess(words, os.waitstatus_to_exitcode(status), *told)
+        return subprocess.CompletedProcess(command, os.waitstatus_to_exitcode(status), whole(output), whole(errors))
 
 
-def run(module: str, words: list[str], cwd: Path, env: dict[str, str], streams: tuple[int, ...]) -> None:
-    """Makes this process, a copy, the call of a tool. It ends here."""
-    status = commands.FAILED
-    try:
-        signal.alarm(SECONDS)
-        signal.signal(signal.SIGINT, signal.default_int_handler)
-        for number, stream in enumerate(streams):
-            os.dup2(stream, number)
+def whole(stream: IO[bytes]) -> str:
+    """All that was written, as `subprocess` tells it."""
+    stream.seek(0)
+    with io.TextIOWrapper(stream, encoding="utf-8", errors="surrogateescape") as text:
+        return text.read()
+
+
+def begin(cwd: Path | None, env: Mapping[str, str] | None, streams: tuple[int, ...]) -> None:
+    """Gives this process, a copy, the folder, the variables and the streams of a new one."""
+    signal.alarm(SECONDS)
+    signal.signal(signal.SIGINT, signal.default_int_handler)
+    for number, stream in enumerate(streams):
+        os.dup2(stream, number)
+    if cwd is not None:
         os.chdir(cwd)
+    if env is not None:
         os.environ.clear()
         os.environ.update(env)
-        sys.argv, sys.dont_write_bytecode = words, True
-        sys.stdin = open(0, encoding="utf-8", errors="surrogateescape", closefd=False)
-        sys.stdout = open(1, "w", encoding="utf-8", errors="surrogateescape", closefd=False)
-        sys.stderr = open(2, "w", encoding="utf-8", errors="backslashreplace", buffering=1, closefd=False)
-        status = getattr(commands, commands_name(module))()
+    sys.dont_write_bytecode = True
+    sys.stdin = open(0, encoding="utf-8", errors="surrogateescape", closefd=False)
+    sys.stdout = open(1, "w", encoding="utf-8", errors="surrogateescape", closefd=False)
+    sys.stderr = open(2, "w", encoding="utf-8", errors="backslashreplace", buffering=1, closefd=False)
+
+
+def run(module: str, words: list[str], begins: Callable[[], None]) -> NoReturn:
+    """Makes this process, a copy, the call of a tool. It ends here, whatever comes."""
+    status = commands.FAILED
+    try:
+        begins()
+        sys.argv = words
+        status = getattr(commands, "hashes" if module == "hashed_requirements" else module)()
     except SystemExit as end:
         status = end.code if isinstance(end.code, int) else 0 if end.code is None else commands.FAILED
         if isinstance(end.code, str):
@@ -80,11 +96,8 @@ def run(module: str, words: list[str], cwd: Path, env: dict[str, str], streams: 
     except BaseException:
         traceback.print_exc()
     finally:
-        sys.stdout.flush()
-        sys.stderr.flush()
-        os._exit(status)
-
-
-def commands_name(module: str) -> str:
-    """What the module `commands` calls a tool."""
-    return "hashes" if module == "hashed_requirements" else module
+        try:
+            sys.stdout.flush()
+            sys.stderr.flush()
+        finally:
+            os._exit(status)
