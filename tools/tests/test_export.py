@@ -224,7 +224,20 @@ class Pylock(Program):
 
     def test_a_version_before_its_release_is_kept_as_it_is(self):
         self.begin_asking("3.12.0rc1")
-        self.assertIn('python_full_version == "3.12.0rc1"', self.exported())
+        self.assertIn('python_full_version in "3.12.0rc1" and "3.12.0rc1" in python_full_version', self.exported())
+
+    def test_no_bound_stands_for_another_where_texts_may_be_compared(self):
+        asking = ("a", "1", ['b; platform_release >= "9.0"', 'c; platform_release >= "20.0"']), ("b", "1", []), ("c", "1", [])
+        self.lock_for({"": LINUX | {"platform_release": "23.4.0"}})
+        self.begin(b"a\n", *asking)
+        self.assertEqual((self.call("init"), sorted(self.locked())), ((0, "ok 0\n"), ["a", "b", "c"]))
+        marker = Marker(self.exported())
+        self.assertTrue(marker.evaluate(LINUX | {"platform_release": "23.4.0"}))
+        other = LINUX | {"platform_release": "6.1.0-13-amd64"}
+        self.lock_for({"": other})
+        self.begin(b"a\n", *asking)
+        self.assertEqual((self.call("init"), sorted(self.locked())), ((0, "ok 0\n"), ["a", "c"]))
+        self.assertFalse(marker.evaluate(other))
 
     def test_nothing_is_kept_where_nothing_is_asked(self):
         self.begin(b"x\n", ("x", "1", []))

@@ -1,5 +1,6 @@
 """The lock that `export --format pylock` prints, over drawn indexes and drawn environments: wherever its marker holds, as `packaging`
-reads it, a new lock has the same packages. Of 40 indexes, or 400 with LONG_TESTS=1. They need the program, which ./check builds first."""
+and the rules read it, a new lock has the same packages. Of 40 indexes, and 40 as users have them, or 400 with LONG_TESTS=1. They need
+the program, which ./check builds first."""
 
 import json
 import tomllib
@@ -13,14 +14,15 @@ from support.made.sessions import SETS, Draw
 from support.places import IS_LONG, needs_program
 from support.rules.edits import Refused, begun
 from support.rules.lock_tables import read_lock
-from support.rules.requirements import cut_lines
+from support.rules.requirements import cut_lines, holds, read_marker
 from test_export import Marker, is_read
 
-# Each variable with texts that are of one kind: versions, of which no two are the same one, or texts that are none.
+# What a variable other than those of Python has is a version in one environment and none in another.
 PYTHONS = "3.8.10", "3.9.18", "3.10.0", "3.10.12", "3.11.0rc1", "3.11.5", "3.11.7", "3.12.0a1", "3.12.0", "3.12.1", "3.13.2", "4.0.0"
 SYSTEMS = ("linux", "posix", "Linux"), ("win32", "nt", "Windows"), ("darwin", "posix", "Darwin")
-IMPLEMENTATIONS = ("cpython", "CPython", None), ("pypy", "PyPy", "7.3.12"), ("pypy", "PyPy", "7.3.9")
-MACHINES, RELEASES, KERNELS = ("x86_64", "amd64", "arm64"), ("5.10", "6.1", "10"), ("#1 SMP", "#2 SMP")
+IMPLEMENTATIONS = ("cpython", "CPython", None), ("pypy", "PyPy", "7.3.12"), ("pypy", "PyPy", "7.3.9"), ("other", "Other", "8 (main)")
+MACHINES, RELEASES = ("x86_64", "amd64", "arm64", "386"), ("5.10", "6.1", "10", "10.0", "23.4.0", "6.1.0-13-amd64", "")
+KERNELS = "#1 SMP", "#2 SMP", "10.0.19045", "9", "9.0"
 ASKED = (
     "", ">=3.8", ">=3.10", ">=3.11,<4", ">=3.12", ">=3.12.1", "<3.12", "<=3.11.7", ">3.10", "!=3.11.*", "!=3.11.5", "==3.11.*", "~=3.9",
     "<3.12.0rc1", ">=3.8,!=3.9.*,!=3.10.0",
@@ -31,6 +33,9 @@ HOLDING = (
     'python_version in "3.10 3.11"', 'python_version not in "3.8, 3.9"', "sys_platform == 'win32'", 'sys_platform != "darwin"',
     '"linux" in sys_platform', "os_name == 'nt' or platform_machine == 'arm64'", 'platform_machine in "x86_64 amd64"',
     "platform_release >= '6'", "'5.9' < platform_release", "platform_version == '#1 SMP'", "implementation_name == 'cpython'",
+    'platform_release >= "9.0"', 'platform_release >= "20.0"', 'platform_release < "22"', 'platform_release <= "=9.0"', 'platform_release == "6.*"',
+    'platform_release ~= "6.1"', 'platform_version > "10"', 'platform_version != "9"', "platform_machine >= 'b'", 'platform_machine != "386.0"',
+    'platform_release in "6.1.0-13-amd64, 10"', "'amd' not in platform_release", 'platform_release < platform_version',
     "implementation_version < '7.3.10'", 'platform_python_implementation == "PyPy" and python_version < "3.10"',
     "(platform_system == 'Darwin' or python_full_version >= '3.10.1') and os_name == 'posix'",
 )
@@ -85,18 +90,67 @@ class DrawnIndex(Draw):
         return found
 
 
+# What indexes mostly ask: of the system, the machine, the implementation, an old Python or a new one.
+USUAL = (
+    'sys_platform == "win32"', "sys_platform != 'win32'", 'platform_system == "Windows"', 'platform_system == "Darwin"', "os_name == 'nt'",
+    'platform_machine == "x86_64"', "platform_machine == 'aarch64' or platform_machine == 'x86_64'", 'platform_python_implementation == "CPython"',
+    "platform_python_implementation != 'PyPy'", 'implementation_name == "cpython"', 'python_version < "3.8"', "python_version<'3.11'",
+    'python_version >= "3.10"', 'python_full_version < "3.11.3"', 'python_version < "3.9" and sys_platform == "win32"',
+    'sys_platform == "darwin" and platform_machine == "arm64"',
+)
+USUAL_EXTRAS = 'extra == "e-1"', "extra == 'e-1' and python_version < '3.11'", 'extra == "test"', "extra == 'test' and sys_platform == 'win32'"
+USUAL_PYTHONS = ">=2.7, !=3.0.*, !=3.1.*", ">=3.6", ">=3.7", ">=3.8", ">=3.9", ">=3.10", ">=3.8,<4.0", ">=3.12"
+PLATFORMS = (
+    ("linux", "posix", "Linux", "x86_64", "6.1.0-13-amd64", "#1 SMP"), ("linux", "posix", "Linux", "aarch64", "5.15.0", "#40-Ubuntu SMP"),
+    ("darwin", "posix", "Darwin", "arm64", "23.4.0", "Darwin Kernel Version 23.4.0"), ("win32", "nt", "Windows", "AMD64", "10", "10.0.19045"),
+)
+PLATFORM = "sys_platform", "os_name", "platform_system", "platform_machine", "platform_release", "platform_version"
+MINORS = "3.8.10", "3.9.18", "3.10.12", "3.11.2", "3.11.7", "3.12.1", "3.13.2"
+
+
+class UsersIndex(DrawnIndex):
+    """Indexes as users have them: few markers, and releases that ask for a Python by its lower bound."""
+
+    def requirement(self, markers, names=()):
+        found = self.name(names) + self.one(("", "", "", "[e-1]")) + self.one(SETS)
+        return f"{found} ; {self.one(markers)}" if self.happens(30) else found
+
+    def release(self, name, version):
+        needs = [self.requirement(USUAL + USUAL_EXTRAS) for _ in range(self.one((0, 0, 1, 1, 2)))]
+        found = {"version": version, "files": [file_of(name, version)], "requires_dist": needs}
+        if self.happens(70):
+            found["requires_python"] = self.one(USUAL_PYTHONS)
+        return found
+
+    def requirements(self):
+        return "".join(f"{self.requirement(USUAL, [name])}\n" for name in self.random.sample(self.names, self.one((1, 2, 2, 3))))
+
+    def environment(self):
+        return self.other_than(LINUX, 1)
+
+    def other_than(self, environment, count):
+        """One of the environments that users have."""
+        python = self.one(MINORS)
+        name, platform, version = self.one((("cpython", "CPython", python),) * 4 + (("pypy", "PyPy", "7.3.12"),))
+        return dict(zip(PLATFORM, self.one(PLATFORMS))) | {
+            "implementation_name": name, "platform_python_implementation": platform, "implementation_version": version,
+            "python_full_version": python, "python_version": ".".join(python.split(".")[:2]),
+        }
+
+
 @needs_program
 @unittest.skipUnless(Marker, "python3 has neither packaging nor pip")
 class Drawn(DrawnFiles):
     def test_a_new_lock_is_the_same_wherever_the_marker_holds(self):
-        self.seen = Counter()
-        for seed in range(COUNT):
-            with self.subTest(seed=seed):
-                draw = DrawnIndex(seed)
-                self.take_index(draw.index())
-                lines = draw.requirements()
-                self.play(draw, lines, draw.environment())
-        self.assertLessEqual(set(SEEN), set(+self.seen), self.seen)
+        for kind in DrawnIndex, UsersIndex:
+            self.seen = Counter()
+            for seed in range(COUNT):
+                with self.subTest(kind=kind.__name__, seed=seed):
+                    draw = kind(seed)
+                    self.take_index(draw.index())
+                    lines = draw.requirements()
+                    self.play(draw, lines, draw.environment())
+            self.assertLessEqual(set(SEEN), set(+self.seen), self.seen)
 
     def play(self, draw, lines, environment):
         """What is exported of the lock in an environment, held against the locks in others."""
@@ -145,9 +199,14 @@ class Drawn(DrawnFiles):
         self.assertEqual(len(markers), 1)
         return markers[0]
 
-    @staticmethod
-    def holds(marker, environment):
-        return not marker or Marker(marker).evaluate(environment)
+    def holds(self, marker, environment):
+        """Whether a marker that is printed holds, as `packaging` and the rules read it."""
+        if not marker:
+            return True
+        found = Marker(marker).evaluate(environment)
+        if is_read(environment):
+            self.assertEqual(found, holds(read_marker(marker), environment), (marker, environment))
+        return found
 
 
 if __name__ == "__main__":

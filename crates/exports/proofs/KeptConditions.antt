@@ -13,20 +13,22 @@ use Rattle.markers.specs.declared.variable.Variable.{Variable}
 use Rattle.pep440.specs.Matching.{clause_matches, matches, operator_matches}
 use Rattle.pep440.specs.Version.{VersionParts}
 use Rattle.pep440.specs.declared.specifier.Clause.{Clause}
+use Rattle.pep440.specs.SetGrammar.{takes}
 use Rattle.pep440.specs.declared.specifier.Operator.{Operator}
+use Rattle.pep440.specs.declared.specifier.Operator.TheVariants as operators
 use Rattle.snapshot.specs.Packages.{Index, releases_of}
 use Rattle.snapshot.specs.Release.{Release}
 use Rattle.snapshot.specs.declared.package.Package.{Package}
 use Rattle.exports.specs.Alike.{AnswersAlike, LineAlike, MarkerAlike, ReleaseAlike}
-use Rattle.exports.specs.Conditions.{Meets, MeetsAll, is_matched}
+use Rattle.exports.specs.Conditions.{IsTellable, Meets, MeetsAll, is_matched}
 use Rattle.exports.specs.Laws.{HasSameBest}
 use Rattle.exports.specs.Tied.Implication.{opposite_of}
-use Rattle.exports.specs.Tied.Kept.{ClauseAlike, ClausesAlike, Keeps, OperandAlike, SaysAmong, Settles, VersionsAlike, both_read, same_text}
+use Rattle.exports.specs.Tied.Kept.{AreOwn, ClauseAlike, ClausesAlike, IsOwn, Keeps, OperandAlike, SaysAmong, Settles, VersionsAlike, both_read, same_text}
 use Rattle.exports.specs.declared.condition.Condition.{Condition}
 use Rattle.exports.specs.declared.condition.Condition.TheVariants as conditions
 use Rattle.exports.proofs.SaidConditions.{opposite-turns}
 use Rattle.exports.proofs.SameRules.{best-same}
-use Rattle.exports.proofs.EachOf.{each-front, each-last, each-more, each-push, each-whole}
+use Rattle.exports.proofs.EachOf.{each-front, each-map, each-last, each-more, each-push, each-whole}
 
 -- ---- any question
 
@@ -79,17 +81,17 @@ kept-whole P environment old new xs i past k =
 -- ---- a condition
 
 -- the others say it
-pub kept-said : (environment : Texts) (old : List Condition) (condition : Condition) → Meets environment environment condition
+pub kept-said : (environment : Texts) (old : List Condition) (condition : Condition) → IsOwn environment condition
     → SaysAmong old condition → Keeps environment old old (λ other. Meets environment other condition)
-kept-said environment old condition meets said = record { stronger = λ other h. h; settled = λ other h. said environment other meets h; own = λ h. h }
+kept-said environment old condition own said = record { stronger = λ other h. h; settled = λ other h. said environment other own.0 h; own = λ h. h }
 
 -- it stands behind the others
-pub kept-pushed : (environment : Texts) (old new : List Condition) (condition : Condition) → Meets environment environment condition → new ≡ old ++ condition ∷ []
+pub kept-pushed : (environment : Texts) (old new : List Condition) (condition : Condition) → IsOwn environment condition → new ≡ old ++ condition ∷ []
     → Keeps environment old new (λ other. Meets environment other condition)
-kept-pushed environment old new condition meets e = record {
+kept-pushed environment old new condition own e = record {
   stronger = λ other h. each-front (Meets environment other) old (condition ∷ []) (subst (MeetsAll environment other) e h);
   settled = λ other h. each-last (Meets environment other) old condition (subst (MeetsAll environment other) e h);
-  own = λ h. subst (MeetsAll environment environment) (sym e) (each-push (Meets environment environment) old condition h meets);
+  own = λ h. subst (AreOwn environment) (sym e) (each-push (IsOwn environment) old condition h own);
 }
 
 -- ---- versions
@@ -99,25 +101,41 @@ read-some clause None h = absurd cc
 read-some clause (Some version) h = (version, refl, h)
 
 -- a clause that matches settles itself, and else its opposite settles it
-pub settles-itself : (environment : Texts) (variable : Variable) (clause : Clause) (version : VersionParts) → version_read (text_of environment variable) ≡ Some version → clause_matches clause version ≡ true
-    → Settles environment variable clause clause
-settles-itself environment variable clause version read h = record {
-  own = rw read h;
+pub settles-itself : (environment : Texts) (variable : Variable) (clause : Clause) (version : VersionParts) → IsTellable (conditions.Matches variable clause)
+    → version_read (text_of environment variable) ≡ Some version → clause_matches clause version ≡ true → Settles environment variable clause clause
+settles-itself environment variable clause version tellable read h = record {
+  own = (rw read h, tellable);
   alike = λ one other a b. a ∙ sym b;
 }
 
-pub settles-opposite : (environment : Texts) (variable : Variable) (clause : Clause) (operator : Operator) (version : VersionParts) → version_read (text_of environment variable) ≡ Some version
+turned : (opposite wanted : Operator) (version : VersionParts) → Some wanted ≡ Some opposite → takes wanted version ≡ true → takes opposite version ≡ true
+turned opposite wanted version e h = let same : wanted ≡ opposite = cc in subst (λ (operator : Operator). takes operator version ≡ true) same h
+
+-- an opposite operator takes the same versions
+opposite-takes : (operator opposite : Operator) (version : VersionParts) → opposite_of operator ≡ Some opposite → takes operator version ≡ true → takes opposite version ≡ true
+opposite-takes operators.Compatible opposite version e h = absurd cc
+opposite-takes operators.Equal opposite version e h = turned opposite operators.NotEqual version e h
+opposite-takes operators.NotEqual opposite version e h = turned opposite operators.Equal version e h
+opposite-takes operators.EqualPrefix opposite version e h = turned opposite operators.NotEqualPrefix version e h
+opposite-takes operators.NotEqualPrefix opposite version e h = turned opposite operators.EqualPrefix version e h
+opposite-takes operators.AtMost opposite version e h = turned opposite operators.Above version e h
+opposite-takes operators.AtLeast opposite version e h = turned opposite operators.Below version e h
+opposite-takes operators.Below opposite version e h = turned opposite operators.AtLeast version e h
+opposite-takes operators.Above opposite version e h = turned opposite operators.AtMost version e h
+
+pub settles-opposite : (environment : Texts) (variable : Variable) (clause : Clause) (operator : Operator) (version : VersionParts) → IsTellable (conditions.Matches variable clause)
+    → version_read (text_of environment variable) ≡ Some version
     → opposite_of clause.operator ≡ Some operator → operator_matches operator clause.version version ≡ true → Settles environment variable clause (record { operator = operator; version = clause.version })
-settles-opposite environment variable clause operator version read turned h = record {
-  own = rw read h;
+settles-opposite environment variable clause operator version tellable read e h = record {
+  own = (rw read h, (tellable.0, tellable.1, opposite-takes clause.operator operator clause.version e tellable.2));
   alike = λ one other a b.
-      opposite-turns clause.operator operator clause.version one turned a ∙ sym (opposite-turns clause.operator operator clause.version other turned b);
+      opposite-turns clause.operator operator clause.version one e a ∙ sym (opposite-turns clause.operator operator clause.version other e b);
 }
 
 pub settled-clause : (environment other : Texts) (variable : Variable) (clause settling : Clause) → Settles environment variable clause settling → Meets environment other (conditions.Matches variable settling)
     → VersionsAlike environment other variable (ClauseAlike clause)
 settled-clause environment other variable clause settling s h =
-    let own : (version : VersionParts) × (version_read (text_of environment variable) ≡ Some version) × (clause_matches settling version ≡ true) = read-some settling _ s.own in
+    let own : (version : VersionParts) × (version_read (text_of environment variable) ≡ Some version) × (clause_matches settling version ≡ true) = read-some settling _ s.own.0 in
     let its : (version : VersionParts) × (version_read (text_of other variable) ≡ Some version) × (clause_matches settling version ≡ true) = read-some settling _ h in
     both_read own.0 its.0 own.1 its.1 (s.alike own.0 its.0 own.2 its.2)
 
@@ -176,19 +194,26 @@ kept-package P packages (Some p) name e h = let same : name ≡ p.name = cc in s
 -- ---- conditions none of which another says
 
 pub record IsLeft (environment : Texts) (whole left least : List Condition) : Type 0 where
-  pub left_own : MeetsAll environment environment left
-  pub least_own : MeetsAll environment environment least
+  pub left_own : AreOwn environment left
+  pub least_own : AreOwn environment least
   pub settled : (other : Texts) → MeetsAll environment other least → MeetsAll environment other left → MeetsAll environment other whole
 
 pub left-step : (environment : Texts) (whole left next least more : List Condition) (condition : Condition) → IsLeft environment whole left least → left ≡ next ++ condition ∷ []
     → Keeps environment least more (λ other. Meets environment other condition) → IsLeft environment whole next more
 left-step environment whole left next least more condition k e kept = record {
-  left_own = each-front (Meets environment environment) next (condition ∷ []) (subst (MeetsAll environment environment) e k.left_own);
+  left_own = each-front (IsOwn environment) next (condition ∷ []) (subst (AreOwn environment) e k.left_own);
   least_own = kept.own k.least_own;
   settled = λ other h j. k.settled other (kept.stronger other h) (subst (MeetsAll environment other) (sym e) (each-push (Meets environment other) next condition j (kept.settled other h)));
 }
 
 -- ---- all questions
+
+-- conditions are met and can be told
+pub own-met : (environment : Texts) (some : List Condition) → AreOwn environment some → MeetsAll environment environment some
+own-met environment some h = each-map (IsOwn environment) (Meets environment environment) some (λ condition own. own.0) h
+
+pub own-tellable : (environment : Texts) (some : List Condition) → AreOwn environment some → AllByRecursion IsTellable some
+own-tellable environment some h = each-map (IsOwn environment) IsTellable some (λ condition own. own.1) h
 
 pub answers-alike : (lines : List (List ℕ)) (index : Index) (environment : Texts) (some all least : List Condition)
     → Keeps environment [] some (λ other. AllByRecursion (LineAlike environment other) lines)

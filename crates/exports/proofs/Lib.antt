@@ -3,3 +3,6 @@ mod SameRules
 mod SaidConditions
 mod KeptConditions
 mod RemovedMember
+mod ToldClauses
+mod ToldConditions
+mod ToldMarkers

@@ -21,10 +21,11 @@ use Rattle.pylock.specs.Packages.{EntryParts}
 use Rattle.search.specs.Solutions.{IsBest, Needed}
 use Rattle.snapshot.specs.Packages.{Index, is_named, releases_of}
 use Rattle.snapshot.specs.Release.{Release}
-use Rattle.states.specs.Locks.{IsDependency, IsEntry, python_text, sdist_of, wheels_of}
+use Rattle.states.specs.Locks.{IsDependency, IsEntry, python_text, sdist_of, versions_of, wheels_of}
+use Rattle.problems.specs.Solutions.{version_for}
 use Rattle.snapshot.specs.declared.package.Package.{Package}
 use Rattle.exports.specs.Alike.{AnswersAlike, LineAlike, MarkerAlike, ReleaseAlike, WantedAlike, marker_in}
-use Rattle.exports.specs.Laws.{Asking, HasSameBest, problem_in}
+use Rattle.exports.specs.Laws.{Asking, HasSameBest, HasSameLock, problem_in}
 use Rattle.exports.proofs.EachOf.{each-map}
 
 -- ---- lists of items that answer alike
@@ -156,6 +157,16 @@ best-same lines index environment other h kept only s =
       ),
       λ e. (λ k. entry-moves here there s e refl same k, λ k. entry-moves there here s e refl (sym same) k),
     )
+
+pub lock-same : (lines : List (List ℕ)) (index : Index) (environment other : Texts) → HasSameBest lines index environment other → HasSameLock lines index environment other
+lock-same lines index environment other h kept only lock k =
+    let same = h kept only (version_for (versions_of lock.entries)) in record {
+      environment = refl;
+      snapshot = k.snapshot;
+      rising = k.rising;
+      best = same.0.0 k.best;
+      entries = λ e there. (same.1 e).0 (k.entries e there);
+    }
 
 -- ---- the releases of a name are those of its package
 

@@ -1,10 +1,12 @@
 -- What a lock may be told to ask of an environment. All of it is reqlock's own rule.
-use Rattle.std.specs.Prelude.{◌≡◌, Bool, true, false, List, Option, Some, None}
+use Rattle.std.specs.Prelude.{◌≡◌, ◌↔◌, ℕ, ⊤, Bool, true, false, List, Option, Some, None, Ok}
 use Rattle.std.specs.List.{AllByRecursion}
 use Rattle.markers.specs.Comparisons.{version_read}
-use Rattle.markers.specs.Environment.{Texts, text_of}
+use Rattle.markers.specs.Environment.{IsEnvironment, Texts, is_versioned, text_of}
+use Rattle.markers.specs.Marker.{Tree, holds, marker_of}
 use Rattle.pep440.specs.Matching.{clause_matches}
-use Rattle.pep440.specs.Version.{VersionParts}
+use Rattle.pep440.specs.SetGrammar.{takes}
+use Rattle.pep440.specs.Version.{IsVersion, VersionParts}
 use Rattle.pep440.specs.declared.specifier.Clause.{Clause}
 use Rattle.exports.specs.declared.condition.Condition.{Condition}
 use Rattle.exports.specs.declared.condition.Condition.TheVariants.{Same, Matches}
@@ -22,3 +24,14 @@ Meets environment other (Matches variable clause) = is_matched clause (version_r
 -- it meets all of them
 abbrev pub MeetsAll : Texts → Texts → List Condition → Type 0
 MeetsAll environment other conditions = AllByRecursion (Meets environment other) conditions
+
+-- a clause is asked of a variable whose texts are versions in every environment alone, since any other text would be compared as a text
+abbrev pub IsTellable : Condition → Type 0
+IsTellable (Same variable) = ⊤
+IsTellable (Matches variable clause) = (is_versioned variable ≡ true) × IsVersion clause.version × (takes clause.operator clause.version ≡ true)
+
+-- the text reads as a marker that holds, whatever extra is asked, in exactly the environments that meet all conditions
+pub record IsMarkerOf (environment : Texts) (conditions : List Condition) (text : List ℕ) : Type 0 where
+  pub marker : Tree
+  pub reads : marker_of text ≡ Ok marker
+  pub exact : (other : Texts) (extra : Option (List ℕ)) → IsEnvironment other → (holds marker other extra ≡ true) ↔ MeetsAll environment other conditions

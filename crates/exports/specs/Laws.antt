@@ -1,13 +1,14 @@
 -- What is the same wherever the answers are. All of it is reqlock's own rule.
 use Rattle.std.specs.Prelude.{◌≡◌, ◌↔◌, ℕ, Bool, List, Option}
-use Rattle.markers.specs.Environment.{Texts}
+use Rattle.markers.specs.Environment.{Texts, marker_text}
 use Rattle.pep440.specs.Version.{VersionParts}
 use Rattle.problems.specs.Problem.{ProblemParts, requirements}
 use Rattle.problems.specs.Rules.{rules_of}
+use Rattle.pylock.specs.Locks.{LockParts}
 use Rattle.pylock.specs.Packages.{EntryParts}
 use Rattle.search.specs.Solutions.{IsBest}
 use Rattle.snapshot.specs.Packages.{Index}
-use Rattle.states.specs.Locks.{IsEntry}
+use Rattle.states.specs.Locks.{IsEntry, IsLockOf}
 use Rattle.exports.specs.Alike.{AnswersAlike}
 
 -- what a lock is made of beside its environment: lines, an index, the versions that are kept, and whether none counts beside them
@@ -47,3 +48,14 @@ HasSameBest lines index environment other = (kept : List (List ℕ × VersionPar
 -- environments that answer alike have the same best solution
 abbrev pub BestIsTheSame : Type 0
 BestIsTheSame = (lines : List (List ℕ)) (index : Index) (environment other : Texts) → AnswersAlike lines index environment other → HasSameBest lines index environment other
+
+-- a lock of lines over an index is one in the other environment too, but for the text that names its environment: the packages with their
+-- files, the names that they need and what they ask of Python are the same, whatever versions are kept, alone or before others
+abbrev pub HasSameLock : List (List ℕ) → Index → Texts → Texts → Type 0
+HasSameLock lines index environment other = (kept : List (List ℕ × VersionParts)) (only : Bool) (lock : LockParts)
+    → IsLockOf (problem_in (record { lines = lines; index = index; kept = kept; only_kept = only }) environment) lock
+    → IsLockOf (problem_in (record { lines = lines; index = index; kept = kept; only_kept = only }) other) (record lock { environment = marker_text other })
+
+-- environments that answer alike have the same locks
+abbrev pub LockIsTheSame : Type 0
+LockIsTheSame = (lines : List (List ℕ)) (index : Index) (environment other : Texts) → AnswersAlike lines index environment other → HasSameLock lines index environment other

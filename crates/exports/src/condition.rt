@@ -8,7 +8,7 @@ use pep508::Variable;
 pub enum Condition {
     /// The variable has the same text there.
     Same(Variable),
-    /// The text of the variable reads as a version that the clause matches.
+    /// The text of the variable, one of the two whose texts are versions, reads as one that the clause matches.
     Matches(Variable, Clause),
 }
 

@@ -2,18 +2,20 @@
 
 ghost use Rattle.std.specs.Prelude.{◌≡◌, IfOk, IfSome, ℕ, List};
 ghost use Rattle.std.specs.List.{AllByRecursion, slice_get};
+ghost use Rattle.std.specs.List.Sorted.{IsPermutation};
 ghost use Rattle.std.specs.Option.{option_copied};
 ghost use Rattle.markers.specs.Environment.{Texts};
 ghost use Rattle.pep508.specs.Requirement.{requirement_of};
 ghost use Rattle.snapshot.specs.Packages.{releases_of};
 ghost use Rattle.exports.specs.Alike.{AnswersAlike, LineAlike, ReleaseAlike, marker_in};
-ghost use Rattle.exports.specs.Conditions.{MeetsAll};
-ghost use Rattle.exports.specs.Laws.{HasSameBest};
-ghost use Rattle.exports.specs.Tied.Kept.{Keeps};
+ghost use Rattle.exports.specs.Conditions.{IsTellable, MeetsAll};
+ghost use Rattle.exports.specs.Laws.{HasSameBest, HasSameLock};
+ghost use Rattle.exports.specs.Tied.Kept.{AreOwn, Keeps};
 
 use crate::condition::Condition;
 use crate::kept_conditions::{keep, keep_marker, keep_releases};
 use lists::Seq;
+use pep440::Operator;
 use pep508::{Environment, Line, Marker, ReqFile};
 use snapshot::Snapshot;
 use std::alloc::{AllocError, Global};
@@ -87,8 +89,8 @@ fn least(
     environment: &Environment,
     conditions: Seq<Condition>,
 ) -> Result<Seq<Condition>, AllocError>
-    requires { MeetsAll environment.now environment.now conditions }
-    ensures own { IfOk result (λ least. MeetsAll environment.now environment.now least) }
+    requires { AreOwn environment.now conditions }
+    ensures own { IfOk result (λ least. AreOwn environment.now least) }
     ensures said { IfOk result (λ least. (other : Texts)
         → MeetsAll environment.now other least → MeetsAll environment.now other conditions) }
 {
@@ -100,9 +102,34 @@ fn least(
     Ok(least)
 }
 
+/// Lower bounds come before upper ones, and these before all else.
+fn rank_of(condition: &Condition) -> usize {
+    match condition {
+        Condition::Same(_) => 0,
+        Condition::Matches(_, clause) => match clause.operator {
+            Operator::AtLeast | Operator::Above => 1,
+            Operator::AtMost | Operator::Below => 2,
+            Operator::Compatible
+            | Operator::Equal
+            | Operator::NotEqual
+            | Operator::EqualPrefix
+            | Operator::NotEqualPrefix => 3,
+        },
+    }
+}
+
+/// The conditions in the order of their variables' names, and of one variable in that of their ranks.
+fn in_order(conditions: Seq<Condition>) -> Result<Seq<Condition>, AllocError>
+    ensures { IfOk result (λ ordered. IsPermutation conditions ordered) }
+{
+    let mut items = conditions.into_vec();
+    items.sort_by_key(|condition| (condition.variable() as usize, rank_of(condition)))?;
+    Ok(Seq::from_vec(items))
+}
+
 /// The conditions under which another environment answers all questions of the lines and the index as this one does, which
-/// meets them itself; so the best solution is the same there, whatever versions are kept. Each release of the index is asked,
-/// also one that no lock has.
+/// meets them itself; so the best solution is the same there, and its lock but for the environment, whatever versions are kept.
+/// Each release of the index is asked, also one that no lock has.
 pub fn conditions_of(
     alloc: Global,
     lines: &ReqFile,
@@ -110,16 +137,21 @@ pub fn conditions_of(
     environment: &Environment,
 ) -> Result<Seq<Condition>, AllocError>
     ensures own { IfOk result (λ conditions. MeetsAll environment.now environment.now conditions) }
+    ensures tellable { IfOk result (λ conditions. AllByRecursion IsTellable conditions) }
     ensures alike { IfOk result (λ conditions. (other : Texts)
         → MeetsAll environment.now other conditions
         → AnswersAlike lines.now snapshot.now environment.now other) }
     ensures best { IfOk result (λ conditions. (other : Texts)
         → MeetsAll environment.now other conditions
         → HasSameBest lines.now snapshot.now environment.now other) }
+    ensures lock { IfOk result (λ conditions. (other : Texts)
+        → MeetsAll environment.now other conditions
+        → HasSameLock lines.now snapshot.now environment.now other) }
 {
     let mut all = Seq::new(alloc);
     keep_lines(alloc, environment, &mut all, lines.lines())?;
     keep_packages(alloc, environment, &mut all, snapshot)?;
-    let conditions = least(alloc, environment, all)?;
+    let least = least(alloc, environment, all)?;
+    let conditions = in_order(least)?;
     Ok(conditions)
 }

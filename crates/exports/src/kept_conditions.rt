@@ -7,7 +7,9 @@ ghost use Rattle.markers.specs.MarkerRelations.{RelationAlike};
 ghost use Rattle.problems.specs.Admission.{meets_python};
 ghost use Rattle.exports.specs.Alike.{MarkerAlike, ReleaseAlike, WantedAlike};
 ghost use Rattle.exports.specs.Conditions.{Meets};
-ghost use Rattle.exports.specs.Tied.Kept.{ClauseAlike, ClausesAlike, Keeps, OperandAlike, Settles, VersionsAlike};
+ghost use Rattle.markers.specs.Environment.{is_versioned};
+ghost use Rattle.pep440.specs.SetGrammar.{IsLawfulClause};
+ghost use Rattle.exports.specs.Tied.Kept.{ClauseAlike, ClausesAlike, IsOwn, Keeps, OperandAlike, Settles, VersionsAlike};
 
 use crate::condition::Condition;
 use crate::implication::{is_said, opposite};
@@ -24,7 +26,7 @@ pub(crate) fn keep(
     conditions: &mut Seq<Condition>,
     condition: Condition,
 ) -> Result<(), AllocError>
-    requires { Meets environment.now environment.now condition }
+    requires { IsOwn environment.now condition }
     ensures { IfOk result (λ _. Keeps environment.now conditions.old conditions.new
         (λ other. Meets environment.now other condition)) }
 {
@@ -35,14 +37,29 @@ pub(crate) fn keep(
     Ok(())
 }
 
-/// The clause, or else its opposite, where it matches the version of the variable.
+/// Whether the texts of the variable are versions, in every environment.
+fn is_versioned(variable: Variable) -> bool
+    ensures { result ≡ is_versioned variable }
+{
+    match variable {
+        Variable::PythonFullVersion | Variable::PythonVersion => true,
+        _ => false,
+    }
+}
+
+/// The clause, or else its opposite, where it matches the version of a variable whose texts are versions in every environment.
 fn settling_clause(
     environment: &Environment,
     variable: Variable,
     clause: &Clause,
 ) -> Result<Option<Clause>, AllocError>
+    requires { IsLawfulClause clause.now }
     ensures { IfOk result (λ found. IfSome found (Settles environment.now variable clause.now)) }
 {
+    if !is_versioned(variable) {
+        return Ok(None);
+    }
+    clause.version.recall_invariant();
     let Some(version) = environment.version(variable) else {
         return Ok(None);
     };
@@ -63,14 +80,15 @@ fn settling_clause(
     Ok(None)
 }
 
-/// Asks for the same answer of a clause about a variable: for the clause or its opposite, where one of them matches,
-/// else for the same text.
+/// Asks for the same answer of a clause about a variable: for the clause or its opposite, where one of them matches and the
+/// texts of the variable are versions in every environment, else for the same text.
 fn keep_clause(
     environment: &Environment,
     conditions: &mut Seq<Condition>,
     variable: Variable,
     clause: &Clause,
 ) -> Result<(), AllocError>
+    requires { IsLawfulClause clause.now }
     ensures { IfOk result (λ _. Keeps environment.now conditions.old conditions.new
         (λ other. VersionsAlike environment.now other variable (ClauseAlike clause.now))) }
 {
@@ -97,6 +115,7 @@ fn keep_each(
     variable: Variable,
     clauses: &[Clause],
 ) -> Result<(), AllocError>
+    requires { AllByRecursion IsLawfulClause clauses.now }
     ensures { IfOk result (λ _. Keeps environment.now conditions.old conditions.new
         (λ other. AllByRecursion
         (λ clause. VersionsAlike environment.now other variable (ClauseAlike clause))
@@ -116,6 +135,7 @@ fn keep_clauses(
     variable: Variable,
     clauses: &[Clause],
 ) -> Result<(), AllocError>
+    requires { AllByRecursion IsLawfulClause clauses.now }
     ensures { IfOk result (λ _. Keeps environment.now conditions.old conditions.new
         (λ other. VersionsAlike environment.now other variable (ClausesAlike clauses.now))) }
 {
@@ -171,6 +191,7 @@ fn keep_relation(
 {
     match (relation.left(), relation.quoted_clauses()) {
         (Operand::Variable(variable), Some(clauses)) => {
+            clauses.recall_invariant();
             keep_clauses(environment, conditions, *variable, clauses.clauses())?;
             Ok(())
         }
@@ -245,7 +266,9 @@ fn keep_python(
     let Some(python) = python else {
         return Ok(());
     };
-    let clauses = python.set().clauses();
+    let set = python.set();
+    set.recall_invariant();
+    let clauses = set.clauses();
     keep_clauses(
         environment,
         conditions,

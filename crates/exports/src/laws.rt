@@ -1,6 +1,6 @@
 //! Laws of environments that answer alike, each the contract of a function that does nothing.
 
-ghost use Rattle.exports.specs.Laws.{BestIsTheSame, RulesAreTheSame};
+ghost use Rattle.exports.specs.Laws.{BestIsTheSame, LockIsTheSame, RulesAreTheSame};
 
 /// Where all answers are the same, so are the rules.
 pub fn who_answers_alike_has_the_same_rules()
@@ -10,4 +10,9 @@ pub fn who_answers_alike_has_the_same_rules()
 /// And so is the best solution, whatever versions are kept, alone or before others.
 pub fn who_answers_alike_has_the_same_best_solution()
     ensures { BestIsTheSame }
+{}
+
+/// And so are the locks, but for the text that names the environment.
+pub fn who_answers_alike_has_the_same_locks()
+    ensures { LockIsTheSame }
 {}

@@ -1,6 +1,7 @@
 -- Conditions that grow, question by question.
 -- Tied to `AnswersAlike` by the contract of `conditions_of`; need not be read.
 use Rattle.std.specs.Prelude.{◌≡◌, true, List, Some}
+use Rattle.std.specs.List.{AllByRecursion}
 use Rattle.markers.specs.Comparisons.{version_read}
 use Rattle.markers.specs.Environment.{Texts, text_of}
 use Rattle.markers.specs.MarkerAtoms.{operand_text}
@@ -9,14 +10,23 @@ use Rattle.markers.specs.declared.variable.Variable.{Variable}
 use Rattle.pep440.specs.Matching.{clause_matches, matches}
 use Rattle.pep440.specs.Version.{VersionParts}
 use Rattle.pep440.specs.declared.specifier.Clause.{Clause}
-use Rattle.exports.specs.Conditions.{Meets, MeetsAll, is_matched}
+use Rattle.exports.specs.Conditions.{IsTellable, Meets, MeetsAll}
 use Rattle.exports.specs.declared.condition.Condition.{Condition}
+use Rattle.exports.specs.declared.condition.Condition.TheVariants as conditions
 
--- the new conditions are no weaker than the old ones, settle a question, and are met by their own environment where the old ones are
+-- its own environment meets a condition, which can be told
+abbrev pub IsOwn : Texts → Condition → Type 0
+IsOwn environment condition = Meets environment environment condition × IsTellable condition
+
+-- so it is with all of them
+abbrev pub AreOwn : Texts → List Condition → Type 0
+AreOwn environment conditions = AllByRecursion (IsOwn environment) conditions
+
+-- the new conditions are no weaker than the old ones, settle a question, and are its own environment's where the old ones are
 pub record Keeps (environment : Texts) (old new : List Condition) (Settled : Texts → Type 0) : Type 0 where
   pub stronger : (other : Texts) → MeetsAll environment other new → MeetsAll environment other old
   pub settled : (other : Texts) → MeetsAll environment other new → Settled other
-  pub own : MeetsAll environment environment old → MeetsAll environment environment new
+  pub own : AreOwn environment old → AreOwn environment new
 
 -- the texts of a variable are the same, or read as versions of which a test says the same
 pub data VersionsAlike (environment other : Texts) (variable : Variable) (Test : VersionParts → VersionParts → Type 0) : Type 0 where
@@ -39,9 +49,9 @@ ClauseFollows clause wanted = (version : VersionParts) → clause_matches clause
 abbrev pub OperandAlike : Texts → Operand → Texts → Type 0
 OperandAlike environment operand other = operand_text other operand ≡ operand_text environment operand
 
--- the environment's own version matches the clause, and where two versions match it, the other clause matches both or neither
+-- the environment's own version matches the clause, which can be told, and where two versions match it, the other clause matches both or neither
 pub record Settles (environment : Texts) (variable : Variable) (clause settling : Clause) : Type 0 where
-  pub own : is_matched settling (version_read (text_of environment variable)) ≡ true
+  pub own : IsOwn environment (conditions.Matches variable settling)
   pub alike : (one other : VersionParts) → clause_matches settling one ≡ true → clause_matches settling other ≡ true → ClauseAlike clause one other
 
 -- who meets the first condition meets the second, where its own environment does
