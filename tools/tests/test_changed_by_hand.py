@@ -102,6 +102,7 @@ class Told(Changed):
         shown = f"  file {file['name']}\n    url {file['url']}\n    size 1000\n    sha256 {'0' * 64}\n"
         self.tells(["show", "b"], self.each(f"b 1\n  line 1: b  # first\n  needs c 1\n{shown}", "\n"), WITH_LINES)
         self.assertEqual(self.bare("show", "z"), (1, "refused not-locked\n", self.said(WITH_LINES)))
+        self.assertEqual(self.bare("-v", "show", "z"), (1, "refused not-locked\n", f"{self.said(WITH_LINES)}z is not locked\n"))
         status, text, errors = self.told("show", "c")
         self.assertEqual((status, errors), (0, self.said(WITH_LINES)))
         needs = ["  needed by a 1: c", "  needed by b 1: c>=1"]
