@@ -352,6 +352,15 @@ class Exports(Served):
         told = "deploy/linux.txt: rql didn't write it, so it isn't exported: move it away, and then: rql lock\n"
         self.assertEqual(self.rql("check"), (1, "ok 0\n", told))
 
+    def test_where_lines_were_changed_no_export_is_called_stale(self):
+        self.put("reqlock.toml", 'exports = [{ file = "graph.txt", format = "dot" }]\n' + self.settings)
+        self.accepts("relock")
+        self.put("requirements.txt", "# by hand\nrich\n")
+        status, output, errors = self.rql("check")
+        self.assertEqual((status, output), (4, ""))
+        self.assertIn("requirements.txt: files-disagree", errors)
+        self.assertNotIn("graph.txt", errors)
+
     def test_a_pipe_in_the_place_is_not_waited_for(self):
         self.export.parent.mkdir()
         os.mkfifo(self.export)

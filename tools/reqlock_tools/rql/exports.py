@@ -17,13 +17,14 @@ say = speaker("rql")
 
 
 def exported(project: Project, kept: Kept, caller: Caller, export: ExportSetting) -> bytes | None:
-    """What an export is to hold; None where it can't be made, as a lock that travels can't when its index is gone."""
+    """What an export is to hold; None where it can't be made, as a lock that travels can't when its index is gone, and where the lines were
+    changed since they were locked, of which the program tells beside it."""
     target = ["--target", export.target] if export.target else []
     indexes = [["--index", typed_path(it)] for it in kept.earlier()] if export.format == "pylock" else [[]]
     for index in indexes:
         words = ["--dir", typed_path(project.folder), *index, "export", "--format", export.format, *target]
         answer = caller.ask(*words)
-        if answer.status == 0:
+        if answer.status == 0 and not answer.errors:
             caller.tell([caller.program, *words])
             return FIRST_LINE + answer.output
     return None
