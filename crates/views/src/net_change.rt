@@ -58,18 +58,24 @@ fn digests_of(steps: &[Change]) -> Option<DigestChange> {
         }
     }
     match whole {
-        Some(digests) if digests.old == digests.new => None,
-        whole => whole,
+        Some(digests) if is_other(&digests) => Some(digests),
+        _ => None,
     }
+}
+
+/// Whether the digest is another one behind the change.
+fn is_other(digests: &DigestChange) -> bool {
+    digests.old != digests.new
 }
 
 /// The one change behind the other, as one.
 fn behind(before: Option<DigestChange>, digests: DigestChange) -> DigestChange {
     match before {
-        Some(before) => DigestChange {
-            old: before.old,
-            new: digests.new,
-        },
+        Some(before) => {
+            let old = before.old;
+            let new = digests.new;
+            DigestChange { old, new }
+        }
         None => digests,
     }
 }
