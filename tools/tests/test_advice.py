@@ -68,7 +68,7 @@ class InProgress(Advice):
         self.git("merge", "other", fails=True)
         (self.folder / "requirements.txt").write_bytes(b"web<2\ntool>=1\n")
         command = self.check_advice(self.advised("requirements.txt: files-disagree"), "A merge")
-        for words in ["show"], ["relock"], ["replace", "--was", self.folder / "requirements.txt"]:
+        for words in ["undo"], ["relock"], ["replace", "--was", self.folder / "requirements.txt"]:
             with self.subTest(words=words):
                 self.assertEqual(self.commands(self.advised("files-disagree", words=words))[0].split()[0], "reqlock-merge")
         self.follow(command)

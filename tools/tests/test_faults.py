@@ -382,7 +382,7 @@ class NextSteps(Program):
             asking = f"\nask: reqlock --dir {self.folder} --index {self.index} {targets} why --explain --init\n"
         self.assertIn(f"{asking}Where the package index has it, this makes the snapshot with it:\n", told)
         self.index.unlink()
-        making = f"{self.making} --env {self.environment_file('one')} --output {self.index}\n"
+        making = f"{self.making} {targets} --output {self.index}\n"
         self.assertTrue(self.notes("init").endswith(f"\nThis makes it:\n{making}"))
 
     def test_of_requirements_that_are_handed_in(self):
