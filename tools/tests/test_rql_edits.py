@@ -65,7 +65,7 @@ class Edits(Served):
         before = self.files()
         found, output, errors = self.rql("add", "rich", "flask>=9", "werkzeug")
         self.assertEqual((found, output), (3, "refused no-solution\n"))
-        self.assertIn("nothing is changed: 'flask>=9' is refused\n", errors)
+        self.assertIn("nothing is changed: 'flask>=9' is refused: rql why --explain 'flask>=9' tells why\n", errors)
         self.assertEqual(self.files(), before)
         self.accepts("add", "rich", "flask", answer="ok 1\nok 2\n")
         self.assertEqual(self.rql("remove", "rich", "none")[:2], (1, "refused not-present\n"))
