@@ -4,7 +4,7 @@ from collections.abc import Iterable
 
 from page_makers.command import Command, Kind
 from page_makers.filling import filled
-from page_makers.shells import FOLDER_OPTIONS, behind, below, has_names, id_of, key, offers, option_words
+from page_makers.shells import FOLDER_OPTIONS, behind, below, has_names, id_of, key, name_functions, offers, option_words
 
 ARM, INNER = " " * 8, " " * 12
 
@@ -83,11 +83,7 @@ def options(top: Command) -> str:
 
 def bash(top: Command) -> str:
     """The completion of a command."""
-    shared = {"ID": id_of(top), "NAME": top.name}
-    functions = ""
-    if has_names(top):
-        locked = filled("locked.bash", **shared) if top.name == "reqlock" else ""
-        functions = filled("names.bash", **shared, LOCKED=locked)
     return filled(
-        "completion.bash", **shared, FUNCTIONS=functions, PLACES=places(top), BEHIND=values(top), OPTIONS=options(top), WORDS=words(top)
+        "completion.bash", ID=id_of(top), NAME=top.name, FUNCTIONS=name_functions(top, "bash"), PLACES=places(top), BEHIND=values(top),
+        OPTIONS=options(top), WORDS=words(top),
     )

@@ -2,7 +2,7 @@
 
 from page_makers.command import Command, Kind, Option, Value
 from page_makers.filling import filled
-from page_makers.shells import behind, below, brief, has_names, id_of, key, offers
+from page_makers.shells import behind, below, brief, id_of, key, name_functions, offers
 
 
 # What is done behind commands that have others below them.
@@ -69,14 +69,11 @@ def lines(top: Command) -> list[str]:
 
 
 def functions(top: Command) -> str:
-    shared = {"ID": id_of(top), "NAME": top.name}
     valued = {form: "" for it in below(top) for option in it.options for form in option.forms if option.values and option.values[0].is_needed}
     inner = " ".join(it.name for it in top.inner if it.inner)
     deeper = DEEPER.format(inner) if inner else ""
-    text = filled("commands.fish", **shared, VALUED=" ".join(valued), DEEPER=deeper) if top.inner else ""
-    if has_names(top):
-        text += filled("names.fish", **shared, LOCKED=filled("locked.fish", **shared) if top.name == "reqlock" else "")
-    return text
+    text = filled("commands.fish", ID=id_of(top), NAME=top.name, VALUED=" ".join(valued), DEEPER=deeper) if top.inner else ""
+    return text + name_functions(top, "fish")
 
 
 def fish(top: Command) -> str:

@@ -4,6 +4,7 @@ import re
 from collections.abc import Iterator
 
 from page_makers.command import Command, Kind, Option, Value, kind_of
+from page_makers.filling import filled
 
 # The option that names the folder of the lines, of the commands that offer names of it.
 FOLDER_OPTIONS = {"reqlock": "--dir", "rql": "-C"}
@@ -56,3 +57,11 @@ def known(top: Command, kind: Kind) -> Kind:
 def has_names(top: Command) -> bool:
     """Whether names of lines are offered somewhere."""
     return top.name in FOLDER_OPTIONS
+
+
+def name_functions(top: Command, shell: str) -> str:
+    """The functions by which a completion of a shell finds names; none where no names are offered."""
+    if not has_names(top):
+        return ""
+    shared = {"ID": id_of(top), "NAME": top.name}
+    return filled(f"names.{shell}", **shared, LOCKED=filled(f"locked.{shell}", **shared) if top.name == "reqlock" else "")

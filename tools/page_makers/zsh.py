@@ -6,7 +6,7 @@ from collections.abc import Iterator
 
 from page_makers.command import Command, Kind, Option, Value
 from page_makers.filling import filled
-from page_makers.shells import FOLDER_OPTIONS, behind, brief, has_names, id_of, offers
+from page_makers.shells import FOLDER_OPTIONS, behind, brief, id_of, name_functions, offers
 
 # What is offered where anything may stand.
 ANY = "'*:word:_files'"
@@ -78,9 +78,6 @@ def states(top: Command, command: Command, indent: str, options: list[str]) -> s
 
 def zsh(top: Command) -> str:
     """The completion of a command."""
-    shared = {"ID": id_of(top), "NAME": top.name}
-    functions = ""
-    if has_names(top):
-        locked = filled("locked.zsh", **shared) if top.name == "reqlock" else ""
-        functions = filled("names.zsh", **shared, LOCKED=locked)
-    return filled("completion.zsh", **shared, FUNCTIONS=functions, ARGUMENTS=arguments(top, top, "    "))
+    return filled(
+        "completion.zsh", ID=id_of(top), NAME=top.name, FUNCTIONS=name_functions(top, "zsh"), ARGUMENTS=arguments(top, top, "    ")
+    )
