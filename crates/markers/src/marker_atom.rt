@@ -38,7 +38,8 @@ impl Clone for Operand {
 
 /// How the left operand is to relate to the right one.
 #[derive(Clone, Copy)]
-pub(crate) enum Operator {
+pub enum Operator {
+    /// `==`, `<=` and the others.
     Compare(Comparison),
     /// `in`: the right text has the left one in it.
     In,
@@ -190,6 +191,13 @@ impl CachedRelation {
         &self.left
     }
 
+    /// How the left operand is to relate to the right one.
+    pub fn operator(&self) -> Operator
+        ensures { result ≡ self.now.operator }
+    {
+        self.operator
+    }
+
     /// What stands on the right.
     pub fn right(&self) -> &Operand
         ensures { result.now ≡ self.now.right }
@@ -232,7 +240,7 @@ impl CachedRelation {
     }
 
     /// Whether the relation holds in an environment.
-    fn holds(&self, environment: &Environment) -> bool
+    pub fn holds(&self, environment: &Environment) -> bool
         ensures { result ≡ relation_holds self.now environment.now }
     {
         let left = self.left.text(environment);

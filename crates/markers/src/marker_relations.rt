@@ -3,7 +3,7 @@
 ghost use Rattle.std.specs.Prelude.{◌≡◌, ◌++◌, ◌∷◌, [], OnOk, map};
 ghost use Rattle.markers.specs.MarkerRelations.{RelationsDecide};
 
-pub use crate::marker_atom::{CachedRelation, Operand};
+pub use crate::marker_atom::{CachedRelation, Operand, Operator};
 use std::alloc::{AllocError, Global};
 use std::marker::Model;
 
