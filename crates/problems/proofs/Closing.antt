@@ -14,7 +14,10 @@ use Rattle.search.specs.Solutions.{Needed, by_dependency, by_line}
 use Rattle.problems.specs.Problem.{ProblemParts}
 use Rattle.problems.specs.Tied.Growing.{Grows, nodes_asked, nodes_linked}
 use Rattle.problems.specs.Solutions.{AreNeeded, version_for}
-use Rattle.problems.specs.Rules.{nodes_of, rules_of, wants}
+use Rattle.problems.specs.Rules.{nodes_of, rules_of}
+use Rattle.problems.specs.Tied.OwnNeeds.{own_rules, own_wants}
+use Rattle.markers.specs.MarkerExtras.{OtherExtrasAreAsNone}
+use Rattle.problems.proofs.OwnNeeds.{needed-own, own-wanted}
 use Rattle.problems.specs.declared.node.Node.{Node}
 use Rattle.lists.proofs.Members.{Contains-cons_cases, Contains-here, Contains-nil, Contains-there}
 
@@ -34,7 +37,7 @@ linked-unchosen given node versions none = rw (lookup-get node.name versions, no
 
 -- else to what is needed by what is wanted there
 pub linked-chosen : (given : ProblemParts) (node : Node) (versions : List (List ℕ × VersionParts)) (version : VersionParts) → lookup (is_at (slice_cmp nat_cmp node.name)) versions ≡ Some version
-    → nodes_asked (wants given node version) ≡ nodes_linked given node (version_for versions node.name)
+    → nodes_asked (own_wants given node version) ≡ nodes_linked given node (version_for versions node.name)
 linked-chosen given node versions version some = rw (lookup-get node.name versions, some) refl
 
 pub asked-from : (requirements : List RequirementParts) (wanted : RequirementParts) (node : Node) → Contains requirements wanted → Contains (nodes_of wanted) node → Contains (nodes_asked requirements) node
@@ -64,8 +67,8 @@ closing-start given chosen nodes g = record {
 linked-needed : (given : ProblemParts) (chosen : List ℕ → Option VersionParts) (link node : Node) (o : Option VersionParts) → chosen link.name ≡ o → Needed (rules_of given) chosen link → Contains (nodes_linked given link o) node → Needed (rules_of given) chosen node
 linked-needed given chosen link node None e n h = absurd (Contains-nil node h)
 linked-needed given chosen link node (Some version) e n h =
-    let k : (wanted : RequirementParts) × Contains (wants given link version) wanted × Contains (nodes_of wanted) node = asked-to (wants given link version) node h in
-    by_dependency link version k.0 node n e k.1 k.2
+    let k : (wanted : RequirementParts) × Contains (own_wants given link version) wanted × Contains (nodes_of wanted) node = asked-to (own_wants given link version) node h in
+    by_dependency link version k.0 node n e (own-wanted given link version k.0 k.1) k.2
 
 -- one node more is followed
 pub closing-step : (given : ProblemParts) (chosen : List ℕ → Option VersionParts) (nodes new : List Node) (at : ℕ) (link : Node) → IsClosing given chosen nodes at → at < length nodes → link ≡ get_or nodes at link
@@ -86,13 +89,13 @@ closing-step given chosen nodes new at link c within is g =
           ];
     }
 
-closing-whole : (given : ProblemParts) (chosen : List ℕ → Option VersionParts) (nodes : List Node) (at : ℕ) → IsClosing given chosen nodes at → length nodes ≤ at → (node : Node) → Needed (rules_of given) chosen node → Contains nodes node
+closing-whole : (given : ProblemParts) (chosen : List ℕ → Option VersionParts) (nodes : List Node) (at : ℕ) → IsClosing given chosen nodes at → length nodes ≤ at → (node : Node) → Needed (own_rules given) chosen node → Contains nodes node
 closing-whole given chosen nodes at c past _ (by_line wanted node h i) = c.lines node (asked-from given.active wanted node h i)
 closing-whole given chosen nodes at c past _ (by_dependency link version wanted node k e w i) =
     let there : Contains nodes link = closing-whole given chosen nodes at c past link k in
     c.linked link node (subst (λ xs. Contains xs link) (sym (take_all at nodes past)) there)
-    (subst (λ o. Contains (nodes_linked given link o) node) (sym e) (asked-from (wants given link version) wanted node w i))
+    (subst (λ o. Contains (nodes_linked given link o) node) (sym e) (asked-from (own_wants given link version) wanted node w i))
 
 -- all nodes have been followed
-pub closing-end : (given : ProblemParts) (chosen : List ℕ → Option VersionParts) (nodes : List Node) (at : ℕ) → IsClosing given chosen nodes at → length nodes ≤ at → AreNeeded given chosen nodes
-closing-end given chosen nodes at c past = record { sound = c.sound; whole = closing-whole given chosen nodes at c past }
+pub closing-end : OtherExtrasAreAsNone → (given : ProblemParts) (chosen : List ℕ → Option VersionParts) (nodes : List Node) (at : ℕ) → IsClosing given chosen nodes at → length nodes ≤ at → AreNeeded given chosen nodes
+closing-end law given chosen nodes at c past = record { sound = c.sound; whole = λ node needed. closing-whole given chosen nodes at c past node (needed-own law given chosen node needed) }

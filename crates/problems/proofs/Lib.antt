@@ -10,9 +10,11 @@ pub mod Equals
 pub mod KeepingAll
 pub mod NumbersFound
 pub mod NodesMet
+pub mod OwnNeeds
 pub mod WalkedLists
 pub mod Wants
 mod Places
 mod Merging
 mod ListedPlaces
 mod Grouping
+mod NamedPlaces

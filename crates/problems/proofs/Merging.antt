@@ -31,7 +31,7 @@ covered-extra law environment extra = λ wanted none other. covered-marker law e
 drop-more : {A : Type 0} (m n : ℕ) (xs : List A) → drop (suc n) (drop m xs) ≡ drop (suc (m + n)) xs
 drop-more m n xs = let e : m + suc n ≡ suc (m + n) = omega arith in drop-drop (suc n) m xs ∙ ap (λ k. drop k xs) e
 
-get-drop : {A : Type 0} (m n : ℕ) (xs : List A) → slice_get (drop m xs) n ≡ slice_get xs (m + n)
+pub get-drop : {A : Type 0} (m n : ℕ) (xs : List A) → slice_get (drop m xs) n ≡ slice_get xs (m + n)
 get-drop zero n xs = let e : n ≡ 0 + n = omega arith in ap (slice_get xs) e
 get-drop (suc m) n [] = refl
 get-drop (suc m) n (x ∷ xs) = let e : suc (m + n) ≡ suc m + n = omega arith in get-drop m n xs ∙ ap (slice_get (x ∷ xs)) e
@@ -41,7 +41,7 @@ get-within [] n x is = absurd (let k : None ≡ Some x = is in cc)
 get-within (y ∷ xs) zero x is = omega arith
 get-within (y ∷ xs) (suc n) x is = let k : n < length xs = get-within xs n x is in omega arith
 
-get-is : {A : Type 0} (xs : List A) (n : ℕ) (x d : A) → slice_get xs n ≡ Some x → get_or xs n d ≡ x
+pub get-is : {A : Type 0} (xs : List A) (n : ℕ) (x d : A) → slice_get xs n ≡ Some x → get_or xs n d ≡ x
 get-is [] n x d is = absurd (let k : None ≡ Some x = is in cc)
 get-is (y ∷ xs) zero x d is = let k : Some y ≡ Some x = is in cc
 get-is (y ∷ xs) (suc n) x d is = get-is xs n x d is
@@ -94,7 +94,7 @@ behind-no_more place (first ∷ rest) = elim (cases_Bool (first == place)) [
   | inr other ↦ rw other (omega arith)
 ]
 
-behind-fewer : (place : ℕ) (listed : List ℕ) → slice_get listed 0 ≡ Some place → length (behind place listed) < length listed
+pub behind-fewer : (place : ℕ) (listed : List ℕ) → slice_get listed 0 ≡ Some place → length (behind place listed) < length listed
 behind-fewer place [] is = absurd (let k : None ≡ Some place = is in cc)
 behind-fewer place (first ∷ rest) is = let e : first ≡ place = let k : Some first ≡ Some place = is in cc in rw (eq-eqb first place e) (omega arith)
 

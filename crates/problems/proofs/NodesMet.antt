@@ -1,5 +1,5 @@
 -- The nodes that a walk can meet: those that active lines and releases of the index ask for.
-use Rattle.std.proofs.Common.{◌≡◌, ◌+◌, ◌≤◌, inl, inr, ℕ, Bool, List, [], ◌∷◌, Option, Some, None, Contains, filter, find, length, length-append, arith, ap, refl}
+use Rattle.std.proofs.Common.{◌≡◌, ◌+◌, ◌≤◌, ◌&&◌, inl, inr, ℕ, Bool, List, [], ◌∷◌, Option, Some, None, Contains, filter, find, length, length-append, arith, ap, refl}
 use Rattle.std.proofs.lemmas.Bool.{cases_Bool}
 use Rattle.std.specs.List.{flat_map}
 use Rattle.std.specs.Option.{option_map_or}
@@ -10,12 +10,16 @@ use Rattle.search.specs.Solutions.{Needed, by_dependency, by_line}
 use Rattle.snapshot.specs.Packages.{is_named}
 use Rattle.snapshot.specs.Release.{Release}
 use Rattle.snapshot.specs.declared.package.Package.{Package}
-use Rattle.problems.specs.Admission.{has_version, release_at}
+use Rattle.problems.specs.Admission.{dependencies_at, has_version, release_at}
 use Rattle.problems.specs.Tied.Growing.{nodes_met, requirements_met}
 use Rattle.problems.specs.Problem.{ProblemParts, releases_on}
-use Rattle.problems.specs.Rules.{counts, rules_of, wants, wants_of}
+use Rattle.problems.specs.Tied.ByExtra.{names_extra}
+use Rattle.problems.specs.Tied.OwnNeeds.{own_rules, own_wants, own_wants_of}
+use Rattle.markers.specs.Environment.{Texts}
+use Rattle.problems.specs.Rules.{counts, rules_of, wants_of}
 use Rattle.problems.specs.declared.node.Node.{Node}
 use Rattle.problems.proofs.Closing.{asked-from}
+use Rattle.problems.proofs.OwnNeeds.{own-needed}
 use Rattle.problems.proofs.Deciding.{found-is}
 use Rattle.lists.proofs.Members.{Contains-cons_cases, Contains-filter, Contains-flat_map_of, Contains-nil}
 
@@ -47,7 +51,7 @@ needed-met given chosen _ (by_dependency link version wanted node k e w i) =
 
 -- ---- how much a node can want
 
-length-filter : {A : Type 0} (p : A → Bool) (xs : List A) → length (filter p xs) ≤ length xs
+pub length-filter : {A : Type 0} (p : A → Bool) (xs : List A) → length (filter p xs) ≤ length xs
 length-filter p [] = omega arith
 length-filter p (x ∷ xs) = let k : length (filter p xs) ≤ length xs = length-filter p xs in elim (cases_Bool (p x)) [ inl passes ↦ rw passes (omega arith) | inr fails ↦ rw fails (omega arith) ]
 
@@ -61,17 +65,32 @@ length-member f (y ∷ xs) x there =
       | inr later ↦ let k : length (f x) ≤ length (flat_map f xs) = length-member f xs x later in omega arith
     ]
 
-wanted-few : (given : ProblemParts) (node : Node) (version : VersionParts) (o : Option Release) → release_at given node.name version ≡ o → length (option_map_or (wants_of given.environment node.extra) o []) ≤ length (requirements_met given)
-wanted-few given node version None is = omega arith
-wanted-few given node version (Some release) is =
+few-of : (given : ProblemParts) (name : List ℕ) (version : VersionParts) (o : Option Release) → release_at given name version ≡ o → length (option_map_or (λ (release : Release). release.dependencies) o []) ≤ length (requirements_met given)
+few-of given name version None is = omega arith
+few-of given name version (Some release) is =
     let f : Package → List RequirementParts = λ p. flat_map (λ r. r.dependencies) p.releases in
-    let there : Contains (releases_on given node.name) release = (found-is (has_version version) (releases_on given node.name) release is).0 in
-    let k : (p : Package) × Contains given.index.packages p × Contains p.releases release = released node.name given.index.packages release (find (is_named node.name) given.index.packages) refl there in
-    let kept : length (wants_of given.environment node.extra release) ≤ length release.dependencies = length-filter (counts given.environment node.extra) release.dependencies in
+    let there : Contains (releases_on given name) release = (found-is (has_version version) (releases_on given name) release is).0 in
+    let k : (p : Package) × Contains given.index.packages p × Contains p.releases release = released name given.index.packages release (find (is_named name) given.index.packages) refl there in
     let one : length release.dependencies ≤ length (f k.0) = length-member (λ (r : Release). r.dependencies) k.0.releases release k.2 in
     let all : length (f k.0) ≤ length (flat_map f given.index.packages) = length-member f given.index.packages k.0 k.1 in
     let e = length-append given.active (flat_map f given.index.packages) in
     omega arith
 
-pub wants-few : (given : ProblemParts) (node : Node) (version : VersionParts) → length (wants given node version) ≤ length (requirements_met given)
-wants-few given node version = wanted-few given node version (release_at given node.name version) refl
+-- the dependencies of a release are no more than all that can be met
+pub dependencies-few : (given : ProblemParts) (name : List ℕ) (version : VersionParts) → length (dependencies_at given name version) ≤ length (requirements_met given)
+dependencies-few given name version = few-of given name version (release_at given name version) refl
+
+-- ---- by what nodes want of their own
+
+pub own-met : (given : ProblemParts) (chosen : List ℕ → Option VersionParts) (node : Node) → Needed (own_rules given) chosen node → Contains (nodes_met given) node
+own-met given chosen node needed = needed-met given chosen node (own-needed given chosen node needed)
+
+own-shorter : (environment : Texts) (extra : Option (List ℕ)) (dependencies : List RequirementParts) → length (own_wants_of environment extra dependencies) ≤ length dependencies
+own-shorter environment None dependencies = length-filter (counts environment None) dependencies
+own-shorter environment (Some extra) dependencies = length-filter (λ w. names_extra extra w && counts environment (Some extra) w) dependencies
+
+pub own-few : (given : ProblemParts) (node : Node) (version : VersionParts) → length (own_wants given node version) ≤ length (requirements_met given)
+own-few given node version =
+    let own = own-shorter given.environment node.extra (dependencies_at given node.name version) in
+    let few = dependencies-few given node.name version in
+    omega arith

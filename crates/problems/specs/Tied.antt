@@ -7,4 +7,5 @@ pub mod Growing
 pub mod NodeEquality
 pub mod NodeLaws
 pub mod NodeNumbers
+pub mod OwnNeeds
 pub mod Standing

@@ -1,10 +1,11 @@
 // The dependencies of a release, by the extras that their markers name.
 
 ghost use Rattle.std.specs.Prelude.{◌≡◌, ◌<◌, ℕ, IfOk, List, None, OnOk, Some, get_or, if◌then◌else◌, length};
-ghost use Rattle.std.specs.List.{filter};
+ghost use Rattle.std.specs.List.{filter, slice_get};
 ghost use Rattle.std.specs.Str.{bytes_eq};
 ghost use Rattle.problems.specs.Rules.{counts};
 ghost use Rattle.problems.specs.Tied.ByExtra as spec;
+ghost use Rattle.problems.specs.Tied.OwnNeeds.{named_wants};
 
 use crate::releases::counts;
 use crate::wanted::Wanted;
@@ -153,6 +154,16 @@ fn named_places(
     Ok(named)
 }
 
+/// The first place of a list.
+fn first(places: &[usize]) -> Option<usize>
+    ensures { result ≡ slice_get places.now 0 }
+{
+    match places.first() {
+        None => None,
+        Some(place) => Some(*place),
+    }
+}
+
 /// The lesser of the first places of two lists.
 fn least(first: &[usize], second: &[usize]) -> Option<usize>
     ensures { result ≡ spec.least first.now second.now }
@@ -236,6 +247,22 @@ impl<'q> ByExtra<'q> {
             let dependency = self.at(place);
             wanted.push_counted(self.environment, Some(extra), dependency)?;
             bare = behind(place, bare);
+            naming = behind(place, naming);
+        }
+        Ok(wanted)
+    }
+
+    /// The dependencies that name an extra and count with it, in their order.
+    pub(crate) fn own(&self, alloc: Global, extra: &Name) -> Result<Wanted<'q>, AllocError>
+        ensures { IfOk result
+            (λ wanted. wanted
+            ≡ named_wants self.now.environment extra.now self.now.dependencies) }
+    {
+        let mut wanted = Wanted::new(alloc);
+        let mut naming = self.naming(extra);
+        'places: while let Some(place) = first(naming) {
+            let dependency = self.at(place);
+            wanted.push_counted(self.environment, Some(extra), dependency)?;
             naming = behind(place, naming);
         }
         Ok(wanted)

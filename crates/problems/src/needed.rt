@@ -10,6 +10,7 @@ use crate::node_wants::NodeWants;
 use crate::nodes::Nodes;
 use crate::problem::Problem;
 use lists::Seq;
+use markers::marker_extras::other_extras_are_as_none;
 use pep440::Version;
 use pep508::{Name, Requirement};
 use std::alloc::{AllocError, Global};
@@ -89,6 +90,7 @@ pub(crate) fn needed(
 ) -> Result<Seq<Node>, AllocError>
     ensures { IfOk result (AreNeeded problem.now (version_for versions.now.entries)) }
 {
+    other_extras_are_as_none();
     let mut nodes = Nodes::new(alloc);
     add_lines(alloc, &mut nodes, problem.active.as_slice())?;
     let mut wants = NodeWants::new(alloc, problem);

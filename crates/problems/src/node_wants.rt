@@ -1,9 +1,10 @@
-// What is wanted at nodes.
+// What nodes want of their own.
 
 ghost use Rattle.std.specs.Prelude.{◌≡◌, IfOk, None, Some};
 ghost use Rattle.std.specs.Option.{option_copied};
 ghost use Rattle.problems.specs.Admission.{dependencies_at};
-ghost use Rattle.problems.specs.Rules.{same_version, wants};
+ghost use Rattle.problems.specs.Rules.{same_version};
+ghost use Rattle.problems.specs.Tied.OwnNeeds.{own_wants};
 
 use crate::by_extra::ByExtra;
 use crate::problem::Problem;
@@ -37,7 +38,7 @@ impl<'q> GroupedRelease<'q> {
     }
 }
 
-/// What is wanted at the nodes of a problem. In a clause it is the problem.
+/// What the nodes of a problem want of their own. In a clause it is the problem.
 ///
 /// Where a node with an extra asks for them, the dependencies of its release are grouped by extras, and
 /// stay so for the other nodes of its name.
@@ -133,7 +134,7 @@ impl<'q> NodeWants<'q> {
         }
     }
 
-    /// What is wanted at the node of a name with an extra, where the name has this version.
+    /// What the node of a name with an extra wants of its own, where the name has this version.
     fn with_extra(
         &mut self,
         alloc: Global,
@@ -144,10 +145,10 @@ impl<'q> NodeWants<'q> {
         ensures same { self.new ≡ self.old }
         ensures wanted { IfOk result
             (λ wanted. wanted
-            ≡ wants self.old (record { name = name.now; extra = Some extra.now }) version.now) }
+            ≡ own_wants self.old (record { name = name.now; extra = Some extra.now }) version.now) }
     {
         let grouped = self.take(alloc, name, version)?;
-        let wanted = grouped.by_extra.counted(alloc, extra)?;
+        let wanted = grouped.by_extra.own(alloc, extra)?;
         self.by_name.insert(name.clone()?, grouped)?;
         Ok(wanted)
     }
@@ -156,15 +157,16 @@ impl<'q> NodeWants<'q> {
     fn bare(&self, alloc: Global, name: &Name, version: &Version) -> Result<Wanted<'q>, AllocError>
         ensures { IfOk result
             (λ wanted. wanted
-            ≡ wants self.now (record { name = name.now; extra = None }) version.now) }
+            ≡ own_wants self.now (record { name = name.now; extra = None }) version.now) }
     {
         let problem = self.problem;
         let dependencies = problem.dependencies(name, version);
         Wanted::counted(alloc, &problem.environment, None, dependencies)
     }
 
-    /// What is wanted at the node of a name with an extra or none, where the name has this version: the
-    /// dependencies that count there, in their order.
+    /// What the node of a name with an extra or none wants of its own, where the name has this version, in
+    /// the order of its dependencies: with no extra those that count, and with one those that name it
+    /// and count with it. All else that counts with an extra counts with none too.
     pub fn at(
         &mut self,
         alloc: Global,
@@ -175,7 +177,7 @@ impl<'q> NodeWants<'q> {
         ensures same { self.new ≡ self.old }
         ensures wanted { IfOk result
             (λ wanted. wanted
-            ≡ wants self.old (record { name = name.now; extra = option_copied extra.entry })
+            ≡ own_wants self.old (record { name = name.now; extra = option_copied extra.entry })
             version.now) }
     {
         match extra {

@@ -21,10 +21,12 @@ use Rattle.lists.proofs.Members.{Contains-map_of}
 use Rattle.problems.specs.Admission.{admits}
 use Rattle.problems.specs.Tied.Growing.{nodes_met, requirements_met}
 use Rattle.problems.specs.Problem.{ProblemParts}
-use Rattle.problems.specs.Rules.{nodes_of, rules_of, wants}
+use Rattle.problems.specs.Rules.{nodes_of, rules_of}
+use Rattle.problems.specs.Tied.OwnNeeds.{own_rules, own_wants}
 use Rattle.problems.specs.Solutions.{version_for}
 use Rattle.problems.specs.Tied.Standing.{IsOnce, IsWith}
 use Rattle.problems.specs.declared.node.Node.{Node}
+use Rattle.problems.proofs.OwnNeeds.{first-own}
 use Rattle.resolve.specs.Tied.Choosing.{IsRefusedBy}
 use Rattle.resolve.specs.Tied.Walking.{Follow, IsOnWay, IsPlaced, IsTurn, IsWaiting, value_at}
 use Rattle.resolve.proofs.Asking.{map-more}
@@ -35,26 +37,26 @@ use Rattle.resolve.proofs.Walked.{followed-few, followed-none, followed-then, fo
 -- ---- nodes that are followed
 
 pub follow-none : (given : ProblemParts) (version : VersionParts) (followed : List Node) (asks : List RequirementParts) → Follow given version [] followed followed asks asks
-follow-none given version followed asks = ([], sym (append-nil asks), followed-none (λ node. wants given node version) followed)
+follow-none given version followed asks = ([], sym (append-nil asks), followed-none (λ node. own_wants given node version) followed)
 
 pub follow-then : (given : ProblemParts) (version : VersionParts) (first second old mid new : List Node) (asks asks_mid asks_new : List RequirementParts) → Follow given version first old mid asks asks_mid → Follow given version second mid new asks_mid asks_new
     → Follow given version (first ++ second) old new asks asks_new
 follow-then given version first second old mid new asks asks_mid asks_new f g = (
   f.0 ++ g.0,
   g.1 ∙ ap (λ xs. xs ++ g.0) f.1 ∙ append_assoc asks f.0 g.0,
-  followed-then (λ node. wants given node version) first second old mid new f.0 g.0 f.2 g.2,
+  followed-then (λ node. own_wants given node version) first second old mid new f.0 g.0 f.2 g.2,
 )
 
 pub follow-known : (given : ProblemParts) (version : VersionParts) (node : Node) (followed : List Node) (asks : List RequirementParts) → Contains followed node → Follow given version (node ∷ []) followed followed asks asks
-follow-known given version node followed asks known = ([], sym (append-nil asks), followed-known (λ n. wants given n version) node followed known)
+follow-known given version node followed asks known = ([], sym (append-nil asks), followed-known (λ n. own_wants given n version) node followed known)
 
-pub follow-new : (given : ProblemParts) (version : VersionParts) (node : Node) (followed : List Node) (asks asks_new : List RequirementParts) → (Contains followed node → ⊥) → asks_new ≡ asks ++ wants given node version
+pub follow-new : (given : ProblemParts) (version : VersionParts) (node : Node) (followed : List Node) (asks asks_new : List RequirementParts) → (Contains followed node → ⊥) → asks_new ≡ asks ++ own_wants given node version
     → Follow given version (node ∷ []) followed (followed ++ node ∷ []) asks asks_new
-follow-new given version node followed asks asks_new apart e = (wants given node version, e, followed-new (λ n. wants given n version) node followed apart)
+follow-new given version node followed asks asks_new apart e = (own_wants given node version, e, followed-new (λ n. own_wants given n version) node followed apart)
 
 -- the node was put behind the others
 pub follow-grown : (given : ProblemParts) (version : VersionParts) (node : Node) (old new : List Node) (asks asks_new : List RequirementParts) → IsWith node old new → length old < length new
-    → asks_new ≡ asks ++ wants given node version → Follow given version (node ∷ []) old new asks asks_new
+    → asks_new ≡ asks ++ own_wants given node version → Follow given version (node ∷ []) old new asks asks_new
 follow-grown given version node old new asks asks_new (inl there) longer e = absurd (let k : length new ≡ length old = ap length there.1 in omega arith)
 follow-grown given version node old new asks asks_new (inr apart) longer e = subst (λ nodes. Follow given version (node ∷ []) old nodes asks asks_new) (sym apart.1) (follow-new given version node old asks asks_new apart.0 e)
 
@@ -93,24 +95,24 @@ row-same old before rs (inr none) e = absurd (let k : Some rs ≡ None = sym e �
 
 -- ---- requirements that are placed
 
-pub placed-waiting : (given : ProblemParts) → IsLawful (rules_of given) → (taken : List (List ℕ × VersionParts)) (waiting waiting_new : List (List ℕ × List RequirementParts)) (followed : List Node) (wanted : RequirementParts) (asks : List RequirementParts) → value_at taken wanted.name ≡ None
+pub placed-waiting : (given : ProblemParts) → IsLawful (own_rules given) → (taken : List (List ℕ × VersionParts)) (waiting waiting_new : List (List ℕ × List RequirementParts)) (followed : List Node) (wanted : RequirementParts) (asks : List RequirementParts) → value_at taken wanted.name ≡ None
     → IsWaiting waiting waiting_new wanted → IsPlaced given taken waiting waiting_new followed followed wanted asks asks
 placed-waiting given lawful taken waiting waiting_new followed wanted asks none w = (
   [],
   sym (append-nil asks),
   omega arith,
   λ left way. subst (IsOnWay given taken waiting_new followed) (sym (append-nil left))
-      (walked-wait (rules_of given) lawful (value_at taken) (value_at waiting) (value_at waiting_new) followed wanted left w.before way none (row-known (value_at waiting wanted.name) w.before w.row) w.updates
+      (walked-wait (own_rules given) lawful (value_at taken) (value_at waiting) (value_at waiting_new) followed wanted left w.before way none (row-known (value_at waiting wanted.name) w.before w.row) w.updates
       (λ rs e. row-same (value_at waiting wanted.name) w.before rs w.row e)),
 )
 
-pub placed-followed : (given : ProblemParts) → IsLawful (rules_of given) → ((node : Node) (v : VersionParts) → length (wants given node v) ≤ length (requirements_met given)) → (taken : List (List ℕ × VersionParts)) (waiting : List (List ℕ × List RequirementParts)) (followed followed_new : List Node) (wanted : RequirementParts) (version : VersionParts) (asks asks_new : List RequirementParts)
+pub placed-followed : (given : ProblemParts) → IsLawful (own_rules given) → ((node : Node) (v : VersionParts) → length (own_wants given node v) ≤ length (requirements_met given)) → (taken : List (List ℕ × VersionParts)) (waiting : List (List ℕ × List RequirementParts)) (followed followed_new : List Node) (wanted : RequirementParts) (version : VersionParts) (asks asks_new : List RequirementParts)
     → value_at taken wanted.name ≡ Some version → admits given wanted version ≡ true → Follow given version (nodes_of wanted) followed followed_new asks asks_new → IsPlaced given taken waiting waiting followed followed_new wanted asks asks_new
 placed-followed given lawful few taken waiting followed followed_new wanted version asks asks_new some admitted f = (
   f.0,
   f.1,
-  followed-few (λ node. wants given node version) (nodes_of wanted) followed followed_new f.0 (length (requirements_met given)) (λ node. few node version) f.2,
-  λ left way. walked-meet (rules_of given) lawful (value_at taken) (value_at waiting) followed followed_new wanted version left f.0 way some admitted f.2,
+  followed-few (λ node. own_wants given node version) (nodes_of wanted) followed followed_new f.0 (length (requirements_met given)) (λ node. few node version) f.2,
+  λ left way. walked-meet (own_rules given) lawful (value_at taken) (value_at waiting) followed followed_new wanted version left f.0 way some admitted f.2,
 )
 
 -- one of those that are left is placed
@@ -128,7 +130,7 @@ less-left all before after old new more at within longer few below = omega arith
 
 pub settle-smaller : (given : ProblemParts) (taken : List (List ℕ × VersionParts)) (waiting waiting_new left : List (List ℕ × List RequirementParts)) (followed followed_new : List Node) (wanted : RequirementParts) (asks asks_new rest : List RequirementParts) (at : ℕ) → at < length asks
     → IsPlaced given taken waiting waiting_new followed followed_new wanted asks asks_new → IsOnWay given taken left followed_new rest → IsOnce followed_new
-    → ((chosen : List ℕ → Option VersionParts) (node : Node) → Needed (rules_of given) chosen node → Contains (nodes_met given) node)
+    → ((chosen : List ℕ → Option VersionParts) (node : Node) → Needed (own_rules given) chosen node → Contains (nodes_met given) node)
     → length (nodes_met given) * length (requirements_met given) - length followed_new * length (requirements_met given) + (length asks_new - (at + 1)) < length (nodes_met given) * length (requirements_met given) - length followed * length (requirements_met given) + (length asks - at)
 settle-smaller given taken waiting waiting_new left followed followed_new wanted asks asks_new rest at within placed way once met =
     let most : ℕ = length (requirements_met given) in
@@ -157,10 +159,10 @@ turn-of given taken old new followed name asks way row least out = record {
   leaves = out.0;
 }
 
-pub turn-taken : (given : ProblemParts) → IsLawful (rules_of given) → (old new : BTreeMap (List ℕ) VersionParts) (waiting : List (List ℕ × List RequirementParts)) (followed : List Node) (name : List ℕ) (asks : List RequirementParts) (version : VersionParts) → IsTurn given old.entries waiting followed name asks
+pub turn-taken : (given : ProblemParts) → IsLawful (own_rules given) → (old new : BTreeMap (List ℕ) VersionParts) (waiting : List (List ℕ × List RequirementParts)) (followed : List Node) (name : List ℕ) (asks : List RequirementParts) (version : VersionParts) → IsTurn given old.entries waiting followed name asks
     → IsFirst (rules_of given) (IsRefusedBy given asks) name version → Updates (slice_cmp nat_cmp) old new name (Some version) → IsOnWay given new.entries waiting followed asks
 turn-taken given lawful old new waiting followed name asks version t first updates =
-    walked-take (rules_of given) lawful (value_at old.entries) (value_at new.entries) (value_at t.before) (value_at waiting) followed name version asks t.way t.row t.least first updates.0 t.leaves
+    walked-take (own_rules given) lawful (value_at old.entries) (value_at new.entries) (value_at t.before) (value_at waiting) followed name version asks t.way t.row t.least (first-own given (IsRefusedBy given asks) name version first) updates.0 t.leaves
 
 -- its name had no version
 pub turn-free : (given : ProblemParts) (taken : List (List ℕ × VersionParts)) (waiting : List (List ℕ × List RequirementParts)) (followed : List Node) (name : List ℕ) (asks : List RequirementParts) → IsTurn given taken waiting followed name asks → value_at taken name ≡ None
@@ -177,7 +179,7 @@ ok-settled P (Err e) p = tt
 
 -- no more names are taken than there are nodes that can be met
 name-met : (given : ProblemParts) (taken : List (List ℕ × VersionParts)) (waiting : List (List ℕ × List RequirementParts)) (followed : List Node) (left : List RequirementParts) → IsOnWay given taken waiting followed left
-    → ((chosen : List ℕ → Option VersionParts) (node : Node) → Needed (rules_of given) chosen node → Contains (nodes_met given) node)
+    → ((chosen : List ℕ → Option VersionParts) (node : Node) → Needed (own_rules given) chosen node → Contains (nodes_met given) node)
     → (name : List ℕ) (o : Option VersionParts) → value_at taken name ≡ o → is_some o ≡ true → Contains (map (λ (node : Node). node.name) (nodes_met given)) name
 name-met given taken waiting followed left way met name None e some = absurd cc
 name-met given taken waiting followed left way met name (Some version) e some =
@@ -185,7 +187,7 @@ name-met given taken waiting followed left way met name (Some version) e some =
     subst (λ (n : List ℕ). Contains (map (λ (node : Node). node.name) (nodes_met given)) n) k.2 (Contains-map_of (λ (node : Node). node.name) (nodes_met given) k.0 (met (value_at taken) k.0 k.1))
 
 pub taken-few : (given : ProblemParts) (taken : BTreeMap (List ℕ) VersionParts) (waiting : List (List ℕ × List RequirementParts)) (followed : List Node) (left : List RequirementParts) → IsOrdered (slice_cmp nat_cmp) taken → IsOnWay given taken.entries waiting followed left
-    → ((chosen : List ℕ → Option VersionParts) (node : Node) → Needed (rules_of given) chosen node → Contains (nodes_met given) node) → length taken.entries ≤ length (nodes_met given)
+    → ((chosen : List ℕ → Option VersionParts) (node : Node) → Needed (own_rules given) chosen node → Contains (nodes_met given) node) → length taken.entries ≤ length (nodes_met given)
 taken-few given taken waiting followed left ordered way met =
     let laws : IsEquivalence (eq_by_cmp (slice_cmp nat_cmp)) = eq_by_cmp_equiv nat_list_cmp_total in
     let names : List (List ℕ) = map (λ (node : Node). node.name) (nodes_met given) in
@@ -206,17 +208,24 @@ pub way-start : (given : ProblemParts) (taken : List (List ℕ × VersionParts))
     → IsOnWay given taken waiting followed lines
 way-start given taken waiting followed lines no_versions none nowhere is =
     subst (λ left. IsOnWay given taken waiting followed left) (sym is) (subst (λ nodes. IsOnWay given taken waiting nodes given.active) (sym nowhere)
-    (walked-start (rules_of given) (value_at taken) (value_at waiting) (λ name. ap (λ (entries : List (List ℕ × VersionParts)). value_at entries name) no_versions)
+    (walked-start (own_rules given) (value_at taken) (value_at waiting) (λ name. ap (λ (entries : List (List ℕ × VersionParts)). value_at entries name) no_versions)
     (λ name. ap (λ (entries : List (List ℕ × List RequirementParts)). value_at entries name) none)))
 
 -- the law of a first walk, over the rules of a problem
 abbrev pub WalkLaw : ProblemParts → Type 0
 WalkLaw given = (pins : List (Pin (List ℕ) VersionParts)) → IsFirstWalk (rules_of given) [] pins → IsComplete (rules_of given) (version_pinned (slice_cmp nat_cmp) pins) → IsBest (rules_of given) (version_pinned (slice_cmp nat_cmp) pins)
 
-pub way-end : (given : ProblemParts) → IsLawful (rules_of given) → (taken : List (List ℕ × VersionParts)) (waiting : List (List ℕ × List RequirementParts)) (followed : List Node) → WalkLaw given → IsOnWay given taken waiting followed [] → waiting ≡ [] → IsBest (rules_of given) (version_for taken)
-way-end given lawful taken waiting followed law way none =
+-- a first walk by what nodes want of their own is one, and so is what it meets in the end
+pub record IsEnough (given : ProblemParts) : Type 0 where
+  pub walk : (pins : List (Pin (List ℕ) VersionParts)) → IsFirstWalk (own_rules given) [] pins → IsFirstWalk (rules_of given) [] pins
+  pub complete : (chosen : List ℕ → Option VersionParts) → IsComplete (own_rules given) chosen → IsComplete (rules_of given) chosen
+
+pub way-end : (given : ProblemParts) → IsLawful (own_rules given) → IsEnough given → (taken : List (List ℕ × VersionParts)) (waiting : List (List ℕ × List RequirementParts)) (followed : List Node) → WalkLaw given → IsOnWay given taken waiting followed [] → waiting ≡ []
+    → IsBest (rules_of given) (version_for taken)
+way-end given lawful enough taken waiting followed law way none =
     let nothing : (name : List ℕ) → value_at waiting name ≡ None = λ name. ap (λ (entries : List (List ℕ × List RequirementParts)). value_at entries name) none in
-    let complete : IsComplete (rules_of given) (value_at taken) = walked-complete (rules_of given) lawful (value_at taken) (value_at waiting) followed way nothing in
+    let own : IsComplete (own_rules given) (value_at taken) = walked-complete (own_rules given) lawful (value_at taken) (value_at waiting) followed way nothing in
+    let complete : IsComplete (rules_of given) (value_at taken) = enough.complete (value_at taken) own in
     let along : value_at taken ≡ version_pinned (slice_cmp nat_cmp) way.pins = λ i name. way.same name i in
     let found : version_pinned (slice_cmp nat_cmp) way.pins ≡ version_for taken = λ i name. (sym (way.same name) ∙ sym (lookup-get name taken)) i in
-    subst (λ s. IsBest (rules_of given) s) found (law way.pins way.walk (subst (λ s. IsComplete (rules_of given) s) along complete))
+    subst (λ s. IsBest (rules_of given) s) found (law way.pins (enough.walk way.pins way.walk) (subst (λ s. IsComplete (rules_of given) s) along complete))

@@ -13,7 +13,7 @@ use crate::first_candidate::first_admitted;
 use crate::followed_nodes::Following;
 use pep440::Version;
 use pep508::{Name, Requirement};
-use problems::laws::{the_rules_of_a_problem_are_lawful, what_is_needed_can_be_met};
+use problems::laws::{own_needs_are_enough, the_rules_of_a_problem_are_lawful};
 use problems::parts::admits;
 use problems::{Node, Problem};
 use search::laws;
@@ -95,8 +95,7 @@ impl<'q> Walk<'q> {
             self.new.waiting.entries self.old.following.nodes self.new.following.nodes wanted.now
             asks.old asks.new) }
     {
-        the_rules_of_a_problem_are_lawful();
-        what_is_needed_can_be_met();
+        own_needs_are_enough();
         match self.taken.get(wanted.name()) {
             None => {
                 wait(self.alloc, &mut self.waiting, wanted)?;
@@ -123,7 +122,7 @@ impl<'q> Walk<'q> {
             → IsOnWay self.old.following.wants self.old.taken.entries self.new.waiting.entries
             self.new.following.nodes []) }
     {
-        what_is_needed_can_be_met();
+        own_needs_are_enough();
         let mut asks = asks;
         let mut at = 0;
         while at < asks.len() {
@@ -152,7 +151,7 @@ impl<'q> Walk<'q> {
             (λ settled. settled ≡ true
             → length self.new.taken.entries ≡ length self.old.taken.entries + 1) }
     {
-        the_rules_of_a_problem_are_lawful();
+        own_needs_are_enough();
         let problem = self.following.wants.problem();
         let Some(version) = first_admitted(problem, &name, &asks) else {
             return Ok(false);
@@ -173,7 +172,7 @@ pub(crate) fn first_walk(
         (λ versions. IsBest (rules_of problem.now) (version_for versions.entries))) }
 {
     the_rules_of_a_problem_are_lawful();
-    what_is_needed_can_be_met();
+    own_needs_are_enough();
     laws::a_first_walk_finds_the_best_solution::<Name, Node, Version, Requirement>();
     let mut walk = Walk::new(alloc, problem);
     let lines = Asks::of(alloc, problem.active.as_slice())?;

@@ -1,5 +1,5 @@
 -- The names that packages need, node by node and package by package.
-use Rattle.std.proofs.Common.{◌≡◌, ◌++◌, ℕ, Bool, true, false, List, [], ◌∷◌, Some, None, Option, Less, filter, map, append_assoc, cond, refl, sym, ap, subst, ◌∙◌, inl, inr}
+use Rattle.std.proofs.Common.{◌≡◌, ◌++◌, ℕ, Bool, true, false, List, [], ◌∷◌, Some, None, Option, Less, map, append_assoc, cond, refl, sym, ap, subst, ◌∙◌, inl, inr}
 use Rattle.std.proofs.lemmas.Bool.{cases_Bool}
 use Rattle.std.proofs.lemmas.Map.Text.{is_eq-slice_cmp}
 use Rattle.std.proofs.lemmas.Slice.Eq.{bytes_eq-Decides}
@@ -16,12 +16,10 @@ use Rattle.std.specs.Ordering.{is_eq, nat_cmp}
 use Rattle.std.specs.Str.{bytes_eq}
 use Rattle.pep440.specs.Version.{VersionParts}
 use Rattle.pylock.specs.Packages.{EntryParts}
-use Rattle.pep508.specs.Requirement.{RequirementParts}
-use Rattle.markers.specs.Environment.{Texts}
 use Rattle.snapshot.specs.Release.{Release}
 use Rattle.problems.specs.Admission.{release_at}
 use Rattle.problems.specs.Problem.{ProblemParts}
-use Rattle.problems.specs.Rules.{counts, wants, wants_of}
+use Rattle.problems.specs.Tied.OwnNeeds.{own_wants, own_wants_of}
 use Rattle.problems.specs.declared.node.Node.{Node}
 use Rattle.states.specs.Names.{with_names}
 use Rattle.states.specs.Tied.Dependencies.{names_at, names_in, names_needed, names_of, names_wanted, release_chosen}
@@ -40,24 +38,18 @@ lookup-there {X} name value entries rising there =
     lookup-from_Contains nat_list_eq_equiv name value entries
     (subst (λ (e : List ℕ → List ℕ → Bool). IsDistinct e (keys_of entries)) (λ i x y. is_eq-slice_cmp x y i) distinct) there
 
--- those that are wanted at a node all count there
-wanted-counted : (environment : Texts) (node : Node) (dependencies : List RequirementParts) → names_wanted environment node (filter (counts environment node.extra) dependencies) ≡ names_wanted environment node dependencies
-wanted-counted environment node [] = refl
-wanted-counted environment node (wanted ∷ rest) = elim (cases_Bool (counts environment node.extra wanted)) [
-  | inl does ↦ elim (cases_Bool (bytes_eq node.name wanted.name)) [
-    | inl own ↦ rw (does, does, own) (wanted-counted environment node rest)
-    | inr other ↦ rw (does, does, other) (ap (λ names. wanted.name ∷ names) (wanted-counted environment node rest))
-  ]
-  | inr not ↦ rw not (wanted-counted environment node rest)
-]
-
--- what a release needs at a node are the names that lead away of what is wanted there
-pub needed-wanted : (given : ProblemParts) (chosen : List ℕ → Option VersionParts) (node : Node) (version : VersionParts) → chosen node.name ≡ Some version → names_wanted given.environment node (wants given node version) ≡ names_needed given.environment node (release_chosen given chosen node.name)
+-- what a release needs at a node are the names that lead away of what the node wants of its own
+pub needed-wanted : (given : ProblemParts) (chosen : List ℕ → Option VersionParts) (node : Node) (version : VersionParts) → chosen node.name ≡ Some version
+    → names_wanted given.environment node (own_wants given node version) ≡ names_needed given.environment node (release_chosen given chosen node.name)
 needed-wanted given chosen node version picked = rw picked (needed (release_at given node.name version))
   where
-    needed : (o : Option Release) → names_wanted given.environment node (option_map_or (wants_of given.environment node.extra) o []) ≡ names_needed given.environment node o
-    needed None = refl
-    needed (Some release) = wanted-counted given.environment node release.dependencies
+    nothing : (extra : Option (List ℕ)) → names_wanted given.environment node (own_wants_of given.environment extra []) ≡ []
+    nothing None = refl
+    nothing (Some extra) = refl
+
+    needed : (o : Option Release) → names_wanted given.environment node (own_wants_of given.environment node.extra (option_map_or (λ (release : Release). release.dependencies) o [])) ≡ names_needed given.environment node o
+    needed None = nothing node.extra
+    needed (Some release) = refl
 
 -- where no version is chosen, there are none
 pub none-needed : (given : ProblemParts) (chosen : List ℕ → Option VersionParts) (node : Node) (names : List (List ℕ)) → chosen node.name ≡ None → (own : List ℕ) → names ≡ with_names names (names_at given chosen own node)

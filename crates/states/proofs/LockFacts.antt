@@ -8,6 +8,7 @@ use Rattle.std.specs.BTreeSet.{BTreeSet}
 use Rattle.std.specs.Cmp.Lexicographic.{slice_cmp}
 use Rattle.std.specs.List.Sorted.{IsStrictlySortedBy}
 use Rattle.std.specs.Map.{keys_of}
+use Rattle.std.specs.Option.{option_map_or}
 use Rattle.std.specs.Ordering.{nat_cmp}
 use Rattle.std.specs.Str.{bytes_eq}
 use Rattle.pep440.specs.Version.{VersionParts}
@@ -19,7 +20,10 @@ use Rattle.search.specs.Solutions.{IsBest}
 use Rattle.snapshot.specs.Release.{Release}
 use Rattle.problems.specs.Admission.{release_at}
 use Rattle.problems.specs.Problem.{ProblemParts}
-use Rattle.problems.specs.Rules.{counts, rules_of, wants}
+use Rattle.problems.specs.Rules.{bare, counts, rules_of}
+use Rattle.problems.specs.Tied.OwnNeeds.{own_wants, own_wants_of}
+use Rattle.problems.proofs.OwnNeeds.{bare-needed, own-counts, wanted-own}
+use Rattle.markers.specs.MarkerExtras.{OtherExtrasAreAsNone}
 use Rattle.problems.specs.Solutions.{AreNeeded, version_for}
 use Rattle.problems.specs.declared.node.Node.{Node}
 use Rattle.states.specs.Names.{with_names}
@@ -62,7 +66,7 @@ needed-by given chosen nodes own name node None r needed there on picked found h
 needed-by given chosen nodes own name node (Some version) None needed there on picked found h =
     absurd (Contains-nil name (rw (picked, found version refl) at h))
 needed-by given chosen nodes own name node (Some version) (Some release) needed there on picked found h =
-    let k = wanted-from given node release.dependencies name (rw (picked, found version refl) at h) in
+    let k = wanted-from given node (own_wants_of given.environment node.extra release.dependencies) name (rw (picked, found version refl) at h) in
     record {
       other = rw on at k.4;
       node = node;
@@ -71,7 +75,7 @@ needed-by given chosen nodes own name node (Some version) (Some release) needed 
       version = version;
       picked = rw on at picked;
       wanted = k.0;
-      counts = rw (found version refl) (Contains-filter_of (counts given.environment node.extra) release.dependencies k.0 k.1 k.2);
+      counts = rw (found version refl) (own-counts given.environment node.extra release.dependencies k.0 k.1);
       named = k.3;
     }
 
@@ -86,23 +90,31 @@ IsDependency-from given chosen nodes own name needed h =
       | inr other ↦ absurd (Contains-nil name (rw other at k.2))
     ]
 
--- a dependency that counts is one of the release that is there
-wanted-at : (given : ProblemParts) (node : Node) (version : VersionParts) (w : RequirementParts) (r : Option Release) → release_at given node.name version ≡ r → Contains (wants given node version) w → w.name ≢ node.name
+-- what a node wants of its own is one of the names that its release needs there
+own-at : (given : ProblemParts) (node : Node) (w : RequirementParts) (r : Option Release) → Contains (own_wants_of given.environment node.extra (option_map_or (λ (release : Release). release.dependencies) r [])) w → w.name ≢ node.name
     → Contains (names_needed given.environment node r) w.name
-wanted-at given node version w None found h other = absurd (Contains-nil w (rw found at h))
-wanted-at given node version w (Some release) found h other =
-    let k = Contains-filter (counts given.environment node.extra) release.dependencies w (rw found at h) in
-    wanted-of given node release.dependencies w k.0 k.1 other
+own-at given node w None there other = absurd (Contains-nil w (own-counts given.environment node.extra [] w there))
+own-at given node w (Some release) there other =
+    let k = Contains-filter (counts given.environment node.extra) release.dependencies w (own-counts given.environment node.extra release.dependencies w there) in
+    wanted-of given node (own_wants_of given.environment node.extra release.dependencies) w there k.1 other
 
-IsDependency-gathered : (given : ProblemParts) (chosen : List ℕ → Option VersionParts) (nodes : List Node) (own name : List ℕ) → AreNeeded given chosen nodes
+gathered-at : (given : ProblemParts) (chosen : List ℕ → Option VersionParts) (nodes : List Node) (own name : List ℕ) (node : Node) (version : VersionParts) (w : RequirementParts) → bytes_eq own node.name ≡ true → chosen node.name ≡ Some version
+    → Contains nodes node → Contains (own_wants given node version) w → w.name ≢ node.name → w.name ≡ name → Contains (names_over given chosen own nodes) name
+gathered-at given chosen nodes own name node version w same picked listed wanted other named =
+    let there : Contains (names_needed given.environment node (release_chosen given chosen node.name)) w.name = rw picked (own-at given node w (release_at given node.name version) wanted other) in
+    Contains-flat_map_of (names_at given chosen own) nodes node name listed (rw same (rw named at there))
+
+-- a dependency of a package its node wants of its own, or its name does with no extra; both are needed
+IsDependency-gathered : OtherExtrasAreAsNone → (given : ProblemParts) (chosen : List ℕ → Option VersionParts) (nodes : List Node) (own name : List ℕ) → AreNeeded given chosen nodes
     → IsDependency given chosen own name → Contains (names_over given chosen own nodes) name
-IsDependency-gathered given chosen nodes own name needed d =
+IsDependency-gathered law given chosen nodes own name needed d =
     let same : bytes_eq own d.node.name ≡ true = (bytes_eq-Decides own d.node.name).1 (sym d.on) in
     let other : d.wanted.name ≢ d.node.name = rw (d.named, d.on) d.other in
     let picked : chosen d.node.name ≡ Some d.version = rw d.on d.picked in
-    let there : Contains (names_needed given.environment d.node (release_chosen given chosen d.node.name)) d.wanted.name =
-    rw picked (wanted-at given d.node d.version d.wanted (release_at given d.node.name d.version) refl d.counts other) in
-    Contains-flat_map_of (names_at given chosen own) nodes d.node name (needed.whole d.node d.needed) (rw same (rw d.named at there))
+    elim (wanted-own law given d.node d.version d.wanted d.counts) [
+      | inl mine ↦ gathered-at given chosen nodes own name d.node d.version d.wanted same picked (needed.whole d.node d.needed) mine other d.named
+      | inr names ↦ gathered-at given chosen nodes own name (bare d.node.name) d.version d.wanted same picked (needed.whole (bare d.node.name) (bare-needed given chosen d.node d.needed)) names other d.named
+    ]
 
 -- what a package needs at nodes, put in order
 AreNeeds-from : (given : ProblemParts) (chosen : List ℕ → Option VersionParts) (nodes : List Node) (own : List ℕ) → AreNeeded given chosen nodes → AreNeeds own (with_names [] (names_over given chosen own nodes))
@@ -119,9 +131,9 @@ pub AreNeeds-gathered : (given : ProblemParts) (chosen : List ℕ → Option Ver
 AreNeeds-gathered given chosen nodes gathered needed is own = rw (is own) (AreNeeds-from given chosen nodes own needed)
 
 -- what is locked for a name is its entry
-IsEntry-from : (given : ProblemParts) (chosen : List ℕ → Option VersionParts) (nodes : List Node) (gathered : BTreeMap (List ℕ) (BTreeSet (List ℕ))) → AreNeeded given chosen nodes
+IsEntry-from : OtherExtrasAreAsNone → (given : ProblemParts) (chosen : List ℕ → Option VersionParts) (nodes : List Node) (gathered : BTreeMap (List ℕ) (BTreeSet (List ℕ))) → AreNeeded given chosen nodes
     → ((own : List ℕ) → names_in gathered own ≡ with_names [] (names_over given chosen own nodes)) → (p : List ℕ × VersionParts) → IsEntry given chosen (entry_for given (names_in gathered) p)
-IsEntry-from given chosen nodes gathered needed is p = record {
+IsEntry-from law given chosen nodes gathered needed is p = record {
   python = refl;
   sdist = refl;
   wheels = refl;
@@ -131,7 +143,7 @@ IsEntry-from given chosen nodes gathered needed is p = record {
       | inl none ↦ absurd (Contains-nil name none)
       | inr there ↦ IsDependency-from given chosen nodes p.0 name needed there
     ]),
-    (λ d. put-names [] (names_over given chosen p.0 nodes) name (IsDependency-gathered given chosen nodes p.0 name needed d)),
+    (λ d. put-names [] (names_over given chosen p.0 nodes) name (IsDependency-gathered law given chosen nodes p.0 name needed d)),
   );
 }
 
@@ -143,28 +155,28 @@ names-entries : (given : ProblemParts) (names : List ℕ → List (List ℕ)) (v
 names-entries given names [] = refl
 names-entries given names (p ∷ rest) = ap (λ (l : List (List ℕ)). p.0 ∷ l) (names-entries given names rest)
 
-AreEntries-from : (given : ProblemParts) (versions : List (List ℕ × VersionParts)) (nodes : List Node) (gathered : BTreeMap (List ℕ) (BTreeSet (List ℕ))) → IsStrictlySortedBy (slice_cmp nat_cmp) (keys_of versions)
+AreEntries-from : OtherExtrasAreAsNone → (given : ProblemParts) (versions : List (List ℕ × VersionParts)) (nodes : List Node) (gathered : BTreeMap (List ℕ) (BTreeSet (List ℕ))) → IsStrictlySortedBy (slice_cmp nat_cmp) (keys_of versions)
     → ((e : EntryParts) → Contains (map (entry_for given (names_in gathered)) versions) e → HasRelease given e.name e.version)
     → AreNeeded given (version_for versions) nodes → ((own : List ℕ) → names_in gathered own ≡ with_names [] (names_over given (version_for versions) own nodes))
     → AreEntries given versions (map (entry_for given (names_in gathered)) versions)
-AreEntries-from given versions nodes gathered rising releases needed is = record {
+AreEntries-from law given versions nodes gathered rising releases needed is = record {
   versions_are = versions_of-entries given (names_in gathered) versions;
   rising = rw (names-entries given (names_in gathered) versions) rising;
   entries = λ e h.
       let k = Contains-map (entry_for given (names_in gathered)) versions e h in
-      subst (IsEntry given (version_for versions)) k.2 (IsEntry-from given (version_for versions) nodes gathered needed is k.0);
+      subst (IsEntry given (version_for versions)) k.2 (IsEntry-from law given (version_for versions) nodes gathered needed is k.0);
   releases = releases;
 }
 
 -- the answer that goes over what was gathered
-pub AreEntries-answer : {E : Type 0} (given : ProblemParts) (versions : List (List ℕ × VersionParts)) (nodes : List Node) (gathered : BTreeMap (List ℕ) (BTreeSet (List ℕ))) (answer : Result (List EntryParts) E)
+pub AreEntries-answer : {E : Type 0} → OtherExtrasAreAsNone → (given : ProblemParts) (versions : List (List ℕ × VersionParts)) (nodes : List Node) (gathered : BTreeMap (List ℕ) (BTreeSet (List ℕ))) (answer : Result (List EntryParts) E)
     → IfOk answer (λ lock. lock ≡ map (entry_for given (names_in gathered)) versions) → IfOk answer (λ _. IsStrictlySortedBy (slice_cmp nat_cmp) (keys_of versions))
     → IfOk answer (λ lock. (e : EntryParts) → Contains lock e → HasRelease given e.name e.version)
     → AreNeeded given (version_for versions) nodes → ((own : List ℕ) → names_in gathered own ≡ with_names [] (names_over given (version_for versions) own nodes))
     → IfOk answer (λ lock. AreEntries given versions lock)
-AreEntries-answer given versions nodes gathered (Ok lock) made rising releases needed is =
-    rw made (AreEntries-from given versions nodes gathered rising (rw made at releases) needed is)
-AreEntries-answer given versions nodes gathered (Err e) made rising releases needed is = tt
+AreEntries-answer law given versions nodes gathered (Ok lock) made rising releases needed is =
+    rw made (AreEntries-from law given versions nodes gathered rising (rw made at releases) needed is)
+AreEntries-answer law given versions nodes gathered (Err e) made rising releases needed is = tt
 
 -- entries whose names rise make a lock
 lock-made : (l : LockParts) → IsStrictlySortedBy (slice_cmp nat_cmp) (map (λ e. e.name) l.entries) → lock_of l ≡ Some l

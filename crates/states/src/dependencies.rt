@@ -56,7 +56,8 @@ fn add_names(
     Ok(())
 }
 
-/// Puts what the package of the node needs there to what is gathered for it.
+/// Puts what the package of the node needs there, by what the node wants of its own, to what is gathered
+/// for it.
 fn add_node(
     alloc: Global,
     wants: &mut NodeWants<'_>,
@@ -83,7 +84,8 @@ fn add_node(
     Ok(())
 }
 
-/// The names of other packages that each package needs at the nodes, by the package's name.
+/// The names of other packages that each package needs at the nodes by what these want of their own, by the
+/// package's name.
 pub(crate) fn gather(
     alloc: Global,
     problem: &Problem<'_>,

@@ -29,6 +29,7 @@ use crate::state::State;
 use crate::target::Target;
 use crate::target_name::TargetName;
 use lists::Seq;
+use markers::marker_extras::other_extras_are_as_none;
 use pep440::Version;
 use pep440::laws::equal_versions_match_alike;
 use pep508::{Environment, Name, ReqFile};
@@ -97,6 +98,7 @@ fn entries_of(
     requires { IsBest (rules_of problem.now) (version_for versions.now.entries) }
     ensures { IfOk result (λ lock. AreEntries problem.now versions.now.entries lock) }
 {
+    other_extras_are_as_none();
     let nodes = problem.needed(alloc, versions)?;
     let gathered = gather(alloc, problem, versions, nodes.as_slice())?;
     entries(alloc, problem, versions, gathered)

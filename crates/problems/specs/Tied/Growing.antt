@@ -5,7 +5,8 @@ use Rattle.std.specs.List.{Contains, flat_map}
 use Rattle.pep440.specs.Version.{VersionParts}
 use Rattle.pep508.specs.Requirement.{RequirementParts}
 use Rattle.problems.specs.Problem.{ProblemParts}
-use Rattle.problems.specs.Rules.{nodes_of, wants}
+use Rattle.problems.specs.Rules.{nodes_of}
+use Rattle.problems.specs.Tied.OwnNeeds.{own_wants}
 use Rattle.problems.specs.declared.node.Node.{Node}
 
 -- new is old with nodes behind it that are wanted, and has all that are
@@ -19,10 +20,10 @@ pub record Grows (old new wanted : List Node) : Type 0 where
 abbrev pub nodes_asked : List RequirementParts → List Node
 nodes_asked requirements = flat_map nodes_of requirements
 
--- the nodes that a node leads to, with this version of its name
+-- the nodes that a node leads to by what it wants of its own, with this version of its name
 abbrev pub nodes_linked : ProblemParts → Node → Option VersionParts → List Node
 nodes_linked given node None = []
-nodes_linked given node (Some version) = nodes_asked (wants given node version)
+nodes_linked given node (Some version) = nodes_asked (own_wants given node version)
 
 -- the requirements of the active lines, and the dependencies of all releases of the index
 abbrev pub requirements_met : ProblemParts → List RequirementParts

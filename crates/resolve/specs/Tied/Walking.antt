@@ -14,7 +14,7 @@ use Rattle.search.specs.Rules.{Rules}
 use Rattle.search.specs.Solutions.{IsNeededName, Needed, Pin, version_pinned}
 use Rattle.problems.specs.Tied.Growing.{requirements_met}
 use Rattle.problems.specs.Problem.{ProblemParts}
-use Rattle.problems.specs.Rules.{rules_of, wants}
+use Rattle.problems.specs.Tied.OwnNeeds.{own_rules, own_wants}
 use Rattle.problems.specs.declared.node.Node.{Node}
 
 -- its name has a version that it admits and its nodes are followed, or it waits with its name, or it is left to be placed
@@ -41,9 +41,9 @@ pub record IsWalked {N X V R : Type 0} (rules : Rules N X V R) (chosen : N → O
 abbrev pub value_at : {X : Type 0} → List (List ℕ × X) → List ℕ → Option X
 value_at entries name = lookup (is_at (slice_cmp nat_cmp name)) entries
 
--- the same of a problem, over the entries of maps
+-- the same of a problem by what nodes want of their own, over the entries of maps
 abbrev pub IsOnWay : ProblemParts → List (List ℕ × VersionParts) → List (List ℕ × List RequirementParts) → List Node → List RequirementParts → Type 0
-IsOnWay given taken waiting followed left = IsWalked (rules_of given) (value_at taken) (value_at waiting) followed left
+IsOnWay given taken waiting followed left = IsWalked (own_rules given) (value_at taken) (value_at waiting) followed left
 
 -- the nodes are followed: those that weren't before stand behind the others, and what is wanted at each of these is more
 pub record AreFollowed {X R : Type 0} (wants : X → List R) (nodes old new : List X) (more : List R) : Type 0 where
@@ -53,9 +53,9 @@ pub record AreFollowed {X R : Type 0} (wants : X → List R) (nodes old new : Li
   pub fresh : (node : X) → Contains added node → Contains nodes node × (Contains old node → ⊥)
   pub there : (node : X) → Contains nodes node → Contains new node
 
--- the same of nodes of a problem whose name has the version; what is wanted is put behind what is left
+-- the same of nodes of a problem whose name has the version; what they want of their own is put behind what is left
 abbrev pub Follow : ProblemParts → VersionParts → List Node → List Node → List Node → List RequirementParts → List RequirementParts → Type 0
-Follow given version nodes old new left left_new = (more : List RequirementParts) × (left_new ≡ left ++ more) × AreFollowed (λ node. wants given node version) nodes old new more
+Follow given version nodes old new left left_new = (more : List RequirementParts) × (left_new ≡ left ++ more) × AreFollowed (λ node. own_wants given node version) nodes old new more
 
 -- a requirement is put behind those that wait with its name, if there are any
 pub record IsWaiting (old new : List (List ℕ × List RequirementParts)) (wanted : RequirementParts) : Type 0 where

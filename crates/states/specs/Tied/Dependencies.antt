@@ -14,6 +14,7 @@ use Rattle.snapshot.specs.Release.{Release}
 use Rattle.problems.specs.Admission.{release_at}
 use Rattle.problems.specs.Problem.{ProblemParts}
 use Rattle.problems.specs.Rules.{counts}
+use Rattle.problems.specs.Tied.OwnNeeds.{own_wants_of}
 use Rattle.problems.specs.declared.node.Node.{Node}
 
 -- whether a dependency counts at a node and is on another name than the node
@@ -24,10 +25,10 @@ leads_away environment node wanted = counts environment node.extra wanted && not
 abbrev pub names_wanted : Texts → Node → List RequirementParts → List (List ℕ)
 names_wanted environment node dependencies = map (λ wanted. wanted.name) (filter (leads_away environment node) dependencies)
 
--- the names that a release needs at a node, where there is a release
+-- the names that a release needs at a node by what the node wants of its own, where there is a release
 abbrev pub names_needed : Texts → Node → Option Release → List (List ℕ)
 names_needed environment node None = []
-names_needed environment node (Some release) = names_wanted environment node release.dependencies
+names_needed environment node (Some release) = names_wanted environment node (own_wants_of environment node.extra release.dependencies)
 
 -- the release of the version that is chosen for a name
 abbrev pub release_chosen : ProblemParts → (List ℕ → Option VersionParts) → List ℕ → Option Release

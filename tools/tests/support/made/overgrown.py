@@ -80,6 +80,25 @@ def extras_of_dependencies(count):
     return requirements("a[" + ",".join(extras) + "]", ("a", [release("a", "1", *needs)]), ("b", [release("b", "1")]))
 
 
+def extras_beside_dependencies(count, needs, names=("b",)):
+    """The line asks for as many extras as the release has dependencies, which all count with none."""
+    extras = ",".join(f"e{number}" for number in range(count))
+    return requirements(f"a[{extras}]", ("a", [release("a", "1", *needs)]), *((name, [release(name, "1")]) for name in names))
+
+
+def extras_beside_equal_dependencies(count):
+    return extras_beside_dependencies(count, ["b"] * count)
+
+
+def extras_beside_ranges(count):
+    return extras_beside_dependencies(count, [f"b>=0.{number}" for number in range(count)])
+
+
+def extras_beside_names(count):
+    names = [f"p{number}" for number in range(count)]
+    return extras_beside_dependencies(count, names, names)
+
+
 def packages(count):
     names = [f"p{number}" for number in range(count)]
     return requirements(names[-1], *((name, [release(name, "1")]) for name in names))
@@ -199,7 +218,8 @@ def keys_of_a_lock(count):
 # Each input with its largest count.
 SIZES = {
     lines: 1_000_000, blank_lines: 10_000_000, short_comments: 5_000_000, long_line: 10_000_000, atoms: 1_000_000,
-    clauses: 1_000_000, extras: 200_000, extras_of_dependencies: 100_000, packages: 100_000, releases: 100_000,
+    clauses: 1_000_000, extras: 200_000, extras_of_dependencies: 100_000, extras_beside_equal_dependencies: 100_000,
+    extras_beside_ranges: 100_000, extras_beside_names: 100_000, packages: 100_000, releases: 100_000,
     lines_that_count: 100_000, chain: 100_000, chain_back: 100_000, steps_opened: 100_000, steps_undone: 100_000,
     steps_shown: 100_000, commands: 1_000_000, commands_refused: 1_000_000, commands_that_edit: 100_000,
     long_command: 10_000_000, parentheses: 1_000_000, arrays_of_an_index: 1_000_000,
@@ -207,4 +227,7 @@ SIZES = {
     tables_of_a_lock: 1_000_000, keys_of_a_lock: 1_000_000,
 }
 
-SMALL = {steps_opened: 10_000, extras_of_dependencies: 2_000}
+SMALL = {
+    steps_opened: 10_000, extras_of_dependencies: 2_000, extras_beside_equal_dependencies: 10_000, extras_beside_ranges: 10_000,
+    extras_beside_names: 10_000,
+}

@@ -1,4 +1,4 @@
-use Rattle.problems.proofs.NodesMet.{dependency-met, needed-met, wants-few}
+use Rattle.problems.proofs.NodesMet.{dependency-met, needed-met}
 use Rattle.problems.proofs.laws.what_is_needed_can_be_met.Goals as goal
 
 pub returns-clause-needed : goal.returns-clause-needed
@@ -6,6 +6,3 @@ returns-clause-needed c = λ given chosen node needed. needed-met given chosen n
 
 pub returns-clause-dependencies : goal.returns-clause-dependencies
 returns-clause-dependencies c = λ given name release wanted there asked. dependency-met given name release wanted there asked
-
-pub returns-clause-few : goal.returns-clause-few
-returns-clause-few c = λ given node version. wants-few given node version

@@ -32,7 +32,7 @@ loop-at-preserved c =
 pub returns : goal.returns
 returns c =
     let past : length c.loop-at.nodes ≤ c.loop-at.at = rw c.len.ensures.count at c.loop-at-test.false in
-    rw c.into_seq.ensures (closing-end c.args.problem.now (version_for c.args.versions.now.entries) c.loop-at.nodes c.loop-at.at c.loop-at.invariant.closing past)
+    rw c.into_seq.ensures (closing-end c.other_extras_are_as_none.ensures c.args.problem.now (version_for c.args.versions.now.entries) c.loop-at.nodes c.loop-at.at c.loop-at.invariant.closing past)
 
 pub loop-at-smaller : goal.loop-at-smaller
 loop-at-smaller c =

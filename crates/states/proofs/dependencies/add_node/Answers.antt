@@ -2,7 +2,7 @@ use Rattle.std.proofs.Common.{◌≡◌, ◌∙◌, ℕ, List, Option, None, Som
 use Rattle.std.specs.BTreeSet.{keys}
 use Rattle.pep508.specs.Requirement.{RequirementParts}
 use Rattle.problems.specs.Problem.{ProblemParts}
-use Rattle.problems.specs.Rules.{wants}
+use Rattle.problems.specs.Tied.OwnNeeds.{own_wants}
 use Rattle.problems.specs.Solutions.{version_for}
 use Rattle.states.specs.Names.{with_names}
 use Rattle.states.specs.Tied.Dependencies.{names_in, names_of, names_wanted}
@@ -28,7 +28,7 @@ returns-clause-names c =
     let version = c.in-Some.version.now in
     let names = c.match-remove.names.keys in
     let problem = c.problem.ensures ∙ c.at.ensures.same in
-    let at = ap (λ (extra : Option (List ℕ)). wants given (record { name = node.name; extra = extra }) version) c.as_ref.ensures.value in
+    let at = ap (λ (extra : Option (List ℕ)). own_wants given (record { name = node.name; extra = extra }) version) c.as_ref.ensures.value in
     let wanted = c.as_slice.ensures ∙ c.in_ok-wanted.ensures.wanted ∙ at in
     let needed =
     c.in_ok-add_names.ensures

@@ -14,5 +14,5 @@ entries-requires-clause-needs c =
 pub returns : goal.returns
 returns c =
     let gathered = rw c.as_slice.ensures at c.in_ok-gathered.ensures in
-    AreEntries-answer c.args.problem.now c.args.versions.now.entries c.in_ok-nodes.nodes c.in_ok-gathered.gathered c.entries.result
+    AreEntries-answer c.other_extras_are_as_none.ensures c.args.problem.now c.args.versions.now.entries c.in_ok-nodes.nodes c.in_ok-gathered.gathered c.entries.result
     c.entries.ensures.entries c.entries.ensures.rising c.entries.ensures.releases c.in_ok-nodes.ensures gathered

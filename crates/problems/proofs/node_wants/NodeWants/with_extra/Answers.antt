@@ -1,23 +1,21 @@
-use Rattle.std.proofs.Common.{◌∙◌, ℕ, List, Some, filter, ap, subst, sym}
+use Rattle.std.proofs.Common.{◌∙◌, ℕ, List, Some, ap, subst, sym}
 use Rattle.std.specs.BTreeMap.{Updates}
 use Rattle.std.specs.Cmp.Lexicographic.{slice_cmp}
 use Rattle.std.specs.Ordering.{nat_cmp}
 use Rattle.pep508.specs.Requirement.{RequirementParts}
-use Rattle.problems.specs.Rules.{counts, with_extra}
 use Rattle.problems.specs.Problem.{ProblemParts}
 use Rattle.problems.specs.Tied.ByExtra.{Depending}
+use Rattle.problems.specs.Tied.OwnNeeds.{named_wants}
 use Rattle.problems.specs.Tied.GroupedReleases.{IsOfItsRelease}
-use Rattle.problems.proofs.Grouping.{lawful-put, wants-counted}
+use Rattle.problems.proofs.Grouping.{lawful-put}
 use Rattle.problems.proofs.node_wants.NodeWants.with_extra.Goals as goal
 
 pub returns-clause-wanted : goal.returns-clause-wanted
 returns-clause-wanted c =
     let given = c.args.self.now in
-    let node = with_extra c.args.name.now c.args.extra.now in
     c.in_ok-wanted.ensures
-    ∙ ap (λ (d : Depending). filter (counts d.environment (Some c.args.extra.now)) d.dependencies) c.in_ok-grouped.ensures.release
-    ∙ ap (λ (dependencies : List RequirementParts). filter (counts given.environment (Some c.args.extra.now)) dependencies) c.in_ok-grouped.ensures.dependencies
-    ∙ wants-counted given node c.args.version.now
+    ∙ ap (λ (d : Depending). named_wants d.environment c.args.extra.now d.dependencies) c.in_ok-grouped.ensures.release
+    ∙ ap (λ (dependencies : List RequirementParts). named_wants given.environment c.args.extra.now dependencies) c.in_ok-grouped.ensures.dependencies
 
 pub invariant_of-self-2 : goal.invariant_of-self-2
 invariant_of-self-2 c =

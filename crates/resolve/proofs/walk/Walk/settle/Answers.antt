@@ -42,4 +42,4 @@ loop-at-smaller c =
     let way : IsOnWay given taken next.waiting.entries next.following.nodes (drop (c.loop-at.at + 1) c.place.new.asks) =
     settle-more given taken walk.waiting.entries next.waiting.entries walk.following.nodes next.following.nodes c.at-wanted.result.now c.loop-at.asks c.place.new.asks c.loop-at.at within c.at-wanted.ensures before.way placed in
     settle-smaller given taken walk.waiting.entries next.waiting.entries next.waiting.entries walk.following.nodes next.following.nodes c.at-wanted.result.now c.loop-at.asks c.place.new.asks (drop (c.loop-at.at + 1) c.place.new.asks) c.loop-at.at within
-    placed way c.len-count.ensures.once (c.what_is_needed_can_be_met.ensures.needed given)
+    placed way c.len-count.ensures.once (c.own_needs_are_enough.ensures.needed given)

@@ -10,7 +10,7 @@ pub settle-requires : goal.settle-requires
 settle-requires c =
     let first = rw (c.in-Some.is, c.problem-problem.ensures) at c.first_admitted.ensures in
     let updates = subst (λ (v : VersionParts). Updates (slice_cmp nat_cmp) c.args.self.now.taken c.insert.new.self c.args.name (Some v)) c.in_ok-version.ensures.cases c.in_ok-insert.ensures.updates in
-    turn-taken c.args.self.now.following.wants (c.the_rules_of_a_problem_are_lawful.ensures c.args.self.now.following.wants) c.args.self.now.taken c.insert.new.self c.args.self.now.waiting.entries c.args.self.now.following.nodes c.args.name c.args.asks c.in-Some.version.now c.requires first updates
+    turn-taken c.args.self.now.following.wants (c.own_needs_are_enough.ensures.lawful c.args.self.now.following.wants) c.args.self.now.taken c.insert.new.self c.args.self.now.waiting.entries c.args.self.now.following.nodes c.args.name c.args.asks c.in-Some.version.now c.requires first updates
 
 pub returns-clause-longer : goal.returns-clause-longer
 returns-clause-longer c =
