@@ -1,7 +1,7 @@
 -- What version 1 saved of a history opens as that history.
-use Rattle.std.proofs.Common.{◌≡◌, ◌≤◌, ℕ, ◌+◌, true, List, [], ◌∷◌, ◌++◌, length, Ok, refl, sym, ap, subst, ◌∙◌, inl, inr, arith}
+use Rattle.std.proofs.Common.{◌≡◌, ◌≤◌, ◌<◌, ◌^◌, ℕ, ◌+◌, true, List, [], ◌∷◌, ◌++◌, length, Ok, refl, sym, ap, subst, ◌∙◌, inl, inr, arith}
 use Rattle.std.specs.List.{AllByRecursion, AllZip, flat_map}
-use Rattle.std.specs.Str.{bytes_eq}
+use Rattle.std.specs.Str.{bytes_eq, is_utf8}
 use Rattle.std.proofs.lemmas.Bool.{cases_Bool}
 use Rattle.std.proofs.lemmas.Option.{slice_get_within}
 use Rattle.std.proofs.lemmas.Slice.Eq.{bytes_eq-Decides}
@@ -28,9 +28,12 @@ use Rattle.journal_format.proofs.StepsBack.{IsLawfulChange}
 use Rattle.journal_format.proofs.VersionOneBack.{header_one-back, step_one-back}
 use Rattle.journal.proofs.ChangesRead.{Knows, all-known, lawful-changes, locks-lawful, names_of, on-first}
 use Rattle.journal.proofs.Histories.{AreSteps-count}
+use Rattle.journal.proofs.LinesOfText.{line-text}
 use Rattle.journal.proofs.LocksAgain.{name-known, names}
 use Rattle.journal.proofs.OpensAgain.{json-back, name-lawful, present-again, sha256-digest}
+use Rattle.journal.proofs.PlainData.{IsPlain, read-plain}
 use Rattle.journal.proofs.StatesAgain.{past-again, state-at}
+use Rattle.journal.proofs.VersionOneData.{header_depth, header_depth-within, header_one-plain, step_depth, step_depth-within, step_one-plain}
 
 -- the same header, of version 1
 abbrev as_one : Header → Header
@@ -49,6 +52,7 @@ unnamed_by header target name one unnamed known =
 record IsReadOne (header : Header) (change : ChangeParts) : Type 0 where
   pub minimal : IsMinimal change
   pub back : step_in (as_one header) (step_one change) ≡ Ok change
+  pub plain : IsPlain (step_one change) step_depth
 
 module _ (reads : ReadsVersions) (header : Header) (target : HeaderTarget) (one : header.targets ≡ target ∷ []) (unnamed : target.name ≡ []) where
   unnamed-entries : (cs : List EntryChange) → AllByRecursion (IsLawfulChange header) cs → AllByRecursion (λ c. c.target ≡ []) cs
@@ -61,11 +65,15 @@ module _ (reads : ReadsVersions) (header : Header) (target : HeaderTarget) (one 
       let h = lawful.0 in
       (record { target = h.target; known = h.known; name = h.name; old = h.old; new = h.new }, lawful-one cs lawful.1)
 
-  change-one : (old : State) (change : ChangeParts) (new : State) → Knows header (names_of old) → IsState old → IsState new → IsChange old change new → step_in (as_one header) (step_one change) ≡ Ok change
+  change-one : (old : State) (change : ChangeParts) (new : State) → Knows header (names_of old) → IsState old → IsState new → IsChange old change new → IsReadOne header change
   change-one old change new knows h g is =
       let lawful = lawful-changes reads header old change new knows h g is change.entries (λ c there. there) is.leads.known is.minimal.entries.each in
       let digests = on-first change old.targets new.targets h.some is.leads.targets (locks-lawful old.lines old.targets h.locks) (locks-lawful new.lines new.targets g.locks) in
-      step_one-back reads (as_one header) refl change (unnamed-entries change.entries lawful) (lawful-one change.entries lawful) digests
+      record {
+        minimal = is.minimal;
+        back = step_one-back reads (as_one header) refl change (unnamed-entries change.entries lawful) (lawful-one change.entries lawful) digests;
+        plain = step_one-plain header change lawful is.minimal.splices.places;
+      }
 
   changes-one : (states : List State) (changes : List ChangeParts) → AreSteps states changes → AllByRecursion IsState states → AllByRecursion (λ s. Knows header (names_of s)) states → AllByRecursion (IsReadOne header) changes
   changes-one [] changes steps lawful knows = absurd steps
@@ -73,19 +81,21 @@ module _ (reads : ReadsVersions) (header : Header) (target : HeaderTarget) (one 
   changes-one (s ∷ []) (c ∷ cs) steps lawful knows = absurd steps
   changes-one (s ∷ t ∷ states) [] steps lawful knows = absurd steps
   changes-one (s ∷ t ∷ states) (c ∷ cs) steps lawful knows =
-      (record { minimal = steps.0.minimal; back = change-one s c t knows.0 lawful.0 lawful.1.0 steps.0 }, changes-one (t ∷ states) cs steps.1 lawful.1 knows.1)
+      (change-one s c t knows.0 lawful.0 lawful.1.0 steps.0, changes-one (t ∷ states) cs steps.1 lawful.1 knows.1)
 
 step_one-line : (header : Header) (c : ChangeParts) → IsWritten (step_one c) → IsReadOne header c → IsStepLine (as_one header) (compact_text (step_one c)) c
 unfolding step_of_line
 step_one-line header c written is = record { reads = rw (json-back (step_one c) written, is.back) refl; minimal = is.minimal }
 
 -- the lines of changes are read as these
-steps-one : (header : Header) (number : ℕ) (changes : List ChangeParts) → AllByRecursion (λ c. IsWritten (step_one c)) changes → AllByRecursion (IsReadOne header) changes
+steps-one : (header : Header) (number : ℕ) (changes : List ChangeParts) → is_utf8 (flat_map (λ c. line_of (step_one c)) changes) ≡ true → AllByRecursion (IsReadOne header) changes
     → StepLines (as_one header) (length changes) number (flat_map (λ c. line_of (step_one c)) changes) (Ok changes)
-steps-one header number [] written read = inl (refl, refl)
-steps-one header number (c ∷ cs) written read =
+steps-one header number [] text read = inl (refl, refl)
+steps-one header number (c ∷ cs) text read =
     let rest = flat_map (λ c. line_of (step_one c)) cs in
-    inl ((c, rest), record { line = compact_text (step_one c); cut = cut-written (step_one c) rest; is_step = step_one-line header c written.0 read.0 }, (Ok cs, steps-one header (number + 1) cs written.1 read.1, refl))
+    let parts = line-text (step_one c) rest text in
+    let written : IsWritten (step_one c) = record { utf8 = parts.0; reads = read-plain (step_one c) step_depth step_depth-within read.0.plain } in
+    inl ((c, rest), record { line = compact_text (step_one c); cut = cut-written (step_one c) rest; is_step = step_one-line header c written read.0 }, (Ok cs, steps-one header (number + 1) cs parts.1 read.1, refl))
 
 begins-one : (header : Header) (target : HeaderTarget) (rest : List ℕ) → IsWritten (header_one (as_one header) target) → header_of_line (compact_text (header_one (as_one header) target)) ≡ Ok (as_one header)
     → BeginsWith (line_of (header_one (as_one header) target) ++ rest) (as_one header, rest)
@@ -121,11 +131,17 @@ one-opens reads history requirements lock journal is =
     let within = slice_get_within past.states past.cursor state is.state_is in
     let least : past.cursor ≤ length changes = omega (arith, count, within) in
     let back = header_one-back (as_one header) target refl one is.unnamed (sha256-digest requirements) least is.environment (sha256-digest lock) in
+    let counted : length changes < 2 ^ 64 = is.counted in
+    let placed : past.cursor < 2 ^ 64 = omega (arith, least, counted) in
+    let whole : is_utf8 (line_of (header_one (as_one header) target) ++ rest) ≡ true = subst (λ (bytes : List ℕ). is_utf8 bytes ≡ true) is.journal_is is.text in
+    let parts = line-text (header_one (as_one header) target) rest whole in
+    let written : IsWritten (header_one (as_one header) target) =
+    record { utf8 = parts.0; reads = read-plain (header_one (as_one header) target) header_depth header_depth-within (header_one-plain (as_one header) target placed counted) } in
     let begins : BeginsWith journal (as_one header, rest) =
     subst (λ (bytes : List ℕ). BeginsWith bytes (as_one header, rest)) (sym is.journal_is)
-    (begins-one header target rest is.header_written (rw (json-back (header_one (as_one header) target) is.header_written, back) refl)) in
+    (begins-one header target rest written (rw (json-back (header_one (as_one header) target) written, back) refl)) in
     let present = present-again state past.cursor (length changes) requirements locks state_lawful is.requirements_is files in
     let read = changes-one reads header target one is.unnamed past.states changes is.steps is.lawful (all-known header past.states changes past.cursor state is.steps is.state_is knows) in
-    let steps = steps-one header 2 changes is.steps_written read in
+    let steps = steps-one header 2 changes parts.1 read in
     let walked = past-again past changes state is.steps is.lawful is.state_is in
     inl ((as_one header, rest), begins, (Ok state, present, (Ok changes, steps, (Ok past, walked, refl))))

@@ -1,6 +1,7 @@
 -- What version 1 saved of a history. All of it is reqlock's own rule.
-use Rattle.std.specs.Prelude.{◌≡◌, ℕ, List, [], ◌∷◌, Some, length, Ok}
+use Rattle.std.specs.Prelude.{◌≡◌, ◌^◌, ◌<◌, ℕ, true, List, [], ◌∷◌, Some, length, Ok}
 use Rattle.std.specs.List.{AllByRecursion, concat}
+use Rattle.std.specs.Str.{is_utf8}
 use Rattle.markers.specs.Environment.{IsEnvironment}
 use Rattle.pylock.specs.LockOfTable.{lock_in_text}
 use Rattle.states.specs.State.{IsState}
@@ -9,8 +10,7 @@ use Rattle.journal.specs.Past.{present}
 use Rattle.journal.specs.Changes.{AreSteps, HistoryParts}
 use Rattle.journal.specs.Opens.{Opens}
 use Rattle.journal.specs.Saved.{IsLockFile, header_for, target_for}
-use Rattle.journal.specs.Tied.{IsWritten}
-use Rattle.journal_format.specs.VersionOne.{header_one, journal_one, step_one}
+use Rattle.journal_format.specs.VersionOne.{journal_one}
 use Rattle.journal_format.specs.declared.header.Header.{Header}
 use Rattle.journal_format.specs.declared.header.JournalVersion.TheVariants.{One}
 
@@ -19,7 +19,7 @@ abbrev pub header_one_for : State → ℕ → ℕ → List ℕ → List ℕ → 
 header_one_for state cursor steps requirements lock = record (header_for state cursor steps requirements (([], lock) ∷ [])) { version = One }
 
 -- the files that version 1 saved of a history whose states have one target, without a name: the present lines joined, a file that is
--- read as the target's lock, and a journal whose texts are read as the values that they are of
+-- read as the target's lock, and a journal that is text, with a number of steps that fits 64 bits
 pub record IsSavedByOne (history : HistoryParts) (requirements lock journal : List ℕ) : Type 0 where
   pub state : State
   pub target : Target
@@ -33,8 +33,8 @@ pub record IsSavedByOne (history : HistoryParts) (requirements lock journal : Li
   pub lock_is : IsLockFile target ([], lock)
   pub lock_reads : lock_in_text lock ≡ Ok target.lock
   pub journal_is : journal ≡ journal_one (header_one_for state history.past.cursor (length history.changes) requirements lock) (target_for target lock) history.changes
-  pub header_written : IsWritten (header_one (header_one_for state history.past.cursor (length history.changes) requirements lock) (target_for target lock))
-  pub steps_written : AllByRecursion (λ change. IsWritten (step_one change)) history.changes
+  pub text : is_utf8 journal ≡ true
+  pub counted : length history.changes < 2 ^ 64
 
 -- what version 1 saved of a history opens as that history
 abbrev pub WhatVersionOneSavedOpens : Type 0
