@@ -207,13 +207,11 @@ impl WantedRelease<'_> {
         };
         let mut places = Bits::new(alloc);
         places.insert(own)?;
-        let term = PlacedTerm {
-            node: Node {
-                name: self.name.clone()?,
-                extra: None,
-            },
-            places,
+        let node = Node {
+            name: self.name.clone()?,
+            extra: None,
         };
+        let term = PlacedTerm::new(node, places);
         let needed = NeededName::bare(other.name);
         let asked = asked_by_term(alloc, problem, &term, needed, Extent::Short)?;
         if asked.places.has(place) {

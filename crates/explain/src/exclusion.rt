@@ -22,7 +22,7 @@ pub struct Earlier<'a> {
 
 /// Whether a term is on the node of an earlier conflict's term, and has nothing outside of it.
 pub fn binds(own: &PlacedTerm, term: &PlacedTerm) -> bool {
-    own.is_on(&term.node) && own.places.lies_within(&term.places)
+    own.is_beside(term) && own.places.lies_within(&term.places)
 }
 
 /// The term of a conflict that binds an earlier one's term.
@@ -30,18 +30,18 @@ pub fn binding<'c>(term: &PlacedTerm, conflict: &'c [PlacedTerm]) -> Option<&'c 
     conflict.iter().find(|own| binds(own, term))
 }
 
-/// The releases at the node with which the conflict contains the earlier one; nothing where it does with none.
+/// The releases of those that are wanted at a node, with which the conflict contains the earlier one; nothing where it does with
+/// none.
 fn excluded_by(
     alloc: Global,
     old: &[PlacedTerm],
     conflict: &[PlacedTerm],
-    node: &Node,
-    wanted: &Bits,
+    wanted: &PlacedTerm,
 ) -> Result<Option<Bits>, AllocError> {
-    if !old.iter().all(|term| term.is_on(node) || binding(term, conflict).is_some()) {
+    if !old.iter().all(|term| term.is_beside(wanted) || binding(term, conflict).is_some()) {
         return Ok(None);
     }
-    let mut excluded = wanted.clone()?;
+    let mut excluded = wanted.places.clone()?;
     for term in old {
         if binding(term, conflict).is_none() {
             excluded.keep(&term.places);
@@ -111,13 +111,14 @@ impl Earlier<'_> {
         node: &Node,
         wanted: &Bits,
     ) -> Result<Vec<Exclusion>, AllocError> {
+        let sought = PlacedTerm::new(node.clone()?, wanted.clone()?);
         let mut plain = Vec::new(alloc);
         let mut others = Vec::new(alloc);
         for (at, (old, derivation)) in self.conflicts.iter().zip(self.derivations).enumerate() {
             if derivation.joins_at(node) {
                 continue;
             }
-            if let Some(places) = excluded_by(alloc, old.as_slice(), conflict, node, wanted)? {
+            if let Some(places) = excluded_by(alloc, old.as_slice(), conflict, &sought)? {
                 let exclusion = Exclusion {
                     conflict: at,
                     places,

@@ -1,17 +1,15 @@
 // Which earlier conflicts can leave nothing of a node beside a conflict.
 
 use crate::exclusion::binding;
-use crate::placed_term::{PlacedTerm, are_one, candidate_places};
+use crate::placed_term::{PlacedTerm, candidate_places};
 use lists::Bits;
-use problems::parts::copy_of;
-use problems::{Node, Problem};
+use problems::Problem;
 use std::alloc::{AllocError, Global};
 
 /// A node, the releases that some earlier conflicts exclude there beside a conflict, and the places of these.
 #[derive(Drop)]
 struct Excluded {
-    node: Node,
-    releases: Bits,
+    term: PlacedTerm,
     conflicts: Vec<usize>,
 }
 
@@ -30,7 +28,7 @@ fn unbound_in<'a>(old: &'a [PlacedTerm], own: &[PlacedTerm]) -> Unbound<'a> {
         if binding(term, own).is_none() {
             match found {
                 Unbound::Nothing => found = Unbound::One(term),
-                Unbound::One(first) if are_one(&first.node, &term.node) => {}
+                Unbound::One(first) if first.is_beside(term) => {}
                 _ => return Unbound::Several,
             }
         }
@@ -79,23 +77,15 @@ fn add(
     conflict: usize,
 ) -> Result<(), AllocError> {
     for excluded in nodes.as_mut_slice() {
-        if are_one(&excluded.node, &term.node) {
-            excluded.releases.join(&term.places)?;
+        if excluded.term.is_beside(term) {
+            excluded.term.places.join(&term.places)?;
             return Ok(excluded.conflicts.push(conflict)?);
         }
     }
     let mut conflicts = Vec::new(alloc);
     conflicts.push(conflict)?;
-    let node = Node {
-        name: term.node.name.clone()?,
-        extra: copy_of(term.node.extra.as_ref())?,
-    };
-    let releases = term.places.clone()?;
-    nodes.push(Excluded {
-        node,
-        releases,
-        conflicts,
-    })?;
+    let term = term.over(&term.places)?;
+    nodes.push(Excluded { term, conflicts })?;
     Ok(())
 }
 
@@ -106,11 +96,11 @@ fn is_exhausted(
     excluded: &Excluded,
     own: &[PlacedTerm],
 ) -> Result<bool, AllocError> {
-    if let Some(term) = own.iter().find(|term| term.is_on(&excluded.node)) {
-        if term.places.lies_within(&excluded.releases) {
+    if let Some(term) = own.iter().find(|term| term.is_beside(&excluded.term)) {
+        if term.places.lies_within(&excluded.term.places) {
             return Ok(true);
         }
     }
-    let candidates = candidate_places(alloc, problem, &excluded.node.name)?;
-    Ok(candidates.lies_within(&excluded.releases))
+    let candidates = candidate_places(alloc, problem, &excluded.term.node.name)?;
+    Ok(candidates.lies_within(&excluded.term.places))
 }

@@ -13,21 +13,43 @@ use std::alloc::{AllocError, Global};
 #[derive(Drop)]
 pub struct PlacedTerm {
     pub node: Node,
+    // the node's, which spares most comparisons of names
+    mark: usize,
     pub places: Bits,
 }
 
+/// A number that is mostly another one for another name.
+fn mark_of(node: &Node) -> usize {
+    let mut mark: usize = 0;
+    for byte in node.name.normal().as_bytes() {
+        mark = mark.wrapping_mul(31).wrapping_add(usize::from(*byte));
+    }
+    mark
+}
+
 impl PlacedTerm {
+    pub fn new(node: Node, places: Bits) -> PlacedTerm {
+        let mark = mark_of(&node);
+        PlacedTerm { node, mark, places }
+    }
+
     /// The same node with these releases.
     pub fn over(&self, places: &Bits) -> Result<PlacedTerm, AllocError> {
         Ok(PlacedTerm {
             node: self.node.clone()?,
+            mark: self.mark,
             places: places.clone()?,
         })
     }
 
+    /// Whether the other one is on the same node.
+    pub fn is_beside(&self, other: &PlacedTerm) -> bool {
+        self.mark == other.mark && self.is_on(&other.node)
+    }
+
     /// Whether the other one has the same node and the same releases.
     pub fn is_same(&self, other: &PlacedTerm) -> bool {
-        self.is_on(&other.node)
+        self.is_beside(other)
             && self.places.lies_within(&other.places)
             && other.places.lies_within(&self.places)
     }
@@ -65,13 +87,11 @@ fn placed_terms(
     for term in conflict {
         let releases = problem.releases(&term.name);
         let places = places_of(alloc, releases, term.versions.as_slice())?;
-        terms.push(PlacedTerm {
-            node: Node {
-                name: term.name.clone()?,
-                extra: copy_of(term.extra.as_ref())?,
-            },
-            places,
-        })?;
+        let node = Node {
+            name: term.name.clone()?,
+            extra: copy_of(term.extra.as_ref())?,
+        };
+        terms.push(PlacedTerm::new(node, places))?;
     }
     Ok(terms)
 }
@@ -120,7 +140,7 @@ pub fn set_conflict(
     conflict: &[PlacedTerm],
 ) -> Result<Seq<SetTerm>, AllocError> {
     let mut terms = Vec::new(alloc);
-    for PlacedTerm { node, places } in conflict {
+    for PlacedTerm { node, places, .. } in conflict {
         terms.push(SetTerm {
             name: node.name.clone()?,
             extra: copy_of(node.extra.as_ref())?,

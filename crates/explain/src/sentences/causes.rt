@@ -80,10 +80,7 @@ impl Sentences<'_> {
             return Ok(false);
         };
         let beside = bound_term(conflict, beside);
-        let term = PlacedTerm {
-            node: exhausted.node.clone()?,
-            places: exclusion.places.clone()?,
-        };
+        let term = PlacedTerm::new(exhausted.node.clone()?, exclusion.places.clone()?);
         if !self
             .derived
             .each_refuses(&term, &beside.node.name, &beside.places)?
@@ -172,10 +169,7 @@ impl Sentences<'_> {
             return self.add_refused(text, clashing);
         }
         let releases = self.set_of(node, places);
-        let term = PlacedTerm {
-            node: node.clone()?,
-            places: places.clone()?,
-        };
+        let term = PlacedTerm::new(node.clone()?, places.clone()?);
         if !derived.each_refuses(&term, &beside.node.name, &beside.places)? {
             let verbs = ("none goes with ", " doesn't go with ", " don't go with ");
             add_negated(self.alloc, text, releases, verbs)?;

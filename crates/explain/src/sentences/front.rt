@@ -153,13 +153,11 @@ impl Sentences<'_> {
         other: &Requirement,
     ) -> Result<bool, AllocError> {
         let (name, asked) = link;
-        let linked = PlacedTerm {
-            node: Node {
-                name: name.clone()?,
-                extra: None,
-            },
-            places: asked.places.clone()?,
+        let node = Node {
+            name: name.clone()?,
+            extra: None,
         };
+        let linked = PlacedTerm::new(node, asked.places.clone()?);
         let needed = self.asked_of(&linked, other.name())?;
         let allowed = matching(self.alloc, self.problem, other)?;
         if allowed.is_empty() || needed.is_nothing() || needed.places.meets(&allowed) {
@@ -196,13 +194,11 @@ impl Sentences<'_> {
 
     /// The releases that a line takes, at the node of one of its extras or of none.
     fn term_of(&self, line: &Requirement, extra: Option<&Name>) -> Result<PlacedTerm, AllocError> {
-        Ok(PlacedTerm {
-            node: Node {
-                name: line.name().clone()?,
-                extra: copy_of(extra)?,
-            },
-            places: matching(self.alloc, self.problem, line)?,
-        })
+        let node = Node {
+            name: line.name().clone()?,
+            extra: copy_of(extra)?,
+        };
+        Ok(PlacedTerm::new(node, matching(self.alloc, self.problem, line)?))
     }
 
     /// Whether each release of a term needs a name.
