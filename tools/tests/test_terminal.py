@@ -3,6 +3,7 @@ a CI job are told none of it."""
 
 import os
 import re
+import resource
 import subprocess
 import unittest
 
@@ -32,8 +33,8 @@ class Terminal(Program):
         return status, told[0], shown.replace("\r\n", "\n")
 
     def needed(self, words):
-        """The options of a call; only `init` reads environments."""
-        return self.options() if "init" in words else self.options()[:4]
+        """The options of a call; only what is about a first lock reads environments."""
+        return self.options() if {"init", "--init"}.intersection(words) else self.options()[:4]
 
     def plainly(self, *words, **rest):
         """The same without colours."""
@@ -244,6 +245,38 @@ class Told(Terminal):
             with self.subTest(words=words):
                 shown = self.plainly(*words)[2]
                 self.assertTrue(shown.endswith(steps), shown)
+
+
+class Waiting(Terminal):
+    """A reason that takes longer to find than anybody waits: of twelve packages each two take different ones of eleven places."""
+
+    WORDS = ["why", "--init"], ["why", "--init", "--explain"]
+
+    def begin_pigeons(self):
+        names = [f"p{number:02}" for number in range(12)]
+        releases = [(name, f"{hole}", [f"{other}!={hole}" for other in names[own + 1 :]]) for own, name in enumerate(names) for hole in range(11)]
+        self.begin("".join(f"{name}\n" for name in names).encode(), *releases)
+
+    @staticmethod
+    def end_soon():
+        """The call may use a processor for six seconds."""
+        resource.setrlimit(resource.RLIMIT_CPU, (6, 6))
+
+    def test_a_call_that_takes_long_says_so_once(self):
+        self.begin_pigeons()
+        for words in self.WORDS:
+            with self.subTest(words=words):
+                status, output, shown = self.plainly(*words, before=self.end_soon)
+                self.assertLess(status, 0)
+                self.assertEqual((output, shown.count("\n")), ("", 1))
+                self.assertRegex(shown, r"\Areqlock: still at it: .*Ctrl-C ends the call, and changes no file\.\n\Z")
+
+    def test_it_says_so_to_nobody_else(self):
+        self.begin_pigeons()
+        for words in self.WORDS:
+            with self.subTest(words=words):
+                self.assertEqual(self.plainly("-q", *words, before=self.end_soon)[1:], ("", ""))
+                self.assertEqual(self.call(*words, before=self.end_soon)[1], "")
 
 
 class Output(Terminal):

@@ -14,3 +14,4 @@ pub use crate::given_way::kept_longest;
 pub use crate::shown::{Shown, first_refuted, refuted_by_sets};
 pub use crate::told::{explained_text, listed_text, told_refutation};
 pub use crate::with_release::best_keeping;
+pub use search::Watch;

@@ -10,6 +10,7 @@ use edits::{Edit, Line, Problem, TargetName};
 use explain::{ChangedLines, Explanation, Extent, Wording, add_refutation};
 use phrases::add_target_line;
 use refutations::Refutation;
+use search::Unwatched;
 use std::alloc::{AllocError, Global};
 
 /// The sentences that tell why the first target without a solution has none after the edit of these lines; nothing where each
@@ -23,7 +24,8 @@ pub fn told_refutation(
     ensures { IfOk result (λ text. text ≡ None → All IsSolvable problems.now) }
 {
     let changed = changed_by(edit);
-    match first_refuted(alloc, problems, true)? {
+    let mut nobody = Unwatched;
+    match first_refuted(alloc, problems, true, &mut nobody)? {
         Some((place, Shown::Explained(explanation))) => {
             let (name, problem) = &problems[place];
             let wording = Wording {

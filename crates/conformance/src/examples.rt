@@ -14,6 +14,7 @@ use pylock::{Lock, rises};
 use refutations::{Refutation, check};
 use refute::refute_singly;
 use resolve::{Learning, Problem};
+use search::Unwatched;
 use snapshot::Snapshot;
 use states::{Unlocked, locked};
 use std::alloc::{AllocError, Global};
@@ -129,7 +130,7 @@ fn of_refute(
     index: &Snapshot,
 ) -> Result<bool, AllocError> {
     let problem = Problem::new(alloc, lines, environment, index, BTreeMap::new(alloc))?;
-    match refute_singly(alloc, &problem)? {
+    match refute_singly(alloc, &problem, &mut Unwatched)? {
         Some(refutation) => Ok(check(&problem, &refutation)),
         // There is a solution.
         None => Ok(true),

@@ -9,6 +9,7 @@ use pep508::{Name, ReqFile};
 use refutations::check;
 use refute::{refute_by_sets, refute_singly};
 use resolve::{Answer, Learning, Problem, Resolver};
+use search::Unwatched;
 use set_refutations::check_sets;
 use std::alloc::Global;
 use std::collections::BTreeMap;
@@ -43,7 +44,7 @@ pub fn solve(alloc: Global, background: &Background, lines: &str) -> Option<Stri
     if let Answer::Solution(versions) = Learning.resolve(alloc, &problem).ok()? {
         return solution_text(alloc, &problem, &versions);
     }
-    let refutation = refute_by_sets(alloc, &problem).ok()??;
+    let refutation = refute_by_sets(alloc, &problem, &mut Unwatched).ok()??;
     let is_accepted = check_sets(&problem, &refutation);
     owned(alloc, if is_accepted { "none" } else { "refused" })
 }
@@ -51,7 +52,7 @@ pub fn solve(alloc: Global, background: &Background, lines: &str) -> Option<Stri
 /// The conflicts of the refutation that is found, or that there is a solution.
 pub fn refute(alloc: Global, background: &Background, lines: &str) -> Option<String> {
     let problem = problem_of(alloc, background, lines)?;
-    match refute_singly(alloc, &problem).ok()? {
+    match refute_singly(alloc, &problem, &mut Unwatched).ok()? {
         Some(refutation) => refutation_text(alloc, &refutation),
         None => owned(alloc, "solvable"),
     }

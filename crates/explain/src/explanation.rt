@@ -14,6 +14,7 @@ use crate::sentences::Sentences;
 use crate::sentences::steps::{cited_lines, first_missing, told_steps};
 use crate::wording::Wording;
 use problems::Problem;
+use search::Watch;
 use set_refutations::SetRefutation;
 use std::alloc::{AllocError, Global};
 use std::marker::Model;
@@ -58,10 +59,11 @@ impl Model for Explanation {
 }
 
 /// Why each conflict of a refutation of the problem follows; nothing where the list is none.
-fn conflicts_of(
+fn conflicts_of<W: Watch>(
     alloc: Global,
     problem: &Problem<'_>,
     refutation: &SetRefutation,
+    watch: &mut W,
 ) -> Result<Option<Followed>, AllocError>
     ensures { IfOk result
         (λ found. MatchOption found
@@ -69,7 +71,7 @@ fn conflicts_of(
         (λ _. IsSetRefutation (rules_of problem.now) same_version refutation.now)) }
 {
     let conflicts = placed_conflicts(alloc, problem, refutation.conflicts())?;
-    match grounds_of(alloc, problem, refutation, conflicts.as_slice())? {
+    match grounds_of(alloc, problem, refutation, conflicts.as_slice(), watch)? {
         Some(grounds) => {
             let derivations = derivations(
                 alloc,
@@ -87,36 +89,38 @@ fn conflicts_of(
 }
 
 /// Explains why a problem has no solution: by the refutation, mostly without what its last conflict doesn't
-/// rest on. Nothing where the list is no refutation.
-pub fn explained(
+/// rest on. Nothing where the list is no refutation. Somebody is told that it goes on.
+pub fn explained<W: Watch>(
     alloc: Global,
     problem: &Problem<'_>,
     refutation: SetRefutation,
+    watch: &mut W,
 ) -> Result<Option<Explanation>, AllocError>
     ensures { IfOk result
         (λ found. MatchOption found
         (IsSetRefutation (rules_of problem.now) same_version refutation → ⊥)
         (IsSetRefutation (rules_of problem.now) same_version)) }
 {
-    match conflicts_of(alloc, problem, &refutation)? {
-        Some(whole) => Ok(Some(narrowed(alloc, problem, refutation, whole)?)),
+    match conflicts_of(alloc, problem, &refutation, watch)? {
+        Some(whole) => Ok(Some(narrowed(alloc, problem, refutation, whole, watch)?)),
         None => Ok(None),
     }
 }
 
 /// The same of a refutation, given why each of its conflicts follows.
-fn narrowed(
+fn narrowed<W: Watch>(
     alloc: Global,
     problem: &Problem<'_>,
     refutation: SetRefutation,
     whole: Followed,
+    watch: &mut W,
 ) -> Result<Explanation, AllocError>
     requires { IsSetRefutation (rules_of problem.now) same_version refutation }
     ensures { IfOk result (IsSetRefutation (rules_of problem.now) same_version) }
 {
     let conflicts = whole.conflicts.as_slice();
     let fewer = narrowed_refutation(alloc, problem, conflicts, whole.derivations.as_slice())?;
-    match conflicts_of(alloc, problem, &fewer)? {
+    match conflicts_of(alloc, problem, &fewer, watch)? {
         Some(followed) => Ok(Explanation {
             refutation: fewer,
             followed,

@@ -12,6 +12,7 @@ use crate::placed_term::PlacedTerm;
 use lists::Seq;
 use problems::Problem;
 use problems::parts::copy_of;
+use search::Watch;
 use set_refutations::{SetGround, SetRefutation, SetTerm, set_ground_of};
 use std::alloc::{AllocError, Global};
 
@@ -99,11 +100,12 @@ fn marks_for(
 }
 
 /// A ground for each conflict, by which it follows from those before it; nothing where one doesn't follow.
-fn each_ground<'a>(
+fn each_ground<'a, W: Watch>(
     alloc: Global,
     problem: &'a Problem<'_>,
     conflicts: &'a [Seq<SetTerm>],
     placed: &[Vec<PlacedTerm>],
+    watch: &mut W,
 ) -> Result<Option<Vec<SetGround<'a>>>, AllocError>
     ensures { IfOk result
         (λ found. MatchOption found
@@ -112,6 +114,7 @@ fn each_ground<'a>(
 {
     let mut grounds = Vec::new(alloc);
     for place in 0..conflicts.len() {
+        watch.goes_on();
         let marks = marks_for(alloc, problem, placed, place)?;
         match ground_among(
             alloc,
@@ -140,11 +143,12 @@ fn ends_empty(conflicts: &[Seq<SetTerm>]) -> bool
 
 /// A ground for each conflict of a refutation of the problem, in their order; nothing where the list is none. The
 /// conflicts are given as sets of releases too.
-pub fn grounds_of<'a>(
+pub fn grounds_of<'a, W: Watch>(
     alloc: Global,
     problem: &'a Problem<'_>,
     refutation: &'a SetRefutation,
     placed: &[Vec<PlacedTerm>],
+    watch: &mut W,
 ) -> Result<Option<Vec<SetGround<'a>>>, AllocError>
     ensures { IfOk result
         (λ found. MatchOption found
@@ -154,5 +158,5 @@ pub fn grounds_of<'a>(
     if !ends_empty(refutation.conflicts()) {
         return Ok(None);
     }
-    each_ground(alloc, problem, refutation.conflicts(), placed)
+    each_ground(alloc, problem, refutation.conflicts(), placed, watch)
 }

@@ -21,7 +21,7 @@ use crate::next_node::next;
 use crate::partial_solution::PartialSolution;
 use crate::refusal::{clash, conflict_of};
 use lists::Seq;
-use search::{Decision, Table, TableChoice, choices_taken};
+use search::{Decision, Table, TableChoice, Unwatched, Watch, choices_taken};
 use std::alloc::{AllocError, Global};
 
 /// How far a search has come: it tries candidates, or has all that is needed, or has found that
@@ -260,8 +260,12 @@ fn choices_of(alloc: Global, partial: &PartialSolution) -> Result<Seq<TableChoic
 }
 
 /// The best solution of a table, or a refutation where there is no solution. The search learns
-/// from its conflicts, and the refutation is what it has learned.
-pub fn learned_or_refuted(alloc: Global, table: &Table) -> Result<Found, AllocError>
+/// from its conflicts, and the refutation is what it has learned. Somebody is told that it goes on.
+pub fn learned_or_refuted<W: Watch>(
+    alloc: Global,
+    table: &Table,
+    watch: &mut W,
+) -> Result<Found, AllocError>
     ensures best { IfOk result
         (λ found. MatchFound found (λ choices. IsBest (rules_of table.now) (place_in choices))
         (λ _. HasNoSolution (rules_of table.now))) }
@@ -289,6 +293,7 @@ pub fn learned_or_refuted(alloc: Global, table: &Table) -> Result<Found, AllocEr
                 return Ok(Found::Best(choices));
             }
             Progress::Trying(queue) => {
+                watch.goes_on();
                 progress = step(table, &mut partial, &mut conflicts, &mut cursor, queue)?;
             }
         }
@@ -304,7 +309,8 @@ pub fn learned_best(alloc: Global, table: &Table) -> Result<Option<Seq<TableChoi
     ensures ascending { IfOk result
         (λ answer. MatchOption answer Unit (λ choices. IsAscending choices)) }
 {
-    match learned_or_refuted(alloc, table)? {
+    let mut nobody = Unwatched;
+    match learned_or_refuted(alloc, table, &mut nobody)? {
         Found::Best(choices) => Ok(Some(choices)),
         Found::Refuted(_) => Ok(None),
     }

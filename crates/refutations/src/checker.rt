@@ -13,6 +13,7 @@ use crate::laws;
 use crate::refutation::Refutation;
 use lists::Seq;
 use problems::Problem;
+use search::{Unwatched, Watch};
 
 /// Whether a conflict follows from earlier ones.
 fn follows(
@@ -28,15 +29,17 @@ fn follows(
 }
 
 /// Whether each conflict follows from those before it.
-fn each_follows(
+fn each_follows<W: Watch>(
     problem: &Problem<'_>,
     conflicts: &[Seq<Choice>],
     places: Option<&Places<'_>>,
+    watch: &mut W,
 ) -> bool
     ensures { IsTrue result
         ↔ EachFollows (rules_of problem.now) same_version [] conflicts.now }
 {
     for place in 0..conflicts.len() {
+        watch.goes_on();
         if !follows(
             problem,
             &conflicts[..place],
@@ -57,12 +60,12 @@ fn hints_of<'c>(problem: &Problem<'_>, conflicts: &'c [Seq<Choice>]) -> Option<P
 }
 
 /// The same, where hints tell to look first.
-fn all_follow(problem: &Problem<'_>, conflicts: &[Seq<Choice>]) -> bool
+fn all_follow<W: Watch>(problem: &Problem<'_>, conflicts: &[Seq<Choice>], watch: &mut W) -> bool
     ensures { IsTrue result
         ↔ EachFollows (rules_of problem.now) same_version [] conflicts.now }
 {
     let places = hints_of(problem, conflicts);
-    each_follows(problem, conflicts, places.as_ref())
+    each_follows(problem, conflicts, places.as_ref(), watch)
 }
 
 /// Whether the last conflict is empty.
@@ -77,10 +80,10 @@ fn ends_empty(conflicts: &[Seq<Choice>]) -> bool
 }
 
 /// Whether these conflicts are a refutation of what is asked.
-fn is_refutation(problem: &Problem<'_>, conflicts: &[Seq<Choice>]) -> bool
+fn is_refutation<W: Watch>(problem: &Problem<'_>, conflicts: &[Seq<Choice>], watch: &mut W) -> bool
     ensures { IsTrue result ↔ IsRefutation (rules_of problem.now) same_version conflicts.now }
 {
-    ends_empty(conflicts) && all_follow(problem, conflicts)
+    ends_empty(conflicts) && all_follow(problem, conflicts, watch)
 }
 
 /// Whether each conflict follows from those before it and the last one is empty, whoever made the
@@ -90,6 +93,20 @@ pub fn check(problem: &Problem<'_>, refutation: &Refutation) -> bool
         ↔ IsRefutation (rules_of problem.now) same_version refutation.now }
     ensures none { IsTrue result → HasNoSolution (rules_of problem.now) }
 {
+    let mut nobody = Unwatched;
+    check_watched(problem, refutation, &mut nobody)
+}
+
+/// What `check` answers, while somebody is told that it goes on.
+pub fn check_watched<W: Watch>(
+    problem: &Problem<'_>,
+    refutation: &Refutation,
+    watch: &mut W,
+) -> bool
+    ensures accepted { IsTrue result
+        ↔ IsRefutation (rules_of problem.now) same_version refutation.now }
+    ensures none { IsTrue result → HasNoSolution (rules_of problem.now) }
+{
     laws::an_accepted_refutation_leaves_no_solution();
-    is_refutation(problem, refutation.conflicts())
+    is_refutation(problem, refutation.conflicts(), watch)
 }

@@ -19,9 +19,9 @@ pub mod laws;
 mod needed_conflicts;
 mod refutation;
 
-pub use crate::checker::check;
+pub use crate::checker::{check, check_watched};
 pub use crate::choice::Choice;
 pub use crate::ground::{Ground, Need};
 pub use crate::grounds::{completed, ground_of};
-pub use crate::needed_conflicts::cut;
+pub use crate::needed_conflicts::{accepted, cut};
 pub use crate::refutation::Refutation;

@@ -1,10 +1,10 @@
 // Refutations without the conflicts that their last one doesn't rest on.
 
-ghost use Rattle.std.specs.Prelude.{IfOk};
+ghost use Rattle.std.specs.Prelude.{IfOk, IfSome};
 ghost use Rattle.search.specs.Conflicts.{IsRefutation};
 ghost use Rattle.problems.specs.Rules.{rules_of, same_version};
 
-use crate::checker::check;
+use crate::checker::check_watched;
 use crate::choice::Choice;
 use crate::ground::Ground;
 use crate::grounds::completion::completed_at;
@@ -15,6 +15,7 @@ use crate::refutation::Refutation;
 use lists::Seq;
 use problems::Problem;
 use problems::parts::{LentChoice, LentNode};
+use search::Watch;
 use std::alloc::{AllocError, Global};
 
 /// Whether a place is marked.
@@ -58,14 +59,16 @@ fn mark_grounds(
 }
 
 /// Marks, from the last conflict back, what each marked one rests on.
-fn mark_back(
+fn mark_back<W: Watch>(
     alloc: Global,
     marks: &mut [bool],
     problem: &Problem<'_>,
     conflicts: &[Seq<Choice>],
+    watch: &mut W,
 ) -> Result<(), AllocError> {
     let places = places_of(alloc, problem, conflicts)?;
     for behind in 0..conflicts.len() {
+        watch.goes_on();
         let place = conflicts.len() - 1 - behind;
         if is_marked(marks, place) {
             let found = places.hints(place)?;
@@ -96,34 +99,68 @@ fn kept(
 }
 
 /// The conflicts that the last one rests on, and the last one.
-fn needed(
+fn needed<W: Watch>(
     alloc: Global,
     problem: &Problem<'_>,
     conflicts: &[Seq<Choice>],
+    watch: &mut W,
 ) -> Result<Refutation, AllocError> {
     let mut marks = vec![in alloc; false; conflicts.len()]?;
     if !conflicts.is_empty() {
         mark(&mut marks, conflicts.len() - 1);
     }
-    mark_back(alloc, &mut marks, problem, conflicts)?;
+    mark_back(alloc, &mut marks, problem, conflicts, watch)?;
     kept(alloc, &marks, conflicts)
 }
 
-/// The refutation without the conflicts that its last one doesn't rest on.
-pub fn cut(
+/// The conflicts, where `check` accepts them.
+fn checked<W: Watch>(
+    problem: &Problem<'_>,
+    conflicts: Refutation,
+    watch: &mut W,
+) -> Option<Refutation>
+    ensures { IfSome result (IsRefutation (rules_of problem.now) same_version) }
+{
+    if check_watched(problem, &conflicts, watch) {
+        return Some(conflicts);
+    }
+    None
+}
+
+/// The refutation without the conflicts that its last one doesn't rest on. Somebody is told that it goes on.
+pub fn cut<W: Watch>(
     alloc: Global,
     problem: &Problem<'_>,
     refutation: Refutation,
+    watch: &mut W,
 ) -> Result<Refutation, AllocError>
     requires { IsRefutation (rules_of problem.now) same_version refutation }
     ensures { IfOk result (IsRefutation (rules_of problem.now) same_version) }
 {
-    let shorter = needed(alloc, problem, refutation.conflicts())?;
+    let shorter = needed(alloc, problem, refutation.conflicts(), watch)?;
     if shorter.conflicts().len() == refutation.conflicts().len() {
         return Ok(refutation);
     }
-    if check(problem, &shorter) {
-        return Ok(shorter);
+    match checked(problem, shorter, watch) {
+        Some(shorter) => Ok(shorter),
+        None => Ok(refutation),
     }
-    Ok(refutation)
+}
+
+/// Of conflicts, whoever made them, those that the last one rests on, where `check` accepts these; else all, where it accepts
+/// them. Nothing where it accepts neither. Somebody is told that it goes on.
+pub fn accepted<W: Watch>(
+    alloc: Global,
+    problem: &Problem<'_>,
+    conflicts: Refutation,
+    watch: &mut W,
+) -> Result<Option<Refutation>, AllocError>
+    ensures { IfOk result
+        (λ found. IfSome found (IsRefutation (rules_of problem.now) same_version)) }
+{
+    let shorter = needed(alloc, problem, conflicts.conflicts(), watch)?;
+    match checked(problem, shorter, watch) {
+        Some(shorter) => Ok(Some(shorter)),
+        None => Ok(checked(problem, conflicts, watch)),
+    }
 }

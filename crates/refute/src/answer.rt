@@ -13,14 +13,15 @@ use pep508::{Name, Requirement};
 use problems::{Node, Problem};
 use refutations::{Refutation, cut};
 use resolve::table::{Tabled, table_of};
-use search::laws;
+use search::{Watch, laws};
 use std::alloc::{AllocError, Global};
 
 /// A refutation, or nothing where there is a solution, worked out on a table.
-pub(crate) fn refuted_in(
+pub(crate) fn refuted_in<W: Watch>(
     alloc: Global,
     problem: &Problem<'_>,
     tabled: &Tabled,
+    watch: &mut W,
 ) -> Result<Option<Refutation>, AllocError>
     requires { IsPictured problem.now tabled.now.names tabled.now.nodes tabled.now.table }
     ensures { IfOk result
@@ -32,7 +33,7 @@ pub(crate) fn refuted_in(
     let table = &tabled.table;
     // What is known of every table comes with its count.
     let _count = table.name_count();
-    match learned_or_refuted(alloc, table)? {
+    match learned_or_refuted(alloc, table, watch)? {
         Found::Best(_) => Ok(None),
         Found::Refuted(conflicts) => {
             let conflicts = conflicts.as_slice();
@@ -43,15 +44,19 @@ pub(crate) fn refuted_in(
 }
 
 /// A refutation of the problem by conflicts of single versions, which `check` accepts: of what the search has learned,
-/// the conflicts that the last one rests on. Nothing where the problem has a solution.
-pub fn refute_singly(alloc: Global, problem: &Problem<'_>) -> Result<Option<Refutation>, AllocError>
+/// the conflicts that the last one rests on. Nothing where the problem has a solution. Somebody is told that it goes on.
+pub fn refute_singly<W: Watch>(
+    alloc: Global,
+    problem: &Problem<'_>,
+    watch: &mut W,
+) -> Result<Option<Refutation>, AllocError>
     ensures { IfOk result
         (λ found. MatchOption found (HasSolution problem.now)
         (IsRefutation (rules_of problem.now) same_version)) }
 {
     let tabled = table_of(alloc, problem)?;
-    match refuted_in(alloc, problem, &tabled)? {
+    match refuted_in(alloc, problem, &tabled, watch)? {
         None => Ok(None),
-        Some(refutation) => Ok(Some(cut(alloc, problem, refutation)?)),
+        Some(refutation) => Ok(Some(cut(alloc, problem, refutation, watch)?)),
     }
 }

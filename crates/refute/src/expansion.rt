@@ -22,7 +22,8 @@ use crate::set_answer::refute_by_sets;
 use lists::Seq;
 use problems::Problem;
 use problems::parts::copy_of;
-use refutations::{Choice, Refutation, check, cut};
+use refutations::{Choice, Refutation, accepted};
+use search::Watch;
 use set_refutations::SetRefutation;
 use std::alloc::{AllocError, Global};
 
@@ -75,53 +76,52 @@ fn listed(
 }
 
 /// A list of single versions that is made of a refutation by sets; nothing where it grows past a bound.
-fn expanded(
+fn expanded<W: Watch>(
     alloc: Global,
     problem: &Problem<'_>,
     refutation: &SetRefutation,
+    watch: &mut W,
 ) -> Result<Option<Refutation>, AllocError> {
     let sets = SetConflicts::new(alloc, problem, refutation.conflicts())?;
     let mut descent = Descent::new(alloc, sets);
-    if descent.run()? {
+    if descent.run(watch)? {
         return Ok(Some(listed(alloc, problem, &descent)?));
     }
     Ok(None)
 }
 
-/// The same list, where `check` accepts it, without the conflicts that its last one doesn't rest on.
-fn accepted(
+/// The same list without the conflicts that its last one doesn't rest on, where `check` accepts it.
+fn accepted_list<W: Watch>(
     alloc: Global,
     problem: &Problem<'_>,
     refutation: &SetRefutation,
+    watch: &mut W,
 ) -> Result<Option<Refutation>, AllocError>
     ensures { IfOk result
         (λ found. IfSome found (IsRefutation (rules_of problem.now) same_version)) }
 {
-    match expanded(alloc, problem, refutation)? {
-        Some(list) => {
-            if check(problem, &list) {
-                return Ok(Some(cut(alloc, problem, list)?));
-            }
-            Ok(None)
-        }
+    match expanded(alloc, problem, refutation, watch)? {
+        Some(list) => accepted(alloc, problem, list, watch),
         None => Ok(None),
     }
 }
 
 /// A refutation of the problem, which `check` accepts: one that is made of a refutation by sets; where that isn't
-/// accepted, or grows past a bound, what `refute_singly` finds. Nothing where the problem has a solution.
-pub fn refute_by_choices(
+/// accepted, or grows past a bound, what `refute_singly` finds. Nothing where the problem has a solution. Somebody is told
+/// that it goes on.
+pub fn refute_by_choices<W: Watch>(
     alloc: Global,
     problem: &Problem<'_>,
+    watch: &mut W,
 ) -> Result<Option<Refutation>, AllocError>
     ensures { IfOk result
         (λ found. MatchOption found (HasSolution problem.now)
         (IsRefutation (rules_of problem.now) same_version)) }
 {
-    match refute_by_sets(alloc, problem)? {
-        Some(sets) => match accepted(alloc, problem, &sets)? {
+    match refute_by_sets(alloc, problem, watch)? {
+        Some(sets) => match accepted_list(alloc, problem, &sets, watch)? {
             Some(refutation) => Ok(Some(refutation)),
-            None => refute_singly(alloc, problem),
+            None => refute_singly(alloc, problem, watch),
         },
         None => Ok(None),
     }

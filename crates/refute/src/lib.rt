@@ -4,7 +4,7 @@
 //!
 //! ```rust
 //! let problem = Problem::new(alloc, lines, environment, index, BTreeMap::new(alloc))?;
-//! match refute_singly(alloc, &problem)? {
+//! match refute_singly(alloc, &problem, &mut Unwatched)? {
 //!     Some(refutation) => Ok(check(&problem, &refutation)),
 //!     // There is a solution.
 //!     None => Ok(true),

@@ -12,16 +12,17 @@ use pep440::Version;
 use pep508::{Name, Requirement};
 use problems::{Node, Problem};
 use resolve::table::{Tabled, table_of};
-use search::laws;
+use search::{Watch, laws};
 use set_refutations::SetRefutation;
 use set_search::{SetVerdict, solved};
 use std::alloc::{AllocError, Global};
 
 /// A refutation by conflicts of single versions as one of sets, or nothing where there is a solution.
-fn refuted_singly_in(
+fn refuted_singly_in<W: Watch>(
     alloc: Global,
     problem: &Problem<'_>,
     tabled: &Tabled,
+    watch: &mut W,
 ) -> Result<Option<SetRefutation>, AllocError>
     requires { IsPictured problem.now tabled.now.names tabled.now.nodes tabled.now.table }
     ensures { IfOk result
@@ -29,17 +30,18 @@ fn refuted_singly_in(
         (IsSetRefutation (rules_of problem.now) same_version)) }
 {
     laws::a_refutation_is_a_set_refutation::<Name, Node, Version, Requirement>();
-    match refuted_in(alloc, problem, tabled)? {
+    match refuted_in(alloc, problem, tabled, watch)? {
         None => Ok(None),
         Some(refutation) => Ok(Some(as_sets(alloc, &refutation)?)),
     }
 }
 
 /// A set refutation, or nothing where there is a solution, worked out on a table.
-fn refuted_by_sets_in(
+fn refuted_by_sets_in<W: Watch>(
     alloc: Global,
     problem: &Problem<'_>,
     tabled: &Tabled,
+    watch: &mut W,
 ) -> Result<Option<SetRefutation>, AllocError>
     requires { IsPictured problem.now tabled.now.names tabled.now.nodes tabled.now.table }
     ensures { IfOk result
@@ -51,27 +53,28 @@ fn refuted_by_sets_in(
     let table = &tabled.table;
     // What is known of every table comes with its count.
     let _count = table.name_count();
-    match solved(alloc, table)? {
+    match solved(alloc, table, watch)? {
         SetVerdict::Best(_) => Ok(None),
         SetVerdict::Refuted(conflicts) => {
             let conflicts = conflicts.as_slice();
             let refutation = set_refutation_of(alloc, problem, tabled, conflicts)?;
             Ok(Some(refutation))
         }
-        SetVerdict::GaveUp => refuted_singly_in(alloc, problem, tabled),
+        SetVerdict::GaveUp => refuted_singly_in(alloc, problem, tabled, watch),
     }
 }
 
 /// A refutation of the problem by conflicts of sets of versions, which `check_sets` accepts. Nothing where the problem
-/// has a solution.
-pub fn refute_by_sets(
+/// has a solution. Somebody is told that it goes on.
+pub fn refute_by_sets<W: Watch>(
     alloc: Global,
     problem: &Problem<'_>,
+    watch: &mut W,
 ) -> Result<Option<SetRefutation>, AllocError>
     ensures { IfOk result
         (λ found. MatchOption found (HasSolution problem.now)
         (IsSetRefutation (rules_of problem.now) same_version)) }
 {
     let tabled = table_of(alloc, problem)?;
-    refuted_by_sets_in(alloc, problem, &tabled)
+    refuted_by_sets_in(alloc, problem, &tabled, watch)
 }

@@ -24,12 +24,12 @@ use shell::given_words::has_option;
 use shell::screen::{Screen, shown_stop};
 use std::alloc::{AllocError, Global};
 use std::io::{Read, Write};
-use std::rt::Files;
+use std::rt::{Clock, Files};
 use stops::{Stop, stop_of_request};
 use texts::diff_text::diff_text;
 use views::{
-    answer_why, print_check, print_diff, print_export, print_history, print_outdated, print_shown,
-    print_skipped,
+    Telling, Waiting, answer_why, print_check, print_diff, print_export, print_history,
+    print_outdated, print_shown, print_skipped,
 };
 
 /// The words of a call, the first of them the program's name, and who reads its answer.
@@ -41,7 +41,7 @@ pub struct Given<'a> {
 
 /// Does what the words mean. Commands are read from `input`, replies and help are written to `output`, and other
 /// texts to `errors`.
-pub fn program<R: Files + AllocGlobal, I: Read + Drop, O: Write, E: Write>(
+pub fn program<R: Files + Clock + AllocGlobal, I: Read + Drop, O: Write, E: Write>(
     rt: &R,
     given: Given<'_>,
     input: I,
@@ -167,7 +167,7 @@ fn verbosity_in(words: &[String]) -> Verbosity {
 }
 
 /// What is known of a file that is refused is noted behind all else.
-fn obey<R: Files + AllocGlobal, I: Read + Drop, O: Write, E: Write>(
+fn obey<R: Files + Clock + AllocGlobal, I: Read + Drop, O: Write, E: Write>(
     call: &mut Call<'_, R, O>,
     subcommand: Subcommand<'_>,
     names_environment: bool,
@@ -203,7 +203,7 @@ where
     done
 }
 
-fn obey_in<R: Files + AllocGlobal, I: Read + Drop, O: Write, E: Write>(
+fn obey_in<R: Files + Clock + AllocGlobal, I: Read + Drop, O: Write, E: Write>(
     call: &mut Call<'_, R, O>,
     subcommand: Subcommand<'_>,
     targets: Vec<TargetFile>,
@@ -244,7 +244,9 @@ where
         Subcommand::Export(export) => print_export(call, errors, &export),
         Subcommand::Skipped(index) => print_skipped(call, index),
         Subcommand::Why(question, told) => {
-            answer_why(call, &mut details.lacks, question, told, targets, input)
+            let watch = Waiting::new(call.rt, &mut *errors, details.manner.is_person);
+            let telling = Telling { told, watch };
+            answer_why(call, &mut details.lacks, question, telling, targets, input)
         }
     }
 }

@@ -7,7 +7,7 @@ ghost use Rattle.search.specs.Table.{IsAscending, place_in, rules_of};
 use learning_search::learned_best;
 use lists::Seq;
 use plain_search::best;
-use search::{Table, TableChoice};
+use search::{Table, TableChoice, Unwatched};
 use set_search::{SetVerdict, solved};
 use std::alloc::{AllocError, Global};
 
@@ -27,7 +27,8 @@ fn learned(alloc: Global, table: &Table) -> Result<Option<Seq<TableChoice>>, All
     ensures ascending { IfOk result
         (λ answer. MatchOption answer Unit (λ choices. IsAscending choices)) }
 {
-    match solved(alloc, table)? {
+    let mut nobody = Unwatched;
+    match solved(alloc, table, &mut nobody)? {
         SetVerdict::Best(choices) => Ok(Some(choices)),
         SetVerdict::Refuted(_) => Ok(None),
         SetVerdict::GaveUp => learned_best(alloc, table),

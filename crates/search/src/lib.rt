@@ -20,6 +20,7 @@ mod parts;
 mod table;
 mod taken_places;
 mod term;
+mod watch;
 
 pub use crate::conflict::{Decision, NodeChoice};
 pub use crate::front::Front;
@@ -27,3 +28,4 @@ pub use crate::parts::{Frame, TableChoice, TableRequirement};
 pub use crate::table::Table;
 pub use crate::taken_places::{choices_of, choices_taken};
 pub use crate::term::Term;
+pub use crate::watch::{Unwatched, Watch};

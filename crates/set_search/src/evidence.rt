@@ -7,7 +7,7 @@ use crate::search_state::{BUDGET, SearchState};
 use crate::unit_propagation::{propagate, propagate_learned, propagate_table};
 use crate::walk::Walked;
 use lists::Seq;
-use search::Table;
+use search::{Table, Watch};
 use set_conflicts::derivation::{Derivation, DerivationCause};
 use set_conflicts::refutation::Incompatibility;
 use set_conflicts::replay::Move;
@@ -165,7 +165,11 @@ fn walked_evidence(alloc: Global, state: SearchState) -> Result<Evidence, AllocE
 }
 
 /// Searches for the best solution of a table. Nothing is claimed of what it hands out.
-pub fn evidence_of(alloc: Global, table: &Table) -> Result<Evidence, AllocError> {
+pub fn evidence_of<W: Watch>(
+    alloc: Global,
+    table: &Table,
+    watch: &mut W,
+) -> Result<Evidence, AllocError> {
     let sets = TableSets::of(alloc, table)?;
     let instance = Instance {
         alloc,
@@ -175,6 +179,7 @@ pub fn evidence_of(alloc: Global, table: &Table) -> Result<Evidence, AllocError>
     let mut state = SearchState::start(&instance)?;
     propagate_table(&instance, &mut state)?;
     for _ in 0..BUDGET {
+        watch.goes_on();
         match take_round(&instance, &mut state)? {
             Round::Onward => {}
             Round::GaveUp => return Ok(Evidence::GaveUp),

@@ -9,7 +9,7 @@ ghost use Rattle.set_search.specs.SetVerdict.{MatchSetVerdict};
 
 use crate::evidence::{Evidence, evidence_of};
 use lists::Seq;
-use search::{Table, TableChoice};
+use search::{Table, TableChoice, Watch};
 use set_conflicts::known_terms::are_known;
 use set_conflicts::refutation::{Incompatibility, list_of, refutation_of};
 use set_conflicts::replay::{Move, replayed};
@@ -66,8 +66,12 @@ fn known_refutation(
 }
 
 /// The best solution of a table, or a refutation where there is no solution. The search is trusted
-/// for nothing: where its evidence doesn't pass its tests, it counts as having given up.
-pub fn solved(alloc: Global, table: &Table) -> Result<SetVerdict, AllocError>
+/// for nothing: where its evidence doesn't pass its tests, it counts as having given up. Somebody is told that it goes on.
+pub fn solved<W: Watch>(
+    alloc: Global,
+    table: &Table,
+    watch: &mut W,
+) -> Result<SetVerdict, AllocError>
     ensures best { IfOk result
         (λ found. MatchSetVerdict found (λ choices. IsBest (rules_of table.now) (place_in choices))
         (λ _. HasNoSolution (rules_of table.now))) }
@@ -78,7 +82,7 @@ pub fn solved(alloc: Global, table: &Table) -> Result<SetVerdict, AllocError>
     ensures known { IfOk result
         (λ found. MatchSetVerdict found (λ _. Unit) (AreKnownSets table.now)) }
 {
-    match evidence_of(alloc, table)? {
+    match evidence_of(alloc, table, watch)? {
         Evidence::GaveUp => Ok(SetVerdict::GaveUp),
         Evidence::Walked { recorded, moves } => {
             match best_of(alloc, table, recorded, moves.as_slice())? {

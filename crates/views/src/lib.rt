@@ -15,6 +15,7 @@ mod outdated;
 mod question;
 mod show;
 mod skipped;
+mod waiting;
 mod why;
 mod why_not;
 
@@ -26,5 +27,6 @@ pub use crate::outdated::print_outdated;
 pub use crate::question::answer_why;
 pub use crate::show::print_shown;
 pub use crate::skipped::print_skipped;
+pub use crate::waiting::{Telling, Waiting};
 pub use crate::why::{Asked, answer};
 pub use crate::why_not::{NamedRelease, first_lacking, is_locked};

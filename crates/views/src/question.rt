@@ -1,9 +1,11 @@
 // What `why` answers.
 
+use crate::waiting::Telling;
 use crate::why::{print_why, print_why_init, print_why_replace};
 use crate::why_not::print_why_not;
+use answers::Watch;
 use calls::{Call, first_paths};
-use command_line::request::{Question, Told};
+use command_line::request::Question;
 use inputs::LockFile;
 use inputs::target_files::TargetFile;
 use notes::Lacks;
@@ -13,11 +15,11 @@ use stops::Stop;
 
 /// Answers a question, of which these are the targets where it is about a first lock. A question about a release is
 /// always answered in sentences.
-pub fn answer_why<R: Files + AllocGlobal, I: Read + Drop, O: Write>(
+pub fn answer_why<R: Files + AllocGlobal, I: Read + Drop, O: Write, W: Watch + Drop>(
     call: &mut Call<'_, R, O>,
     lacks: &mut Lacks,
     question: Question<'_>,
-    told: Told,
+    telling: Telling<W>,
     targets: Vec<TargetFile>,
     input: I,
 ) -> Result<(), Stop>
@@ -25,14 +27,14 @@ where
     R::File: LockFile,
 {
     match question {
-        Question::Edit(edit, inputs) => print_why(call, lacks, &edit, inputs, told),
+        Question::Edit(edit, inputs) => print_why(call, lacks, &edit, inputs, telling),
         Question::Replace(replacement, inputs) => {
-            print_why_replace(call, lacks, &replacement, inputs, told, input)
+            print_why_replace(call, lacks, &replacement, inputs, telling, input)
         }
         Question::Init(inputs, line) => {
             let paths = first_paths(call.rt.alloc(), &inputs, targets)?;
-            print_why_init(call, lacks, line, paths, told, input)
+            print_why_init(call, lacks, line, paths, telling, input)
         }
-        Question::Release(text, index) => print_why_not(call, lacks, text, index, told),
+        Question::Release(text, index) => print_why_not(call, lacks, text, index, telling),
     }
 }

@@ -4,7 +4,8 @@ ghost use Rattle.std.specs.Prelude.{IfOk};
 ghost use Rattle.std.specs.List.{All};
 ghost use Rattle.answers.specs.Answers.{IsSolvable};
 
-use answers::{Shown, changed_by, explained_text, first_refuted, lines_of, listed_text};
+use crate::waiting::Telling;
+use answers::{Shown, Watch, changed_by, explained_text, first_refuted, lines_of, listed_text};
 use calls::{Call, ReplacedHistory, pool_of, replaced};
 use command_line::request::{EditInputs, Replacement, Told};
 use edits::{Edit, Problem, TargetName, problem_after, problems_of_init};
@@ -23,12 +24,12 @@ use stops::Stop;
 /// Prints why an edit of the saved state has no solution over an index: a refutation that `check`
 /// accepts, of the first target that has none. Where each one has a solution, that is printed.
 /// It is told in sentences where that is asked for, long ones too. All files are read before a fault in one is told.
-pub(crate) fn print_why<R: Files + AllocGlobal, O: Write>(
+pub(crate) fn print_why<R: Files + AllocGlobal, O: Write, W: Watch + Drop>(
     call: &mut Call<'_, R, O>,
     lacks: &mut Lacks,
     edit: &Edit,
     inputs: EditInputs<'_>,
-    told: Told,
+    telling: Telling<W>,
 ) -> Result<(), Stop>
 where
     R::File: LockFile,
@@ -41,17 +42,17 @@ where
         lines: session.state().lines().lines(),
         changed: changed_by(edit),
     };
-    let asked = Asked { changed, told };
+    let asked = Asked { changed, telling };
     answer(alloc, lacks, asked, problems.as_slice(), &mut call.output)
 }
 
 /// The same of other lines in the place of all lines. The lines that are told are the new ones.
-pub(crate) fn print_why_replace<R: Files + AllocGlobal, I: Read + Drop, O: Write>(
+pub(crate) fn print_why_replace<R: Files + AllocGlobal, I: Read + Drop, O: Write, W: Watch + Drop>(
     call: &mut Call<'_, R, O>,
     lacks: &mut Lacks,
     replacement: &Replacement<'_>,
     inputs: EditInputs<'_>,
-    told: Told,
+    telling: Telling<W>,
     input: I,
 ) -> Result<(), Stop>
 where
@@ -71,18 +72,18 @@ where
         lines: lines_of(&edit, history.session.state()),
         changed: changed_by(&edit),
     };
-    let asked = Asked { changed, told };
+    let asked = Asked { changed, telling };
     answer(alloc, lacks, asked, problems.as_slice(), &mut call.output)
 }
 
 /// The same of the lock that `init` would make of the requirements file, with this line behind the others
 /// where there is one. No history and no lock is read.
-pub(crate) fn print_why_init<R: Files + AllocGlobal, I: Read + Drop, O: Write>(
+pub(crate) fn print_why_init<R: Files + AllocGlobal, I: Read + Drop, O: Write, W: Watch + Drop>(
     call: &mut Call<'_, R, O>,
     lacks: &mut Lacks,
     line: Option<&str>,
     paths: FirstPaths<'_>,
-    told: Told,
+    telling: Telling<W>,
     input: I,
 ) -> Result<(), Stop> {
     let alloc = call.rt.alloc();
@@ -101,31 +102,32 @@ pub(crate) fn print_why_init<R: Files + AllocGlobal, I: Read + Drop, O: Write>(
         lines: lines.lines(),
         changed: changed_by(&edit),
     };
-    let asked = Asked { changed, told };
+    let asked = Asked { changed, telling };
     answer(alloc, lacks, asked, problems.as_slice(), &mut call.output)
 }
 
 /// Which lines are asked about, and how it is told.
-#[derive(Clone, Copy)]
-pub struct Asked<'a> {
+#[derive(Drop)]
+pub struct Asked<'a, W> {
     pub changed: ChangedLines<'a>,
-    pub told: Told,
+    pub telling: Telling<W>,
 }
 
 /// Tells of the first target without a solution why it has none, or that each has one. What the index lacks for that target is
 /// noted.
-pub fn answer<O: Write>(
+pub fn answer<O: Write, W: Watch + Drop>(
     alloc: Global,
     lacks: &mut Lacks,
-    asked: Asked<'_>,
+    asked: Asked<'_, W>,
     problems: &[(TargetName, Problem<'_>)],
     output: &mut O,
 ) -> Result<(), Stop>
     ensures { IfOk result (λ _. All IsSolvable problems.now) }
 {
-    let Asked { changed, told } = asked;
+    let Asked { changed, telling } = asked;
+    let Telling { told, mut watch } = telling;
     let explains = told != Told::Conflicts;
-    match first_refuted(alloc, problems, explains)? {
+    match first_refuted(alloc, problems, explains, &mut watch)? {
         Some((place, shown)) => {
             let (name, problem) = &problems[place];
             lacks.add_asked(alloc, name, problem, true)?;

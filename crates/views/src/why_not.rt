@@ -5,10 +5,10 @@ ghost use Rattle.std.specs.List.{position};
 ghost use Rattle.edits.specs.Refused.{is_locked_for};
 ghost use Rattle.views.specs.WhyNot.{lacks};
 
+use crate::waiting::Telling;
 use crate::why::wording_of;
-use answers::{best_keeping, explained_text, kept_longest, refuted_by_sets};
+use answers::{Watch, best_keeping, explained_text, kept_longest, refuted_by_sets};
 use calls::Call;
-use command_line::request::Told;
 use edits::{
     Cause, Edit, Learning, Line, Name, Pool, Problem, Refusal, Resolver, State, Target,
     problem_after, problems_with,
@@ -41,12 +41,12 @@ pub struct NamedRelease {
 /// Prints why the present lock hasn't the release that the text names, as `NAME==VERSION`, or the newest
 /// final one of the index, as `NAME`: of the first target whose lock has the name and not the release. It is always told in
 /// sentences, in long ones where these are asked for.
-pub(crate) fn print_why_not<R: Files + AllocGlobal, O: Write>(
+pub(crate) fn print_why_not<R: Files + AllocGlobal, O: Write, W: Watch + Drop>(
     call: &mut Call<'_, R, O>,
     lacks: &mut Lacks,
     text: &str,
     index: &str,
-    told: Told,
+    telling: Telling<W>,
 ) -> Result<(), Stop>
 where
     R::File: LockFile,
@@ -54,7 +54,7 @@ where
     let alloc = call.rt.alloc();
     let (session, snapshot) = session_over(call.rt, call.dir, index)?;
     let named = release_in(alloc, text, &snapshot)?;
-    let answer = why_not(alloc, lacks, session.state(), &named, &snapshot, told)?;
+    let answer = why_not(alloc, lacks, session.state(), &named, &snapshot, telling)?;
     show(&mut call.output, answer.as_str().as_bytes())?;
     Ok(())
 }
@@ -114,13 +114,13 @@ fn version_in(alloc: Global, text: &str) -> Result<Version, Refusal> {
 
 /// The answer of the first target whose lock has the name and not the release. A name that is in no lock is
 /// refused. What the index lacks for that target is noted.
-fn why_not(
+fn why_not<W: Watch + Drop>(
     alloc: Global,
     lacks: &mut Lacks,
     state: &State,
     named: &NamedRelease,
     snapshot: &Snapshot,
-    told: Told,
+    telling: Telling<W>,
 ) -> Result<String, Stop> {
     let present = problem_after(alloc, state, &Edit::Relock, &Pool::whole(snapshot))?;
     let problems = problems_with(alloc, state, &named.text, snapshot)?;
@@ -141,7 +141,7 @@ fn why_not(
     let (_, before) = &present.as_slice()[place];
     let (_, asked) = &problems.as_slice()[place];
     lacks.add_asked(alloc, &target.name, asked, false)?;
-    lacking.why(alloc, before, asked, told)
+    lacking.why(alloc, before, asked, telling)
 }
 
 /// A target whose lock has the name and not the release.
@@ -156,18 +156,18 @@ struct Lacking<'a> {
 impl Lacking<'_> {
     /// Tells why the release counts for nothing, or which name would have to give, below the target's name. `present` is
     /// the problem of the lines as they are, `asked` the one with a line on the release.
-    fn why(
+    fn why<W: Watch + Drop>(
         &self,
         alloc: Global,
         present: &Problem<'_>,
         asked: &Problem<'_>,
-        told: Told,
+        telling: Telling<W>,
     ) -> Result<String, Stop> {
         let named = self.named;
         let mut text = String::new(alloc);
         add_target_line(&mut text, self.target.name.as_str())?;
         let Some(version) = &named.version else {
-            return self.refuted(alloc, text, asked, told);
+            return self.refuted(alloc, text, asked, telling);
         };
         let name = &named.name;
         let wanted = WantedRelease { name, version };
@@ -185,25 +185,26 @@ impl Lacking<'_> {
                 add_difference(alloc, &mut text, present, wanted, &best)?;
                 Ok(text)
             }
-            Answer::NoSolution => self.refuted(alloc, text, asked, told),
+            Answer::NoSolution => self.refuted(alloc, text, asked, telling),
         }
     }
 
     /// Why there is no solution with the release.
-    fn refuted(
+    fn refuted<W: Watch + Drop>(
         &self,
         alloc: Global,
         text: String,
         asked: &Problem<'_>,
-        told: Told,
+        telling: Telling<W>,
     ) -> Result<String, Stop> {
         let (state, named) = (self.state, self.named);
         let changed = ChangedLines {
             lines: state.lines().lines(),
             changed: ChangedLine::Wanted(&named.text),
         };
+        let Telling { told, mut watch } = telling;
         let wording = wording_of(changed, told);
-        match refuted_by_sets(alloc, asked)? {
+        match refuted_by_sets(alloc, asked, &mut watch)? {
             Some(explanation) => {
                 let text = explained_text(alloc, &self.target.name, asked, &explanation, wording)?;
                 Err(Stop::Explained(text))

@@ -10,6 +10,7 @@ use edits::{Edit, Pool, Refusal, Snapshot, State, problem_after};
 use refutations::check;
 use refute::refute_singly;
 use resolve::Problem;
+use search::Unwatched;
 use std::alloc::Global;
 use std::io::Write;
 
@@ -107,12 +108,12 @@ fn refuted<W: Write>(alloc: Global, out: &mut W, mut problem: Problem<'_>) -> Op
         alloc,
         out,
         &mut problem,
-        |problem| refute_singly(alloc, problem),
+        |problem| refute_singly(alloc, problem, &mut Unwatched),
     )
 }
 
 fn checked<W: Write>(alloc: Global, out: &mut W, mut problem: Problem<'_>) -> Option<()> {
-    let refutation = refute_singly(alloc, &problem).ok()??;
+    let refutation = refute_singly(alloc, &problem, &mut Unwatched).ok()??;
     play(
         alloc,
         out,

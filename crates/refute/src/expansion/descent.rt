@@ -5,6 +5,7 @@ use crate::expansion::numbered_sets::{SetConflicts, Way};
 use crate::expansion::placed_choice::{PlacedChoice, is_among};
 use crate::expansion::placed_term::PlacedTerm;
 use crate::expansion::single_conflicts::SingleConflicts;
+use search::Watch;
 use std::alloc::{AllocError, Global};
 
 /// How many choices the conflicts of a list may have together.
@@ -78,12 +79,13 @@ impl<'a> Descent<'a> {
     }
 
     /// Makes conflicts up to the empty one. Whether it came so far: it gives up where they grow past a bound.
-    pub(crate) fn run(&mut self) -> Result<bool, AllocError> {
+    pub(crate) fn run<W: Watch>(&mut self, watch: &mut W) -> Result<bool, AllocError> {
         let Some(last) = self.sets.last() else {
             return Ok(false);
         };
         let mut goes_on = self.enter(last, Vec::new(self.alloc))?;
         for _ in 0..STEPS {
+            watch.goes_on();
             if self.singles.ends_empty() {
                 return Ok(true);
             }

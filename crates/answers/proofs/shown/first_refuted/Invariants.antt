@@ -2,4 +2,4 @@ use Rattle.answers.specs.Answers.{AreSolvableBefore}
 use Rattle.answers.proofs.shown.first_refuted.Given as goal
 
 abbrev pub invariant-loop-place : goal.invariant-loop-place
-invariant-loop-place l = AreSolvableBefore l.problems l.place
+invariant-loop-place g l = AreSolvableBefore l.problems l.place

@@ -8,7 +8,7 @@ use Rattle.set_refutations.proofs.SetsGrounded.{ground-decides}
 use Rattle.explain.proofs.grounds.each_ground.Goals as goal
 
 pub returns-in-None : goal.returns-in-None
-returns-in-None c =
+returns-in-None g c =
     let given = c.args.problem.now in
     let conflicts = c.args.conflicts.now in
     let place = c.loop-place.place in
@@ -17,7 +17,7 @@ returns-in-None c =
     (each-at given [] conflicts place c.index-conflicts-place.result c.loop-place-test.true each))
 
 pub loop-place-preserved : goal.loop-place-preserved
-loop-place-preserved c =
+loop-place-preserved g c =
     let given = c.args.problem.now in
     let conflicts = c.args.conflicts.now in
     let place = c.loop-place.place in

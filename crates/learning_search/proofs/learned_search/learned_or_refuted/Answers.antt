@@ -20,13 +20,13 @@ refuted-at-end : (t : TableParts) (p : PartialSolution) (conflicts : List (List 
 refuted-at-end t p conflicts progress is h = subst (λ (x : Progress). StandsAt t p conflicts x) is h
 
 pub onward-progress-requires-clause-table : goal.onward-progress-requires-clause-table
-onward-progress-requires-clause-table c = c.in_ok-partial.ensures.known
+onward-progress-requires-clause-table g c = c.in_ok-partial.ensures.known
 
 pub step-requires-clause-table : goal.step-requires-clause-table
-step-requires-clause-table c = c.in_ok-partial.ensures.known
+step-requires-clause-table g c = c.in_ok-partial.ensures.known
 
 pub returns-in-Solved-clause-best : goal.returns-in-Solved-clause-best
-returns-in-Solved-clause-best c =
+returns-in-Solved-clause-best g c =
     let t : TableParts = c.args.table.now in
     let p : PartialSolution = c.search.partial in
     let k : StandsAt t p c.search.conflicts.list.items Solved = subst (λ (x : Progress). StandsAt t p c.search.conflicts.list.items x) c.in-Solved.is c.search.invariant in
@@ -35,7 +35,7 @@ returns-in-Solved-clause-best c =
     subst (λ (s : ℕ → Option ℕ). IsBest (rules_of t) s) path k.1
 
 pub search-smaller : goal.search-smaller
-search-smaller c =
+search-smaller g c =
     let t : TableParts = c.args.table.now in
     let p : PartialSolution = c.search.partial in
     let cs : List (List (NodeChoice ℕ ℕ)) = c.search.conflicts.list.items in
@@ -44,14 +44,14 @@ search-smaller c =
     (work-onward t c.in_ok-partial.ensures.known p c.step.new.partial cs c.step.new.conflicts.list.items c.in-Trying.queue c.in_ok-progress-in-Trying.progress k c.in_ok-progress-in-Trying.ensures.stands c.in_ok-progress-in-Trying.ensures.onward)
 
 pub returns-in-Refuted-clause-best : goal.returns-in-Refuted-clause-best
-returns-in-Refuted-clause-best c =
+returns-in-Refuted-clause-best g c =
     let t : TableParts = c.args.table.now in
     let cs : List (List (NodeChoice ℕ ℕ)) = c.search.conflicts.list.items in
     let k : IsRefutation (rules_of t) places_eq cs × AreKnown t cs = refuted-at-end t c.search.partial cs c.search.progress c.in-Refuted.is c.search.invariant in
     refutation-none (rules_of t) places_eq (table-lawful t c.in_ok-partial.ensures.known) (places-equality (rules_of t)) cs k.0
 
 pub returns-in-Refuted-clause-known : goal.returns-in-Refuted-clause-known
-returns-in-Refuted-clause-known c =
+returns-in-Refuted-clause-known g c =
     let t : TableParts = c.args.table.now in
     let cs : List (List (NodeChoice ℕ ℕ)) = c.search.conflicts.list.items in
     subst (λ (xs : List (List (NodeChoice ℕ ℕ))). AreKnown t xs) (sym c.into_list.ensures) (refuted-at-end t c.search.partial cs c.search.progress c.in-Refuted.is c.search.invariant).1

@@ -3,7 +3,7 @@ use Rattle.learning_search.specs.Tied.Learning.{StandsAt}
 use Rattle.learning_search.proofs.learned_search.learned_or_refuted.Given as goal
 
 abbrev pub invariant-search : goal.invariant-search
-invariant-search l = StandsAt l.table l.partial l.conflicts.list.items l.progress
+invariant-search g l = StandsAt l.table l.partial l.conflicts.list.items l.progress
 
 abbrev pub decreases-search : goal.decreases-search
-decreases-search l = progress_work l.table l.partial.assignments.items l.progress
+decreases-search g l = progress_work l.table l.partial.assignments.items l.progress

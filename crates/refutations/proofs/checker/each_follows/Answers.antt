@@ -7,7 +7,7 @@ use Rattle.refutations.proofs.Checked.{each-at, each-push}
 use Rattle.refutations.proofs.checker.each_follows.Goals as goal
 
 pub loop-place-preserved : goal.loop-place-preserved
-loop-place-preserved c =
+loop-place-preserved g c =
     let given = c.args.problem.now in
     let conflicts = c.args.conflicts.now in
     let place = c.loop-place.place in
@@ -17,7 +17,7 @@ loop-place-preserved c =
     subst (λ (cs : List (List ChoiceParts)). EachFollows (rules_of given) same_version [] cs) (sym more) (each-push given [] (take place conflicts) here c.loop-place.invariant follows)
 
 pub returns-then-not-follows : goal.returns-then-not-follows
-returns-then-not-follows c =
+returns-then-not-follows g c =
     let given = c.args.problem.now in
     let conflicts = c.args.conflicts.now in
     let place = c.loop-place.place in

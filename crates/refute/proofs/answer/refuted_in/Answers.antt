@@ -13,7 +13,7 @@ use Rattle.resolve.proofs.Solving.{best-solves}
 use Rattle.refute.proofs.answer.refuted_in.Goals as goal
 
 pub returns-in-Best : goal.returns-in-Best
-returns-in-Best c =
+returns-in-Best g c =
     let given = c.args.problem.now in
     let tabled = c.args.tabled.now in
     let best : IsBest (rules_of_table tabled.table) (place_in c.in-Best.field-0) = rw c.in-Best.is at c.in_ok-learned_or_refuted.ensures.best in
@@ -21,13 +21,13 @@ returns-in-Best c =
     (c.a_picture_keeps_the_best_solution.ensures.best tabled.table (picture_of given tabled.names tabled.nodes c.requires.asked) (rules_of given) c.name_count-count.ensures.known bytes-order c.requires.pictured c.in-Best.field-0 best)
 
 pub refutation_of-requires-clause-known : goal.refutation_of-requires-clause-known
-refutation_of-requires-clause-known c =
+refutation_of-requires-clause-known g c =
     let table = c.args.tabled.now.table in
     let known : AreKnown table c.in-Refuted.conflicts = rw c.in-Refuted.is at c.in_ok-learned_or_refuted.ensures.known in
     subst (λ (conflicts : List (List (NodeChoice ℕ ℕ))). AreKnown table conflicts) (sym c.as_slice-conflicts.ensures) known
 
 pub returns : goal.returns
-returns c =
+returns g c =
     let given = c.args.problem.now in
     let tabled = c.args.tabled.now in
     let conflicts = c.in-Refuted.conflicts in

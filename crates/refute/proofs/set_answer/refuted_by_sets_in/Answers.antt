@@ -13,7 +13,7 @@ use Rattle.resolve.proofs.Solving.{best-solves}
 use Rattle.refute.proofs.set_answer.refuted_by_sets_in.Goals as goal
 
 pub returns-in-Best : goal.returns-in-Best
-returns-in-Best c =
+returns-in-Best g c =
     let given = c.args.problem.now in
     let tabled = c.args.tabled.now in
     let best : IsBest (rules_of_table tabled.table) (place_in c.in-Best.field-0) = rw c.in-Best.is at c.in_ok-solved.ensures.best in
@@ -21,13 +21,13 @@ returns-in-Best c =
     (c.a_picture_keeps_the_best_solution.ensures.best tabled.table (picture_of given tabled.names tabled.nodes c.requires.asked) (rules_of given) c.name_count-count.ensures.known bytes-order c.requires.pictured c.in-Best.field-0 best)
 
 pub set_refutation_of-requires-clause-known : goal.set_refutation_of-requires-clause-known
-set_refutation_of-requires-clause-known c =
+set_refutation_of-requires-clause-known g c =
     let table = c.args.tabled.now.table in
     let known : AreKnownSets table c.in-Refuted.conflicts = rw c.in-Refuted.is at c.in_ok-solved.ensures.known in
     subst (λ (conflicts : List (List (Term ℕ ℕ))). AreKnownSets table conflicts) (sym c.as_slice-conflicts.ensures) known
 
 pub returns-in-Refuted : goal.returns-in-Refuted
-returns-in-Refuted c =
+returns-in-Refuted g c =
     let given = c.args.problem.now in
     let tabled = c.args.tabled.now in
     let conflicts = c.in-Refuted.conflicts in
