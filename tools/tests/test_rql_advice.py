@@ -5,15 +5,13 @@ import io
 import json
 import re
 import subprocess
-import sys
 import unittest
 
 from support.completed import SHARE
 from support.made.served_index import wheel_of
 from support.places import TOP
-from support.rql_projects import ENVIRONMENT, SCRIPT, Served
+from support.rql_projects import ENVIRONMENT, Served
 from support.synced import Synced, variables
-from support.terminals import shown_on_terminal
 
 from reqlock_tools.rql.parser import BUILDERS, FLAGS, VALUES, parsed, parser_of
 from reqlock_tools.rql.texts import outside
@@ -292,16 +290,6 @@ class Told(Served):
 
     def test_an_environment_that_there_is_not(self):
         self.assertIn("'x' isn't among them: rql env list prints them", self.refuses("env", "remove", "x"))
-
-    def test_at_a_terminal_calls_of_reqlock_are_told_as_calls_of_rql(self):
-        told = "typed as rql here, without --dir and --index"
-        call = [sys.executable, "-B", str(SCRIPT), "add", "rich==1"]
-        settings = {"cwd": self.folder, "env": {**self.variables, "TERM": "dumb"}, "stdin": subprocess.DEVNULL, "stdout": subprocess.DEVNULL}
-        _, shown = shown_on_terminal(lambda terminal: subprocess.Popen(call, stderr=terminal, **settings))
-        self.assertIn("constrain rich '==1'", shown)
-        self.assertIn(told, shown)
-        self.assertNotIn(told, self.rql(*call[3:])[2])
-        self.accepts("constrain", "rich", "==1", answer="ok 1\n")
 
 
 class OfSources(Served):

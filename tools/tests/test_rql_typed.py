@@ -8,6 +8,9 @@ import unittest
 from support.made.served_index import wheel_of
 from support.rql_projects import Served
 
+from reqlock_tools.rql.own_calls import Here
+from reqlock_tools.rql.own_words import in_own_words
+
 ENVIRONMENTS = ("--env", "linux=.reqlock/environment.linux.json", "--env", "windows=.reqlock/environment.windows.json")
 
 
@@ -40,7 +43,7 @@ class Typed(Begun):
             shutil.copy(one / ".reqlock" / "index.json", other / ".reqlock" / "index.asked.json")
         done = subprocess.run(["sh", "-c", call], cwd=other, env=self.variables, capture_output=True, encoding="utf-8", check=False)
         self.assertEqual((done.returncode, done.stdout), (found, output), call)
-        self.assertIn(done.stderr, errors)
+        self.assertIn(in_own_words(done.stderr, Here(question=("--replace", *words[1:]))), errors)
         self.assertEqual(self.files(other), self.files(one))
 
     def test_an_edit(self):

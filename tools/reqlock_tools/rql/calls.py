@@ -2,23 +2,26 @@
 
 import contextlib
 import os
+import re
 import shlex
 import shutil
 import subprocess
 import sys
-from collections.abc import Sequence
+from collections.abc import Callable, Sequence
 from dataclasses import dataclass
-from typing import TextIO
 
 from reqlock_tools.program import program_path
 from reqlock_tools.refusal import Refusal, shown, speaker, tell
 from reqlock_tools.rql.faults import STOPPED
 from reqlock_tools.rql.requests import Options
+from reqlock_tools.rql.told import ERRORS, Told, in_words_of_rql
 
 # How many seconds a call may take before a person is told that it goes on.
 PATIENCE = 2.0
 # The program's status where its answer couldn't be written.
 UNWRITTEN = 5
+
+QUESTION = re.compile(rb"(?m)^ask: rql [^\n]*\n")
 
 say = speaker("rql")
 
@@ -33,23 +36,37 @@ class Answer:
 
     def hand_on(self) -> int:
         """Writes what the call wrote, to the byte, and answers its status; or that of the program where its answer can't be written."""
-        is_written = handed_on(sys.stdout, self.output)
-        handed_on(sys.stderr, self.errors)
-        return self.status or (0 if is_written else UNWRITTEN)
+        has_answer = is_written(self.output)
+        hand_on_errors(self.errors)
+        return self.status or (0 if has_answer else UNWRITTEN)
 
 
-def handed_on(stream: TextIO, data: bytes) -> bool:
-    """Whether bytes could be written. Where they can't, nothing more is written there, and what was called is done all the same."""
+def is_written(data: bytes) -> bool:
+    """Whether bytes could be written to standard output. Where they can't, nothing more is written there, and what was called is done all the
+    same."""
     try:
-        stream.flush()
-        stream.buffer.write(data)
-        stream.flush()
+        sys.stdout.flush()
+        sys.stdout.buffer.write(data)
+        sys.stdout.flush()
     except OSError as fault:
-        os.dup2(os.open(os.devnull, os.O_WRONLY), stream.fileno())
-        if stream is sys.stdout and not isinstance(fault, BrokenPipeError):
+        os.dup2(os.open(os.devnull, os.O_WRONLY), sys.stdout.fileno())
+        if not isinstance(fault, BrokenPipeError):
             say(f"standard output: {fault.strerror}")
         return False
     return True
+
+
+def hand_on_errors(data: bytes) -> None:
+    """Writes what a call told, as far as it can be written. What rql itself tells may be kept back meanwhile; this isn't."""
+    # (where standard error was closed, another file may have its number)
+    with contextlib.suppress(OSError):
+        while data and sys.__stderr__ is not None:
+            data = data[os.write(ERRORS, data) :]
+
+
+def question_of(words: Sequence[str]) -> list[str]:
+    """What a question says of the lines that a call puts in the place of others."""
+    return ["--replace", *words[words.index("replace") + 1 :]] if "replace" in words else []
 
 
 def tell_call(words: Sequence[str], text: str | None = None) -> None:
@@ -75,20 +92,28 @@ class Caller:
             is_found = shutil.which("reqlock") == self.program
             tell_call(["reqlock" if is_found else self.program, *words[1:]], text)
 
-    def hand_over(self, *words: str) -> int:
-        """The status of a call that reads and writes what this process does. Ctrl-C is left to it."""
+    def hand_over(self, *words: str, question: Sequence[str] = (), answer: Callable[[], bytes] | None = None) -> int:
+        """The status of a call that reads and prints what this process does. What it tells is handed on in the words of rql. A question about
+        it is told with the words that are given here behind `rql why`, or, where it can't be asked any more, answered. Ctrl-C is left to it."""
         command = self.words(*words)
         self.tell(command)
         sys.stdout.flush()
+        told = Told()
         try:
-            done = subprocess.Popen(command)
+            done = subprocess.Popen(command, stderr=told.theirs)
         except OSError as fault:
             raise self.absent(fault) from None
+        told.begin()
         try:
             status = self.waited(done)
         except KeyboardInterrupt:
             done.wait()
             status = STOPPED
+        text = in_words_of_rql(told.whole(), self.options, question or question_of(words))
+        asked = QUESTION.search(text)
+        if answer is not None and asked is not None:
+            text = text[: asked.start()] + answer() + text[asked.end() :]
+        hand_on_errors(text)
         return self.status(status)
 
     def answered(self, *words: str, text: str | None = None) -> Answer:
@@ -113,7 +138,7 @@ class Caller:
                 output, errors = self.written(done, given)
         except OSError as fault:
             raise self.absent(fault) from None
-        return Answer(self.status(done.returncode), output, errors)
+        return Answer(self.status(done.returncode), output, in_words_of_rql(errors, self.options, question_of(command)))
 
     def waited(self, done: "subprocess.Popen[bytes]") -> int:
         """The status of a call that has ended. Of a long one a person is told that it goes on."""

@@ -15,7 +15,7 @@ from reqlock_tools.rql.index import Wanted, made_index, present_index
 from reqlock_tools.rql.kept import Kept
 from reqlock_tools.rql.project import JOURNAL, REQUIREMENTS, Project
 from reqlock_tools.rql.requests import EditRequest
-from reqlock_tools.rql.telling import is_told, tell_own_words
+from reqlock_tools.rql.telling import is_told
 from reqlock_tools.rql.texts import is_url
 
 # Those that change one line for each of their texts.
@@ -25,8 +25,6 @@ ASKING = "upgrade", "relock"
 # The program's status where its files don't read, or don't belong together.
 BAD_INPUT = 4
 NO_SOLUTION = b"refused no-solution"
-# The program's status where an edit is refused, but for want of a solution.
-REFUSED = 1
 
 say = speaker("rql")
 
@@ -44,8 +42,6 @@ def run_edit(project: Project, request: EditRequest) -> int:
         status = Edit(project, kept, request).run()
     if status == BAD_INPUT and is_told(project.options):
         tell_changed(project)
-    if status == REFUSED:
-        tell_own_words(project.options)
     return status
 
 

@@ -150,7 +150,9 @@ class Beginning:
         taken = [pin for pin in pins if fits(pin, packages, absent)]
         words = ["--dir", typed_path(self.project.folder), "--index", typed_path(index), *self.environment_words(kept)]
         saving = Saving(self.project)
-        status = self.caller.hand_over(*words, "init", *self.pin_words(kept, taken))
+        # (where it is refused nothing of it is left, so why it is can be asked now alone)
+        why = [*words, "why", "--explain", "--init"]
+        status = self.caller.hand_over(*words, "init", *self.pin_words(kept, taken), answer=lambda: self.caller.ask(*why).output)
         if not saving.is_done(status):
             self.take_back()
             return status
@@ -178,8 +180,7 @@ class Beginning:
         """The words that tell the program what is locked for."""
         if self.draft.environment is not None:
             return ["--env", str(self.draft.environment)]
-        files = [(name, typed_path(kept.environment(name, it))) for name, it in environments(self.project.settings).items()]
-        return [word for name, path in files for word in ("--env", f"{name}={path}" if name else path)]
+        return kept.environment_words()
 
     def pin_words(self, kept: Kept, pins: list[Pin]) -> list[str]:
         """The words that have pins kept, for each target."""

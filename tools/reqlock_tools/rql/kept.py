@@ -10,6 +10,7 @@ from pathlib import Path
 
 from reqlock_tools.files import is_own, write_whole
 from reqlock_tools.folder_lock import alone_in
+from reqlock_tools.rql.calls import typed_path
 from reqlock_tools.rql.faults import SettingsFault
 from reqlock_tools.rql.project import REQUIREMENTS, Project
 
@@ -93,6 +94,13 @@ class Kept:
         """Keeps an environment, and answers its file."""
         file = f"environment.{name}.json" if name else "environment.json"
         return self.write(file, (json.dumps(dict(told), sort_keys=True) + "\n").encode())
+
+    def environment_words(self) -> list[str]:
+        """The words that tell the program what is locked for."""
+        from reqlock_tools.rql.environments import environments
+
+        files = [(name, typed_path(self.environment(name, it))) for name, it in environments(self.project.settings).items()]
+        return [word for name, path in files for word in ("--env", f"{name}={path}" if name else path)]
 
     @property
     def saved(self) -> Path:

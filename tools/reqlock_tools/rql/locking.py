@@ -1,5 +1,7 @@
 """`rql lock`: the lock fits the lines again, whoever changed them."""
 
+import contextlib
+import io
 import os
 import shlex
 import tempfile
@@ -10,7 +12,7 @@ from reqlock_tools.files import write_whole
 from reqlock_tools.merge_git import Checkout, Sides
 from reqlock_tools.merge_sides import Journal, digest_of, lock_name, read_side, saved
 from reqlock_tools.refusal import Refusal, speaker
-from reqlock_tools.rql.calls import Caller, tell_call, typed_path
+from reqlock_tools.rql.calls import Caller, hand_on_errors, tell_call, typed_path
 from reqlock_tools.rql.edits import accepted
 from reqlock_tools.rql.exports import stale_exports, write_exports
 from reqlock_tools.rql.faults import FOUND, SettingsFault
@@ -19,6 +21,7 @@ from reqlock_tools.rql.index import Wanted, made_index, requirements_in
 from reqlock_tools.rql.kept import MODE, Kept
 from reqlock_tools.rql.project import JOURNAL, REQUIREMENTS, Project
 from reqlock_tools.rql.requests import LockRequest
+from reqlock_tools.rql.told import in_words_of_rql
 
 say = speaker("rql")
 
@@ -145,7 +148,12 @@ class Locking:
         words = ["--dir", typed_path(self.project.folder), "--index", typed_path(index), *more]
         if self.project.options.is_verbose:
             tell_call(["reqlock-merge", *words])
-        status = merge.main([*words, "--program", self.caller.program])
+        told = io.StringIO()
+        try:
+            with contextlib.redirect_stderr(told):
+                status = merge.main([*words, "--program", self.caller.program])
+        finally:
+            hand_on_errors(in_words_of_rql(told.getvalue().encode(errors="backslashreplace"), self.project.options, ()))
         if status == 0 and "--dry-run" not in more:
             accepted(self.project, self.kept, self.caller, index)
             if self.checkout is not None:

@@ -15,7 +15,7 @@ from reqlock_tools.rql.telling import is_told
 # Those that go to another state of the history.
 MOVING = "undo", "redo"
 # Those that read the index, where it is there.
-READING = "show", "tree", "export", "skipped"
+READING = "show", "tree", "export"
 # The statuses of a question that is answered: by what is printed, by a refusal, or by that nothing can be locked.
 ANSWERS = 0, 1, 3
 
@@ -33,6 +33,11 @@ def run_passed(project: Project, request: PassedRequest) -> int:
         return moved(project, kept, caller, given, call)
     if request.word in READING:
         return caller.hand_over(*given, *index_words(kept.earlier()[:1]), *call)
+    if request.word == "skipped":
+        from reqlock_tools.rql.index import present_index
+
+        with kept.locked():
+            return caller.hand_over(*given, *index_words([present_index(project, kept)]), *call)
     if request.word in ("outdated", "why"):
         with kept.locked():
             return answered(project, asked_index(project, kept, request), caller, given, request)
@@ -68,7 +73,8 @@ def moved(project: Project, kept: Kept, caller: Caller, given: list[str], call: 
 def answered(project: Project, index: Path, caller: Caller, given: list[str], request: PassedRequest) -> int:
     """Hands a question on. Behind the answer it is told what constraints leave out of the packages that this is about: where that can't be
     read any more, the status stays the program's."""
-    whole = [*given, *index_words([index]), request.word, *request.words]
+    environments = Kept(project).environment_words() if "--init" in request.words else []
+    whole = [*given, *index_words([index]), *environments, request.word, *request.words]
     status = caller.hand_over(*whole)
     if status in ANSWERS and is_told(with_told(project.options, request.words)):
         from reqlock_tools.rql.left_out import tell_left_out
@@ -91,7 +97,16 @@ def asked_index(project: Project, kept: Kept, request: PassedRequest) -> Path:
 
     if request.word == "outdated":
         return made_index(project, kept, Wanted(is_asked=True))
-    return made_index(project, kept, Wanted(texts=tuple(it for it in request.words if fault_of(it) is None)))
+    texts = [it for it in request.words if fault_of(it) is None] + new_lines(request.words)
+    return made_index(project, kept, Wanted(texts=tuple(texts)))
+
+
+def new_lines(words: tuple[str, ...]) -> list[str]:
+    """The lines of the file that a question asks for in the place of those that stand there."""
+    from reqlock_tools.rql.index import lines_of
+
+    file = next((new for option, new in zip(words, words[1:]) if option == "--replace" and not new.startswith("-")), None)
+    return lines_of(Path(file)) if file is not None and Path(file).is_file() else []
 
 
 def run_tool(options: Options, request: PassedRequest) -> int:

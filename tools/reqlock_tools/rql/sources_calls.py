@@ -35,11 +35,18 @@ def edit_sources(project: Project, kept: Kept, request: EditRequest) -> int:
     new = kept.write("requirements.new.txt", change.data)
     given = ["--dir", typed_path(project.folder), "--index", typed_path(index)]
     saving = Saving(project)
-    status = Caller(project.options).hand_over(*given, *words, "replace", typed_path(new))
+    status = Caller(project.options).hand_over(*given, *words, "replace", typed_path(new), question=question_of(request))
     if saving.is_done(status) and not request.is_dry:
         change.write()
         accepted(project, kept, Caller(project.options), index)
     return status
+
+
+def question_of(request: EditRequest) -> list[str]:
+    """How it is asked why an edit has no solution, as if its lines had no sources; of several texts it is asked by their lines."""
+    if request.word == "set" or (request.word != "constrain" and len(request.texts) > 1):
+        return []
+    return [*([] if request.word == "add" else [f"--{request.word}"]), *request.texts]
 
 
 def texts_in(change: Change) -> tuple[str, ...]:

@@ -99,7 +99,8 @@ class Change:
             words += ["--env", f"{name}={path}" if name else path]
             pins += ["--pins", self.pins_for(name, journal)]
         saving = Saving(project)
-        status = self.caller.hand_over(*words, "init", *pins)
+        why = [*words, "why", "--explain", "--init"]
+        status = self.caller.hand_over(*words, "init", *pins, answer=lambda: self.caller.ask(*why).output)
         if saving.is_done(status):
             self.remove_old(project, journal)
             accepted(project, self.kept, self.caller, index)

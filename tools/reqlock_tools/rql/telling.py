@@ -6,21 +6,12 @@ import os
 import sys
 from collections.abc import Iterator
 
-from reqlock_tools.refusal import speaker
 from reqlock_tools.rql.requests import Options
-
-say = speaker("rql")
 
 
 def is_told(options: Options) -> bool:
     """Whether it is told what is asked of the network."""
     return not options.is_quiet and (options.is_verbose or sys.stderr.isatty() or "CI" in os.environ)
-
-
-def tell_own_words(options: Options) -> None:
-    """Tells at a terminal, where the program tells calls of its own to type, how they are typed here."""
-    if sys.stderr.isatty() and not options.is_quiet:
-        say("a call of reqlock above is typed as rql here, without --dir and --index, and replace --line NAME as set: sources and exports follow")
 
 
 @contextlib.contextmanager

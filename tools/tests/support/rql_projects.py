@@ -13,6 +13,7 @@ from unittest import mock
 from support.checkouts import VARIABLES
 from support.made.served_index import MadeIndex
 from support.places import PROGRAM, TOOLS, TOP, needs_program, new_folder
+from support.terminals import shown_on_terminal
 from support.tool_calls import called
 from support.wanted_libraries import ASKING, want_libraries
 
@@ -114,6 +115,14 @@ class Served(Projects):
         if answer is not None:
             self.assertEqual(output, answer, errors)
         return errors
+
+    def shown(self, *words, folder=None, **variables):
+        """The status of a call at a terminal, and what that shows as its standard error."""
+        call = [sys.executable, "-B", str(SCRIPT), *words]
+        settings = {"cwd": folder or self.folder, "env": {**self.variables, "TERM": "dumb", **variables}, "stdin": subprocess.DEVNULL}
+        start = lambda terminal: subprocess.Popen(call, stderr=terminal, stdout=subprocess.DEVNULL, **settings)  # noqa: E731
+        status, shown = shown_on_terminal(start)
+        return status, shown.replace("\r\n", "\n")
 
     def lines(self):
         return (self.folder / "requirements.txt").read_text(encoding="utf-8")
