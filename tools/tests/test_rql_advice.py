@@ -288,6 +288,23 @@ class Told(Served):
         call = re.search("'ricj' is refused: rql (why .*) tells why\n", errors)[1]
         self.assertIn("the index has no package ricj; near names: rich", " ".join(self.rql(*call.split())[1].split()))
 
+    def test_a_name_that_no_index_has_is_told_with_a_near_one_and_what_asks_again(self):
+        told = "ricj isn't in the index; did you mean rich? (`rql add {}`); to ask the index for ricj again: `rql --refresh add {}`"
+        status, output, errors = self.rql("-v", "add", "ricj>=1")
+        self.assertEqual((status, output), (3, "refused no-solution\n"))
+        self.assertIn(told.format("'rich>=1'", "'ricj>=1'"), errors)
+        for other in "no packages of these names", "no release of ricj", "no package ricj", "the same edit by rql":
+            self.assertNotIn(other, errors)
+        with self.subTest("of several"):
+            errors = self.rql("add", "flask", "ricj", CI="1")[2]
+            self.assertIn(told.format("rich", "ricj"), errors)
+            self.assertNotIn("tells why", errors)
+        with self.subTest("that has no near one"):
+            errors = self.rql("add", "zzz", CI="1")[2]
+            self.assertIn("\nzzz isn't in the index; to ask the index for zzz again: `rql --refresh add zzz`\n", errors)
+        self.serve(ricj=[wheel_of("ricj", "1")])
+        self.accepts("--refresh", "add", "ricj", answer="ok 1\n")
+
     def test_an_environment_that_there_is_not(self):
         self.assertIn("'x' isn't among them: rql env list prints them", self.refuses("env", "remove", "x"))
 
@@ -306,6 +323,8 @@ class OfSources(Served):
         self.assertEqual(self.index.counts(), {})
         self.accepts("constrain", "rich", "==1", answer="ok 1\n")
         self.assertEqual((self.folder / "requirements.in").read_text(encoding="utf-8"), "rich==1\n")
+        with self.subTest("a name that no index has"):
+            self.assertIn("\nricj isn't in the index; did you mean rich? (`rql add rich`); to ask", self.rql("add", "ricj", CI="1")[2])
 
 
 class Unwritten(Served):

@@ -10,7 +10,7 @@ from support.places import TOP
 from support.rql_projects import ENVIRONMENT, Served
 
 from reqlock_tools.rql.own_calls import Here, own_call
-from reqlock_tools.rql.own_words import SENTENCES, has_call, in_own_words
+from reqlock_tools.rql.own_words import SENTENCES, has_call, in_own_words, without_lacking
 
 OPTIONS = " --dir web --index .reqlock/index.asked.json"
 # Each line of the program's sources that names a call, with calls as they are then printed, and what rql has for them. A form for which
@@ -95,7 +95,8 @@ def printed():
 
 class Forms(unittest.TestCase):
     def test_of_each_it_is_decided_what_rql_has(self):
-        self.assertEqual(printed(), {*FORMS, *MENTIONS, *SENTENCES})
+        named = {it for it in SENTENCES if "reqlock" in it}
+        self.assertEqual(printed(), {*FORMS, *MENTIONS, *named})
 
     def test_they_are_told_so(self):
         here = Here(question=("--replace", "new.txt"))
@@ -138,6 +139,20 @@ class Texts(unittest.TestCase):
         told = "Take the line out: reqlock-snapshot is told the\nindex and what of it counts.\n"
         wanted = "Take the line out: the settings of rql name the\nindex and what of it counts.\n"
         self.assertEqual(in_own_words(told, Here(), 50), wanted)
+
+
+    def test_what_the_index_lacks_is_left_out_where_rql_tells_it(self):
+        near = "the index has no release of flsk; near names: flask\n"
+        both = "the snapshot has no package flsk, which a line asks for\nthe snapshot has no package x, which a line asks for\n"
+        end = "Where the package index has them, the same edit by rql takes them in.\n"
+        self.assertEqual(without_lacking(near + both + end, lambda: {"flsk", "x"}), "")
+        self.assertEqual(without_lacking(near + both + end, lambda: {"flsk"}), f"{both.splitlines(keepends=True)[1]}{end}")
+        self.assertEqual(without_lacking(near + both + end, frozenset), near + both + end)
+
+    def test_sentences_of_what_the_index_lacks_are_those_of_the_program(self):
+        code = (TOP / "crates" / "notes" / "src" / "lacks.rt").read_text(encoding="utf-8")
+        self.assertIn('"Where the package index has {them}, "', code)
+        self.assertIn('"the same edit by rql takes {them} in.\\n"', code)
 
 
 class Advised(Served):

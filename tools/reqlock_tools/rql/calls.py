@@ -14,7 +14,7 @@ from reqlock_tools.program import program_path
 from reqlock_tools.refusal import Refusal, shown, speaker, tell
 from reqlock_tools.rql.faults import STOPPED
 from reqlock_tools.rql.requests import Options
-from reqlock_tools.rql.told import ERRORS, Told, in_words_of_rql
+from reqlock_tools.rql.told import ERRORS, Lacking, Told, in_words_of_rql
 
 # How many seconds a call may take before a person is told that it goes on.
 PATIENCE = 2.0
@@ -81,6 +81,7 @@ class Caller:
     def __init__(self, options: Options) -> None:
         self.options = options
         self.program = program_path(options.program)
+        self.lacking: Lacking = frozenset
 
     def words(self, *words: str) -> list[str]:
         """The words of a call as they are typed: what rql was told of telling is told to the program too."""
@@ -109,7 +110,7 @@ class Caller:
         except KeyboardInterrupt:
             done.wait()
             status = STOPPED
-        text = in_words_of_rql(told.whole(), self.options, question or question_of(words))
+        text = in_words_of_rql(told.whole(), self.options, question or question_of(words), self.lacking)
         asked = QUESTION.search(text)
         if answer is not None and asked is not None:
             text = text[: asked.start()] + answer() + text[asked.end() :]
@@ -138,7 +139,7 @@ class Caller:
                 output, errors = self.written(done, given)
         except OSError as fault:
             raise self.absent(fault) from None
-        return Answer(self.status(done.returncode), output, in_words_of_rql(errors, self.options, question_of(command)))
+        return Answer(self.status(done.returncode), output, in_words_of_rql(errors, self.options, question_of(command), self.lacking))
 
     def waited(self, done: "subprocess.Popen[bytes]") -> int:
         """The status of a call that has ended. Of a long one a person is told that it goes on."""

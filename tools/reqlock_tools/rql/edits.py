@@ -13,6 +13,7 @@ from reqlock_tools.rql.exports import write_exports
 from reqlock_tools.rql.history import Saving, tell_changed
 from reqlock_tools.rql.index import Wanted, made_index, present_index
 from reqlock_tools.rql.kept import Kept
+from reqlock_tools.rql.lacking import lacking, names_of, tell_lacking
 from reqlock_tools.rql.project import JOURNAL, REQUIREMENTS, Project
 from reqlock_tools.rql.requests import EditRequest
 from reqlock_tools.rql.telling import is_told
@@ -22,6 +23,8 @@ from reqlock_tools.rql.texts import is_url
 OF_LINES = "add", "remove", "set"
 # Those that ask the index what is new.
 ASKING = "upgrade", "relock"
+# The program's status where nothing can be locked.
+UNSOLVED = 3
 # The program's status where its files don't read, or don't belong together.
 BAD_INPUT = 4
 NO_SOLUTION = b"refused no-solution"
@@ -52,6 +55,7 @@ class Edit:
         self.project, self.kept, self.request = project, kept, request
         self.caller = Caller(project.options)
         self.index = self.fresh_index()
+        self.caller.lacking = self.lacking
         self.keeping = ["--keep-locked"] * request.keeps_locked
         self.drying = ["--dry-run"] * request.is_dry
 
@@ -61,7 +65,7 @@ class Edit:
         if word == "remove":
             return present_index(self.project, self.kept)
         texts = tuple(it for it in self.request.texts if not is_url(it)) if word in ("add", "set") else ()
-        return made_index(self.project, self.kept, Wanted(texts=texts, is_asked=word in ASKING))
+        return made_index(self.project, self.kept, Wanted(texts=texts, is_asked=word in ASKING, untold=names_of(texts) if word == "add" else frozenset()))
 
     def given(self, folder: Path | None = None) -> list[str]:
         """The words that tell of folder and index."""
@@ -83,7 +87,13 @@ class Edit:
             status = self.caller.hand_over(*self.given(), *self.keeping, *self.drying, *self.words(*request.texts))
         if saving.is_done(status) and not request.is_dry:
             accepted(self.project, self.kept, self.caller, self.index)
+        if status == UNSOLVED:
+            tell_lacking(self.project.options, self.index, self.lacking())
         return status
+
+    def lacking(self) -> dict[str, str]:
+        """The texts to be added whose names the index lacks, by these names."""
+        return lacking(self.index, self.request.texts) if self.request.word == "add" else {}
 
     def run_several(self) -> int:
         """Makes the edits of several texts where all are accepted, else none."""
@@ -117,6 +127,8 @@ class Edit:
             return answer.hand_on()
         text = self.request.texts[refused[0]]
         is_unsolved = replies[refused[0]].strip() == NO_SOLUTION and self.request.word == "add"
+        # (of what the index lacks more is told, where something is told)
+        is_unsolved = is_unsolved and not (is_told(self.project.options) and text in self.lacking().values())
         say(f"nothing is changed: {text!a} is refused" + (f": {shlex.join(['rql', 'why', '--explain', text])} tells why" if is_unsolved else ""))
         return replace(answer, output=replies[refused[0]]).hand_on()
 

@@ -24,13 +24,14 @@ say = speaker("rql")
 class Wanted:
     """What an index is made for, beside the lines and the locks that stand there: texts of requirements, and names that are remembered.
     With `is_asked` pages are asked for even where they are fresh; `locks` are those of both sides of a merge, and `pins`, as
-    NAME==VERSION, what was locked by another tool."""
+    NAME==VERSION, what was locked by another tool. That no index has one of the names `untold` is told by who asks."""
 
     texts: tuple[str, ...] = ()
     names: tuple[str, ...] = ()
     is_asked: bool = False
     locks: tuple[Path, ...] | None = None
     pins: tuple[str, ...] = ()
+    untold: frozenset[str] = frozenset()
 
 
 def refuse_absent() -> None:
@@ -151,7 +152,7 @@ def made_index(project: Project, kept: Kept, wanted: Wanted) -> Path:
     has accepted what is asked."""
     refuse_absent()
     plan = plan_of(project, kept, wanted)
-    data = index_bytes(plan, asking_of(project.options, wanted.is_asked), project.options, is_first(project, wanted))
+    data = index_bytes(plan, asking_of(project.options, wanted.is_asked), project.options, is_first(project, wanted), wanted.untold)
     if kept.index.is_file() and not kept.index.is_symlink() and kept.index.read_bytes() == data:
         return kept.index
     return kept.write(kept.asked.name, data)
@@ -164,7 +165,9 @@ def is_first(project: Project, wanted: Wanted) -> bool:
     return not wanted.pins and not wanted.locks and not locked_versions(map(str, locks_of(project)))
 
 
-def index_bytes(plan: "Plan", asking: "Asking", options: Options, may_be_none: bool = False) -> bytes:
+def index_bytes(
+    plan: "Plan", asking: "Asking", options: Options, may_be_none: bool = False, untold: frozenset[str] = frozenset()
+) -> bytes:
     """The index that a plan gives, as a file has it. Where it has nothing of what is asked for, that is told, or else refused."""
     from reqlock_tools.simple.credentials import Credentials
     from reqlock_tools.simple.run import IS_ADDRESS, Run
@@ -176,7 +179,7 @@ def index_bytes(plan: "Plan", asking: "Asking", options: Options, may_be_none: b
             # (settings are a file, which may be a stranger's)
             credentials = Credentials((it.url for it in plan.indexes), say_index, are_typed=False)
             run = Run(plan, asking, credentials)
-            data = snapshot_text(run.snapshot(may_be_none)).encode()
+            data = snapshot_text(run.snapshot(may_be_none, untold)).encode()
     except (Refusal, OSError) as fault:
         from reqlock_tools.simple.addresses import hidden
 

@@ -153,7 +153,7 @@ class Locking:
             with contextlib.redirect_stderr(told):
                 status = merge.main([*words, "--program", self.caller.program])
         finally:
-            hand_on_errors(in_words_of_rql(told.getvalue().encode(errors="backslashreplace"), self.project.options, ()))
+            hand_on_errors(in_words_of_rql(told.getvalue().encode(errors="backslashreplace"), self.project.options))
         if status == 0 and "--dry-run" not in more:
             accepted(self.project, self.kept, self.caller, index)
             if self.checkout is not None:

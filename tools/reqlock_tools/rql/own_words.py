@@ -3,6 +3,7 @@ at: what somebody typed, and what a package says, stays as it is."""
 
 import re
 import textwrap
+from collections.abc import Callable, Collection
 
 from reqlock_tools.rql.own_calls import Here, own_call
 
@@ -15,6 +16,8 @@ FRONTS = (
 )
 # Sentences that name other tools, and what they are for a project of rql.
 SENTENCES = {
+    "Where the package index has it, the same edit by rql takes it in.": "With --refresh the same call asks the index for it once more.",
+    "Where the package index has them, the same edit by rql takes them in.": "With --refresh the same call asks the index for them once more.",
     "The lock has the hashes: take them out here. reqlock-adopt takes over a whole file of pip-tools.":
         "The lock has the hashes: take them out here. `rql init --from FILE` takes over a whole file of pip-tools, where no settings are yet.",
     "That is a URL, and reqlock locks releases of an index: put a wheel of it where reqlock-snapshot finds it, and write the name.":
@@ -34,6 +37,10 @@ LINE = re.compile(r"(?m)^(    (?:\x1b\[1m)?)(reqlock(?:-[a-z]+)? [^\n]*?)((?:\x1
 QUESTION = re.compile(r"(?m)^(ask: )(reqlock [^\n]*)()$")
 QUOTED = re.compile(rf"(?m)^((?:{spaced('|'.join(FRONTS))})?`)(reqlock[^`]*)(`[ \n](?:begins|says)\b)")
 MERGING = re.compile(r"(?m)^(rql(?:\.py)?: .*(?:begin anew: |no history; |\| ))(reqlock (?:init|why)\b[^\n]*?)((?: begins one)?)$")
+# What the program tells of names that the index lacks, and of releases that this rules out.
+LACKED = re.compile(spaced(r"(?m)^the index has no release of (\S+)(?:; near names: \S+(?:, \S+)*)?\n|^the snapshot has no package (\S+), which a line asks for\n"))
+LACKS = re.compile(spaced(r"(?m)the snapshot has no packages? \S"))
+TAKEN_IN = re.compile(spaced(r"(?m)^Where the package index has (?:it|them), the same edit by rql takes (?:it|them) in\.\n"))
 CALLS = LINE, QUESTION, QUOTED, MERGING
 KNOWN = {re.compile(rf"(?m)^{'[ ]'.join(map(re.escape, old.split(' ')))}$".replace("[ ]", "[ \n]")): new for old, new in SENTENCES.items()}
 
@@ -55,6 +62,13 @@ def own(found: "re.Match[str]", here: Here) -> str:
     if told is None:
         return found[0]
     return f"{re.sub(' (?=`$)', chr(10), before) if chr(10) in call else before}{told}{behind}"
+
+
+def without_lacking(text: str, lacking: Callable[[], Collection[str]]) -> str:
+    """The text without what it tells of names that the index lacks, and without what to do then where it tells of no others."""
+    names = lacking() if LACKED.search(text) else ()
+    found = LACKED.sub(lambda it: "" if (it[1] or it[2]) in names else it[0], text)
+    return found if found == text or LACKS.search(found) else TAKEN_IN.sub("", found)
 
 
 def with_whole_questions(text: str, width: int | None) -> str:

@@ -6,11 +6,12 @@ from collections.abc import Callable, Sequence
 from pathlib import Path
 
 from reqlock_tools.rql.calls import Caller, typed_path
-from reqlock_tools.rql.edits import accepted, copied
+from reqlock_tools.rql.edits import UNSOLVED, accepted, copied
 from reqlock_tools.rql.faults import SettingsFault
 from reqlock_tools.rql.history import Saving, content
 from reqlock_tools.rql.index import Wanted, made_index, present_index
 from reqlock_tools.rql.kept import Kept
+from reqlock_tools.rql.lacking import lacking, names_of, tell_lacking
 from reqlock_tools.rql.project import REQUIREMENTS, Project
 from reqlock_tools.rql.requests import EditRequest
 from reqlock_tools.rql.sources import differences
@@ -30,15 +31,20 @@ def sources_of(project: Project) -> Sources:
 def edit_sources(project: Project, kept: Kept, request: EditRequest) -> int:
     """The status of an edit of lines, which is a `replace` by those that the changed sources give."""
     change = sources_of(project).edited(request.word, request.texts)
-    index = present_index(project, kept) if request.word == "remove" else made_index(project, kept, Wanted(texts=texts_in(change)))
+    asked = request.texts if request.word == "add" else ()
+    wanted = Wanted(texts=texts_in(change), untold=names_of(asked))
+    index = present_index(project, kept) if request.word == "remove" else made_index(project, kept, wanted)
     words = [*["--keep-locked"] * request.keeps_locked, *["--dry-run"] * request.is_dry]
     new = kept.write("requirements.new.txt", change.data)
     given = ["--dir", typed_path(project.folder), "--index", typed_path(index)]
-    saving = Saving(project)
-    status = Caller(project.options).hand_over(*given, *words, "replace", typed_path(new), question=question_of(request))
+    saving, caller = Saving(project), Caller(project.options)
+    caller.lacking = lambda: lacking(index, asked)
+    status = caller.hand_over(*given, *words, "replace", typed_path(new), question=question_of(request))
     if saving.is_done(status) and not request.is_dry:
         change.write()
-        accepted(project, kept, Caller(project.options), index)
+        accepted(project, kept, caller, index)
+    if status == UNSOLVED:
+        tell_lacking(project.options, index, lacking(index, asked))
     return status
 
 

@@ -4,13 +4,15 @@ import contextlib
 import os
 import threading
 import tty
-from collections.abc import Sequence
+from collections.abc import Callable, Collection, Sequence
 from pathlib import Path
 
 from reqlock_tools.names import speaking
 from reqlock_tools.refusal import Refusal
 from reqlock_tools.rql.requests import Options
 
+# Answers the names of which rql tells that the index lacks them.
+Lacking = Callable[[], Collection[str]]
 ERRORS = 2
 # The least width for which the program breaks its sentences.
 LEAST_WIDTH = 20
@@ -53,15 +55,16 @@ def both_ends() -> tuple[int, int]:
     return os.pipe()
 
 
-def in_words_of_rql(told: bytes, options: Options, question: Sequence[str]) -> bytes:
-    """What a call told, with the calls of rql that do what it names. Where there is none for one of them, that is told behind it."""
-    if b"reqlock" not in told:
+def in_words_of_rql(told: bytes, options: Options, question: Sequence[str] = (), lacking: Lacking = frozenset) -> bytes:
+    """What a call told, with the calls of rql that do what it names. Where there is none for one of them, that is told behind it. That the
+    index lacks some names is left out, as rql tells it."""
+    if not told:
         return told
     from reqlock_tools.rql.own_calls import Here
-    from reqlock_tools.rql.own_words import has_call, in_own_words
+    from reqlock_tools.rql.own_words import has_call, in_own_words, without_lacking
 
     here = Here(options.start, base_of(options), tuple(question))
-    text = in_own_words(told.decode(errors="surrogateescape"), here, width())
+    text = in_own_words(without_lacking(told.decode(errors="surrogateescape"), lacking), here, width())
     if has_call(text):
         text += f"{speaking('rql')}: {LEFT}\n"
     return text.encode(errors="surrogateescape")

@@ -15,10 +15,10 @@ def size_text(count: int) -> str:
 
 
 class Report:
-    """Lines on standard error about a result."""
+    """Lines on standard error about a result. Of the names that are left untold the caller tells that no index has them."""
 
-    def __init__(self, plan: Plan, result: Result, choices: Choices) -> None:
-        self.plan, self.result, self.choices = plan, result, choices
+    def __init__(self, plan: Plan, result: Result, choices: Choices, untold: frozenset[str] = frozenset()) -> None:
+        self.plan, self.result, self.choices, self.untold = plan, result, choices, untold
 
     def none_text(self, bases: list[str]) -> str | None:
         """What is told where no index has any file of what is asked for; None where one has."""
@@ -43,7 +43,7 @@ class Report:
         direct = Walk(self.result.walk.markers)
         direct.ask([*self.plan.names, *self.plan.lines])
         for are_direct, which in (True, "are asked for"), (False, "others depend on"):
-            names = [name for name in self.result.absent if (name in direct.asked) == are_direct]
+            names = [name for name in self.result.absent if (name in direct.asked) == are_direct and name not in self.untold]
             if names:
                 say(f"the index has no packages of these names, which {which}: {' '.join(names)}")
 

@@ -56,9 +56,9 @@ class Run:
             text = f"{self.whole_packages} of {plural(count, 'package')}, {size_text(self.client.bytes)}"
             self.progress.show(text, self.whole_packages, count)
 
-    def snapshot(self, may_be_none: bool = False) -> Snapshot:
+    def snapshot(self, may_be_none: bool = False, untold: frozenset[str] = frozenset()) -> Snapshot:
         """The packages by normal name, and how they were made. That no index has any file of what is asked for is refused, unless the names
-        may be wrong and not the address."""
+        may be wrong and not the address. Of some names it isn't told that no index has them."""
         try:
             self.read_pages(self.walk.ask([*self.plan.names, *self.plan.lines]))
             self.crew.run(self.show)
@@ -69,7 +69,7 @@ class Run:
             self.client.close()
             self.progress.clear()
         result = Result(self.plan, self.walk, self.projects, self.absent, self.choices)
-        report = Report(self.plan, result, self.choices)
+        report = Report(self.plan, result, self.choices, untold)
         self.none = report.none_text([index.base for index in self.indexes.all])
         if self.none is None:
             report.tell()
