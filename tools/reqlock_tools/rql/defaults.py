@@ -6,6 +6,7 @@ import re
 import subprocess
 import sys
 from collections.abc import Mapping
+from pathlib import Path
 
 from reqlock_tools.environment import PLATFORMS, SYSTEMS, Refused, described_environment, own_environment
 from reqlock_tools.refusal import speaker
@@ -67,13 +68,21 @@ def plain_index(url: str, origin: str) -> str:
     return plain
 
 
-def indexes(given: tuple[str, ...]) -> tuple[str, ...]:
-    """The addresses of the indexes: those that are given, else the one that pip asks."""
+def indexes(given: tuple[str, ...], base: Path) -> tuple[str, ...]:
+    """The addresses of the indexes: those that are given; else the default one that the project has for uv or Poetry; else the one that pip
+    asks."""
     if given:
         return tuple(plain_index(url, "--index") for url in given)
-    url, origin = index_of_pip()
+    from reqlock_tools.rql.other_indexes import default_of, other_indexes, tell_others
+
+    others = other_indexes(base)
+    default = default_of(others)
+    url, origin = default or index_of_pip()
     found = plain_index(url, origin)
     say(f"index {found}, as {origin} says")
+    tell_others(others, found)
+    if default is not None:
+        return (found,)
     if os.environ.get("PIP_EXTRA_INDEX_URL") or configured("extra-index-url"):
         say("pip's extra index isn't taken over, since pip mixes what indexes have: give all by --index URL, in order")
     return (found,)

@@ -68,7 +68,7 @@ def new_settings(base: Path, draft: Draft, request: InitRequest) -> tuple[Path, 
     targets = new_environments(base, draft, request)
     exports = [ExportSetting(draft.compiled, "hashes", targets[0].name or None)] if draft.compiled else []
     table = "tool.reqlock" if file.name == PROJECT_FILE else ""
-    return file, settings_text(table, draft.folder, indexes(request.indexes), draft.sources, exports, targets)
+    return file, settings_text(table, draft.folder, indexes(request.indexes, base), draft.sources, exports, targets)
 
 
 def new_environments(base: Path, draft: Draft, request: InitRequest) -> list[EnvironmentSetting]:
