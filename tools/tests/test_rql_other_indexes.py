@@ -1,13 +1,15 @@
 """Tests of the indexes that a pyproject.toml names for uv or Poetry: which one `rql init` takes, and what it tells of the others. The rules
 are those of their pages: docs.astral.sh/uv/concepts/indexes, python-poetry.org/docs/repositories."""
 
+import contextlib
+import io
 import re
 import unittest
 
 from support.made.served_index import MadeIndex, wheel_of
 from support.rql_projects import Projects, Served
 
-from reqlock_tools.rql.other_indexes import default_of, other_indexes
+from reqlock_tools.rql.other_indexes import default_of, other_indexes, tell_others
 
 PROJECT = '[project]\nname = "app"\ndependencies = ["rich"]\n'
 ONE, TWO, THREE = (f"https://{it}.example/simple/" for it in ("one", "two", "three"))
@@ -28,7 +30,7 @@ class Named(Projects):
         )
         self.assertEqual(told, [
             ("pyproject.toml: line 8: tool.uv.index[0]", THREE, "bound", ("torch",)),
-            ("pyproject.toml: line 2: tool.uv.extra-index-url", TWO, "more", ()),
+            ("pyproject.toml: line 2: tool.uv.extra-index-url", TWO, "before", ()),
             ("pyproject.toml: line 12: tool.uv.index[1]", ONE, "default", ()),
         ])
         self.assertEqual(default, (ONE, "pyproject.toml: line 12: tool.uv.index[1]"))
@@ -39,7 +41,7 @@ class Named(Projects):
             f'[[tool.poetry.source]]\nname = "three"\nurl = "{THREE}"\npriority = "explicit"\n'
             '[tool.poetry.group.gpu.dependencies]\ntorch = { version = "*", source = "three" }\n'
         )
-        self.assertEqual([(kind, only) for _, _, kind, only in told], [("bound", ("torch",)), ("more", ()), ("default", ())])
+        self.assertEqual([(kind, only) for _, _, kind, only in told], [("bound", ("torch",)), ("default", ()), ("behind", ())])
         self.assertEqual(default, (ONE, "pyproject.toml: line 3: tool.poetry.source[0]"))
 
     def test_none_is_taken_of_several_defaults(self):
@@ -51,6 +53,19 @@ class Named(Projects):
             self.assertIsNone(self.found(text)[1], text)
         same = f'[tool.uv]\nindex-url = "{ONE}"\n[[tool.poetry.source]]\nname = "one"\nurl = "{ONE[:-1]}"\n'
         self.assertEqual(self.found(same)[1][0].rstrip("/"), ONE.rstrip("/"))
+
+
+    def test_how_the_settings_have_them(self):
+        """Each is asked where its tool asks it: Poetry's supplemental sources behind the others."""
+        source = '[[tool.poetry.source]]\nname = "{0}"\nurl = "{0}"\npriority = "{1}"\n'
+        for text, wanted in (
+            (source.format(TWO, "supplemental"), f'["{ONE}", "{TWO}"]'), (f'[tool.uv]\nextra-index-url = ["{TWO}"]\n', f'["{TWO}", "{ONE}"]'),
+            (source.format(TWO, "primary") + source.format(THREE, "primary"), f'["{TWO}", "{THREE}"]'),
+        ):
+            self.put("pyproject.toml", text)
+            with contextlib.redirect_stderr(io.StringIO()) as told:
+                tell_others(other_indexes(self.folder), ONE)
+            self.assertIn(f" too, write index = {wanted} into the settings, and call rql relock\n", told.getvalue())
 
 
 class Taken(Served):
@@ -84,7 +99,7 @@ class Taken(Served):
         more.add("own", wheel_of("own", "1"))
         told = self.init(f'[[tool.uv.index]]\nname = "more"\nurl = "{more.url}"\n', PIP_INDEX_URL=self.index.url)
         self.assertIn(f"index {self.index.url}, as PIP_INDEX_URL says\n", told)
-        self.assertIn(f"pyproject.toml: line 6: tool.uv.index[0]: {more.url} isn't followed: it is asked beside the default\n", told)
+        self.assertIn(f"pyproject.toml: line 6: tool.uv.index[0]: {more.url} isn't followed: it is asked before the default\n", told)
         line = re.search(r"to ask it too, write (index = .*) into the settings, and call rql relock\n", told)[1]
         self.assertEqual(line, f'index = ["{more.url}", "{self.index.url}"]')
         path = self.folder / "pyproject.toml"

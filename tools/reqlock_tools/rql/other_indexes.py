@@ -13,9 +13,13 @@ from reqlock_tools.rql.settings import PROJECT_FILE
 from reqlock_tools.toml import table_at, value_at
 
 # What each priority of Poetry is for.
-PRIORITIES: dict[object, "Kind"] = {"supplemental": "more", "secondary": "more", "explicit": "bound"}
-Kind = Literal["default", "more", "bound"]
-WHY = {"default": "it isn't the only default", "more": "it is asked beside the default", "bound": "it is for some packages alone"}
+PRIORITIES: dict[object, "Kind"] = {"supplemental": "behind", "secondary": "behind", "explicit": "bound"}
+# In the order in which they are asked.
+Kind = Literal["bound", "before", "default", "behind"]
+WHY: dict[Kind, str] = {
+    "bound": "it is for some packages alone", "before": "it is asked before the default", "default": "it isn't the only default",
+    "behind": "it is asked behind the default",
+}
 
 say = speaker("rql")
 
@@ -36,22 +40,22 @@ class OtherIndex:
 
 
 def other_indexes(base: Path) -> list[OtherIndex]:
-    """The indexes that pyproject.toml names, in the order in which they are asked: bound ones, more, the default."""
+    """The indexes that pyproject.toml names, in the order in which they are asked."""
     table = project_table(base)
     text = read_text(str(base / PROJECT_FILE)) if table else ""
     found = [*indexes_of_uv(table, text), *indexes_of_poetry(table, text)]
-    return [it for kind in ("bound", "more", "default") for it in found if it.kind == kind]
+    return sorted(found, key=lambda it: [*WHY].index(it.kind))
 
 
 def indexes_of_uv(table: dict[str, Any], text: str) -> Iterator[OtherIndex]:
     uv = table_at(table, "tool", "uv")
     for number, it in enumerate(tables(uv.get("index"))):
-        kind: Kind = "bound" if it.get("explicit") is True else "default" if it.get("default") is True else "more"
+        kind: Kind = "bound" if it.get("explicit") is True else "default" if it.get("default") is True else "before"
         url = text_of(it.get("url"))
         yield OtherIndex(place(text, f"tool.uv.index[{number}]", url), url, kind, names_bound(table_at(uv, "sources"), "index", it.get("name")))
     extra = uv.get("extra-index-url")
     for url in map(text_of, extra if isinstance(extra, list) else []):
-        yield OtherIndex(place(text, "tool.uv.extra-index-url", url), url, "more")
+        yield OtherIndex(place(text, "tool.uv.extra-index-url", url), url, "before")
     if url := text_of(uv.get("index-url")):
         yield OtherIndex(place(text, "tool.uv.index-url", url), url, "default")
 
@@ -104,13 +108,14 @@ def default_of(found: list[OtherIndex]) -> tuple[str, str] | None:
 
 
 def tell_others(found: list[OtherIndex], taken: str) -> None:
-    """Tells which indexes aren't followed, and what has them asked too. The one that is taken is asked behind them, unless another tool
-    has defaults of its own."""
+    """Tells which indexes aren't followed, and what has them asked too, where one is taken. That is asked in the place of a default, unless
+    another tool has defaults of its own."""
     left = [it for it in found if it.url and plain(it.url) != taken]
     for it in left:
         say(f"{it.place}: {plain(it.url)} isn't followed: {WHY[it.kind]}")
-    settings = [it.setting() for it in left if it.only or it.kind != "bound"]
-    if settings:
-        is_last = taken in [plain(it.url) for it in found] or all(it.kind != "default" for it in left)
-        told = ", ".join([*settings, *[json.dumps(taken)] * is_last])
-        say(f"to ask {'it' if len(settings) == 1 else 'them'} too, write index = [{told}] into the settings, and call rql relock")
+    asked = [it for it in left if it.only or it.kind != "bound"]
+    if asked:
+        own = [] if any(it.kind == "default" for it in left) else [json.dumps(taken)]
+        first, last = ([it.setting() for it in asked if (it.kind == "behind") == is_last] for is_last in (False, True))
+        them = "it" if len(asked) == 1 else "them"
+        say(f"to ask {them} too, write index = [{', '.join([*first, *own, *last])}] into the settings, and call rql relock")
