@@ -5,11 +5,13 @@ import threading
 import unittest
 
 import pytest
+from support import once
 from support.marks import MEASURED, SLOW, is_among
 from support.outcomes import name_of, told_seed
 
 
 def pytest_configure(config):
+    once.begin()
     config.addinivalue_line("markers", "xdist_group(name): tests of one group run one behind the other in the same process")
     # (a shell's background job ignores SIGINT, and so would each program that a test interrupts)
     if threading.current_thread() is threading.main_thread():

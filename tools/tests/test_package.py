@@ -10,7 +10,7 @@ import time
 import unittest
 import zipfile
 
-from support.packaged import TIME, VERSION_FILE, Packaged
+from support.packaged import TIME, VERSION_FILE, Packaged, commit, copy_tree, git, package, put_program
 from support.places import TOP
 from support.program import NOBODY
 
@@ -22,45 +22,37 @@ def version():
     return re.search('const VERSION: &str = "(.*)";', (TOP / VERSION_FILE).read_text(encoding="utf-8"))[1]
 
 
-class Package(Packaged):
-    def test_it_is_the_same_each_time(self):
-        told = self.build()
-        first = self.wheel()
-        sums = first.parent / "SHA256SUMS"
-        self.assertEqual(told, f"{sums}\n{first}\ninstall it by: pipx install {first}\n{NO_ARCHIVE}")
-        os.utime(self.tree / "README.md", (1, 1))
-        os.chmod(self.tree / "README.md", 0o600)
-        os.chmod(self.tree / "tools" / "reqlock_tools" / "toml.py", 0o600)
-        self.build("other", PYTHONHASHSEED="7", TZ="Asia/Tokyo", LC_ALL="C")
-        second = self.wheel(self.folder / "other")
-        self.assertEqual(first.name, second.name)
-        self.assertEqual(first.read_bytes(), second.read_bytes())
-        self.assertRegex(first.name, rf"^reqlock-{re.escape(version())}-py3-none-[a-z0-9_.]+\.whl$")
+class Treed(Packaged):
+    """A test with a tree of its own, outside of git until it becomes a commit."""
+
+    def setUp(self):
+        super().setUp()
+        self.tree = self.folder / "tree"
+        copy_tree(self.tree)
+
+    def build(self, *words, program=..., status=0, **others):
+        """What ./package prints in the tree, with its status."""
+        if program is not None:
+            put_program(self.tree, *() if program is ... else (program,))
+        done = package(self.tree, *words, **others)
+        self.assertEqual(done.returncode, status, done.stdout + done.stderr)
+        return done.stdout + done.stderr
+
+
+class Wheel(Packaged):
+    """What is in the wheel of the release."""
 
     def test_it_is_for_the_machines_on_which_the_program_runs(self):
-        self.build()
-        text = subprocess.run(["readelf", "-VW", self.tree / "crates/reqlock/out/reqlock"], capture_output=True, encoding="utf-8").stdout
+        text = subprocess.run(["readelf", "-VW", self.release / "crates/reqlock/out/reqlock"], capture_output=True, encoding="utf-8").stdout
         wanted = max((int(number) for number in re.findall(r"GLIBC_2\.([0-9]+)", text)), default=5)
-        self.assertIn(f"-manylinux_2_{max(wanted, 5)}_{os.uname().machine}.whl", self.wheel().name)
-
-    def test_the_machine_is_that_of_the_program(self):
-        self.build()
-        path = self.tree / "crates" / "reqlock" / "out" / "reqlock"
-        data = bytearray(path.read_bytes())
-        place, order = 18, "little" if data[5] == 1 else "big"
-        data[place : place + 2] = (183).to_bytes(2, order)
-        path.write_bytes(data)
-        self.build("arm", program=None)
-        self.assertTrue(self.wheel(self.folder / "arm").name.endswith("_aarch64.whl"))
+        self.assertRegex(self.wheel().name, rf"^reqlock-{re.escape(version())}-py3-none-manylinux_2_{max(wanted, 5)}_{os.uname().machine}\.whl$")
 
     def test_it_holds_what_is_to_be_installed_and_no_more(self):
-        (self.tree / "tools" / "reqlock_tools" / ".cache").mkdir()
-        (self.tree / "tools" / "reqlock_tools" / ".cache" / "x.json").write_bytes(b"{}")
-        self.build()
         with zipfile.ZipFile(self.wheel()) as archive:
             names = {name for name in archive.namelist() if not name.startswith("reqlock-")}
             others = [name for name in archive.namelist() if name.startswith("reqlock-")]
             [metadata] = [archive.read(name).decode() for name in others if name.endswith("/METADATA")]
+            self.assertEqual({member.date_time for member in archive.infolist()}, {time.gmtime(TIME)[:6]})
         sources = (TOP / "tools" / "reqlock_tools").rglob("*.py")
         self.assertEqual(names, {str(path.relative_to(TOP / "tools")) for path in sources})
         self.assertTrue(any(name.endswith("/LICENSE") for name in others), others)
@@ -74,99 +66,125 @@ class Package(Packaged):
         wanted = [(name, "") for name in ("packaging", "platformdirs", "rich", "tomlkit", "urllib3")]
         self.assertEqual(sorted(asked), [("distributed", "dask"), *wanted])
 
+    def test_no_module_can_be_called(self):
+        modes = {path.stat().st_mode & 0o111 for path in (TOP / "tools" / "reqlock_tools").rglob("*.py")}
+        self.assertEqual(modes, {0})
 
-@unittest.skipUnless(shutil.which("git"), "there is no git")
+
+class Outside(Treed):
+    """What is made of a tree outside of git."""
+
+    def test_the_wheel_is_that_of_the_commit(self):
+        """Whatever times and rights files have there, what a tool keeps there, and whoever calls."""
+        os.utime(self.tree / "README.md", (1, 1))
+        os.chmod(self.tree / "README.md", 0o600)
+        tools = self.tree / "tools" / "reqlock_tools"
+        os.chmod(tools / "toml.py", 0o600)
+        (tools / ".cache").mkdir()
+        (tools / ".cache" / "x.json").write_bytes(b"{}")
+        told = self.build("other", PYTHONHASHSEED="7", TZ="Asia/Tokyo", LC_ALL="C")
+        other = self.folder / "other"
+        made = self.wheel(other)
+        self.assertEqual(told, f"{other / 'SHA256SUMS'}\n{made}\ninstall it by: pipx install {made}\n{NO_ARCHIVE}")
+        self.assertEqual((made.name, made.read_bytes()), (self.wheel().name, self.wheel().read_bytes()))
+
+    def test_the_machine_is_that_of_the_program(self):
+        put_program(self.tree)
+        path = self.tree / "crates" / "reqlock" / "out" / "reqlock"
+        data = bytearray(path.read_bytes())
+        place, order = 18, "little" if data[5] == 1 else "big"
+        data[place : place + 2] = (183).to_bytes(2, order)
+        path.write_bytes(data)
+        self.build("arm", program=None)
+        self.assertTrue(self.wheel(self.folder / "arm").name.endswith("_aarch64.whl"))
+
+    def test_no_link_is_followed(self):
+        (self.folder / "secret").write_bytes(b"s3cr3t")
+        (self.tree / "tools" / "reqlock_tools" / "stray.py").symlink_to(self.folder / "secret")
+        self.assertEqual(self.build(status=1), "package: tools/reqlock_tools/stray.py: a link leads elsewhere; remove it first\n")
+
+
 class Release(Packaged):
     """What is made of a commit."""
 
-    def test_two_clones_give_the_same_bytes(self):
-        self.commit()
-        told = self.build(SOURCE_DATE_EPOCH="")
-        first = {path.name: path.read_bytes() for path in (self.tree / "dist").iterdir()}
-        wheel, archive = self.wheel().name, f"reqlock-{version()}-source.tar.gz"
-        self.assertEqual(sorted(first), ["SHA256SUMS", wheel, archive])
-        self.assertEqual(told.splitlines(), [*(str(self.tree / "dist" / name) for name in sorted(first)), f"install it by: pipx install {self.wheel()}"])
+    def files(self, folder):
+        return {path.name: path.read_bytes() for path in folder.iterdir()}
+
+    def test_it_has_a_wheel_an_archive_and_their_sums(self):
+        dist, archive = self.release / "dist", f"reqlock-{version()}-source.tar.gz"
+        names = ["SHA256SUMS", self.wheel().name, archive]
+        self.assertEqual(sorted(self.files(dist)), names)
+        told = (self.release.parent / "told").read_text(encoding="utf-8")
+        self.assertEqual(told.splitlines(), [*(str(dist / name) for name in names), f"install it by: pipx install {self.wheel()}"])
+
+    def test_a_clone_gives_the_same_bytes(self):
+        """Whatever the settings of its user are, and whatever came to stand in it that git doesn't list."""
         other = self.folder / "elsewhere" / "clone"
         other.parent.mkdir()
-        self.git("clone", "--quiet", self.tree, other)
+        git(self.release, "clone", "--quiet", self.release, other)
+        put_program(other)
         (self.folder / "attributes").write_text("* text eol=crlf\n", encoding="utf-8")
         (self.folder / "config").write_text(f"[core]\nattributesFile={self.folder}/attributes\n[tar]\numask=0\n", encoding="utf-8")
-        self.tree, before = other, os.umask(0o077)
-        self.addCleanup(os.umask, before)
         os.utime(other / "README.md", (1, 1))
-        self.build(SOURCE_DATE_EPOCH="", TZ="Asia/Tokyo", PYTHONHASHSEED="7", GIT_CONFIG_GLOBAL=str(self.folder / "config"), GZIP="-1")
-        self.assertEqual({path.name: path.read_bytes() for path in (other / "dist").iterdir()}, first)
+        tools = other / "tools" / "reqlock_tools"
+        (tools / "strays").mkdir()
+        (tools / "strays" / "__init__.py").write_bytes(b"")
+        (tools / "stray.py").symlink_to(self.folder / "config")
+        before = os.umask(0o077)
+        self.addCleanup(os.umask, before)
+        more = {"TZ": "Asia/Tokyo", "PYTHONHASHSEED": "7", "GIT_CONFIG_GLOBAL": str(self.folder / "config"), "GZIP": "-1"}
+        done = package(other, SOURCE_DATE_EPOCH="", **more)
+        self.assertEqual(done.returncode, 0, done.stderr)
+        self.assertEqual(self.files(other / "dist"), self.files(self.release / "dist"))
         self.assertEqual({path.stat().st_mode & 0o777 for path in (other / "dist").iterdir()}, {0o644})
 
     def test_the_sums_are_those_of_the_files(self):
-        self.commit()
-        self.build()
-        self.assertEqual(self.run_in(self.tree / "dist", "sha256sum", "--strict", "-c", "SHA256SUMS").count(": OK\n"), 2)
-        with self.wheel().open("ab") as file:
+        dist = self.folder / "dist"
+        shutil.copytree(self.release / "dist", dist)
+        self.assertEqual(self.run_in(dist, "sha256sum", "--strict", "-c", "SHA256SUMS").count(": OK\n"), 2)
+        with self.wheel(dist).open("ab") as file:
             file.write(b"x")
-        self.assertIn(".whl: FAILED\n", self.run_in(self.tree / "dist", "sha256sum", "-c", "SHA256SUMS", status=1))
+        self.assertIn(".whl: FAILED\n", self.run_in(dist, "sha256sum", "-c", "SHA256SUMS", status=1))
 
     def test_the_source_archive_is_what_git_has_and_makes_the_same_wheel(self):
-        self.commit()
-        self.build(SOURCE_DATE_EPOCH="")
-        wheel, top = self.wheel().read_bytes(), f"reqlock-{version()}"
-        with zipfile.ZipFile(self.wheel()) as archive:
-            self.assertEqual({member.date_time for member in archive.infolist()}, {time.gmtime(TIME)[:6]})
-        files = self.git("ls-files").splitlines()
-        with tarfile.open(self.one("*-source.tar.gz")) as archive:
+        top = f"reqlock-{version()}"
+        files = git(self.release, "ls-files").splitlines()
+        with tarfile.open(self.one("*-source.tar.gz", self.release / "dist")) as archive:
             members = [member for member in archive.getmembers() if not member.isdir()]
             self.assertEqual([member.name for member in members], [f"{top}/{name}" for name in files])
             self.assertEqual({(member.mtime, member.uid, member.gid, member.uname) for member in archive.getmembers()}, {(TIME, 0, 0, "root")})
             self.assertEqual({member.mode for member in members}, {0o644, 0o755})
             for name in files:
                 content = archive.extractfile(f"{top}/{name}").read()
-                self.assertEqual(content, f"{TIME}\n".encode() if name == ".commit-time" else (self.tree / name).read_bytes(), name)
+                self.assertEqual(content, f"{TIME}\n".encode() if name == ".commit-time" else (self.release / name).read_bytes(), name)
             archive.extractall(self.folder / "unpacked")
-        self.tree = self.folder / "unpacked" / top
-        self.assertIn(NO_ARCHIVE, self.build(SOURCE_DATE_EPOCH=""))
-        self.assertEqual(self.wheel().read_bytes(), wheel)
+        tree = self.folder / "unpacked" / top
+        put_program(tree)
+        done = package(tree, SOURCE_DATE_EPOCH="")
+        self.assertEqual((done.returncode, done.stderr), (0, NO_ARCHIVE))
+        self.assertEqual(self.wheel(tree / "dist").read_bytes(), self.wheel().read_bytes())
+
+
+class Uncommitted(Treed):
+    """A tree that isn't as its last commit has it, or has what a release can't have."""
 
     def test_what_is_not_committed_is_told(self):
-        self.git("init", "--quiet")
+        git(self.tree, "init", "--quiet")
         self.assertEqual(self.build(status=1), "package: nothing is committed yet\n")
-        self.commit()
+        commit(self.tree)
         with (self.tree / "README.md").open("a", encoding="utf-8") as file:
             file.write("more\n")
         self.assertEqual(self.build(status=1), "package: README.md isn't as the last commit has it: commit it first\n")
         self.assertFalse(list(self.tree.glob("dist/*")))
 
-
-@unittest.skipUnless(shutil.which("git"), "there is no git")
-class Strays(Packaged):
-    """What came to stand in the tree gets into no wheel, and no link leads out of it."""
-
-    def setUp(self):
-        super().setUp()
-        self.secret = self.folder / "secret"
-        self.secret.write_bytes(b"s3cr3t")
-        self.place = self.tree / "tools" / "reqlock_tools" / "stray.py"
-
-    def test_what_git_does_not_list_is_left_out(self):
-        self.commit()
-        (self.place.parent / "strays").mkdir()
-        (self.place.parent / "strays" / "__init__.py").write_bytes(b"")
-        self.place.symlink_to(self.secret)
-        self.build()
-        with zipfile.ZipFile(self.wheel()) as archive:
-            self.assertEqual([name for name in archive.namelist() if "stray" in name], [])
-        self.commit()
+    def test_no_link_that_git_lists_is_followed(self):
+        (self.folder / "secret").write_bytes(b"s3cr3t")
+        (self.tree / "tools" / "reqlock_tools" / "stray.py").symlink_to(self.folder / "secret")
+        commit(self.tree)
         self.assertEqual(self.build(status=1), "package: tools/reqlock_tools/stray.py: a link leads elsewhere; remove it first\n")
 
-    def test_no_link_is_followed_where_there_is_no_git(self):
-        self.place.symlink_to(self.secret)
-        self.assertEqual(self.build(status=1), "package: tools/reqlock_tools/stray.py: a link leads elsewhere; remove it first\n")
 
-    def test_no_module_can_be_called(self):
-        modes = {path.stat().st_mode & 0o111 for path in (TOP / "tools" / "reqlock_tools").rglob("*.py")}
-        self.assertEqual(modes, {0})
-
-
-class Faults(Packaged):
+class Faults(Treed):
     def test_are_told(self):
         absent = "package: crates/reqlock/out/reqlock isn't there: build the program first, by ./demo --proved\n"
         self.assertEqual(self.build(program=None, status=1), absent)
@@ -193,7 +211,7 @@ class Faults(Packaged):
 
     def test_what_is_no_program_for_linux(self):
         (self.tree / "crates" / "reqlock" / "out").mkdir(parents=True)
-        for content in b"#!/bin/sh\n", b"\x7fELF", b"":
+        for content in b"#!/bin/sh\n" + b"#" * 20, b"\x7fELF":
             path = self.tree / "crates" / "reqlock" / "out" / "reqlock"
             path.write_bytes(content)
             path.chmod(0o755)

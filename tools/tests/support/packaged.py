@@ -1,12 +1,15 @@
-"""What tests of ./package share: a copy of the files of which the wheel is made, as one commit or outside of git, and the wheel. Where the
-program isn't built, another one stands in its place."""
+"""What tests of ./package share: a copy of the files of which the wheel is made, as one commit or outside of git, and what a release has,
+which is made of such a commit once a run. Where the program isn't built, another one stands in its place."""
 
+import importlib.util
 import os
 import shutil
 import subprocess
 import sys
 import unittest
+from functools import cache
 
+from support.once import made_once
 from support.places import PROGRAM, TOP, new_folder
 
 from reqlock_tools.names import COMMANDS
@@ -26,12 +29,14 @@ PAGES = [
 ]
 
 
+@cache
 def has_backend():
     """Whether ./package finds what it needs."""
-    for python in sys.executable, "python3", "/usr/bin/python3":
-        if shutil.which(python) and subprocess.run([python, "-c", "import hatchling"], capture_output=True, check=False).returncode == 0:
-            return bool(shutil.which("readelf"))
-    return False
+    asks = "import importlib.util, sys; sys.exit(importlib.util.find_spec('hatchling') is None)"
+    is_here = importlib.util.find_spec("hatchling") is not None or any(
+        shutil.which(python) and subprocess.run([python, "-c", asks], check=False).returncode == 0 for python in ("python3", "/usr/bin/python3")
+    )
+    return is_here and bool(shutil.which("readelf"))
 
 
 def copy_tree(folder):
@@ -52,45 +57,70 @@ def own_variables(folder, **more):
     return {**kept, **pip, "HOME": str(folder), **more}
 
 
+def git(tree, *words):
+    """What git prints in a tree, for an author whose commits have all one time."""
+    author = {f"GIT_{who}_{what}": it for who in ("AUTHOR", "COMMITTER") for what, it in (("NAME", "a"), ("EMAIL", "a@x"), ("DATE", f"{TIME} +0000"))}
+    variables = own_variables(tree.parent / "home", GIT_CONFIG_GLOBAL=os.devnull, GIT_CONFIG_NOSYSTEM="1", **author)
+    done = subprocess.run(["git", *words], cwd=tree, env=variables, stdout=subprocess.PIPE, stderr=subprocess.STDOUT, encoding="utf-8", check=False)
+    assert done.returncode == 0, f"{words}: {done.stdout}"
+    return done.stdout
+
+
+def commit(tree):
+    """All of a tree becomes a commit."""
+    git(tree, "init", "--quiet")
+    git(tree, "add", "--all")
+    git(tree, "commit", "--quiet", "--message=all")
+
+
+def package(tree, *words, user=None, **variables):
+    """A call of ./package in a tree."""
+    own = {**os.environ, "SOURCE_DATE_EPOCH": str(TIME), **variables}
+    return subprocess.run(
+        [tree / "package", *words], cwd=tree.parent, capture_output=True, encoding="utf-8", check=False, env=own, **user or {}
+    )
+
+
+def put_program(tree, program=PROGRAM if PROGRAM.exists() else OTHER):
+    place = tree / "crates" / "reqlock" / "out"
+    place.mkdir(parents=True, exist_ok=True)
+    shutil.copy(program, place / "reqlock")
+
+
+def make_release(folder):
+    """What a release has, below tree/dist of a commit, and what ./package told of it in the file `told`."""
+    tree = folder / "tree"
+    copy_tree(tree)
+    commit(tree)
+    put_program(tree)
+    done = package(tree, SOURCE_DATE_EPOCH="")
+    assert done.returncode == 0, done.stdout + done.stderr
+    (folder / "told").write_text(done.stdout + done.stderr, encoding="utf-8")
+
+
 @unittest.skipUnless(has_backend(), "no python3 has hatchling, or there is no readelf: apt-get install python3-hatchling binutils")
+@unittest.skipUnless(shutil.which("git"), "there is no git")
 @unittest.skipUnless(sys.platform == "linux", "the wheel is for Linux")
 class Packaged(unittest.TestCase):
+    """A test with a folder, and with what a release has, which it doesn't change."""
+
     def setUp(self):
         self.folder = new_folder(self.addCleanup)
-        self.tree = self.folder / "tree"
-        copy_tree(self.tree)
 
-    def build(self, *words, program=PROGRAM if PROGRAM.exists() else OTHER, status=0, user=None, **variables):
-        """What ./package prints, with its status."""
-        place = self.tree / "crates" / "reqlock" / "out"
-        place.mkdir(parents=True, exist_ok=True)
-        if program is not None:
-            shutil.copy(program, place / "reqlock")
-        done = subprocess.run(
-            [self.tree / "package", *words], cwd=self.folder, capture_output=True, encoding="utf-8", check=False,
-            env={**os.environ, "SOURCE_DATE_EPOCH": str(TIME), **variables}, **user or {},
-        )
-        self.assertEqual(done.returncode, status, done.stdout + done.stderr)
-        return done.stdout + done.stderr
+    @property
+    def release(self):
+        """The tree of the release's commit, with what was made of it below `dist`."""
+        return made_once("release", make_release) / "tree"
 
     def wheel(self, folder=None):
-        return self.one("*.whl", folder)
+        """The wheel of the release, or the one in a folder."""
+        return self.one("*.whl", folder or self.release / "dist")
 
-    def one(self, pattern, folder=None):
+    @staticmethod
+    def one(pattern, folder):
         """The one file of this form that ./package left in a folder."""
-        [path] = (folder or self.tree / "dist").glob(pattern)
+        [path] = folder.glob(pattern)
         return path
-
-    def git(self, *words):
-        """What git prints in the tree, for an author whose commits have all one time."""
-        author = {f"GIT_{who}_{what}": it for who in ("AUTHOR", "COMMITTER") for what, it in (("NAME", "a"), ("EMAIL", "a@x"), ("DATE", f"{TIME} +0000"))}
-        return self.run_in(self.tree, "git", *words, GIT_CONFIG_GLOBAL=os.devnull, GIT_CONFIG_NOSYSTEM="1", **author)
-
-    def commit(self):
-        """All of the tree becomes a commit."""
-        self.git("init", "--quiet")
-        self.git("add", "--all")
-        self.git("commit", "--quiet", "--message=all")
 
     def run_in(self, folder, *words, status=0, **variables):
         """What a command prints in a folder, for a user with nothing else at home."""
