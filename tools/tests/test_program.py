@@ -17,110 +17,60 @@ from support.rules.requirements import marker_text
 
 
 class Help(Program):
-    """What the program tells of its own words."""
+    """What the program tells of its own words: each with a text, whatever that says."""
 
+    COMMON = {"-v, --verbose", "-q, --quiet", "--color <WHEN>", "-h, --help"}
+    DIR, INDEX, ENV = "--dir <DIR>", "--index <FILE>", "--env <FILE>"
+    OPTIONS = {DIR, INDEX, ENV, "--keep-locked", "--dry-run", "--json", "-V, --version"} | COMMON
+    # What a subcommand takes beside those.
+    LOCKING = {DIR, INDEX, "--keep-locked", "--if-needed", "--dry-run"}
+    READING = {DIR, INDEX, "--json"}
+    NEW = {"--was <OLD>", "--line <NAME> <TEXT>", "--pins <FILE>"}
     SUBCOMMANDS = {
-        "init": "Lock the file and begin a new history",
-        "add": "Put a line behind the others",
-        "remove": "Take the line of a name out",
-        "constrain": "Put other specifiers in the line of a name",
-        "upgrade": "Lock again without the locked versions of these names",
-        "relock": "Lock again over the index at hand; versions stay where they can",
-        "replace": "Put other lines in the place of those of the file; versions stay where they can",
-        "undo": "Go back to the state before the last edit",
-        "redo": "Go on to the state that an undo left",
-        "batch": "Do the commands of standard input, and save at its end",
-        "try": "Do the commands of standard input on a new history; save nothing",
-        "show": "Print the lock as a table, with what asks for each entry",
-        "log": "Print the history, a line for each edit",
-        "diff": "Print what changed between two places of the history",
-        "check": "Tell whether the three files belong together; change nothing",
-        "outdated": "Print which locked releases have newer ones, and who holds them back",
-        "export": "Print the lock in the form of another tool",
-        "skipped": "Print which releases of the index are left out, and why",
-        "why": "Print a proof that nothing can be locked with this line, where that is so",
-    }
-    LINES = {
-        "--was <OLD>": "Take the lines of the file in the folder; OLD is what it was",
-        "--line <NAME> <TEXT>": "Put the text in the place of the line of the name",
-    }
-    PINS = {"--pins <FILE>": "Keep the versions of this lock, or of these lines; or NAME=FILE"}
-    DRY = {"--dry-run": "Save nothing; print what would change"}
-    EDIT = {"--if-needed": "Answer same, and save nothing, where only the index would change", **DRY}
-    ARGUMENTS = {
-        "init": PINS | DRY,
-        "add": {"<TEXT>": "The line, such as 'flask>=2  # the server'", **EDIT},
-        "remove": {"<NAME>": "The name of the line", **EDIT},
-        "constrain": {
-            "<NAME>": "The name of the line", "[SPEC]": "The specifiers, such as '>=2,<3'; without them any version will do", **EDIT,
-        },
-        "upgrade": {"[NAME]...": "Names in the lock; without any, all of them", **EDIT},
-        "relock": EDIT, "undo": DRY, "redo": DRY,
-        "replace": {"[NEW]": "The file with the new lines; - is standard input", **LINES, **PINS, **EDIT},
-        "batch": {"--all-or-none": "Save nothing where a command is refused, and end with its status"},
-        "show": {
-            "[NAME]": "Print the entry of this name, with its files", "--tree": "Print the entries below the lines that ask for them",
-            "--json": "Print JSON",
-        },
-        "log": {"--long": "Print each entry that a step changed on a line of its own", "--json": "Print JSON"},
-        "diff": {
-            "[FROM]": "The first place; without it, the one before the present",
-            "[TO]": "The second place; without it, the present one", "--json": "Print JSON",
-        },
-        "check": {"--current": "Tell whether a relock over the index would change an entry", "--json": "Print JSON"},
-        "outdated": {"--json": "Print JSON"},
-        "export": {"--format <FORMAT>": "hashes, dot or pylock [default: hashes]", "--target <NAME>": "The target whose lock it is"},
+        "init": {DIR, INDEX, ENV, "--pins <FILE>", "--dry-run"},
+        "add": {"<TEXT>"} | LOCKING, "remove": {"<NAME>"} | LOCKING, "constrain": {"<NAME>", "[SPEC]"} | LOCKING,
+        "upgrade": {"[NAME]..."} | LOCKING, "relock": LOCKING, "replace": {"[NEW]"} | NEW | LOCKING,
+        "undo": {DIR, "--dry-run"}, "redo": {DIR, "--dry-run"},
+        "batch": {DIR, INDEX, "--keep-locked", "--all-or-none"}, "try": {DIR, INDEX, ENV},
+        "show": {"[NAME]", "--tree"} | READING, "log": {DIR, "--long", "--json"}, "diff": {"[FROM]", "[TO]", DIR, "--json"},
+        "check": {"--current"} | READING, "outdated": READING, "export": {"--format <FORMAT>", "--target <NAME>", DIR, INDEX},
+        "skipped": {INDEX},
         "why": {
-            "[TEXT]": "The line; without it, the file as it stands", "--explain": "Tell it in sentences",
-            "--init": "Ask about a first lock, for the environments given",
-            "--constrain <NAME> [SPEC]": "Ask about other specifiers in the line of a name",
-            "--upgrade [<NAME>...]": "Ask about an upgrade of these names; without any, of all",
-            "--remove <NAME>": "Ask about the removal of the line of a name",
-            "--not <NAME[==VERSION]>": "Ask why the lock lacks this version; without one, the newest",
-            "--long": "With --explain, leave nothing out", "--replace [<NEW>]": "Ask about other lines, those of NEW", **LINES, **PINS,
-        },
-    }
-    OPTIONS = {
-        "--dir <DIR>": "The folder of requirements.txt [env: REQLOCK_DIR] [default: .]",
-        "--index <FILE>": "The snapshot of the index [env: REQLOCK_INDEX]",
-        "--env <FILE>": "The environment that a lock is for; or NAME=FILE",
-        "--dry-run": "Save nothing; print what would change", "--json": "Print JSON",
-        "--keep-locked": "Move no locked version that is still needed, but for names to upgrade",
-        "-v, --verbose": "Tell what changed, or what is known of a refusal", "-q, --quiet": "Tell nothing beside the answer",
-        "--color <WHEN>": "Use colors: auto, always or never [default: auto]",
-    }
-    ALL = {"--dir", "--index", "--env"}
-    NEEDED = {
-        "init": ALL, "try": ALL, "why": ALL, "skipped": {"--index"},
-        **dict.fromkeys(["add", "remove", "constrain", "upgrade", "relock", "replace", "batch"], {"--dir", "--index"}),
-        **dict.fromkeys(["show", "check", "outdated", "export"], {"--dir", "--index"}),
-        **dict.fromkeys(["undo", "redo", "log", "diff"], {"--dir"}),
+            "[TEXT]", DIR, INDEX, ENV, "--keep-locked", "--explain", "--init", "--constrain <NAME> [SPEC]", "--upgrade [<NAME>...]",
+            "--remove <NAME>", "--not <NAME[==VERSION]>", "--long", "--replace [<NEW>]",
+        } | NEW,
     }
 
-    def test_help_names_each_subcommand_and_each_option(self):
-        status, told = self.call("--help")
+    def told_of(self, *words):
+        """The lines of a help, and its words with the text beside each."""
+        status, told = self.call(*words, "--help")
         self.assertEqual(status, 0)
-        lines = [line.split() for line in told.splitlines()]
-        for name, about in self.SUBCOMMANDS.items():
-            with self.subTest(name=name):
-                self.assertIn([name, *about.split()], lines)
-        for option, about in self.OPTIONS.items():
-            with self.subTest(option=option):
-                self.assertIn([*option.split(), *about.split()], lines)
-        listed = told.split("Commands:")[1].split("Options:")[0]
-        self.assertEqual(set(re.findall("(?m)^  ([a-z]+) ", listed)) - {"help"}, set(self.SUBCOMMANDS))
+        return told.splitlines(), dict(re.findall(r"(?m)^  +(\S.*?)  +(\S.*)$", told))
 
-    def test_a_subcommand_tells_what_it_does(self):
-        for name, about in self.SUBCOMMANDS.items():
+    def test_each_subcommand_and_each_option_is_named(self):
+        _, texts = self.told_of()
+        self.assertEqual(texts.keys() - {"help"}, self.SUBCOMMANDS.keys() | self.OPTIONS)
+
+    def test_a_subcommand_tells_what_it_does_and_takes(self):
+        _, texts = self.told_of()
+        for name, own in self.SUBCOMMANDS.items():
             with self.subTest(name=name):
-                status, told = self.call(name, "--help")
-                self.assertEqual((status, told.splitlines()[0]), (0, about))
-                self.assertIn(f"\nUsage: reqlock {name}", told)
-                lines = [line.split() for line in told.splitlines()]
-                for argument, text in self.ARGUMENTS.get(name, {}).items():
-                    self.assertIn([*argument.split(), *text.split()], lines)
-                self.assertEqual({line[0] for line in lines if line and line[0] in self.ALL}, self.NEEDED[name])
-                self.assertEqual(lines[-1][:3], ["Example:", "reqlock", name])
+                lines, words = self.told_of(name)
+                self.assertEqual(lines[0], texts[name])
+                self.assertTrue(any(line.startswith(f"Usage: reqlock {name}") for line in lines))
+                self.assertEqual(words.keys(), own | self.COMMON)
+
+    def test_each_example_can_be_typed(self):
+        self.begin(b"flask\n", ("flask", "1", []))
+        for name, text in ("commands.txt", "log\n"), ("new.txt", "flask\n"), ("requirements.txt", "flask\n"):
+            (self.outside / name).write_text(text, encoding="utf-8")
+        for name in self.SUBCOMMANDS:
+            lines, _ = self.told_of(name)
+            head, _, example = lines[-1].partition(": ")
+            self.assertEqual((head, example.split()[:2]), ("Example", ["reqlock", name]))
+            command = ["bash", "-c", example.replace("reqlock", str(PROGRAM), 1)]
+            done = subprocess.run(command, cwd=self.outside, capture_output=True, encoding="utf-8", check=False)
+            self.assertNotRegex(done.stderr, "(?m)^error: |^Usage: | is needed$", example)
 
     def test_the_version_stands_behind_the_name(self):
         status, told = self.call("--version")
