@@ -13,6 +13,7 @@ import unittest
 
 from support.made.served_index import wheel_of
 from support.rql_projects import ENVIRONMENT, SCRIPT, Projects, Served
+from support.terminals import shown_on_terminal
 
 FLASK = (
     wheel_of("flask", "2.0", "werkzeug"),
@@ -139,6 +140,17 @@ class Edits(Served):
         self.assertEqual((found, output), (6, ""), errors)
         self.assertIn("403", errors)
         self.assertEqual((self.files(), self.kept()), (before, kept))
+
+    def test_a_person_is_told_what_several_texts_changed(self):
+        self.begin("")
+        self.assertEqual(self.accepts("-q", "add", "rich<2", "flask", answer="ok 1\nok 2\n"), "")
+        self.accepts("undo", answer="ok 1\n")
+        self.accepts("undo", answer="ok 0\n")
+        words = [sys.executable, "-B", SCRIPT, "add", "rich<2", "flask"]
+        options = {"cwd": self.folder, "env": self.variables, "stdout": subprocess.DEVNULL}
+        status, shown = shown_on_terminal(lambda terminal: subprocess.Popen(words, stderr=terminal, **options))
+        self.assertEqual(status, 0, shown)
+        self.assertIn("\r\n+ 1: rich<2\r\n+ 2: flask\r\n+ flask 3.0\r\n+ rich 1\r\n+ werkzeug 2\r\n", shown)
 
     def start_waiting(self, *words):
         """A call that waits for an index which doesn't answer yet, and what has it answer."""

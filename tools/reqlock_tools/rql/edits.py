@@ -2,6 +2,7 @@
 
 import shlex
 import shutil
+import sys
 import tempfile
 from collections.abc import Sequence
 from dataclasses import replace
@@ -124,13 +125,23 @@ class Edit:
         replies = answer.output.splitlines(keepends=True)
         refused = [place for place, reply in enumerate(replies) if reply.startswith(b"refused ")]
         if answer.status == 0 or not refused:
-            return answer.hand_on()
+            status = answer.hand_on()
+            if status == 0:
+                self.tell_change(*(int(reply.split()[1]) for reply in (replies[0], replies[-1])))
+            return status
         text = self.request.texts[refused[0]]
         is_unsolved = replies[refused[0]].strip() == NO_SOLUTION and self.request.word == "add"
         # (of what the index lacks more is told, where something is told)
         is_unsolved = is_unsolved and not (is_told(self.project.options) and text in self.lacking().values())
         say(f"nothing is changed: {text!a} is refused" + (f": {shlex.join(['rql', 'why', '--explain', text])} tells why" if is_unsolved else ""))
         return replace(answer, output=replies[refused[0]]).hand_on()
+
+    def tell_change(self, first: int, last: int) -> None:
+        """Tells a person what the edits up to a place changed together, as the program tells it of a single one."""
+        options = self.project.options
+        if not options.is_quiet and (options.is_verbose or sys.stderr.isatty()):
+            change = self.caller.ask("--dir", typed_path(self.project.folder), "diff", str(first - 1), str(last))
+            sys.stderr.write(change.output.decode(errors="surrogateescape"))
 
 
 def copied(folder: Path, place: Path) -> Path:
