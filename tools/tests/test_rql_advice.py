@@ -184,6 +184,7 @@ class Groups(Coming):
         self.assertEqual(self.lines(), "flask\nruff>=1,<2  # group dev\npytest  # group test\n")
         self.assertEqual(self.locked(), [["flask", "1"], ["iniconfig", "1"], ["pytest", "1"], ["ruff", "1"]])
         group = "tool.poetry.group"
+        self.assertIn("tool.poetry.dependencies: translated once into requirements.txt: from now on its lines count", told)
         self.assertIn(f"{group}.test.dependencies: it is locked too, as `poetry install` installs it: rql remove takes a line out", told)
         self.assertIn(f"{group}.docs.dependencies: sphinx: it is optional, so it isn't taken over: rql add 'sphinx>=1,<2' adds it", told)
         self.accepts("add", "sphinx>=1,<2", answer="ok 1\n")

@@ -80,6 +80,7 @@ def lines_of_poetry(poetry: dict[str, Any], say: Say) -> bytes:
         if found:
             say(f"{key}: it is locked too, as `poetry install` installs it: rql remove takes a line out")
     tell_outside([poetry["dependencies"], *(table for _, _, table, _ in groups_of(poetry))], say)
+    say("tool.poetry.dependencies: translated once into requirements.txt: from now on its lines count")
     return "".join(f"{text}{comment}\n" for text, comment in lines.items()).encode()
 
 
