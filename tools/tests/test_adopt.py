@@ -17,6 +17,7 @@ from support.places import PROGRAM, TOOLS, TOP, needs_program
 from support.program import FILES, Program
 from support.rql_projects import Served
 from support.shown import indented_blocks
+from support.tool_calls import called
 
 SCRIPT = TOOLS / "adopt.py"
 ZEROS, ONES = "0" * 64, "1" * 64
@@ -47,9 +48,8 @@ class Adopt(Program):
         """The status, standard output, and what is said, without the script's name."""
         (self.outside / "in").write_bytes(source)
         (self.outside / "txt").write_bytes(pins)
-        command = [sys.executable, "-B", SCRIPT, *(words or ("in", "txt", "--index", "index.json", "--env", "environment.json"))]
-        command += ["--dir", place, *([] if "--program" in words else ["--program", PROGRAM])]
-        done = subprocess.run(command, cwd=self.outside, capture_output=True, encoding="utf-8", check=False)
+        words = words or ("in", "txt", "--index", "index.json", "--env", "environment.json")
+        done = called("adopt", [*words, "--dir", place, *([] if "--program" in words else ["--program", PROGRAM])], self.outside)
         self.assertNotIn("Traceback", done.stderr)
         return done.returncode, done.stdout, done.stderr.replace("adopt.py: ", "").replace("rql.py: ", "")
 

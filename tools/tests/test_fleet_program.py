@@ -5,7 +5,6 @@ import os
 import re
 import shutil
 import subprocess
-import sys
 import tempfile
 import unittest
 from pathlib import Path
@@ -14,6 +13,7 @@ from support.fleets import ASKED, SCRIPT, table
 from support.places import PROGRAM, TOP, needs_program
 from support.program import Program
 from support.shown import printed_by, typed_blocks
+from support.tool_calls import called
 
 
 class OverProgram(Program):
@@ -39,8 +39,7 @@ class OverProgram(Program):
         self.assertEqual(self.fleet(*words), (0, f"{table(*rows)}\n5 folders: 5 ok\n", ""))
 
     def fleet(self, *words):
-        command = [sys.executable, "-B", SCRIPT, "--program", PROGRAM, "--index", "index.json", *words]
-        done = subprocess.run(command, cwd=self.outside, capture_output=True, encoding="utf-8", check=False)
+        done = called("fleet", ["--program", PROGRAM, "--index", "index.json", *words], self.outside)
         return done.returncode, done.stdout, done.stderr.replace("fleet.py: ", "")
 
     def bytes_of(self, name):

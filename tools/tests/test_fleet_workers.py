@@ -1,6 +1,7 @@
 """Tests of tools/fleet.py --dask, with a scheduler and two workers on 127.0.0.1."""
 
 import json
+import os
 import re
 import shutil
 import signal
@@ -190,8 +191,8 @@ class WithoutDask(Fleet):
         # (a module of that name stands before the library, where python3 has it, and is none that can be imported)
         (self.folder / "modules").mkdir()
         (self.folder / "modules" / "distributed.py").write_text("raise ImportError\n", encoding="utf-8")
-        self.variables = {"PYTHONPATH": str(self.folder / "modules")}
-        status, output, errors = self.fleet("--dask", "tcp://127.0.0.1:1", "a", *ASKED)
+        variables = {**os.environ, "PYTHONPATH": str(self.folder / "modules")}
+        status, output, errors = self.end_of(self.start("--dask", "tcp://127.0.0.1:1", "a", *ASKED, env=variables))
         told = f"--dask needs the library distributed, which python3 hasn't: {INSTALL}\n"
         self.assertEqual((status, output, errors), (4, "", told))
 

@@ -93,7 +93,7 @@ class Old(Checkouts):
         def limit():
             resource.setrlimit(resource.RLIMIT_AS, (128 * MEGABYTE, 128 * MEGABYTE))
 
-        self.assertEqual(self.merge("--dry-run", preexec_fn=limit), (0, "ok 1\n- 1: # app\n- 2: web<3\n- 3: \n- 4: # tools\n+ 1: web\n", ""))
+        self.assertEqual(self.merge("--dry-run", before=limit), (0, "ok 1\n- 1: # app\n- 2: web<3\n- 3: \n- 4: # tools\n+ 1: web\n", ""))
 
     def test_are_each_looked_at_once(self):
         for number in range(3):

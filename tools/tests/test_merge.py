@@ -7,7 +7,6 @@ import shutil
 import signal
 import subprocess
 import time
-import unittest
 
 from support.checkouts import NOTHING, SCRIPT, Checkouts
 from support.made.environments import LINUX, WINDOWS
@@ -276,7 +275,7 @@ class Stops(Two):
         self.begin_two()
         before = self.everything()
         for size in 0, 100, 600:
-            self.assertEqual(self.merge(preexec_fn=limited(size))[0], 1)
+            self.assertEqual(self.merge(before=limited(size))[0], 1)
             self.assertEqual(self.everything(), before)
         self.assertEqual(self.merge()[0], 0)
 

@@ -8,6 +8,7 @@ import unittest
 
 from support.places import PROGRAM, TOOLS, TOP
 from support.program import Program
+from support.tool_calls import called
 
 SCRIPT = TOOLS / "merge.py"
 VARIABLES = {
@@ -66,10 +67,11 @@ class Checkouts(Program):
     def merge_words(self, *words):
         return [sys.executable, "-B", SCRIPT, "--dir", self.folder, "--index", self.outside / "index.json", "--program", PROGRAM, *words]
 
-    def merge(self, *words, **others):
-        """The status of the tool, what it prints, and what it says without its name."""
-        done = subprocess.run(
-            self.merge_words(*words), env=self.variables, capture_output=True, encoding="utf-8", errors="surrogateescape", check=False, **others
+    def merge(self, *words, before=None):
+        """The status of the tool, what it prints, and what it says without its name. What is done before begins a process of its own."""
+        call = self.merge_words(*words)
+        done = called("merge", call[3:], env=self.variables) if before is None else subprocess.run(
+            call, env=self.variables, capture_output=True, encoding="utf-8", errors="surrogateescape", check=False, preexec_fn=before
         )
         self.assertNotIn("Traceback", done.stderr)
         return done.returncode, done.stdout, done.stderr.replace("merge.py: ", "")

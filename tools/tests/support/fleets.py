@@ -1,12 +1,12 @@
 """The base class of tests of tools/fleet.py: folders in which a stand-in for the program, a script, does what their files `answer` say."""
 
-import os
 import subprocess
 import sys
 import time
 import unittest
 
 from support.places import TOOLS, new_folder
+from support.tool_calls import called
 
 SCRIPT = TOOLS / "fleet.py"
 HEAD = ("folder", "reply", "changed, or why not")
@@ -33,7 +33,6 @@ class Fleet(unittest.TestCase):
     """A test with folders in which the stand-in does what their answers say."""
 
     python = sys.executable
-    variables: dict[str, str] = {}
 
     def setUp(self):
         self.folder = new_folder(self.addCleanup)
@@ -50,16 +49,22 @@ class Fleet(unittest.TestCase):
     def start(self, *words, **options):
         command = [self.python, "-B", SCRIPT, "--program", self.program, *words]
         usual = {"cwd": self.folder, "stdout": subprocess.PIPE, "stderr": subprocess.PIPE, "encoding": "utf-8"}
-        return subprocess.Popen(command, env={**os.environ, **self.variables}, **usual | options)
+        return subprocess.Popen(command, **usual | options)
 
     def fleet(self, *words):
         """The status, standard output, and what is said, without the script's name."""
-        return self.end_of(self.start(*words))
+        if self.python != sys.executable:
+            return self.end_of(self.start(*words))
+        done = called("fleet", ["--program", self.program, *words], self.folder)
+        return self.outcome(done.returncode, done.stdout, done.stderr)
 
     def end_of(self, call):
         output, errors = call.communicate(timeout=120)
+        return self.outcome(call.returncode, output, errors)
+
+    def outcome(self, status, output, errors):
         self.assertNotIn("Traceback", errors)
-        return call.returncode, output, errors.replace("fleet.py: ", "")
+        return status, output, errors.replace("fleet.py: ", "")
 
     def calls(self, name):
         """The calls that were made in a folder."""
