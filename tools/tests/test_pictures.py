@@ -2,7 +2,6 @@
 
 import re
 import shutil
-import subprocess
 import unittest
 from xml.etree import ElementTree
 

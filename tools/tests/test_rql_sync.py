@@ -11,10 +11,12 @@ import sys
 import time
 import unittest
 
+from support import venvs
 from support.made.journals import lock_text
 from support.made.served_index import MadeIndex, sdist_of, wheel_of
 from support.rql_projects import Served
-from support.synced import PYTHON, Synced, locked_entry, site_of, variables
+from support.synced import PYTHON, Synced, locked_entry, variables
+from support.venvs import site_of
 
 PROJECT = """
 [build-system]
@@ -186,7 +188,7 @@ class Stays(Synced):
 class Which(Synced):
     def other(self, name):
         place = self.project / name
-        shutil.copytree(self.template, place, symlinks=True)
+        venvs.copy(self.template, place)
         return place
 
     def test_the_named_one_else_the_active_one_else_that_beside_the_settings(self):
@@ -226,7 +228,7 @@ class Which(Synced):
         self.venv.symlink_to(other)
         self.refuses(f"{self.venv}: it is a link, which isn't followed: rql sync --venv {other} says that it is meant$")
         self.venv.unlink()
-        shutil.copytree(self.template, self.venv, symlinks=True)
+        venvs.copy(self.template, self.venv)
         for place in site_of(self.venv), self.venv / "bin":
             place.rename(place.with_name("moved"))
             place.symlink_to(place.with_name("moved"))

@@ -6,6 +6,7 @@ import re
 import shutil
 import unittest
 
+from support import venvs
 from support.made.served_index import wheel_of
 from support.rql_projects import Committed
 from support.synced import template
@@ -41,7 +42,7 @@ class Week(Committed):
         self.put("requirements.txt", COMPILED.replace("DIGEST", self.old.sha256).replace("WEB", self.web.sha256))
         self.put(".gitignore", ".venv\n")
         self.commit("as it was")
-        shutil.copytree(template(), self.folder / ".venv", symlinks=True)
+        venvs.copy(template(), self.folder / ".venv")
 
     def types(self, line):
         """A call as it is typed, which is accepted. Its words count."""

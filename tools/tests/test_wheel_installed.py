@@ -4,14 +4,15 @@ manual page are there, and go when it is removed. The CI job that stands in exam
 import json
 import re
 import shutil
-import subprocess
 import sys
 import unittest
 
+from support import venvs
 from support.made.archives import wheel
 from support.made.environments import LINUX
 from support.made.library_wheels import make_library_wheels, needed_names, python_with_libraries
 from support.made.releases import index_of
+from support.once import made_once
 from support.packaged import PAGES, Packaged, own_variables
 from support.places import PROGRAM, TOP, needs_program
 from test_install import COMMANDS
@@ -21,21 +22,23 @@ TOOLS = [command for command in COMMANDS if command != "reqlock"]
 
 @unittest.skipUnless(python_with_libraries(), f"no python3 has {' '.join(needed_names())}, of which the tests make wheels")
 class Wheeled(Packaged):
-    """A test with a wheel, and with a home for a user."""
+    """A test with the wheel of a release, and with a home for a user."""
 
     def setUp(self):
         super().setUp()
-        self.build()
         (self.folder / "home").mkdir()
-        self.libraries = make_library_wheels(self.folder / "libraries")
+
+    @property
+    def libraries(self):
+        """A folder with the wheels of what it depends on."""
+        return made_once("libraries", make_library_wheels)
 
     def venv(self):
         """An empty environment with pip alone."""
-        place = self.folder / "venv"
-        done = subprocess.run([sys.executable, "-m", "venv", place], capture_output=True, check=False, env=own_variables(self.folder))
-        if done.returncode != 0:
+        template = venvs.template(sys.executable, own_variables(self.folder))
+        if template is None:
             self.skipTest("python3 makes no venv with pip: apt-get install python3-venv")
-        return place
+        return venvs.copy_whole(template, self.folder / "venv")
 
 
 class Installed(Wheeled):
@@ -77,18 +80,18 @@ class Installed(Wheeled):
         self.check_runs(venv / "bin")
         self.assertEqual(self.run_in(self.folder, *pip, "check"), "No broken requirements found.\n")
         self.check_page(venv / "share")
+        self.check_libraries(venv)
         self.run_in(self.folder, *pip, "uninstall", "--yes", "reqlock")
         self.assertEqual([path.name for path in venv.rglob("*reqlock*") if "__pycache__" not in str(path)], [])
 
-    def test_the_libraries_come_with_it(self):
-        """They are those that the tools take: pip's copies may go."""
-        venv = self.venv()
-        pip = venv / "bin" / "python", "-m", "pip"
-        self.run_in(self.folder, *pip, "install", "--no-index", "--find-links", self.libraries, self.wheel())
-        self.run_in(self.folder, *pip, "uninstall", "--yes", "pip")
+    def check_libraries(self, venv):
+        """The libraries came with it, and are those that the tools take: pip's copies may go."""
+        copies = venvs.site_of(venv) / "pip"
+        copies.rename(self.folder / "pip")
         words = "simple", "http://127.0.0.1:1/simple/", "a", "--cache", self.folder / "cache"
         told = self.run_in(self.folder, venv / "bin" / "reqlock-snapshot", *words, status=1)
         self.assertIn("/simple/a/: Connection refused; is the address right?", told)
+        (self.folder / "pip").rename(copies)
 
     def test_tools_without_libraries_tell_what_to_install(self):
         venv = self.venv()
@@ -106,13 +109,15 @@ class Installed(Wheeled):
 
     @unittest.skipUnless(shutil.which("pipx"), "there is no pipx: apt-get install pipx")
     def test_by_pipx_and_removed(self):
-        local = self.folder / "home" / ".local"
-        self.run_in(self.folder, "pipx", "install", f"--pip-args=--no-index --find-links {self.libraries}", self.wheel())
+        """The pip that pipx makes for all its environments at its first call is there already."""
+        local, has_pip = self.folder / "home" / ".local", {"PIPX_SHARED_LIBS": str(self.venv())}
+        words = f"--pip-args=--no-index --find-links {self.libraries}", self.wheel()
+        self.run_in(self.folder, "pipx", "install", *words, **has_pip)
         self.assertEqual(sorted(path.name for path in (local / "bin").iterdir()), sorted(COMMANDS))
         self.check_runs(local / "bin")
         [venv] = [path.parent for path in local.glob("**/venvs/reqlock/share")]
         self.check_page(venv / "share")
-        self.run_in(self.folder, "pipx", "uninstall", "reqlock")
+        self.run_in(self.folder, "pipx", "uninstall", "reqlock", **has_pip)
         self.assertEqual(list((local / "bin").iterdir()), [])
         self.assertEqual([path.name for path in local.rglob("*reqlock*") if not path.name.endswith(".log")], [])
 

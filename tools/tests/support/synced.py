@@ -1,21 +1,19 @@
 """What tests of `rql sync` share: a virtual environment of the system's Python with its pip, an index, and locks over it. Each call is a
 process of its own."""
 
-import atexit
 import json
 import os
 import re
-import shutil
 import subprocess
-import tempfile
 import unittest
-from functools import cache
 from pathlib import Path
 from urllib.parse import urljoin
 
+from support import venvs
 from support.made.journals import journal_of_targets, lock_text
 from support.made.served_index import MadeIndex, wheel_of
 from support.places import TOOLS, new_folder
+from support.venvs import site_of
 from support.wanted_libraries import want_libraries
 
 from reqlock_tools.environment import VARIABLES
@@ -49,26 +47,9 @@ def variables(**more):
     return {**kept, "PIP_CONFIG_FILE": os.devnull, "PIP_RETRIES": "0", "NETRC": os.devnull, **more}
 
 
-@cache
 def template():
-    """An environment of which tests make copies; None where none can be made. It has pip alone, which a link leads to, so that a copy is
-    small."""
-    top = tempfile.mkdtemp()
-    atexit.register(shutil.rmtree, top)
-    place = Path(top) / "venv"
-    if subprocess.run([PYTHON, "-m", "venv", place], capture_output=True, check=False, env=variables()).returncode != 0:
-        return None
-    site = site_of(place)
-    for path in [*site.glob("setuptools*"), *site.glob("pkg_resources*"), *site.glob("*distutils*")]:
-        shutil.rmtree(path) if path.is_dir() else path.unlink()
-    (site / "pip").rename(Path(top) / "pip")
-    (site / "pip").symlink_to(Path(top) / "pip")
-    return place
-
-
-def site_of(venv):
-    """Where an environment has its packages."""
-    return next((venv / "lib").glob("python3.*")) / "site-packages"
+    """An environment of which tests make copies; None where none can be made."""
+    return venvs.template(PYTHON, variables())
 
 
 def locked_entry(index, name, version, *files, dependencies=()):
@@ -94,7 +75,7 @@ class Synced(unittest.TestCase):
     def setUp(self):
         self.project = Path(os.path.realpath(new_folder(self.addCleanup)))
         self.venv = self.project / ".venv"
-        shutil.copytree(self.template, self.venv, symlinks=True)
+        venvs.copy(self.template, self.venv)
         self.home = self.project / "home"
         self.home.mkdir()
         self.index = MadeIndex()

@@ -7,10 +7,11 @@
 import importlib.metadata
 import importlib.util
 import re
+import shutil
 import subprocess
 import sys
 import tomllib
-from functools import lru_cache
+from functools import cache
 from pathlib import Path
 
 from support.made.archives import record_line, zipped
@@ -57,16 +58,16 @@ def wheel_of_library(folder, name):
     (folder / f"{inner}-py3-none-any.whl").write_bytes(zipped(members))
 
 
-@lru_cache(maxsize=None)
+@cache
 def python_with_libraries():
     """A Python that has them all; None where there is none."""
-    asks = "import importlib, sys; [importlib.import_module(name) for name in sys.argv[1:]]"
-    for python in sys.executable, "python3", "/usr/bin/python3":
-        try:
-            if subprocess.run([python, "-c", asks, *needed_names()], capture_output=True, check=False).returncode == 0:
-                return python
-        except OSError:
-            continue
+    names = [MODULES.get(name, name) for name in needed_names()]
+    if all(map(importlib.util.find_spec, names)):
+        return sys.executable
+    asks = "import importlib.util, sys; sys.exit(not all(map(importlib.util.find_spec, sys.argv[1:])))"
+    for python in "python3", "/usr/bin/python3":
+        if shutil.which(python) and subprocess.run([python, "-c", asks, *names], capture_output=True, check=False).returncode == 0:
+            return python
     return None
 
 
