@@ -12,8 +12,9 @@ from unittest import mock
 
 from support.places import TOOLS, new_folder
 from support.terminals import shown_on_terminal
-from test_install import COMMANDS
+from support.tool_calls import called
 from support.wanted_libraries import want_libraries
+from test_install import COMMANDS
 
 from reqlock_tools import moved, names
 
@@ -55,7 +56,11 @@ class Calls(unittest.TestCase):
         for module, command in names.COMMANDS.items():
             (self.folder / command).symlink_to(TOOLS / f"{module}.py")
 
-    def run_tool(self, command, *words, output=subprocess.PIPE):
+    def run_tool(self, command, *words, output=None):
+        """What a command does; as a process of its own where its output is given."""
+        if output is None:
+            module = next(module for module, name in names.COMMANDS.items() if name == command)
+            return called(module, words, self.folder, name=str(self.folder / command))
         return subprocess.run(
             [sys.executable, "-B", self.folder / command, *words], cwd=self.folder, stdin=subprocess.DEVNULL, stdout=output,
             stderr=subprocess.PIPE, encoding="utf-8", check=False,

@@ -11,6 +11,7 @@ import unittest
 from pathlib import Path
 
 from support.places import SUPPORT, TOOLS, TOP, new_folder
+from support.tool_calls import called
 from support.wanted_libraries import want_libraries
 
 SCRIPT = TOOLS / "snapshot.py"
@@ -45,8 +46,7 @@ def open_beside_a_reader(path):
 
 
 def run(*words):
-    command = [sys.executable, "-B", SCRIPT, *words]
-    done = subprocess.run(command, capture_output=True, encoding="utf-8", check=False)
+    done = called("snapshot", words)
     return done.returncode, done.stdout, done.stderr
 
 

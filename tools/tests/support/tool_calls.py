@@ -43,17 +43,25 @@ def read_all() -> None:
 
 
 def called(
-    module: str, words: Iterable[object], cwd: Path | None = None, env: Mapping[str, str] | None = None, text: str = ""
+    module: str, words: Iterable[object], cwd: Path | None = None, env: Mapping[str, str] | None = None, text: str = "", name: str = ""
 ) -> "subprocess.CompletedProcess[str]":
-    """What a call of the script tools/MODULE.py would end with: its status, and what it writes. `text` is its input."""
+    """What a call of the script tools/MODULE.py would end with: its status, and what it writes. `text` is its input, and `name` another one by
+    which it is called."""
+    tool = "hashes" if module == "hashed_requirements" else module
+    return copied([name or str(TOOLS / f"{module}.py"), *map(str, words)], lambda: getattr(commands, tool)(), cwd, env, text)
+
+
+def copied(
+    command: list[str], work: Callable[[], int], cwd: Path | None = None, env: Mapping[str, str] | None = None, text: str = ""
+) -> "subprocess.CompletedProcess[str]":
+    """What comes of work that a copy of this process does, as if it was called by a command."""
     read_all()
     with tempfile.TemporaryFile() as given, tempfile.TemporaryFile() as output, tempfile.TemporaryFile() as errors:
         given.write(text.encode(errors="surrogateescape"))
         given.seek(0)
-        command = [str(TOOLS / f"{module}.py"), *map(str, words)]
         child = os.fork()
         if child == 0:
-            run(module, command, lambda: begin(cwd, env, (given.fileno(), output.fileno(), errors.fileno())))
+            run(command, work, lambda: begin(cwd, env, (given.fileno(), output.fileno(), errors.fileno())))
         _, status = os.waitpid(child, 0)
         return subprocess.CompletedProcess(command, os.waitstatus_to_exitcode(status), whole(output), whole(errors))
 
@@ -82,13 +90,13 @@ def begin(cwd: Path | None, env: Mapping[str, str] | None, streams: tuple[int, .
     sys.stderr = open(2, "w", encoding="utf-8", errors="backslashreplace", buffering=1, closefd=False)
 
 
-def run(module: str, words: list[str], begins: Callable[[], None]) -> NoReturn:
+def run(words: list[str], work: Callable[[], int], begins: Callable[[], None]) -> NoReturn:
     """Makes this process, a copy, the call of a tool. It ends here, whatever comes."""
     status = commands.FAILED
     try:
         begins()
         sys.argv = words
-        status = getattr(commands, "hashes" if module == "hashed_requirements" else module)()
+        status = work()
     except SystemExit as end:
         status = end.code if isinstance(end.code, int) else 0 if end.code is None else commands.FAILED
         if isinstance(end.code, str):
