@@ -91,11 +91,12 @@ class Calls(unittest.TestCase):
 
     @staticmethod
     def interrupted(call):
-        """The status of a call at which Ctrl-C is pressed, and again where Python had it before it began to wait."""
-        for _ in range(60):
+        """The status of a call at which Ctrl-C is pressed, and again where Python had it before it began to wait. One that comes while Python
+        ends would end it by the signal, so there is much time between two."""
+        for _ in range(6):
             call.send_signal(signal.SIGINT)
             with contextlib.suppress(subprocess.TimeoutExpired):
-                return call.wait(timeout=1)
+                return call.wait(timeout=20)
         return None
 
     def test_ctrl_c(self):
