@@ -10,11 +10,12 @@ import unittest
 from xml.etree import ElementTree
 
 from support.made.environments import LINUX, WINDOWS
-from support.places import TOOLS, TOP, needs_program, new_folder
+from support.places import TOP, needs_program, new_folder
 from support.program import Program
 from support.rules.journals import file_name
 from support.rules.lock_tables import read_lock
 from support.shown import indented_blocks, typed_blocks
+from support.tool_calls import called
 from test_wheels import FIRST, HEAD, Shell, make_wheels, section
 
 from picture_makers.lock import answered
@@ -44,8 +45,8 @@ SVG = "{http://www.w3.org/2000/svg}"
 
 def hashed(path):
     """What the tool prints of a lock's file."""
-    done = subprocess.run(["python3", "-B", TOOLS / "hashed_requirements.py", path], capture_output=True, check=False)
-    return done.returncode, done.stdout.decode(), done.stderr.decode()
+    done = called("hashed_requirements", [path])
+    return done.returncode, done.stdout, done.stderr
 
 
 def drawn(text):
