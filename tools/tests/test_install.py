@@ -12,6 +12,7 @@ from pathlib import Path
 
 from support.made.environments import LINUX
 from support.made.releases import index_of
+from support.once import made_once
 from support.places import PROGRAM, TOP, needs_program, new_folder
 from support.program import NOBODY
 
@@ -34,6 +35,10 @@ class Places(unittest.TestCase):
         self.tree, self.prefix, self.outside = self.folder / "tree", self.folder / "prefix", self.folder / "outside"
         copy_tree(self.tree)
         self.outside.mkdir()
+
+    def give_installed(self):
+        """The prefix is as ./install leaves it."""
+        shutil.copytree(made_once("installed", make_installed) / "prefix", self.prefix, symlinks=True)
 
     def install(self, *words, status=0, user=None, **variables):
         command, variables = ["bash", "tree/install", *words, self.prefix], {**os.environ, **variables}
@@ -74,7 +79,8 @@ class Places(unittest.TestCase):
         fault = f"install: {place}: it can't be written; give a PREFIX that can, as ~/.local\n"
         self.assertEqual(self.install(status=1, user=user), fault)
         self.assertEqual(sorted(self.prefix.rglob("*")), [self.prefix / "share", self.prefix / "share" / "man"])
-        self.install()
+        shutil.rmtree(self.prefix)
+        self.give_installed()
         stood = sorted(self.prefix.rglob("*"))
         fault = f"install: {self.prefix / 'bin'}: it can't be written, so nothing is removed\n"
         self.assertEqual(self.install("--remove", status=1, user=user), fault)
@@ -116,8 +122,7 @@ class Places(unittest.TestCase):
         return {path: os.readlink(path) if path.is_symlink() else path.read_bytes() if path.is_file() else None for path in paths}
 
     def test_the_list_says_what_was_put_where(self):
-        (self.prefix / "share").mkdir(parents=True)
-        self.install()
+        self.give_installed()
         found = {RECORD}
         for line in (self.prefix / RECORD).read_text(encoding="utf-8").splitlines():
             kind, sign, name = line.split(" ")
@@ -137,7 +142,7 @@ class Places(unittest.TestCase):
         self.assertEqual(self.install("--remove", status=1), fault)
 
     def test_what_somebody_changed_or_added_stays_and_is_told(self):
-        self.install()
+        self.give_installed()
         library = self.prefix / "lib" / "reqlock"
         (self.outside / "toml.py").write_bytes((library / "reqlock_tools" / "toml.py").read_bytes())
         (self.outside / "names.cpython-311.pyc").write_bytes(b"")
@@ -159,7 +164,7 @@ class Places(unittest.TestCase):
         self.assertEqual((left, sorted(self.outside.iterdir())), ({*changed, *added}, outside))
 
     def test_a_list_that_somebody_wrote_is_refused(self):
-        self.install()
+        self.give_installed()
         (self.outside / "reqlock.1").write_bytes(b"")
         for place in self.prefix / "share" / "away", self.prefix / "lib" / "reqlock" / "away", self.prefix / "bin" / "reqlock-away":
             place.symlink_to(self.outside)
@@ -181,7 +186,7 @@ class Places(unittest.TestCase):
                 self.assertEqual(self.stood(), stood)
 
     def test_a_list_that_is_a_link_is_refused(self):
-        self.install()
+        self.give_installed()
         (self.prefix / RECORD).rename(self.outside / "list")
         (self.prefix / RECORD).symlink_to(self.outside / "list")
         stood = self.stood()
@@ -216,6 +221,15 @@ def copy_tree(place):
     program = place / "crates" / "reqlock" / "out" / "reqlock"
     program.parent.mkdir(parents=True)
     shutil.copy(shutil.which("true"), program)
+
+
+def make_installed(folder):
+    """What ./install puts below a prefix in which a folder `share` stood before: of the built program, where there is one."""
+    copy_tree(folder / "tree")
+    if PROGRAM.exists():
+        shutil.copy(PROGRAM, folder / "tree" / "crates" / "reqlock" / "out")
+    (folder / "prefix" / "share").mkdir(parents=True)
+    subprocess.run([folder / "tree" / "install", folder / "prefix"], capture_output=True, check=True)
 
 
 @needs_program
@@ -282,14 +296,14 @@ class Installed(unittest.TestCase):
         self.assertEqual(self.install("x", status=1, script=script), "install: crates/reqlock/out/reqlock isn't there: build the program first, by ./demo --proved\n")
 
     def test_bash_completes(self):
-        self.install(self.prefix)
+        self.prefix = made_once("installed", make_installed) / "prefix"
         stepping = {*EVERYWHERE, "--dir", "--dry-run"}
         editing = {"a", "b", *stepping, "--index", "--keep-locked", "--if-needed"}
         for words, wanted in (
             (["reqlock", "re"], {"remove", "relock", "replace", "redo"}), (["reqlock", "--i"], {"--index"}),
             (["reqlock", "--index", "x", "why", "--ex"], {"--explain"}), (["reqlock", "--dir", "d", "upgrade", ""], editing),
             (["reqlock", "upgrade", "--dir", "d", ""], editing), (["reqlock", "log", "--l"], {"--long"}),
-            (["reqlock", "--dir", "a p"], {"a prefix"}), (["reqlock", "help", "ba"], {"batch"}), (["reqlock", "undo", ""], stepping),
+            (["reqlock", "--dir", "a f"], {"a folder"}), (["reqlock", "help", "ba"], {"batch"}), (["reqlock", "undo", ""], stepping),
             (["reqlock", "--dir", "d", "why", "--not", ""], {"a", "b"}), (["reqlock", "--dr"], {"--dry-run"}),
             (["reqlock", "--index", "file"], {"file.json"}), (["reqlock", "add", "a", "--index", "file"], {"file.json"}),
             (["reqlock", "--env", "one", "=", "file"], {"file.json"}), (["reqlock", "--env", "one", "=", "x", "undo", ""], stepping),
@@ -305,6 +319,7 @@ class Installed(unittest.TestCase):
         """What bash completes, in a folder in whose folder `d` the names `a` and `b` are locked, the latter for a line."""
         if not (self.folder / "d").exists():
             (self.folder / "d").mkdir()
+            (self.folder / "a folder").mkdir()
             (self.folder / "d" / "requirements.txt").write_bytes(b"b\n")
             index = index_of(("a", "1", []), ("b", "1", ["a"]))
             (self.folder / "file.json").write_text(json.dumps(index), encoding="utf-8")
