@@ -9,8 +9,7 @@ use std::time::{Duration, Instant};
 /// After how many seconds a person is told.
 const PATIENCE: u64 = 2;
 
-const STILL_AT_IT: &str =
-    "reqlock: still at it: why there is no solution can take long. Ctrl-C ends the call, and changes no file.\n";
+const STILL_AT_IT: &str = "reqlock: still at it; Ctrl-C ends the call, and changes no file\n";
 
 /// Tells a person once, on the errors of a call, that its answer takes long.
 #[derive(Drop)]
