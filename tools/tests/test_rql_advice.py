@@ -4,6 +4,7 @@ import contextlib
 import io
 import json
 import re
+import shlex
 import subprocess
 import unittest
 
@@ -288,6 +289,12 @@ class Told(Served):
         self.assertEqual((status, output), (3, "refused no-solution\n"))
         call = re.search("'ricj' is refused: rql (why .*) tells why\n", errors)[1]
         self.assertIn("the index has no package ricj; near names: rich", " ".join(self.rql(*call.split())[1].split()))
+
+    def test_of_several_the_one_that_has_a_line_is_told_with_what_tells_more(self):
+        call = re.search("'rich>=1' is refused: rql (.*) tells why\n", self.rql("add", "flask", "rich>=1")[2])[1]
+        self.assertIn("line 1 has this name", self.rql(*shlex.split(call))[2])
+        call = re.search("'flask>=9' is refused: rql (.*) tells why\n", self.rql("set", "rich>=1", "flask>=9")[2])[1]
+        self.assertIn("no line has this name", self.rql(*shlex.split(call))[2])
 
     def test_a_name_that_no_index_has_is_told_with_a_near_one_and_what_asks_again(self):
         told = "ricj isn't in the index; did you mean rich? (`rql add {}`); to ask the index for ricj again: `rql --refresh add {}`"

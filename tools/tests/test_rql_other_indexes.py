@@ -65,7 +65,8 @@ class Named(Projects):
             self.put("pyproject.toml", text)
             with contextlib.redirect_stderr(io.StringIO()) as told:
                 tell_others(other_indexes(self.folder), ONE)
-            self.assertIn(f" too, write index = {wanted} into the settings, and call rql relock\n", told.getvalue())
+            words = wanted.strip("[]").replace('"', "").replace(",", "").replace("https", "--index https")
+            self.assertIn(f" too, write index = {wanted} into the settings, and call rql relock; or begin with rql init {words}\n", told.getvalue())
 
 
 class Taken(Served):
@@ -100,7 +101,7 @@ class Taken(Served):
         told = self.init(f'[[tool.uv.index]]\nname = "more"\nurl = "{more.url}"\n', PIP_INDEX_URL=self.index.url)
         self.assertIn(f"index {self.index.url}, as PIP_INDEX_URL says\n", told)
         self.assertIn(f"pyproject.toml: line 6: tool.uv.index[0]: {more.url} isn't followed: it is asked before the default\n", told)
-        line = re.search(r"to ask it too, write (index = .*) into the settings, and call rql relock\n", told)[1]
+        line = re.search(r"to ask it too, write (index = .*) into the settings, and call rql relock; or begin", told)[1]
         self.assertEqual(line, f'index = ["{more.url}", "{self.index.url}"]')
         path = self.folder / "pyproject.toml"
         path.write_text(path.read_text(encoding="utf-8").replace(f"index = {self.setting()}", line), encoding="utf-8")

@@ -222,6 +222,22 @@ class Advised(Served):
         self.assertIn("    rql lock\n", shown)
         self.assertEqual(self.types("rql lock"), "ok 1\n")
 
+    def test_of_a_lock_that_is_gone(self):
+        self.begin("rich<2\n")
+        (self.folder / "pylock.toml").unlink()
+        found, shown = self.shown("check")
+        self.assertEqual(found, 4)
+        self.assertIn("\n`rql init` begins a new history with requirements.txt as it stands.\n", shown)
+        self.assertIn("pylock.toml: gone, so a new history begins", self.accepts("init", answer="ok 0\n"))
+        self.accepts("check", answer="ok 0\n")
+
+    def test_of_lines_that_are_gone(self):
+        self.begin("rich\n")
+        (self.folder / "requirements.txt").unlink()
+        self.assertIn("The lines that were saved last stand in .reqlock/requirements.txt beside the settings", self.shown("lock")[1])
+        (self.folder / ".reqlock" / "requirements.txt").rename(self.folder / "requirements.txt")
+        self.accepts("lock", answer="ok 0\n")
+
     def test_a_call_that_rql_makes_is_shown_as_it_is(self):
         self.begin("rich\n")
         errors = self.rql("-v", "add", "rich==1")[2]

@@ -15,6 +15,7 @@ from reqlock_tools.rql.history import Saving, tell_changed
 from reqlock_tools.rql.index import Wanted, made_index, present_index
 from reqlock_tools.rql.kept import Kept
 from reqlock_tools.rql.lacking import lacking, names_of, tell_lacking
+from reqlock_tools.rql.own_calls import front
 from reqlock_tools.rql.project import JOURNAL, REQUIREMENTS, Project
 from reqlock_tools.rql.requests import EditRequest
 from reqlock_tools.rql.telling import is_told
@@ -105,7 +106,7 @@ class Edit:
             for text in self.request.texts:
                 answer = self.caller.quietly(*self.given(trial), *self.keeping, *self.words(text))
                 if answer.status != 0:
-                    say(f"nothing is changed: {text!a} is refused")
+                    say(f"nothing is changed: {text!a} is refused: {self.question(text)} tells why")
                     return answer.hand_on()
             lines = (trial / REQUIREMENTS).read_bytes()
         new = self.kept.write("requirements.new.txt", lines)
@@ -129,11 +130,10 @@ class Edit:
             if status == 0:
                 self.tell_change(*(int(reply.split()[1]) for reply in (replies[0], replies[-1])))
             return status
-        text = self.request.texts[refused[0]]
-        is_unsolved = replies[refused[0]].strip() == NO_SOLUTION and self.request.word == "add"
+        text, is_unsolved = self.request.texts[refused[0]], replies[refused[0]].strip() == NO_SOLUTION
         # (of what the index lacks more is told, where something is told)
-        is_unsolved = is_unsolved and not (is_told(self.project.options) and text in self.lacking().values())
-        say(f"nothing is changed: {text!a} is refused" + (f": {shlex.join(['rql', 'why', '--explain', text])} tells why" if is_unsolved else ""))
+        is_known = is_unsolved and is_told(self.project.options) and text in self.lacking().values()
+        say(f"nothing is changed: {text!a} is refused" + ("" if is_known else f": {self.question(text, is_unsolved)} tells why"))
         return replace(answer, output=replies[refused[0]]).hand_on()
 
     def tell_change(self, first: int, last: int) -> None:
@@ -142,6 +142,11 @@ class Edit:
         if not options.is_quiet and (options.is_verbose or sys.stderr.isatty()):
             change = self.caller.ask("--dir", typed_path(self.project.folder), "diff", str(first - 1), str(last))
             sys.stderr.write(change.output.decode(errors="surrogateescape"))
+
+    def question(self, text: str, is_unsolved: bool = False) -> str:
+        """The call that tells why one of several texts is refused."""
+        words = ["why", "--explain"] if is_unsolved and self.request.word == "add" else ["-v", self.request.word, "--dry-run"]
+        return shlex.join([*front(self.project.options.start), *words, text])
 
 
 def copied(folder: Path, place: Path) -> Path:

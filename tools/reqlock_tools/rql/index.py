@@ -69,9 +69,10 @@ def lines_of(path: Path) -> list[str]:
 def requirements_in(lines: bytes) -> list[str]:
     """The requirements of lines. What is none is left to the program, which says so."""
     from reqlock_tools.requirements import fault_of
+    from reqlock_tools.rql.texts import is_url
 
     texts = (line.partition(" #")[0].strip() for line in lines.decode(errors="replace").splitlines())
-    return [text for text in texts if text and not text.startswith("#") and fault_of(text) is None]
+    return [text for text in texts if text and not text.startswith("#") and fault_of(text) is None and not is_url(text)]
 
 
 def addresses(project: Project) -> tuple["IndexAddress", ...]:

@@ -3,6 +3,7 @@
 import contextlib
 import os
 import shutil
+from dataclasses import replace
 from pathlib import Path
 from typing import Any
 
@@ -126,10 +127,16 @@ class Beginning:
 
     def is_lost(self, journal: Journal) -> bool:
         """Whether a new history is begun in the place of one that stands there: its files don't belong together any more, and it is said
-        whose pins are kept."""
+        whose pins are kept; or a lock of it is gone, and those of the others are."""
         if self.is_from and is_whole(self.project, journal):
             raise SettingsFault(f"{self.project.folder}: a history stands there, with its own pins: rql init without --from goes on with it")
-        return self.is_from
+        paths = [self.project.lock_path(target) for target in journal.locks]
+        gone = [path for path in paths if not os.path.lexists(path)]
+        if self.is_from or not gone:
+            return self.is_from
+        say(f"{', '.join(map(typed_path, gone))}: gone, so a new history begins in the place of the one that stands there")
+        self.draft = replace(self.draft, pinned=tuple(path for path in paths if path not in gone))
+        return True
 
     def go_on(self, kept: Kept) -> int:
         """Writes settings for a history that stands there, and makes its index."""

@@ -44,7 +44,7 @@ def other_indexes(base: Path) -> list[OtherIndex]:
     table = project_table(base)
     text = read_text(str(base / PROJECT_FILE)) if table else ""
     found = [*indexes_of_uv(table, text), *indexes_of_poetry(table, text)]
-    return sorted(found, key=lambda it: [*WHY].index(it.kind))
+    return sorted(found, key=rank)
 
 
 def indexes_of_uv(table: dict[str, Any], text: str) -> Iterator[OtherIndex]:
@@ -115,7 +115,17 @@ def tell_others(found: list[OtherIndex], taken: str) -> None:
         say(f"{it.place}: {plain(it.url)} isn't followed: {WHY[it.kind]}")
     asked = [it for it in left if it.only or it.kind != "bound"]
     if asked:
-        own = [] if any(it.kind == "default" for it in left) else [json.dumps(taken)]
-        first, last = ([it.setting() for it in asked if (it.kind == "behind") == is_last] for is_last in (False, True))
-        them = "it" if len(asked) == 1 else "them"
-        say(f"to ask {them} too, write index = [{', '.join([*first, *own, *last])}] into the settings, and call rql relock")
+        own = [] if any(it.kind == "default" for it in left) else [OtherIndex("", taken, "default")]
+        say(f"to ask {'it' if len(asked) == 1 else 'them'} too, {way_to_ask(sorted([*asked, *own], key=rank))}")
+
+
+def way_to_ask(found: list[OtherIndex]) -> str:
+    """What has these indexes asked, in this order: settings, or where none is bound also words that begin anew."""
+    way = f"write index = [{', '.join(it.setting() for it in found)}] into the settings, and call rql relock"
+    words = " ".join(f"--index {plain(it.url)}" for it in found)
+    return way if any(it.only for it in found) else f"{way}; or begin with rql init {words}"
+
+
+def rank(found: OtherIndex) -> int:
+    """The place of an index in the order in which they are asked."""
+    return [*WHY].index(found.kind)

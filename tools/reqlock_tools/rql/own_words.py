@@ -16,6 +16,11 @@ FRONTS = (
 )
 # Sentences that name other tools, and what they are for a project of rql.
 SENTENCES = {
+    "requirements.txt was changed since reqlock saved it. With a copy of the saved one this takes the change over:":
+        "requirements.txt was changed since reqlock saved it. This takes the change over:",
+    "Write one, with a requirement on each line as flask>=2, or give the folder that has it by --dir":
+        "Write one, with a requirement on each line as flask>=2. The lines that were saved last stand in .reqlock/requirements.txt beside the"
+        " settings, or git has them.",
     "Where the package index has it, the same edit by rql takes it in.": "With --refresh the same call asks the index for it once more.",
     "Where the package index has them, the same edit by rql takes them in.": "With --refresh the same call asks the index for them once more.",
     "The lock has the hashes: take them out here. reqlock-adopt takes over a whole file of pip-tools.":

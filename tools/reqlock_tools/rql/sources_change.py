@@ -3,6 +3,7 @@ the requirements that are changed, or nothing is."""
 
 import difflib
 import re
+import shlex
 from collections.abc import Mapping, Sequence
 from dataclasses import dataclass
 from pathlib import Path
@@ -70,7 +71,8 @@ class Sources:
         text = checked_word(text)
         there = lines_of(now, name_in(text))
         if there:
-            raise SettingsFault(f"{text!a}: {there[0].where} has a line of this name already: rql set, or rql constrain, changes it")
+            call = shlex.join(["rql", "set", text])
+            raise SettingsFault(f"{text!a}: {there[0].where} has a line of this name already: {call} puts this in its place")
         return Splice(self.first_section(), None, None, text)
 
     def first_section(self) -> Section:
