@@ -202,8 +202,9 @@ class Places(unittest.TestCase):
         (self.folder / "words" / "mv").chmod(0o755)
         self.install(status=1, PATH=f"{self.folder / 'words'}:{os.environ['PATH']}")
         self.assertTrue((self.prefix / "bin" / "reqlock").exists())
+        self.assertEqual(list(self.prefix.rglob(".reqlock.*")), [])
         self.install("--remove")
-        self.assertEqual([path for path in self.prefix.rglob("*") if ".py." not in path.name and not path.is_dir()], [])
+        self.assertEqual([path for path in self.prefix.rglob("*") if not path.is_dir()], [])
 
     def test_another_tree_of_the_path_is_not_taken(self):
         copy_tree(self.outside / "tree")
