@@ -1,6 +1,7 @@
 """What an installer installs by a lock, for tests: as the rules tell it, where `packaging` reads each marker of the lock as they do."""
 
 import tomllib
+from functools import lru_cache
 
 from support.rules.installs import Installing, NotForThisEnvironment, holds_in, installed_by
 from support.rules.lock_tables import entry_of_table
@@ -16,12 +17,17 @@ except ImportError:
 
 def is_read(environment):
     """Whether markers meet the Python of an environment at all: to `packaging` before 22 a pre-release is in no range."""
-    return Marker('python_full_version > "1"').evaluate(environment)
+    return theirs('python_full_version > "1"').evaluate(environment)
+
+
+@lru_cache(maxsize=None)
+def theirs(text):
+    return Marker(text)
 
 
 def markers_of(lock):
     """Each marker of a lock's table."""
-    return [*lock.get("environments", []), *(it["marker"] for it in lock.get("packages", []) if "marker" in it)]
+    return [*lock.get("environments", []), *(it["marker"] for it in lock["packages"] if "marker" in it)]
 
 
 def check_markers(data, environment):
@@ -29,15 +35,39 @@ def check_markers(data, environment):
     if Marker is None or not is_read(environment):
         return
     for text in markers_of(tomllib.loads(data.decode())):
-        if Marker(text).evaluate(environment) != holds_in(text, environment):
+        if theirs(text).evaluate(environment) != holds_in(text, environment):
             raise AssertionError((text, environment))
+
+
+def check_dependencies(package, packages):
+    """Of the entries that are installed one is each dependency of an entry: it has, key by key, what a table of that name tells."""
+    tables = package.get("dependencies", [])
+    fitting = [it["name"] for it in packages if any(table.items() <= it.items() for table in tables)]
+    if sorted(fitting) != sorted({table["name"] for table in tables}):
+        raise AssertionError((package, packages))
+
+
+def lone_entry(package):
+    """An entry by itself, as a lock of one target has it: without a marker, and its dependencies by their names."""
+    found = {key: value for key, value in package.items() if key != "marker"}
+    if "dependencies" in found:
+        names = dict.fromkeys(table["name"] for table in found["dependencies"])
+        found["dependencies"] = [{"name": name} for name in names]
+    return entry_of_table(found)
+
+
+def entries_of(installed):
+    """The entries that are installed, by name."""
+    packages = [it.package for it in installed]
+    for package in packages:
+        check_dependencies(package, packages)
+    return dict(map(lone_entry, packages))
 
 
 def entries_installed(data, environment):
     """The entries that are installed by a lock's bytes in an environment, by name; None where the lock isn't for it."""
     check_markers(data, environment)
     try:
-        found = installed_by(data, Installing(environment))
+        return entries_of(installed_by(data, Installing(environment)))
     except NotForThisEnvironment:
         return None
-    return dict(entry_of_table({key: value for key, value in it.package.items() if key != "marker"}) for it in found)
