@@ -9,6 +9,7 @@ import tomllib
 import unittest
 from xml.etree import ElementTree
 
+from support.installed import entries_installed, without_environments
 from support.made.environments import LINUX, WINDOWS
 from support.places import TOP, needs_program, new_folder
 from support.program import Program
@@ -19,14 +20,6 @@ from support.tool_calls import called
 from test_wheels import FIRST, HEAD, Shell, make_wheels, section
 
 from picture_makers.lock import answered
-
-try:
-    from packaging.markers import Marker
-except ImportError:
-    try:
-        from pip._vendor.packaging.markers import Marker
-    except ImportError:
-        Marker = None
 
 TWO = {"linux": LINUX, "win": WINDOWS}
 RELEASES = (
@@ -190,15 +183,9 @@ PYTHONS = "3.7.9", "3.8.1", "3.9.0", "3.9.1", "3.10.2", "3.11.0rc1", "3.11.8", "
 UNLOCKED = "3.7.9", "3.9.1"
 
 
-def is_read(environment):
-    """Whether markers meet the Python of an environment at all: to `packaging` before 22 a pre-release is in no range."""
-    return Marker('python_full_version > "1"').evaluate(environment)
-
-
 @needs_program
-@unittest.skipUnless(Marker, "python3 has neither packaging nor pip")
 class Pylock(Program):
-    """The lock that travels: it is a lock of the same packages, and where its marker holds a new lock has these too."""
+    """The lock that travels: it is a lock of the same packages, and where an installer takes it a new lock has these too."""
 
     def begin_asking(self, python="3.11.7"):
         self.lock_for({"": self.environment_of(python)})
@@ -209,15 +196,21 @@ class Pylock(Program):
         minor = ".".join(python.split(".")[:2])
         return LINUX | {"python_full_version": python, "implementation_version": python, "python_version": minor} | more
 
-    def exported(self):
-        """The marker of the lock that travels, all else of which is that of the lock."""
+    def travelling(self):
+        """The lock that travels, where all but the environments is that of the lock."""
         status, output, error = self.told("export", "--format", "pylock")
         self.assertEqual((status, error), (0, ""))
-        before, after = tomllib.loads((self.folder / "pylock.toml").read_text()), tomllib.loads(output)
-        [marker] = after.pop("environments", [""])
-        del before["environments"]
-        self.assertEqual(after, before)
+        data, own = output.encode(), (self.folder / "pylock.toml").read_bytes()
+        self.assertEqual(without_environments(data), without_environments(own))
+        return data
+
+    def exported(self):
+        """The marker of the lock that travels."""
+        [marker] = tomllib.loads(self.travelling().decode()).get("environments", [""])
         return marker
+
+    def entries(self):
+        return read_lock((self.folder / "pylock.toml").read_bytes())[2]
 
     def test_keeps_what_is_asked(self):
         self.begin_asking()
@@ -232,13 +225,13 @@ class Pylock(Program):
         self.lock_for({"": LINUX | {"platform_release": "23.4.0"}})
         self.begin(b"a\n", *asking)
         self.assertEqual((self.call("init"), sorted(self.locked())), ((0, "ok 0\n"), ["a", "b", "c"]))
-        marker = Marker(self.exported())
-        self.assertTrue(marker.evaluate(LINUX | {"platform_release": "23.4.0"}))
+        data = self.travelling()
+        self.assertEqual(entries_installed(data, LINUX | {"platform_release": "23.4.0"}), self.entries())
         other = LINUX | {"platform_release": "6.1.0-13-amd64"}
         self.lock_for({"": other})
         self.begin(b"a\n", *asking)
         self.assertEqual((self.call("init"), sorted(self.locked())), ((0, "ok 0\n"), ["a", "c"]))
-        self.assertFalse(marker.evaluate(other))
+        self.assertIsNone(entries_installed(data, other))
 
     def test_nothing_is_kept_where_nothing_is_asked(self):
         self.begin(b"x\n", ("x", "1", []))
@@ -250,15 +243,21 @@ class Pylock(Program):
         others += [self.environment_of("3.11.7", sys_platform="win32"), self.environment_of("3.10.4", platform_release="x", os_name="y")]
         for python in [it for it in PYTHONS if it not in UNLOCKED]:
             self.begin_asking(python)
-            marker, locked = Marker(self.exported()), self.locked()
-            self.assertTrue(marker.evaluate(self.environments[""]) or not is_read(self.environments[""]))
+            data, locked = self.travelling(), self.entries()
+            self.assertEqual(entries_installed(data, self.environments[""]), locked)
             for other in others:
                 with self.subTest(python=python, other=other):
-                    if marker.evaluate(other):
-                        self.lock_for({"": other})
-                        self.begin(b"a\n", *ASKING)
-                        self.assertEqual(self.call("init"), (0, "ok 0\n"))
-                        self.assertEqual(self.locked(), locked)
+                    self.check_elsewhere(data, locked, other)
+
+    def check_elsewhere(self, data, locked, other):
+        """The lock isn't for another environment, or installs there what is locked here and would be there."""
+        found = entries_installed(data, other)
+        if found is None:
+            return
+        self.lock_for({"": other})
+        self.begin(b"a\n", *ASKING)
+        self.assertEqual(self.call("init"), (0, "ok 0\n"))
+        self.assertEqual((found, self.entries()), (locked, locked))
 
     def test_of_several_targets_the_one_that_is_named(self):
         self.lock_for(TWO)

@@ -1,21 +1,19 @@
-"""The lock that `export --format pylock` prints, over drawn indexes and drawn environments: wherever its marker holds, as `packaging`
-and the rules read it, a new lock has the same packages. Of 40 indexes, and 40 as users have them, or 400 with LONG_TESTS=1. They need
+"""The lock that `export --format pylock` prints, over drawn indexes and drawn environments: wherever an installer installs by it, as the
+second reading of PEP 751 has it, it installs all that a new lock there has, and nothing else. Of 40 indexes, and 40 as users have them, or 400 with LONG_TESTS=1. They need
 the program, which ./check builds first."""
 
-import json
-import tomllib
 import unittest
 from collections import Counter
 
 from support.drawn_files import DrawnFiles
+from support.installed import entries_installed, without_environments
 from support.made.environments import LINUX
 from support.made.releases import file_of
 from support.made.sessions import SETS, Draw
 from support.places import IS_LONG, needs_program
 from support.rules.edits import Refused, begun
 from support.rules.lock_tables import read_lock
-from support.rules.requirements import cut_lines, holds, read_marker
-from test_export import Marker, is_read
+from support.rules.requirements import cut_lines
 
 # What a variable other than those of Python has is a version in one environment and none in another.
 PYTHONS = "3.8.10", "3.9.18", "3.10.0", "3.10.12", "3.11.0rc1", "3.11.5", "3.11.7", "3.12.0a1", "3.12.0", "3.12.1", "3.13.2", "4.0.0"
@@ -139,7 +137,6 @@ class UsersIndex(DrawnIndex):
 
 
 @needs_program
-@unittest.skipUnless(Marker, "python3 has neither packaging nor pip")
 class Drawn(DrawnFiles):
     def test_a_new_lock_is_the_same_wherever_the_marker_holds(self):
         for kind in DrawnIndex, UsersIndex:
@@ -158,15 +155,16 @@ class Drawn(DrawnFiles):
         if locked is None:
             self.seen["no lock"] += 1
             return
-        marker = self.exported()
-        self.assertTrue(self.holds(marker, environment) or not is_read(environment), marker)
+        lock = self.exported()
+        self.assertEqual(entries_installed(lock, environment), locked[1])
         for _ in range(OTHERS):
             other = draw.other_than(environment, draw.one((1, 1, 2, 3)))
-            is_met, wanted = self.holds(marker, other), self.ruled(lines, other)
+            found, wanted = entries_installed(lock, other), self.ruled(lines, other)
+            is_met = found is not None
             if is_met:
-                self.assertEqual(wanted, locked, (marker, other))
+                self.assertEqual((wanted, found), (locked, locked[1]), (lock, other))
                 if draw.happens(20):
-                    self.assertEqual(self.lock_in(lines, other), locked, (marker, other))
+                    self.assertEqual(self.lock_in(lines, other), locked, (lock, other))
             self.seen["holds elsewhere"] += is_met and other != environment
             self.seen["other locks"] += not is_met and wanted not in (None, locked)
             self.seen["no lock elsewhere"] += not is_met and wanted is None
@@ -189,24 +187,12 @@ class Drawn(DrawnFiles):
         return state.digest, state.targets[""].entries
 
     def exported(self):
-        """The marker of the lock that travels, where all else is that of the lock."""
+        """The lock that travels, where all but the environments is that of the lock."""
         status, output, error = self.told("export", "--format", "pylock")
         self.assertEqual((status, error), (0, ""))
-        before, after = tomllib.loads((self.folder / "pylock.toml").read_text(encoding="utf-8")), tomllib.loads(output)
-        markers = after.pop("environments", [""])
-        del before["environments"]
-        self.assertEqual(json.dumps(after), json.dumps(before))
-        self.assertEqual(len(markers), 1)
-        return markers[0]
-
-    def holds(self, marker, environment):
-        """Whether a marker that is printed holds, as `packaging` and the rules read it."""
-        if not marker:
-            return True
-        found = Marker(marker).evaluate(environment)
-        if is_read(environment):
-            self.assertEqual(found, holds(read_marker(marker), environment), (marker, environment))
-        return found
+        own = (self.folder / "pylock.toml").read_bytes()
+        self.assertEqual(without_environments(output.encode()), without_environments(own))
+        return output.encode()
 
 
 if __name__ == "__main__":

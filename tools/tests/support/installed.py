@@ -1,5 +1,6 @@
 """What an installer installs by a lock, for tests: as the rules tell it, where `packaging` reads each marker of the lock as they do."""
 
+import json
 import tomllib
 from functools import lru_cache
 
@@ -18,6 +19,13 @@ except ImportError:
 def is_read(environment):
     """Whether markers meet the Python of an environment at all: to `packaging` before 22 a pre-release is in no range."""
     return theirs('python_full_version > "1"').evaluate(environment)
+
+
+def without_environments(data):
+    """All else that a lock's bytes have, in its order, as one text."""
+    lock = tomllib.loads(data.decode())
+    lock.pop("environments", None)
+    return json.dumps(lock)
 
 
 @lru_cache(maxsize=None)
