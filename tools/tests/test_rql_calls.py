@@ -14,7 +14,8 @@ from support.rql_projects import SCRIPT, Projects
 from support.terminals import shown_on_terminal
 
 HANDED_ON = ("undo", "redo", "log", "diff", "show", "export", "skipped")
-LATE = "#!/bin/sh\nsleep 2.3\necho done\n"
+# (the program tells of a long `why` by itself)
+LATE = "#!/bin/sh\nsleep 2.3\necho 'reqlock: still at it; Ctrl-C ends the call, and changes no file' >&2\necho done\n"
 WAITS = "#!/bin/sh\ntrap 'echo ended; exit 7' INT\necho begun\nwhile :; do sleep 0.05; done\n"
 
 
@@ -79,7 +80,7 @@ class StandIn(Projects):
         self.assertEqual(done.wait(timeout=60), 130)
 
     def test_a_person_is_told_that_a_long_call_goes_on(self):
-        """On a terminal, and not under -q; nobody else is told."""
+        """Once, on a terminal, and not under -q; nobody else is told."""
         self.stand_in(LATE)
         told = "rql: reqlock is still at it; Ctrl-C ends it\r\n"
         for words, shown in (["log"], told), (["-q", "log"], ""):

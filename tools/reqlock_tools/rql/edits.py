@@ -127,8 +127,9 @@ class Edit:
         refused = [place for place, reply in enumerate(replies) if reply.startswith(b"refused ")]
         if answer.status == 0 or not refused:
             status = answer.hand_on()
-            if status == 0:
-                self.tell_change(*(int(reply.split()[1]) for reply in (replies[0], replies[-1])))
+            places = [int(reply.split()[1]) for reply in replies if reply.startswith(b"ok ")]
+            if status == 0 and places:
+                self.tell_change(places[0], places[-1])
             return status
         text, is_unsolved = self.request.texts[refused[0]], replies[refused[0]].strip() == NO_SOLUTION
         # (of what the index lacks more is told, where something is told)

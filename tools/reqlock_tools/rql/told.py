@@ -16,6 +16,8 @@ Lacking = Callable[[], Collection[str]]
 ERRORS = 2
 # The least width for which the program breaks its sentences.
 LEAST_WIDTH = 20
+# What the program tells of a call that takes long, while rql tells it already.
+STILL_AT_IT = b"reqlock: still at it; Ctrl-C ends the call, and changes no file\n"
 LEFT = "rql has no word for a call of reqlock above; what that changes, sources and exports don't follow"
 
 
@@ -39,10 +41,10 @@ class Told:
                 self.data += piece
 
     def whole(self) -> bytes:
-        """All that was told by a call that has ended."""
+        """All that was told by a call that has ended, but that it goes on."""
         self.reader.join()
         os.close(self.ours)
-        return bytes(self.data)
+        return bytes(self.data).replace(STILL_AT_IT, b"")
 
 
 def both_ends() -> tuple[int, int]:
