@@ -15,7 +15,7 @@ from reqlock_tools.rql.telling import is_told
 # Those that go to another state of the history.
 MOVING = "undo", "redo"
 # Those that read the index, where it is there.
-READING = "show", "tree", "export"
+READING = "show", "tree", "export", "skipped"
 # The statuses of a question that is answered: by what is printed, by a refusal, or by that nothing can be locked.
 ANSWERS = 0, 1, 3
 
@@ -32,12 +32,7 @@ def run_passed(project: Project, request: PassedRequest) -> int:
     if request.word in MOVING:
         return moved(project, kept, caller, given, call)
     if request.word in READING:
-        return caller.hand_over(*given, *index_words(kept.earlier()[:1]), *call)
-    if request.word == "skipped":
-        from reqlock_tools.rql.index import present_index
-
-        with kept.locked():
-            return caller.hand_over(*given, *index_words([present_index(project, kept)]), *call)
+        return caller.hand_over(*given, *index_words(index_to_read(project, kept, request.word)), *call)
     if request.word in ("outdated", "why"):
         with kept.locked():
             return answered(project, asked_index(project, kept, request), caller, given, request)
@@ -50,6 +45,16 @@ def is_help(words: tuple[str, ...]) -> bool:
 
 def index_words(indexes: list[Path]) -> list[str]:
     return [word for path in indexes for word in ("--index", typed_path(path))]
+
+
+def index_to_read(project: Project, kept: Kept, word: str) -> list[Path]:
+    """The index that is there. What is left out of an index can't be told without any, so then one is made."""
+    if word != "skipped" or kept.earlier() or not project.settings.index:
+        return kept.earlier()[:1]
+    from reqlock_tools.rql.index import present_index
+
+    with kept.locked():
+        return [present_index(project, kept)]
 
 
 def moved(project: Project, kept: Kept, caller: Caller, given: list[str], call: list[str]) -> int:
