@@ -8,7 +8,6 @@ import sys
 
 from support.checkouts import SCRIPT, Checkouts
 from support.made.environments import LINUX, WINDOWS
-from support.made.releases import index_of
 from support.places import PROGRAM
 
 RELEASES = ("web", "1", ["base"]), ("web", "2", ["base"]), ("base", "1", []), ("base", "2", []), ("tool", "1", []), ("tool", "2", [])
