@@ -3,15 +3,13 @@ that is bounded, plugins that cap their core, two clouds over one base, releases
 list comes in time, and tools/check_refutation.py accepts it; and so do sentences. With LONG_TESTS=1 larger ones of each shape are asked
 too, for which there is more time."""
 
-import subprocess
-import sys
 import unittest
 
 from support.made.refused import boto_of
-from support.places import IS_LONG, TOOLS
+from support.places import IS_LONG
 from support.program import Program
+from support.tool_calls import called
 
-SCRIPT = TOOLS / "check_refutation.py"
 SECONDS = 120
 # for the larger ones
 LONG = 3600
@@ -114,8 +112,7 @@ class Shapes(Program):
     def checked(self, told):
         """What the checker answers of a list."""
         paths = self.outside / "index.json", self.outside / "environment.json", self.folder / "requirements.txt"
-        command = [sys.executable, "-B", SCRIPT, *paths]
-        done = subprocess.run(command, input=told, capture_output=True, encoding="utf-8", check=False)
+        done = called("check_refutation", paths, text=told)
         return done.returncode, done.stdout, done.stderr
 
 
