@@ -4,6 +4,7 @@ import json
 import subprocess
 import sys
 import unittest
+from functools import cache
 
 from support.made.served_index import sdist_of, wheel_of
 from support.places import TOOLS
@@ -18,13 +19,18 @@ def wheels(name, *tags, requires=(), version="1"):
     return [wheel_of(name, version, *requires, tag=tag) for tag in tags]
 
 
+@cache
+def described(*words):
+    """What the tool prints that describes an environment."""
+    command = [sys.executable, "-B", TOOLS / "reqlock_tools" / "environment.py", *words]
+    return subprocess.run(command, capture_output=True, check=True).stdout
+
+
 class Environments(Simple):
     def target(self, name, python, platform, *words):
         path = self.folder / "cache" / f"{name}.json"
         path.parent.mkdir(exist_ok=True)
-        words = "--python", python, "--platform", platform, *words
-        command = [sys.executable, "-B", TOOLS / "reqlock_tools" / "environment.py", *words]
-        path.write_bytes(subprocess.run(command, capture_output=True, check=True).stdout)
+        path.write_bytes(described("--python", python, "--platform", platform, *words))
         return f"{name}={path}"
 
     def setUp(self):
