@@ -70,7 +70,7 @@ class Exactly(Synced):
         with self.subTest("twice is nothing to do, asks nobody, and takes no more than 0.3 s of a quiet processor"):
             self.index.counts()
             begin = spent()
-            self.syncs("nothing to do")
+            self.syncs("nothing to do", python=PYTHON)
             self.assertLess(spent() - begin, 3 * 0.3)  # (others may be at work here)
             self.assertEqual(self.index.counts(), {})
         with self.subTest("another lock"):

@@ -1,5 +1,4 @@
-"""What tests of `rql sync` share: a virtual environment of the system's Python with its pip, an index, and locks over it. Each call is a
-process of its own."""
+"""What tests of `rql sync` share: a virtual environment of the system's Python with its pip, an index, and locks over it."""
 
 import json
 import os
@@ -13,6 +12,7 @@ from support import venvs
 from support.made.journals import journal_of_targets, lock_text
 from support.made.served_index import MadeIndex, wheel_of
 from support.places import TOOLS, new_folder
+from support.tool_calls import copied
 from support.venvs import site_of
 from support.wanted_libraries import want_libraries
 
@@ -97,20 +97,31 @@ class Synced(unittest.TestCase):
         environments, locks = ({name: it[place] for name, it in targets.items()} for place in (0, 1))
         (self.project / "reqlock.journal").write_bytes(journal_of_targets(b"b\n", locks, environments, 0))
 
-    def start(self, more=None, python=PYTHON, **asked):
-        """A call that goes on by itself."""
+    def given(self, asked):
+        """What a call is given: the words of CALL."""
         told = {"base": str(self.project), "folder": str(self.project), "indexes": [[self.index.url, []]], **asked}
-        own = variables(HOME=str(self.home), **(more or {}))
+        return [str(TOOLS), json.dumps(told)]
+
+    def variables(self, more):
+        return variables(HOME=str(self.home), **(more or {}))
+
+    def start(self, more=None, python=PYTHON, **asked):
+        """A call that is a process of its own, and goes on by itself."""
         return subprocess.Popen(
-            [python, "-B", "-c", CALL, TOOLS, json.dumps(told)], env=own, cwd=self.project, stdin=subprocess.DEVNULL,
+            [python, "-B", "-c", CALL, *self.given(asked)], env=self.variables(more), cwd=self.project, stdin=subprocess.DEVNULL,
             stdout=subprocess.PIPE, stderr=subprocess.PIPE, encoding="utf-8", start_new_session=True,
         )
 
-    def call(self, more=None, **asked):
-        """The status of a call, and the lines of its output and of its errors."""
-        with self.start(more, **asked) as child:
-            output, errors = child.communicate(timeout=120)
-        return child.returncode, output.splitlines(), [re.sub(r"^rql(\.py)?: ", "", it) for it in errors.splitlines()]
+    def call(self, more=None, python=None, **asked):
+        """The status of a call, and the lines of its output and of its errors: in a copy of this process where no Python is named."""
+        if python is None:
+            done = copied(["rql", *self.given(asked)], lambda: exec(CALL, {}) or 0, self.project, self.variables(more))
+            status, output, errors = done.returncode, done.stdout, done.stderr
+        else:
+            with self.start(more, python, **asked) as child:
+                output, errors = child.communicate(timeout=120)
+            status = child.returncode
+        return status, output.splitlines(), [re.sub(r"^rql(\.py)?: ", "", it) for it in errors.splitlines()]
 
     def syncs(self, *lines, told=(), **asked):
         """A call prints these lines, tells these on standard error, and its status is 0."""
