@@ -167,10 +167,15 @@ def wanted_in(targets, environment):
     return found if all(file for _, file in found.values()) else "wheels"
 
 
+def tags_in(environment):
+    """The tags of the wheels that run in an environment."""
+    return f"py3-none-{PLATFORMS[environment['sys_platform']]}", "py3-none-any"
+
+
 def found_in(data, environment):
-    tags = f"py3-none-{PLATFORMS[environment['sys_platform']]}", "py3-none-any"
+    """What the rules install there, in the same form."""
     try:
-        found = installed_by(data, Installing(environment, tags))
+        found = installed_by(data, Installing(environment, tags_in(environment)))
     except Refused as fault:
         return fault.step
     files = {it.package["name"]: it.source["name"] for it in found}
