@@ -238,6 +238,20 @@ class Pylock(Program):
         self.call("init")
         self.assertEqual(self.exported(), "")
 
+    def test_only_what_the_lines_can_lead_to_is_asked(self):
+        index = (
+            ("a", "1", ["b<2"]),
+            ("a", "2", ["b>=2"]),
+            ("b", "1", ['c; os_name=="nt"'], {"requires_python": ">=3.8"}),
+            ("b", "2", []),
+            ("c", "1", []),
+            ("z", "1", ['c; sys_platform=="win32"']),
+        )
+        for lines, asked in (b"a>=2\n", ""), (b"a\n", f'os_name == "{LINUX["os_name"]}" and python_full_version >= "3.8"'):
+            self.begin(lines, *index)
+            self.assertEqual(self.call("init"), (0, "ok 0\n"))
+            self.assertEqual(self.exported(), asked)
+
     def test_a_new_lock_is_the_same_wherever_the_marker_holds(self):
         others = [self.environment_of(python) for python in PYTHONS]
         others += [self.environment_of("3.11.7", sys_platform="win32"), self.environment_of("3.10.4", platform_release="x", os_name="y")]

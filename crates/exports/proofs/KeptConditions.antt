@@ -19,7 +19,7 @@ use Rattle.pep440.specs.declared.specifier.Operator.TheVariants as operators
 use Rattle.snapshot.specs.Packages.{Index, releases_of}
 use Rattle.snapshot.specs.Release.{Release}
 use Rattle.snapshot.specs.declared.package.Package.{Package}
-use Rattle.exports.specs.Alike.{AnswersAlike, LineAlike, MarkerAlike, ReleaseAlike}
+use Rattle.exports.specs.Alike.{AnswersAlike, LineAlike, MarkerAlike, ReachAlike}
 use Rattle.exports.specs.Conditions.{IsTellable, Meets, MeetsAll, is_matched}
 use Rattle.exports.specs.Laws.{HasSameBest}
 use Rattle.exports.specs.Tied.Implication.{opposite_of}
@@ -217,7 +217,7 @@ own-tellable environment some h = each-map (IsOwn environment) IsTellable some (
 
 pub answers-alike : (lines : List (List ℕ)) (index : Index) (environment : Texts) (some all least : List Condition)
     → Keeps environment [] some (λ other. AllByRecursion (LineAlike environment other) lines)
-    → Keeps environment some all (λ other. (name : List ℕ) → AllByRecursion (ReleaseAlike environment other) (releases_of name index.packages))
+    → Keeps environment some all (λ other. ReachAlike lines index environment other)
     → ((other : Texts) → MeetsAll environment other least → MeetsAll environment other all)
     → (other : Texts) → MeetsAll environment other least → AnswersAlike lines index environment other
 answers-alike lines index environment some all least k l m other h = record {
@@ -227,7 +227,7 @@ answers-alike lines index environment some all least k l m other h = record {
 
 pub has-same-best : (lines : List (List ℕ)) (index : Index) (environment : Texts) (some all least : List Condition)
     → Keeps environment [] some (λ other. AllByRecursion (LineAlike environment other) lines)
-    → Keeps environment some all (λ other. (name : List ℕ) → AllByRecursion (ReleaseAlike environment other) (releases_of name index.packages))
+    → Keeps environment some all (λ other. ReachAlike lines index environment other)
     → ((other : Texts) → MeetsAll environment other least → MeetsAll environment other all)
     → (other : Texts) → MeetsAll environment other least → HasSameBest lines index environment other
 has-same-best lines index environment some all least k l m other h = best-same lines index environment other (answers-alike lines index environment some all least k l m other h)

@@ -1,5 +1,8 @@
 mod EachOf
+mod AgreeingRules
+mod ReachedRules
 mod SameRules
+mod ClosedRequirements
 mod SaidConditions
 mod KeptConditions
 mod RemovedMember

@@ -28,15 +28,10 @@ problem_in asking environment = record {
   only_kept = asking.only_kept;
 }
 
--- environments that answer alike have the same rules
-abbrev pub RulesAreTheSame : Type 0
-RulesAreTheSame = (asking : Asking) (environment other : Texts)
-    → AnswersAlike asking.lines asking.index environment other → rules_of (problem_in asking environment) ≡ rules_of (problem_in asking other)
-
 -- two problems have the same best solution, and of it the same is locked for each name: what its release asks of Python, which packages
 -- it needs, and its files
 abbrev pub LockAlike : ProblemParts → ProblemParts → (List ℕ → Option VersionParts) → Type 0
-LockAlike given other s = (IsBest (rules_of given) s ↔ IsBest (rules_of other) s) × ((e : EntryParts) → IsEntry given s e ↔ IsEntry other s e)
+LockAlike given other s = (IsBest (rules_of given) s ↔ IsBest (rules_of other) s) × (IsBest (rules_of given) s → (e : EntryParts) → IsEntry given s e ↔ IsEntry other s e)
 
 -- the best solution of lines over an index is the same in both environments, with all that is locked of it, whatever versions are kept,
 -- alone or before others

@@ -7,16 +7,17 @@ ghost use Rattle.std.specs.Option.{option_copied};
 ghost use Rattle.markers.specs.Environment.{Texts};
 ghost use Rattle.pep508.specs.Requirement.{requirement_of};
 ghost use Rattle.snapshot.specs.Packages.{releases_of};
-ghost use Rattle.exports.specs.Alike.{AnswersAlike, LineAlike, ReleaseAlike, marker_in};
+ghost use Rattle.exports.specs.Alike.{AnswersAlike, LineAlike, MatchedAlike, ReachAlike, ReleaseAlike, marker_in};
 ghost use Rattle.exports.specs.Conditions.{IsTellable, MeetsAll};
 ghost use Rattle.exports.specs.Laws.{HasSameBest, HasSameLock};
 ghost use Rattle.exports.specs.Tied.Kept.{AreOwn, Keeps};
 
 use crate::condition::Condition;
-use crate::kept_conditions::{keep, keep_marker, keep_releases};
+use crate::kept_conditions::{keep, keep_marker, keep_matching, keep_releases};
+use crate::reach::{asked_by, is_closed};
 use lists::Seq;
 use pep440::Operator;
-use pep508::{Environment, Line, Marker, ReqFile};
+use pep508::{Environment, Line, Marker, ReqFile, Requirement};
 use snapshot::Snapshot;
 use std::alloc::{AllocError, Global};
 
@@ -83,6 +84,50 @@ fn keep_packages(
     Ok(())
 }
 
+/// Asks for the same answers of the releases that requirements match.
+fn keep_asked(
+    alloc: Global,
+    environment: &Environment,
+    conditions: &mut Seq<Condition>,
+    snapshot: &Snapshot,
+    asked: &[Requirement],
+) -> Result<(), AllocError>
+    ensures { IfOk result (λ _. Keeps environment.now conditions.old conditions.new
+        (λ other. AllByRecursion (λ wanted. AllByRecursion (MatchedAlike environment.now other wanted)
+        (releases_of wanted.name snapshot.now.packages)) asked.now)) }
+{
+    for wanted in asked {
+        keep_matching(
+            alloc,
+            environment,
+            conditions,
+            wanted,
+            snapshot.releases(wanted.name()),
+        )?;
+    }
+    Ok(())
+}
+
+/// Asks for the same answers of each release that the lines can lead to.
+fn keep_reached(
+    alloc: Global,
+    environment: &Environment,
+    conditions: &mut Seq<Condition>,
+    lines: &[Line],
+    snapshot: &Snapshot,
+) -> Result<(), AllocError>
+    ensures { IfOk result (λ _. Keeps environment.now conditions.old conditions.new
+        (λ other. ReachAlike lines.now snapshot.now environment.now other)) }
+{
+    let asked = asked_by(alloc, lines, snapshot)?;
+    if is_closed(asked.as_slice(), lines, snapshot) {
+        keep_asked(alloc, environment, conditions, snapshot, asked.as_slice())?;
+        return Ok(());
+    }
+    keep_packages(alloc, environment, conditions, snapshot)?;
+    Ok(())
+}
+
 /// Conditions none of which another one says: a condition is left out where one behind it says it.
 fn least(
     alloc: Global,
@@ -129,7 +174,8 @@ fn in_order(conditions: Seq<Condition>) -> Result<Seq<Condition>, AllocError>
 
 /// The conditions under which another environment answers all questions of the lines and the index as this one does, which
 /// meets them itself; so the best solution is the same there, and its lock but for the environment, whatever versions are kept.
-/// Each release of the index is asked, also one that no lock has.
+/// Each release is asked that the lines can lead to over this index: whose version matches what a line asks for, or a dependency
+/// of a release that is asked, also one that no lock has.
 pub fn conditions_of(
     alloc: Global,
     lines: &ReqFile,
@@ -150,7 +196,7 @@ pub fn conditions_of(
 {
     let mut all = Seq::new(alloc);
     keep_lines(alloc, environment, &mut all, lines.lines())?;
-    keep_packages(alloc, environment, &mut all, snapshot)?;
+    keep_reached(alloc, environment, &mut all, lines.lines(), snapshot)?;
     let least = least(alloc, environment, all)?;
     let conditions = in_order(least)?;
     Ok(conditions)

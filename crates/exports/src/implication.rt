@@ -95,7 +95,7 @@ fn are_both(number: usize, clause: &Clause, wanted: &Clause) -> bool
 
 /// Whether the first clause is known to match no version that the wanted one doesn't: a lower bound says each lesser
 /// one, and an upper bound each greater one.
-fn does_follow(clause: &Clause, wanted: &Clause) -> bool
+pub(crate) fn does_follow(clause: &Clause, wanted: &Clause) -> bool
     ensures { result ≡ does_follow clause.now wanted.now }
 {
     (are_both(6, clause, wanted) && is_from(&clause.version, &wanted.version))

@@ -5,7 +5,7 @@ ghost use Rattle.std.specs.List.{AllByRecursion};
 ghost use Rattle.std.specs.Option.{option_copied};
 ghost use Rattle.markers.specs.MarkerRelations.{RelationAlike};
 ghost use Rattle.problems.specs.Admission.{meets_python};
-ghost use Rattle.exports.specs.Alike.{MarkerAlike, ReleaseAlike, WantedAlike};
+ghost use Rattle.exports.specs.Alike.{MarkerAlike, MatchedAlike, ReleaseAlike, WantedAlike};
 ghost use Rattle.exports.specs.Conditions.{Meets};
 ghost use Rattle.markers.specs.Environment.{is_versioned};
 ghost use Rattle.pep440.specs.SetGrammar.{IsLawfulClause};
@@ -290,6 +290,41 @@ fn keep_release(
 {
     keep_python(environment, conditions, release.requires_python())?;
     keep_dependencies(alloc, environment, conditions, release.dependencies())?;
+    Ok(())
+}
+
+/// Asks for the same answers of a release, if its version matches the clauses of a requirement.
+fn keep_matched(
+    alloc: Global,
+    environment: &Environment,
+    conditions: &mut Seq<Condition>,
+    wanted: &Requirement,
+    release: &Release,
+) -> Result<(), AllocError>
+    ensures { IfOk result (λ _. Keeps environment.now conditions.old conditions.new
+        (λ other. MatchedAlike environment.now other wanted.now release.now)) }
+{
+    if !wanted.specifiers().matches(release.version()) {
+        return Ok(());
+    }
+    keep_release(alloc, environment, conditions, release)?;
+    Ok(())
+}
+
+/// Asks for the same answers of those releases whose versions match the clauses of a requirement.
+pub(crate) fn keep_matching(
+    alloc: Global,
+    environment: &Environment,
+    conditions: &mut Seq<Condition>,
+    wanted: &Requirement,
+    releases: &[Release],
+) -> Result<(), AllocError>
+    ensures { IfOk result (λ _. Keeps environment.now conditions.old conditions.new
+        (λ other. AllByRecursion (MatchedAlike environment.now other wanted.now) releases.now)) }
+{
+    for release in releases {
+        keep_matched(alloc, environment, conditions, wanted, release)?;
+    }
     Ok(())
 }
 

@@ -19,6 +19,7 @@ mod marker_text;
 mod named_target;
 mod portable_lock;
 mod quoted_text;
+mod reach;
 
 pub use crate::condition::Condition;
 pub use crate::conditions::conditions_of;

@@ -16,19 +16,19 @@ returns-clause-tellable c =
 
 pub returns-clause-alike : goal.returns-clause-alike
 returns-clause-alike c = λ other h.
-    answers-alike c.args.lines.now c.args.snapshot.now c.args.environment.now c.keep_lines.new.conditions c.keep_packages.new.conditions c.in_ok-least.least
-    (rw (c.new-all.ensures, c.lines.ensures) at c.in_ok-keep_lines.ensures) c.in_ok-keep_packages.ensures c.in_ok-least.ensures.said other
+    answers-alike c.args.lines.now c.args.snapshot.now c.args.environment.now c.keep_lines.new.conditions c.keep_reached.new.conditions c.in_ok-least.least
+    (rw (c.new-all.ensures, c.lines.ensures) at c.in_ok-keep_lines.ensures) (rw c.lines-2.ensures at c.in_ok-keep_reached.ensures) c.in_ok-least.ensures.said other
     (each-back (Meets c.args.environment.now other) c.in_ok-least.least c.in_ok-conditions.conditions c.in_ok-conditions.ensures h)
 
 pub returns-clause-best : goal.returns-clause-best
 returns-clause-best c = λ other h.
-    has-same-best c.args.lines.now c.args.snapshot.now c.args.environment.now c.keep_lines.new.conditions c.keep_packages.new.conditions c.in_ok-least.least
-    (rw (c.new-all.ensures, c.lines.ensures) at c.in_ok-keep_lines.ensures) c.in_ok-keep_packages.ensures c.in_ok-least.ensures.said other
+    has-same-best c.args.lines.now c.args.snapshot.now c.args.environment.now c.keep_lines.new.conditions c.keep_reached.new.conditions c.in_ok-least.least
+    (rw (c.new-all.ensures, c.lines.ensures) at c.in_ok-keep_lines.ensures) (rw c.lines-2.ensures at c.in_ok-keep_reached.ensures) c.in_ok-least.ensures.said other
     (each-back (Meets c.args.environment.now other) c.in_ok-least.least c.in_ok-conditions.conditions c.in_ok-conditions.ensures h)
 
 pub returns-clause-lock : goal.returns-clause-lock
 returns-clause-lock c = λ other h.
     lock-same c.args.lines.now c.args.snapshot.now c.args.environment.now other
-    (has-same-best c.args.lines.now c.args.snapshot.now c.args.environment.now c.keep_lines.new.conditions c.keep_packages.new.conditions c.in_ok-least.least
-    (rw (c.new-all.ensures, c.lines.ensures) at c.in_ok-keep_lines.ensures) c.in_ok-keep_packages.ensures c.in_ok-least.ensures.said other
+    (has-same-best c.args.lines.now c.args.snapshot.now c.args.environment.now c.keep_lines.new.conditions c.keep_reached.new.conditions c.in_ok-least.least
+    (rw (c.new-all.ensures, c.lines.ensures) at c.in_ok-keep_lines.ensures) (rw c.lines-2.ensures at c.in_ok-keep_reached.ensures) c.in_ok-least.ensures.said other
     (each-back (Meets c.args.environment.now other) c.in_ok-least.least c.in_ok-conditions.conditions c.in_ok-conditions.ensures h))

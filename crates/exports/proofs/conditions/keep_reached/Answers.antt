@@ -1,0 +1,25 @@
+use Rattle.std.proofs.Common.{◌≡◌, ◌∙◌, ℕ, List, true, sym}
+use Rattle.std.specs.List.{AllByRecursion}
+use Rattle.snapshot.specs.Packages.{releases_of}
+use Rattle.exports.specs.Alike.{MatchedAlike, ReachAlike, ReleaseAlike}
+use Rattle.exports.specs.Tied.Reach.{is_closed}
+use Rattle.exports.proofs.ClosedRequirements.{all-settles, closed-settles}
+use Rattle.exports.proofs.KeptConditions.{kept-as}
+use Rattle.exports.proofs.conditions.keep_reached.Goals as goal
+
+pub returns-then-is_closed : goal.returns-then-is_closed
+returns-then-is_closed c =
+    let same : c.as_slice.result.now ≡ c.as_slice-then-is_closed.result.now = c.as_slice.ensures ∙ sym c.as_slice-then-is_closed.ensures in
+    let closed : is_closed c.as_slice-then-is_closed.result.now c.args.lines.now c.args.snapshot.now ≡ true = rw same at (sym c.is_closed.ensures ∙ c.if-is_closed.true) in
+    kept-as c.args.environment.now c.args.conditions.now c.keep_asked.new.conditions
+    (λ other. AllByRecursion (λ wanted. AllByRecursion (MatchedAlike c.args.environment.now other wanted) (releases_of wanted.name c.args.snapshot.now.packages)) c.as_slice-then-is_closed.result.now)
+    (λ other. ReachAlike c.args.lines.now c.args.snapshot.now c.args.environment.now other)
+    c.in_ok-keep_asked.ensures
+    (λ other h. closed-settles c.as_slice-then-is_closed.result.now c.args.lines.now c.args.snapshot.now c.args.environment.now other closed h)
+
+pub returns : goal.returns
+returns c =
+    kept-as c.args.environment.now c.args.conditions.now c.keep_packages.new.conditions
+    (λ other. (name : List ℕ) → AllByRecursion (ReleaseAlike c.args.environment.now other) (releases_of name c.args.snapshot.now.packages))
+    (λ other. ReachAlike c.args.lines.now c.args.snapshot.now c.args.environment.now other)
+    c.in_ok-keep_packages.ensures (λ other h. all-settles c.args.lines.now c.args.snapshot.now c.args.environment.now other h)

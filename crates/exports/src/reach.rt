@@ -1,0 +1,157 @@
+// Which requirements lines can lead to, whatever the environment.
+
+ghost use Rattle.std.specs.Prelude.{◌≡◌};
+ghost use Rattle.std.specs.List.{list_all};
+ghost use Rattle.exports.specs.Tied.Reach.{covers_line, covers_release, covers_releases, is_closed, is_covered, is_followed, is_wider};
+
+use crate::implication::does_follow;
+use lists::Seq;
+use pep440::Clause;
+use pep508::{Line, Requirement};
+use snapshot::{Release, Snapshot};
+use std::alloc::{AllocError, Global};
+
+/// Whether some clause is known to match no version that the wanted one doesn't.
+fn is_followed(clauses: &[Clause], wanted: &Clause) -> bool
+    ensures { result ≡ is_followed clauses.now wanted.now }
+{
+    clauses.iter().any(|clause| does_follow(clause, wanted))
+}
+
+/// Whether all clauses are.
+fn are_followed(clauses: &[Clause], wide: &[Clause]) -> bool
+    ensures { result ≡ list_all (is_followed clauses.now) wide.now }
+{
+    wide.iter().all(|clause| is_followed(clauses, clause))
+}
+
+/// Whether a requirement is on the same name as another, and is known to match each version that this one does.
+fn is_wider(wide: &Requirement, wanted: &Requirement) -> bool
+    ensures { result ≡ is_wider wide.now wanted.now }
+{
+    wide.name().normal() == wanted.name().normal()
+        && are_followed(wanted.specifiers().clauses(), wide.specifiers().clauses())
+}
+
+/// Whether one of the requirements is as wide as another.
+fn is_covered(asked: &[Requirement], wanted: &Requirement) -> bool
+    ensures { result ≡ is_covered asked.now wanted.now }
+{
+    asked.iter().any(|wide| is_wider(wide, wanted))
+}
+
+fn are_covered(asked: &[Requirement], wanted: &[Requirement]) -> bool
+    ensures { result ≡ list_all (is_covered asked.now) wanted.now }
+{
+    wanted.iter().all(|wanted| is_covered(asked, wanted))
+}
+
+fn covers_release(asked: &[Requirement], above: &Requirement, release: &Release) -> bool
+    ensures { result ≡ covers_release asked.now above.now release.now }
+{
+    !above.specifiers().matches(release.version()) || are_covered(asked, release.dependencies())
+}
+
+fn covers_releases(asked: &[Requirement], snapshot: &Snapshot, above: &Requirement) -> bool
+    ensures { result ≡ covers_releases asked.now snapshot.now above.now }
+{
+    let releases = snapshot.releases(above.name());
+    releases
+        .iter()
+        .all(|release| covers_release(asked, above, release))
+}
+
+fn covers_line(asked: &[Requirement], line: &Line) -> bool
+    ensures { result ≡ covers_line asked.now line.now }
+{
+    match line.requirement() {
+        Some(wanted) => is_covered(asked, wanted),
+        None => true,
+    }
+}
+
+fn covers_lines(asked: &[Requirement], lines: &[Line]) -> bool
+    ensures { result ≡ list_all (covers_line asked.now) lines.now }
+{
+    lines.iter().all(|line| covers_line(asked, line))
+}
+
+fn covers_matched(asked: &[Requirement], snapshot: &Snapshot, matching: &[Requirement]) -> bool
+    ensures { result ≡ list_all (covers_releases asked.now snapshot.now) matching.now }
+{
+    matching
+        .iter()
+        .all(|above| covers_releases(asked, snapshot, above))
+}
+
+/// Whether the requirements are as wide as those of the lines, and as the dependencies of each release that they match.
+pub(crate) fn is_closed(asked: &[Requirement], lines: &[Line], snapshot: &Snapshot) -> bool
+    ensures { result ≡ is_closed asked.now lines.now snapshot.now }
+{
+    covers_lines(asked, lines) && covers_matched(asked, snapshot, asked)
+}
+
+/// Puts a requirement to the others, unless one of them is as wide.
+fn gather(asked: &mut Seq<Requirement>, wanted: &Requirement) -> Result<(), AllocError> {
+    if is_covered(asked.as_slice(), wanted) {
+        return Ok(());
+    }
+    asked.push(wanted.clone()?)?;
+    Ok(())
+}
+
+/// Gathers what lines ask for.
+fn gather_lines(alloc: Global, lines: &[Line]) -> Result<Seq<Requirement>, AllocError> {
+    let mut asked = Seq::new(alloc);
+    for line in lines {
+        if let Some(wanted) = line.requirement() {
+            gather(&mut asked, wanted)?;
+        }
+    }
+    Ok(asked)
+}
+
+/// Gathers the dependencies of a release, if a requirement matches its version.
+fn gather_release(
+    asked: &mut Seq<Requirement>,
+    above: &Requirement,
+    release: &Release,
+) -> Result<(), AllocError> {
+    if !above.specifiers().matches(release.version()) {
+        return Ok(());
+    }
+    for wanted in release.dependencies() {
+        gather(asked, wanted)?;
+    }
+    Ok(())
+}
+
+/// Gathers what releases depend on that a requirement matches.
+fn gather_below(
+    asked: &mut Seq<Requirement>,
+    snapshot: &Snapshot,
+    above: &Requirement,
+) -> Result<(), AllocError> {
+    for release in snapshot.releases(above.name()) {
+        gather_release(asked, above, release)?;
+    }
+    Ok(())
+}
+
+/// Requirements that stand for all that lines can ask for: what lines ask for, and the dependencies of each release that one of
+/// these matches. One that another stands for is left out. Whoever rests on it tests it by `is_closed`.
+pub(crate) fn asked_by(
+    alloc: Global,
+    lines: &[Line],
+    snapshot: &Snapshot,
+) -> Result<Seq<Requirement>, AllocError> {
+    let mut asked = gather_lines(alloc, lines)?;
+    for place in 0..usize::MAX {
+        let Some(above) = asked.as_slice().get(place) else {
+            return Ok(asked);
+        };
+        let above = above.clone()?;
+        gather_below(&mut asked, snapshot, &above)?;
+    }
+    Ok(asked)
+}
