@@ -167,10 +167,11 @@ class Rows(unittest.TestCase):
 
     def test_errors(self):
         for rule, step, text, *more in ERRORS:
-            with self.subTest(rule=rule), self.assertRaises(Refused) as raised:
-                self.call(text, *more)
-            is_of_the_lock = isinstance(raised.exception, NotForThisEnvironment)
-            self.assertEqual((raised.exception.step, is_of_the_lock), (step, rule in ELSEWHERE_TOLD), rule)
+            with self.subTest(rule=rule):
+                with self.assertRaises(Refused) as raised:
+                    self.call(text, *more)
+                is_of_the_lock = isinstance(raised.exception, NotForThisEnvironment)
+                self.assertEqual((raised.exception.step, is_of_the_lock), (step, rule in ELSEWHERE_TOLD))
 
     def test_a_text_that_is_not_utf_8(self):
         with self.assertRaises(Refused):
