@@ -5,7 +5,7 @@ import hashlib
 import json
 import unittest
 
-from support.installed import check_markers
+from support.installed import check_dependencies, check_markers
 from support.made.environments import LINUX, WINDOWS
 from support.rules.installs import Installing, NotForThisEnvironment, Refused, installed_by, validate
 from support.rules.requirements import Fault
@@ -213,6 +213,16 @@ class Rows(unittest.TestCase):
             with self.assertRaises(Refused) as raised:
                 validate({"size": size, "hashes": hashes}, data)
             self.assertEqual(raised.exception.step, step)
+
+    def test_a_dependency_is_one_of_the_entries(self):
+        first, second = {"name": "b", "version": "1"}, {"name": "b", "version": "2"}
+        for tables in [{"name": "b"}], [first], [first, second]:
+            entry = {"name": "a", "dependencies": tables}
+            check_dependencies(entry, [entry, first])
+            with self.assertRaises(AssertionError):
+                check_dependencies(entry, [entry, {"name": "c"}])
+        with self.assertRaises(AssertionError):
+            check_dependencies({"name": "a", "dependencies": [first]}, [second])
 
 
 if __name__ == "__main__":
