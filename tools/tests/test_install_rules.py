@@ -50,7 +50,8 @@ DIRECTORY = 'directory = {path = "a", editable = true}'
 POSIX, NT = "os_name == 'posix'", "os_name == 'nt'"
 IN_LINUX, ELSEWHERE = "sys_platform == 'linux'", "sys_platform != 'linux'"
 TAGS = "cp312-cp312-linux_x86_64", "cp312-abi3-linux_x86_64", "py3-none-any"
-ABI3, WIN = "cp312-abi3-linux_x86_64", "cp312-cp312-win_amd64"
+ABI3, WIN, BOTH = "cp312-abi3-linux_x86_64", "cp312-cp312-win_amd64", "cp311.cp312-abi3-win32.linux_x86_64"
+NAMED = 'wheels = [{name = "a-1-py3-none-any.whl", path = "x", hashes = {md5 = "0"}}]'
 
 # a rule; the step at which an error is raised; a lock; what is asked beside the environment
 ERRORS = (
@@ -136,11 +137,11 @@ INSTALLED = (
     ("in the place of the default", "", lock(package(marker("'main' in dependency_groups")), head=GROUPS), {"groups": ["dev"]}),
     ("a set stands beside variables", "a wheels", lock(package(marker(f"{POSIX} and ('x' in extras or {IN_LINUX})")), head=GROUPS)),
     ("the best tag is taken", f"a a-1-{ABI3}.whl", lock(package(wheels("py3-none-any", ABI3)))),
-    ("a wheel has several tags", "a a-1-cp311.cp312-abi3-win32.linux_x86_64.whl", lock(package(wheels("py3-none-any", "cp311.cp312-abi3-win32.linux_x86_64")))),
+    ("a wheel has several tags", f"a a-1-{BOTH}.whl", lock(package(wheels("py3-none-any", BOTH)))),
     ("one that doesn't run is passed over", "a a-1-py3-none-any.whl", lock(package(wheels(WIN, "py3-none-any")))),
     ("without one there is an sdist", "a sdist", lock(package(wheels(WIN), SDIST))),
     ("a wheel is before an sdist", "a wheels", lock(package(SDIST, ANY))),
-    ("a name is told where the path doesn't tell it", "a x", lock(package('wheels = [{name = "a-1-py3-none-any.whl", path = "x", hashes = {md5 = "0"}}]'))),
+    ("a name is told where the path doesn't tell it", "a x", lock(package(NAMED))),
     ("a repository", "a vcs", lock(package(VCS))),
     ("a folder", "a directory", lock(package(DIRECTORY))),
     ("an archive", "a archive", lock(package(ARCHIVE))),
