@@ -84,19 +84,30 @@ MENTIONS = {
 LITERAL = re.compile(r'"((?:[^"\\]|\\.)*)"')
 
 
-def printed():
-    """Each line of a text in the program's sources that names it or one of its tools. An example of help is the program's."""
+def texts():
+    """The lines of all texts in the program's sources."""
     found = set()
     for path in (TOP / "crates").glob("*/src/**/*.rt"):
         code = "\n".join(it for it in path.read_text(encoding="utf-8").splitlines() if not it.lstrip().startswith("//"))
-        found.update(line for text in LITERAL.findall(code) for line in text.split("\\n") if re.search(r"\breqlock\b(?![:.])", line))
-    return {it for it in found if not it.startswith("Example: ")}
+        found.update(line for text in LITERAL.findall(code) for line in text.split("\\n"))
+    return found
+
+
+def printed():
+    """Those that name the program or one of its tools. An example of help is the program's."""
+    return {it for it in texts() if re.search(r"\breqlock\b(?![:.])", it) and not it.startswith("Example: ")}
 
 
 class Forms(unittest.TestCase):
     def test_of_each_it_is_decided_what_rql_has(self):
-        named = {it for it in SENTENCES if "reqlock" in it}
-        self.assertEqual(printed(), {*FORMS, *MENTIONS, *named})
+        found = printed()
+        self.assertEqual(found, {*FORMS, *MENTIONS, *found.intersection(SENTENCES)})
+
+    def test_the_program_says_each_sentence(self):
+        """That names it: in one text, or in one for each of its parts."""
+        found = texts()
+        for part in (part for it in SENTENCES if "reqlock" in it for part in it.split(". ")):
+            self.assertTrue(any(part in text for text in found), part)
 
     def test_they_are_told_so(self):
         here = Here(question=("--replace", "new.txt"))
