@@ -226,7 +226,7 @@ class Changes(Sourced):
         self.assertEqual(self.path.read_bytes(), PYPROJECT.encode())
 
     def test_what_can_not_be_done_is_refused_before_anything_is_written(self):
-        self.refused("base.in: line 2 has a line of this name already: rql set, or rql constrain", "add", "httpx", "Six")
+        self.refused("base.in: line 2 has a line of this name already: rql set Six puts this in its place", "add", "httpx", "Six")
         self.refused("^none: no source has a line of this name", "remove", "flask", "none")
         self.refused("'b>>1'", "add", "b>>1")
         self.refused("no name", "remove", "a b")
