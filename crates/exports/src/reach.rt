@@ -91,9 +91,27 @@ pub(crate) fn is_closed(asked: &[Requirement], lines: &[Line], snapshot: &Snapsh
     covers_lines(asked, lines) && covers_matched(asked, snapshot, asked)
 }
 
-/// Puts a requirement to the others, unless one of them is as wide.
+fn is_same_clause(clause: &Clause, other: &Clause) -> bool {
+    clause.operator == other.operator && clause.version.cmp(&other.version).is_eq()
+}
+
+/// Whether two requirements are on one name, with the same clauses.
+fn is_same(one: &Requirement, other: &Requirement) -> bool {
+    let clauses = one.specifiers().clauses();
+    let others = other.specifiers().clauses();
+    one.name().normal() == other.name().normal()
+        && clauses.len() == others.len()
+        && clauses
+            .iter()
+            .zip(others.iter())
+            .all(|pair| is_same_clause(pair.0, pair.1))
+}
+
+/// Puts a requirement to the others, unless one of them is as wide, or the same: a clause on a pre-release isn't known to say
+/// itself, and what leads back to it would be gathered again and again.
 fn gather(asked: &mut Seq<Requirement>, wanted: &Requirement) -> Result<(), AllocError> {
-    if is_covered(asked.as_slice(), wanted) {
+    let others = asked.as_slice();
+    if is_covered(others, wanted) || others.iter().any(|other| is_same(other, wanted)) {
         return Ok(());
     }
     asked.push(wanted.clone()?)?;
