@@ -252,6 +252,13 @@ class Pylock(Program):
             self.assertEqual(self.call("init"), (0, "ok 0\n"))
             self.assertEqual(self.exported(), asked)
 
+    def test_a_ring_of_clauses_on_pre_releases_ends(self):
+        """None of these clauses is known to say itself, so that all of the index is asked."""
+        index = ("a", "1", ["b>=1a1,!=2.post1"]), ("b", "1", ["a>=1.dev0", 'z; os_name=="nt"']), ("z", "1", ['a; sys_platform=="win32"'])
+        self.begin(b"a>=1a1\n", *index)
+        self.assertEqual(self.call("init"), (0, "ok 0\n"))
+        self.assertEqual(self.exported(), f'os_name == "{LINUX["os_name"]}" and sys_platform == "{LINUX["sys_platform"]}"')
+
     def test_a_new_lock_is_the_same_wherever_the_marker_holds(self):
         others = [self.environment_of(python) for python in PYTHONS]
         others += [self.environment_of("3.11.7", sys_platform="win32"), self.environment_of("3.10.4", platform_release="x", os_name="y")]
