@@ -120,8 +120,14 @@ fn keep_reached(
         (λ other. ReachAlike lines.now snapshot.now environment.now other)) }
 {
     let asked = asked_by(alloc, lines, snapshot)?;
-    if is_closed(asked.as_slice(), lines, snapshot) {
-        keep_asked(alloc, environment, conditions, snapshot, asked.as_slice())?;
+    if is_closed(&asked, lines, snapshot) {
+        keep_asked(
+            alloc,
+            environment,
+            conditions,
+            snapshot,
+            asked.requirements(),
+        )?;
         return Ok(());
     }
     keep_packages(alloc, environment, conditions, snapshot)?;

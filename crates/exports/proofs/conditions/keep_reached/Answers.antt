@@ -9,13 +9,13 @@ use Rattle.exports.proofs.conditions.keep_reached.Goals as goal
 
 pub returns-then-is_closed : goal.returns-then-is_closed
 returns-then-is_closed c =
-    let same : c.as_slice.result.now ≡ c.as_slice-then-is_closed.result.now = c.as_slice.ensures ∙ sym c.as_slice-then-is_closed.ensures in
-    let closed : is_closed c.as_slice-then-is_closed.result.now c.args.lines.now c.args.snapshot.now ≡ true = rw same at (sym c.is_closed.ensures ∙ c.if-is_closed.true) in
+    let asked = c.requirements.result.now in
+    let closed : is_closed asked c.args.lines.now c.args.snapshot.now ≡ true = rw (sym c.requirements.ensures) at (sym c.is_closed.ensures ∙ c.if-is_closed.true) in
     kept-as c.args.environment.now c.args.conditions.now c.keep_asked.new.conditions
-    (λ other. AllByRecursion (λ wanted. AllByRecursion (MatchedAlike c.args.environment.now other wanted) (releases_of wanted.name c.args.snapshot.now.packages)) c.as_slice-then-is_closed.result.now)
+    (λ other. AllByRecursion (λ wanted. AllByRecursion (MatchedAlike c.args.environment.now other wanted) (releases_of wanted.name c.args.snapshot.now.packages)) asked)
     (λ other. ReachAlike c.args.lines.now c.args.snapshot.now c.args.environment.now other)
     c.in_ok-keep_asked.ensures
-    (λ other h. closed-settles c.as_slice-then-is_closed.result.now c.args.lines.now c.args.snapshot.now c.args.environment.now other closed h)
+    (λ other h. closed-settles asked c.args.lines.now c.args.snapshot.now c.args.environment.now other closed h)
 
 pub returns : goal.returns
 returns c =
