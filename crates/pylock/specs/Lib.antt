@@ -4,6 +4,7 @@ pub mod Python
 pub mod Locks
 pub mod Order
 pub mod Tables
+pub mod Joint
 pub mod Flaws
 pub mod CanonicalTexts
 pub mod Forms

@@ -59,11 +59,15 @@ package_data p = table (package_table p)
 unfoldable pub tool_data : List ℕ → Data
 tool_data digest = only_key (codes "reqlock") (only_key (codes "snapshot") (string (encode_lower digest)))
 
--- a lock
-abbrev pub table_of : LockParts → Members
-table_of l =
+-- a lock with these environments, packages, and digest of the index
+abbrev pub lock_table : Option Data → List ℕ → Data → Members
+lock_table environments digest packages =
     member (codes "created-by") (string (codes "reqlock")) (
-    member (codes "environments") (array_of string (l.environment ∷ [])) (
+    optional (codes "environments") environments (
     member (codes "lock-version") (string (codes "1.0")) (
-    member (codes "packages") (array_of package_data l.entries) (
-    member (codes "tool") (tool_data l.snapshot) no_members))))
+    member (codes "packages") packages (
+    member (codes "tool") (tool_data digest) no_members))))
+
+-- a lock for one environment
+abbrev pub table_of : LockParts → Members
+table_of l = lock_table (Some (array_of string (l.environment ∷ []))) l.snapshot (array_of package_data l.entries)

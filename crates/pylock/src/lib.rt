@@ -1,4 +1,5 @@
-//! The lock file `pylock.toml` (PEP 751): typed locks, and the TOML table of each.
+//! The lock file `pylock.toml` (PEP 751): typed locks for one environment or several, and the TOML
+//! table of each.
 //!
 //! A lock and its entries, whose names rise:
 //!
@@ -16,6 +17,7 @@ mod file;
 mod flaw;
 mod forms;
 mod from_table;
+mod joint;
 pub mod laws;
 mod lock;
 mod packages;
@@ -28,6 +30,7 @@ pub use crate::entry::Entry;
 pub use crate::fault::Fault;
 pub use crate::file::FileEntry;
 pub use crate::flaw::Flaw;
+pub use crate::joint::{JointLock, JointPackage, Reference};
 pub use crate::lock::Lock;
 pub use lists::{Named, rises};
 pub use pep508::{Name, Version};

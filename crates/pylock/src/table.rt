@@ -7,7 +7,7 @@ ghost use Rattle.toml.specs.Data.{string};
 ghost use Rattle.toml.specs.View.{table_view, view};
 ghost use Rattle.pylock.specs.LockOfTable.{lock_in};
 ghost use Rattle.pylock.specs.Python.{python_text};
-ghost use Rattle.pylock.specs.Tables.{array_of, dependency_data, file_data, package_data, table_of, tool_data};
+ghost use Rattle.pylock.specs.Tables.{array_of, dependency_data, file_data, lock_table, package_data, package_table, table_of, tool_data};
 
 use crate::entry::Entry;
 use crate::file::FileEntry;
@@ -86,6 +86,38 @@ fn python_value(alloc: Global, python: &Option<RequiresPython>) -> Result<Option
     }
 }
 
+/// The table of an entry without its dependencies.
+pub(crate) fn table_without_dependencies(alloc: Global, entry: &Entry) -> Result<Table, AllocError>
+    ensures { IfOk result (λ t. table_view t
+        ≡ package_table (record entry.now { dependencies = [] })) }
+{
+    entry.recall_invariant();
+    let mut table = Table::new(alloc);
+    insert(
+        alloc,
+        &mut table,
+        "name",
+        text_value(alloc, entry.name().normal())?,
+    )?;
+    let requires_python = python_value(alloc, entry.requires_python())?;
+    insert_some(alloc, &mut table, "requires-python", requires_python)?;
+    insert_some(
+        alloc,
+        &mut table,
+        "sdist",
+        some_value(alloc, entry.sdist())?,
+    )?;
+    let version = canonical_text(alloc, entry.version())?;
+    insert(alloc, &mut table, "version", Value::String(version))?;
+    insert_some(
+        alloc,
+        &mut table,
+        "wheels",
+        some_array(alloc, entry.wheels())?,
+    )?;
+    Ok(table)
+}
+
 impl Written for Entry {
     ghost form = { package_data };
 
@@ -93,33 +125,15 @@ impl Written for Entry {
 
     #[tactic(auto, unfolding(crate::specs::Tables::package_data))]
     fn to_value(&self, alloc: Global) -> Result<Value, AllocError> {
-        self.recall_invariant();
-        let mut table = Table::new(alloc);
+        let mut table = table_without_dependencies(alloc, self)?;
         let dependencies = some_array(alloc, self.dependencies())?;
         insert_some(alloc, &mut table, "dependencies", dependencies)?;
-        insert(
-            alloc,
-            &mut table,
-            "name",
-            text_value(alloc, self.name().normal())?,
-        )?;
-        let requires_python = python_value(alloc, self.requires_python())?;
-        insert_some(alloc, &mut table, "requires-python", requires_python)?;
-        insert_some(alloc, &mut table, "sdist", some_value(alloc, self.sdist())?)?;
-        let version = canonical_text(alloc, self.version())?;
-        insert(alloc, &mut table, "version", Value::String(version))?;
-        insert_some(
-            alloc,
-            &mut table,
-            "wheels",
-            some_array(alloc, self.wheels())?,
-        )?;
         Ok(Value::Table(table))
     }
 }
 
 /// The canonical text of a version.
-fn canonical_text(alloc: Global, version: &Version) -> Result<String, AllocError>
+pub(crate) fn canonical_text(alloc: Global, version: &Version) -> Result<String, AllocError>
     ensures { IfOk result (λ text. string_bytes text ≡ canonical version.now) }
 {
     match version.canonical(alloc) {
@@ -146,9 +160,15 @@ fn environments_value(alloc: Global, environment: &str) -> Result<Value, AllocEr
     Ok(Value::Array(values))
 }
 
-/// The table of a lock, key by key.
-fn table_of(alloc: Global, lock: &Lock) -> Result<Table, AllocError>
-    ensures { IfOk result (λ t. table_view t ≡ table_of lock.now) }
+/// The table of a lock with these environments and packages, key by key.
+pub(crate) fn lock_table(
+    alloc: Global,
+    environments: Option<Value>,
+    snapshot: [u8; 32],
+    packages: Value,
+) -> Result<Table, AllocError>
+    ensures { IfOk result (λ t. table_view t
+        ≡ lock_table (option_map view environments) snapshot (view packages)) }
 {
     let mut table = Table::new(alloc);
     insert(
@@ -157,22 +177,20 @@ fn table_of(alloc: Global, lock: &Lock) -> Result<Table, AllocError>
         "created-by",
         text_value(alloc, "reqlock")?,
     )?;
-    let environments = environments_value(alloc, lock.environment())?;
-    insert(alloc, &mut table, "environments", environments)?;
+    insert_some(alloc, &mut table, "environments", environments)?;
     insert(alloc, &mut table, "lock-version", text_value(alloc, "1.0")?)?;
-    insert(
-        alloc,
-        &mut table,
-        "packages",
-        array_value(alloc, lock.entries())?,
-    )?;
-    insert(
-        alloc,
-        &mut table,
-        "tool",
-        tool_value(alloc, lock.snapshot())?,
-    )?;
+    insert(alloc, &mut table, "packages", packages)?;
+    insert(alloc, &mut table, "tool", tool_value(alloc, snapshot)?)?;
     Ok(table)
+}
+
+/// The table of a lock.
+fn table_of(alloc: Global, lock: &Lock) -> Result<Table, AllocError>
+    ensures { IfOk result (λ t. table_view t ≡ table_of lock.now) }
+{
+    let environments = environments_value(alloc, lock.environment())?;
+    let packages = array_value(alloc, lock.entries())?;
+    lock_table(alloc, Some(environments), lock.snapshot(), packages)
 }
 
 impl Lock {

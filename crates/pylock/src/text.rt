@@ -1,8 +1,9 @@
 // The TOML text of a lock.
 
-ghost use Rattle.std.specs.Prelude.{◌≡◌, ◌⊎◌, Ok, Err, Some, IfOk, IfErr, string_bytes, true};
+ghost use Rattle.std.specs.Prelude.{◌≡◌, ◌≤◌, ◌⊎◌, Ok, Err, Some, IfOk, IfErr, string_bytes, true};
 ghost use Rattle.std.specs.Str.{is_utf8};
 ghost use Rattle.lists.specs.Answers.{Answers};
+ghost use Rattle.toml.specs.Data.{members_depth, members_have_valid_dates};
 ghost use Rattle.toml.specs.Parse.{parse_document};
 ghost use Rattle.toml.specs.View.{table_view};
 ghost use Rattle.pylock.specs.LockOfTable.{lock_in_text, toml_of};
@@ -39,6 +40,21 @@ fn is_utf8(text: &str)
     let _text = text;
 }
 
+/// The TOML text of a table that is no deeper than `toml` reads, and has no date that can't be
+/// written.
+pub(crate) fn printed(alloc: Global, table: &Table) -> Result<String, AllocError>
+    requires depth { members_depth (table_view table.now) ≤ 80 }
+    requires dates { members_have_valid_dates (table_view table.now) ≡ true }
+    ensures { IfOk result
+        (λ text. parse_document (string_bytes text) ≡ Some (table_view table.now)) }
+{
+    match toml::table_to_string(alloc, table) {
+        Ok(text) => Ok(text),
+        Err(toml::ser::Error::OutOfMemory) => Err(AllocError),
+        Err(toml::ser::Error::DateInvalid) => unreachable!(),
+    }
+}
+
 impl Lock {
     /// The TOML text of the lock. It is read back as this lock; the order of its keys is no promise.
     pub fn print(&self, alloc: Global) -> Result<String, AllocError>
@@ -49,14 +65,9 @@ impl Lock {
         self.recall_invariant();
         a_canonical_text_is_read();
         let table = self.to_table(alloc)?;
-        match toml::table_to_string(alloc, &table) {
-            Ok(text) => {
-                is_utf8(text.as_str());
-                Ok(text)
-            }
-            Err(toml::ser::Error::OutOfMemory) => Err(AllocError),
-            Err(toml::ser::Error::DateInvalid) => unreachable!(),
-        }
+        let text = printed(alloc, &table)?;
+        is_utf8(text.as_str());
+        Ok(text)
     }
 
     /// The lock whose TOML text this is (PEP 751): `NotToml` where the bytes aren't UTF-8 or no

@@ -1,6 +1,5 @@
-use Rattle.std.proofs.Common.{◌≡◌, Some, Err, ◌∙◌, ap, sym, string_bytes, true, true≢false}
+use Rattle.std.proofs.Common.{◌≡◌, Some, ◌∙◌, ap, string_bytes, true}
 use Rattle.std.specs.Str.{is_utf8}
-use Rattle.toml.specs.Data.{members_have_valid_dates}
 use Rattle.toml.specs.Parse.{parse_document}
 use Rattle.pylock.specs.Tables.{table_of}
 use Rattle.pylock.proofs.BackFacts.{lock-back}
@@ -9,18 +8,17 @@ use Rattle.pylock.proofs.DepthFacts.{lock-depth}
 use Rattle.pylock.proofs.TextFacts.{text-back}
 use Rattle.pylock.proofs.lock.Lock.print.Goals as goal
 
-pub returns-in-Ok-clause-table : goal.returns-in-Ok-clause-table
-returns-in-Ok-clause-table c =
-    let table = c.in_ok-table.ensures.table in
-    c.in-Ok.ensures.reads_back (rw table (lock-depth c.args.self.now)) ∙ ap Some table
+pub printed-requires-clause-depth : goal.printed-requires-clause-depth
+printed-requires-clause-depth c = rw c.in_ok-table.ensures.table (lock-depth c.args.self.now)
 
-pub returns-in-Ok-clause-reads_back : goal.returns-in-Ok-clause-reads_back
-returns-in-Ok-clause-reads_back c =
-    let table = c.in_ok-table.ensures.table in
-    let parsed : parse_document (string_bytes c.in-Ok.text) ≡ Some (table_of c.args.self.now) = c.in-Ok.ensures.reads_back (rw table (lock-depth c.args.self.now)) ∙ ap Some table in
-    let utf8 : is_utf8 (string_bytes c.in-Ok.text) ≡ true = rw (← c.as_str.ensures.value) c.is_utf8.ensures in
-    text-back (string_bytes c.in-Ok.text) (table_of c.args.self.now) c.args.self.now utf8 parsed (lock-back c.a_canonical_text_is_read.ensures c.args.self.now c.recall_invariant.ensures)
+pub printed-requires-clause-dates : goal.printed-requires-clause-dates
+printed-requires-clause-dates c = rw c.in_ok-table.ensures.table (lock-valid c.args.self.now)
 
--- `toml` refuses no date of a lock, which has none
-pub unreachable-requires : goal.unreachable-requires
-unreachable-requires c = true≢false (sym (lock-valid c.args.self.now) ∙ sym (ap members_have_valid_dates c.in_ok-table.ensures.table) ∙ c.table_to_string.ensures.dates.0 (c.in-Err-DateInvalid.is ∙ ap Err c.in-Err-DateInvalid.field-0-is))
+pub returns-clause-table : goal.returns-clause-table
+returns-clause-table c = c.in_ok-text.ensures ∙ ap Some c.in_ok-table.ensures.table
+
+pub returns-clause-reads_back : goal.returns-clause-reads_back
+returns-clause-reads_back c =
+    let parsed : parse_document (string_bytes c.in_ok-text.text) ≡ Some (table_of c.args.self.now) = c.in_ok-text.ensures ∙ ap Some c.in_ok-table.ensures.table in
+    let utf8 : is_utf8 (string_bytes c.in_ok-text.text) ≡ true = rw (← c.as_str.ensures.value) c.is_utf8.ensures in
+    text-back (string_bytes c.in_ok-text.text) (table_of c.args.self.now) c.args.self.now utf8 parsed (lock-back c.a_canonical_text_is_read.ensures c.args.self.now c.recall_invariant.ensures)
