@@ -51,7 +51,7 @@ entries-carried : (changes : List EntryChange) (old new : List EntryParts) → A
 entries-carried changes old new are is =
     ChangesEntries-one changes old new (carried_entries changes old) is (entries-onward [] changes old old [] new are (IsExchangedTo-start changes old is.old_rises) is)
 
-digest-carried : (digests : Option DigestChange) (old new : List ℕ) → ChangesDigest digests old new → new ≡ carried_digest digests old
+pub digest-carried : (digests : Option DigestChange) (old new : List ℕ) → ChangesDigest digests old new → new ≡ carried_digest digests old
 digest-carried None old new is = is
 digest-carried (Some d) old new is = is.1
 

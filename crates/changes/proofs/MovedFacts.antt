@@ -1,36 +1,44 @@
 -- Where a change moves a state.
-use Rattle.std.proofs.Common.{◌≡◌, ◌≢◌, ◌<◌, ◌≤◌, ◌||◌, ℕ, Bool, true, false, List, [], ◌∷◌, Contains, Ok, Option, Some, None, MatchOption, length, get_or, map, take, refl, sym, ap, ◌∙◌, subst}
+use Rattle.std.proofs.Common.{◌≡◌, ◌<◌, ◌≤◌, ◌||◌, ℕ, Bool, true, false, List, [], ◌∷◌, Contains, Some, None, length, get_or, map, take, refl, sym, ap, ◌∙◌, subst}
 use Rattle.std.proofs.lemmas.Bool.{and_from, and_parts}
 use Rattle.std.proofs.lemmas.List.Elements.{AllZip-get_or}
-use Rattle.std.specs.List.{AllByRecursion, AllZip, concat, list_all, list_any}
+use Rattle.std.specs.List.{AllByRecursion, AllZip, list_all, list_any}
 use Rattle.std.specs.Str.{bytes_eq}
 use Rattle.lists.proofs.Members.{take-whole}
-use Rattle.pep508.specs.Requirement.{file_of}
 use Rattle.changes.specs.Changes.{After, ChangeParts, ChangesTarget, Leads, LeadsNowhere}
 use Rattle.states.specs.State.{IsState}
 use Rattle.states.specs.StateParts.{StateParts}
 use Rattle.changes.specs.Tied.Only.{IsTheOnly}
+use Rattle.changes.specs.Tied.SplicedLines.{LeadToNone, Reads, put_by}
 use Rattle.changes.specs.declared.change.parts.EntryChange.{EntryChange}
 use Rattle.states.specs.declared.target.Target.{Target}
 use Rattle.states.proofs.Among.{among-from, among-of}
+use Rattle.states.proofs.PartFacts.{All-member, All-of}
+use Rattle.changes.proofs.LinesCarried.{put-there}
 use Rattle.changes.proofs.OneOutcome.{After-one, targets-one}
+use Rattle.changes.proofs.SplicedLinesRead.{file-reads}
 
 -- a change that leads to no state here leads nowhere
 pub nowhere : (change : ChangeParts) (old made : StateParts) → After old change made → (IsState made → ⊥) → LeadsNowhere old change
 nowhere change old made after none = λ new leads. none (subst IsState (After-one change old new made leads.0 after) leads.1)
 
-pub nowhere-lines : (change : ChangeParts) (old made : StateParts) → After old change made → file_of (concat made.lines) ≢ Ok made.lines → LeadsNowhere old change
-nowhere-lines change old made after none = nowhere change old made after (λ is. none is.lines)
+-- nor where new lines of it don't read
+pub nowhere-put : (change : ChangeParts) (old : StateParts) → (AllByRecursion Reads (put_by change.splices) → ⊥) → LeadsNowhere old change
+nowhere-put change old refused = λ new leads.
+    let read : AllByRecursion Reads new.lines = file-reads new.lines leads.1.lines in
+    refused (All-of Reads (put_by change.splices) (λ line there. All-member Reads new.lines line read (put-there 0 change.splices old.lines new.lines leads.0.lines line there)))
+
+-- nor where its lines lead to none
+pub nowhere-gone : (change : ChangeParts) (old : StateParts) → LeadToNone change.splices old.lines → LeadsNowhere old change
+nowhere-gone change old none = λ new leads. none new.lines leads.0.lines
+
+-- nor where it makes nothing of the targets
+pub nowhere-targets : (change : ChangeParts) (old : StateParts) → IsTheOnly (AllZip (ChangesTarget change) old.targets) None → LeadsNowhere old change
+nowhere-targets change old none = λ new leads. none new.targets leads.0.targets
 
 -- where it leads somewhere, it leads here
 pub is-state : (change : ChangeParts) (old made next : StateParts) → After old change made → Leads old change next → IsState made
 is-state change old made next after leads = subst IsState (After-one change old next made leads.0 after) leads.1
-
--- what was made of it, or nothing, is where it leads
-pub leads-by : (change : ChangeParts) (old made : StateParts) → After old change made → (answer : Option StateParts)
-    → MatchOption answer (IsState made → ⊥) (λ state. (state ≡ made) × IsState made) → MatchOption answer (LeadsNowhere old change) (Leads old change)
-leads-by change old made after None none = nowhere change old made after none
-leads-by change old made after (Some state) is = subst (Leads old change) (sym is.0) (after, is.1)
 
 -- ---- targets
 

@@ -1,13 +1,13 @@
 -- Lines that splices lead to, as they are put together.
-use Rattle.std.proofs.Common.{◌≡◌, ◌+◌, ◌-◌, ◌≤◌, ◌<◌, ℕ, List, [], ◌∷◌, ◌++◌, length, take, drop, get_or, refl, sym, ap, ◌∙◌, subst, arith, append_assoc, Some, None}
-use Rattle.std.proofs.lemmas.List.{at_drop_all, drop-drop, drop_more, length-append, length-drop, length-take, length-take-le, take-append-drop}
+use Rattle.std.proofs.Common.{◌≡◌, ◌+◌, ◌-◌, ◌≤◌, ◌<◌, ℕ, List, [], ◌∷◌, ◌++◌, length, take, drop, get_or, refl, sym, ap, ◌∙◌, subst, arith, append_assoc, append-nil}
+use Rattle.std.proofs.lemmas.List.{at_drop_all, drop-drop, drop_more, length-append, length-drop, length-take, length-take-le, take-append-drop, take_more}
+use Rattle.std.proofs.lemmas.List.Concat.{flat_map-append}
 use Rattle.std.proofs.Math.Seq.{drop-append_seam, take-append_seam, take-length}
 use Rattle.std.proofs.Math.Nat.{min-le_right}
-use Rattle.std.specs.List.{AllByRecursion}
+use Rattle.lists.proofs.Members.{take-whole}
 use Rattle.changes.specs.Changes.{AtSplice, Splices}
-use Rattle.changes.specs.Tied.SplicedLines.{AreSpliced, Reads, StandsAt}
+use Rattle.changes.specs.Tied.SplicedLines.{LeadOn, LeadToNone, StandsAt, gone_by}
 use Rattle.changes.specs.declared.change.parts.Splice.{Splice}
-use Rattle.changes.proofs.SplicedLinesRead.{file-reads, all-behind, all-front}
 
 -- lines as far as they are put together: the new lines so far, and the place from which the old ones go on
 pub record IsSplicedTo (all rest : List Splice) (lines : List (List ℕ)) (from : ℕ) (after : List (List ℕ)) : Type 0 where
@@ -49,7 +49,7 @@ kept-length lines from splice stands =
     let room : splice.place - from ≤ length (drop from lines) = omega (arith, length-drop from lines) in
     length-take-le (splice.place - from) (drop from lines) room
 
-length-front : {X : Type 0} (n : ℕ) (xs : List X) → length (take n xs) ≤ length xs
+pub length-front : {X : Type 0} (n : ℕ) (xs : List X) → length (take n xs) ≤ length xs
 length-front n xs = let e = length-take n xs in let h = min-le_right n (length xs) in omega arith
 
 old-fits : (lines : List (List ℕ)) (from : ℕ) (splice : Splice) → StandsAt lines from splice → splice.place + length splice.old ≤ length lines
@@ -120,34 +120,20 @@ IsSplicedTo-next all splice rest lines from after stands left =
       back = λ new s. one-back all splice rest lines from after stands new (left.back new s) joined;
     }
 
--- a splice whose old lines don't stand in their place
-pub IsSplicedTo-stops : (all : List Splice) (splice : Splice) (rest : List Splice) (lines : List (List ℕ)) (from : ℕ) (after : List (List ℕ)) → (StandsAt lines from splice → ⊥)
-    → IsSplicedTo all (splice ∷ rest) lines from after → AreSpliced all lines None
-IsSplicedTo-stops all splice rest lines from after stops left = λ new s reads.
-    let b = left.back new s in
-    stops (stands-from lines from splice rest b.0 left.within b.2)
-
--- a splice whose new lines don't read
-pub IsSplicedTo-refused : (all : List Splice) (splice : Splice) (rest : List Splice) (lines : List (List ℕ)) (from : ℕ) (after : List (List ℕ)) → (AllByRecursion Reads splice.new → ⊥)
-    → IsSplicedTo all (splice ∷ rest) lines from after → AreSpliced all lines None
-IsSplicedTo-refused all splice rest lines from after refused left = λ new s reads.
-    let b = left.back new s in
-    let at : AtSplice from splice (λ place. Splices place rest) (drop from lines) b.0 = b.2 in
-    let each : AllByRecursion Reads (after ++ b.0) = subst (AllByRecursion Reads) b.1 (file-reads new reads) in
-    let tail : AllByRecursion Reads (at.kept ++ splice.new ++ at.new_rest) = subst (AllByRecursion Reads) at.stands (all-behind Reads after b.0 each) in
-    refused (all-behind Reads at.kept splice.new (all-front Reads (at.kept ++ splice.new) at.new_rest tail))
-
 -- what stands behind a place is all that is left there
 pub all_behind : {X : Type 0} (n : ℕ) (xs : List X) → take (length xs - n) (drop n xs) ≡ drop n xs
 all_behind n xs = ap (λ (k : ℕ). take k (drop n xs)) (sym (length-drop n xs)) ∙ take-length (drop n xs)
 
+-- a splice whose old lines don't stand in their place
+pub IsSplicedTo-stops : (all : List Splice) (splice : Splice) (rest : List Splice) (lines : List (List ℕ)) (from : ℕ) (after : List (List ℕ)) → (StandsAt lines from splice → ⊥)
+    → IsSplicedTo all (splice ∷ rest) lines from after → LeadToNone all lines
+IsSplicedTo-stops all splice rest lines from after stops left = λ new s.
+    let b = left.back new s in
+    stops (stands-from lines from splice rest b.0 left.within b.2)
+
 -- no splice is left
-pub IsSplicedTo-done : (all : List Splice) (lines : List (List ℕ)) (from : ℕ) (after : List (List ℕ)) → IsSplicedTo all [] lines from after
-    → AreSpliced all lines (Some (after ++ take (length lines - from) (drop from lines)))
-IsSplicedTo-done all lines from after left = rw (all_behind from lines) (
-  left.onward (drop from lines) refl,
-  λ new s. let b = left.back new s in b.1 ∙ ap (λ (l : List (List ℕ)). after ++ l) (sym b.2),
-)
+pub IsSplicedTo-done : (all : List Splice) (lines : List (List ℕ)) (from : ℕ) (after : List (List ℕ)) → IsSplicedTo all [] lines from after → LeadOn all lines
+IsSplicedTo-done all lines from after left = (after ++ drop from lines, left.onward (drop from lines) refl)
 
 -- the splice at a place
 pub IsSplicedTo-at : (all : List Splice) (place : ℕ) (splice : Splice) (lines : List (List ℕ)) (from : ℕ) (after : List (List ℕ)) → place < length all → splice ≡ get_or all place splice
@@ -159,3 +145,44 @@ IsSplicedTo-at all place splice lines from after within is left =
 pub IsSplicedTo-end : (all : List Splice) (place : ℕ) (lines : List (List ℕ)) (from : ℕ) (after : List (List ℕ)) → length all ≤ place → IsSplicedTo all (drop place all) lines from after
     → IsSplicedTo all [] lines from after
 IsSplicedTo-end all place lines from after past left = subst (λ (l : List Splice). IsSplicedTo all l lines from after) (at_drop_all (λ (l : List Splice). l) all place past) left
+
+-- ---- the lines that give way
+
+-- splices so far lead on, and these lines give way to them
+pub record AreGoneTo (all : List Splice) (place : ℕ) (lines : List (List ℕ)) (from : ℕ) (gone : List (List ℕ)) : Type 0 where
+  pub after : List (List ℕ)
+  pub so_far : IsSplicedTo all (drop place all) lines from after
+  pub gone_is : gone ≡ gone_by (take place all)
+
+pub AreGoneTo-start : (all : List Splice) (lines : List (List ℕ)) → AreGoneTo all 0 lines 0 []
+AreGoneTo-start all lines = record { after = []; so_far = IsSplicedTo-start all lines; gone_is = refl }
+
+module _ (all : List Splice) (place : ℕ) (splice : Splice) (lines : List (List ℕ)) (from : ℕ) (gone : List (List ℕ)) (within : place < length all) (is : splice ≡ get_or all place splice) (are : AreGoneTo all place lines from gone) where
+  pub AreGoneTo-stops : (StandsAt lines from splice → ⊥) → LeadToNone all lines
+  AreGoneTo-stops stops = IsSplicedTo-stops all splice (drop (place + 1) all) lines from are.after stops (IsSplicedTo-at all place splice lines from are.after within is are.so_far)
+
+  -- the old lines of the splice, as they stand there
+  pub AreGoneTo-next : (more : List (List ℕ)) → more ≡ take (splice.place + length splice.old - splice.place) (drop splice.place lines) → StandsAt lines from splice
+      → AreGoneTo all (place + 1) lines (splice.place + length splice.old) (gone ++ more)
+  AreGoneTo-next more more_is stands =
+      let count : splice.place + length splice.old - splice.place ≡ length splice.old = omega arith in
+      let old : more ≡ splice.old = more_is ∙ ap (λ (k : ℕ). take k (drop splice.place lines)) count ∙ stands.old in
+      let f = λ (s : Splice). s.old in
+      let one : gone_by (take (place + 1) all) ≡ gone_by (take place all) ++ splice.old =
+      ap gone_by (take_more all place splice within ∙ ap (λ (s : Splice). take place all ++ s ∷ []) (sym is))
+      ∙ flat_map-append f (take place all) (splice ∷ []) ∙ ap (λ (l : List (List ℕ)). gone_by (take place all) ++ l) (append-nil splice.old) in
+      record {
+        after = are.after ++ take (splice.place - from) (drop from lines) ++ splice.new;
+        so_far = IsSplicedTo-next all splice (drop (place + 1) all) lines from are.after stands (IsSplicedTo-at all place splice lines from are.after within is are.so_far);
+        gone_is = (λ i. are.gone_is i ++ old i) ∙ sym one;
+      }
+
+  -- they are within the lines
+  pub gone-within : StandsAt lines from splice → splice.place + length splice.old ≤ length lines
+  gone-within stands = old-fits lines from splice stands
+
+pub AreGoneTo-done : (all : List Splice) (place : ℕ) (lines : List (List ℕ)) (from : ℕ) (gone : List (List ℕ)) → length all ≤ place → AreGoneTo all place lines from gone → (gone ≡ gone_by all) × LeadOn all lines
+AreGoneTo-done all place lines from gone past are = (
+  are.gone_is ∙ ap gone_by (take-whole all place past),
+  IsSplicedTo-done all lines from are.after (IsSplicedTo-end all place lines from are.after past are.so_far),
+)

@@ -89,6 +89,11 @@ not-empty : (line : List ℕ) → not (nat_eq (length line) 0) ≡ true → 0 < 
 not-empty [] some = cc some
 not-empty (b ∷ rest) some = omega arith
 
+-- and so does one with an ending
+pub ended-some : (line : List ℕ) → not (nat_eq (length (ending_of line)) 0) ≡ true → not (nat_eq (length line) 0) ≡ true
+ended-some [] some = absurd (let h = lf-some [] (ended-lf [] some) in omega arith)
+ended-some (b ∷ rest) some = grind (arith, nat_tests)
+
 some-bytes : (line : List ℕ) → lines_of line ≡ line ∷ [] → not (nat_eq (length line) 0) ≡ true
 unfolding lines_of
 some-bytes [] one = cc one
@@ -114,3 +119,7 @@ whole-from (line ∷ next ∷ rest) are = and_from (is_whole line (next ∷ rest
 -- lines that read are those of a text where they are whole
 pub whole-lines : (lines : List (List ℕ)) → AllByRecursion IsLine lines → IsTrue (are_whole lines) ↔ AreLines lines
 whole-lines lines all = (λ whole. AreLines-from lines (one-by-one lines all whole), λ are. whole-from lines (OneByOne-from lines are))
+
+-- lines of a text are whole
+pub whole-of : (lines : List (List ℕ)) → AreLines lines → are_whole lines ≡ true
+whole-of lines are = whole-from lines (OneByOne-from lines are)

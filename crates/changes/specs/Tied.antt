@@ -1,6 +1,7 @@
 -- What serves proofs alone.
 pub mod Between
 pub mod Carried
+pub mod CarriedOver
 pub mod Ends
 pub mod ExchangedEntries
 pub mod Outcome

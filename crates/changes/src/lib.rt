@@ -7,6 +7,7 @@ mod same;
 
 pub use crate::change::between::change_between;
 pub use crate::change::difference::difference;
-pub use crate::change::{Change, DigestChange, EntryChange, Splice};
+pub use crate::change::{Change, DigestChange, EntryChange, MovingState, Splice};
+pub use crate::same::{Same, are_same};
 pub use pylock::Entry;
 pub use states::{State, Target, TargetName};

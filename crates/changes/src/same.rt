@@ -9,7 +9,7 @@ use pylock::{Entry, FileEntry};
 
 /// What can be compared by all that it holds. The versions `1` and `1.0` are equal in their order, and
 /// don't hold the same.
-pub(crate) trait Same {
+pub trait Same {
     /// Whether the other one holds the same. It has no refusal.
     fn is_same(&self, other: &Self) -> bool
         ensures { IsTrue result ↔ (self.now ≡ other.now) };
@@ -71,7 +71,7 @@ impl<T: Same> Same for Option<T> {
 }
 
 /// Whether the items are the same, one by one.
-pub(crate) fn are_same<T: Same>(items: &[T], others: &[T]) -> bool
+pub fn are_same<T: Same>(items: &[T], others: &[T]) -> bool
     ensures { IsTrue result ↔ (items.now ≡ others.now) }
 {
     if items.len() != others.len() {

@@ -7,7 +7,7 @@ ghost use Rattle.states.specs.StateParts.{StateParts, digest_of};
 pub(crate) mod fit;
 mod joined_targets;
 pub(crate) mod lock_for_lines;
-mod reach;
+pub(crate) mod reach;
 
 use crate::state::fit::state_of;
 use crate::state::joined_targets::joined;

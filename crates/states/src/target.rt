@@ -7,6 +7,7 @@ ghost use Rattle.std.specs.Option.{option_copied};
 ghost use Rattle.std.specs.Ordering.{nat_cmp};
 ghost use Rattle.problems.specs.Solutions.{version_for};
 ghost use Rattle.states.specs.Locks.{is_other, locks_another, versions_of};
+ghost use Rattle.states.specs.State.{entry_on};
 
 use crate::state::lock_for_lines::entry_on;
 use crate::target_name::TargetName;
@@ -73,6 +74,14 @@ fn is_other(asked: &Option<Version>, locked: Option<&Version>) -> bool
 }
 
 impl Target {
+    /// The entry of the name.
+    pub fn entry(&self, name: &Name) -> Option<&Entry>
+        ensures { option_copied result ≡ entry_on self.now.lock.entries name.now }
+    {
+        self.lock.recall_invariant();
+        entry_on(self.lock.entries(), name)
+    }
+
     /// The locked version of the name.
     pub fn locked(&self, name: &Name) -> Option<&Version>
         ensures { option_copied result ≡ version_for (versions_of self.now.lock.entries) name.now }

@@ -2,31 +2,39 @@
 
 ghost use Rattle.std.specs.Prelude.{◌≡◌, IfOk, MatchOption, OnErr, OnOk};
 ghost use Rattle.changes.specs.Changes.{Leads, LeadsNowhere};
+ghost use Rattle.changes.specs.Tied.Outcome.{with_outcome};
 ghost use Rattle.states.specs.State.{IsState};
 ghost use Rattle.states.specs.StateParts.{StateParts};
 
 use crate::change::Change;
-use crate::change::file::file_of;
+use crate::change::carried_over::is_state;
 use crate::change::outcome::{Outcome, outcome_of};
+use crate::change::spliced_lines::kept;
 use lists::Seq;
-use pep508::ReqFile;
-use states::{State, Target, state_of};
+use pep508::laws::a_file_reads_as_lines;
+use pep508::{Line, ReqFile};
+use states::{State, Target};
 use std::alloc::{AllocError, Global};
 
-/// The state of these lines and these targets, with what holds of it; `None` where they make none.
-fn lawful_state(
+/// What the change makes of the lines and the targets of a state; `None` where it leads to no state.
+pub(crate) fn led(
     alloc: Global,
-    lines: ReqFile,
-    targets: Seq<Target>,
-) -> Result<Option<State>, AllocError>
+    change: &Change,
+    lines: Seq<Line>,
+    targets: &[Target],
+) -> Result<Option<Outcome>, AllocError>
+    requires { IsState (record { lines = lines; targets = targets.now }) }
     ensures { IfOk result (λ made.
-        let parts : StateParts = record { lines = lines; targets = targets } in
-        MatchOption made (IsState parts → ⊥) (λ made. (made ≡ parts) × IsState parts)) }
+        let old : StateParts = record { lines = lines; targets = targets.now } in
+        MatchOption made (LeadsNowhere old change.now)
+        (λ made. Leads old change.now (with_outcome made))) }
 {
-    let Some(made) = state_of(alloc, lines, targets)? else {
+    let Some(made) = outcome_of(alloc, change, lines, targets)? else {
         return Ok(None);
     };
-    made.recall_invariant();
+    if !is_state(alloc, change, &made)? {
+        return Ok(None);
+    }
     Ok(Some(made))
 }
 
@@ -39,14 +47,14 @@ pub(crate) fn applied(
     ensures { IfOk result (λ applied. MatchOption applied (LeadsNowhere state.now change.now)
         (Leads state.now change.now)) }
 {
-    let Some(made) = outcome_of(alloc, change, state)? else {
+    a_file_reads_as_lines();
+    state.recall_invariant();
+    let lines = kept(alloc, state.lines().lines())?;
+    let Some(made) = led(alloc, change, lines, state.targets())? else {
         return Ok(None);
     };
-    let Outcome { lines, targets } = made;
-    let Some(lines) = file_of(lines) else {
-        return Ok(None);
-    };
-    lawful_state(alloc, lines, targets)
+    let Outcome { lines, targets, .. } = made;
+    Ok(Some(State::from_lawful(ReqFile::from_lines(lines), targets)))
 }
 
 /// Moves the state along the change, which leads from it. What the change doesn't name stays where it
@@ -56,10 +64,11 @@ pub(crate) fn carried(alloc: Global, change: &Change, state: &mut State) -> Resu
     ensures led { OnOk result (Leads state.old change.now state.new) }
     ensures kept { OnErr result (state.new ≡ state.old) }
 {
-    let Some(made) = outcome_of(alloc, change, state)? else {
+    let lines = kept(alloc, state.lines().lines())?;
+    let Some(made) = outcome_of(alloc, change, lines, state.targets())? else {
         unreachable!();
     };
-    let Outcome { lines, targets } = made;
+    let Outcome { lines, targets, .. } = made;
     state.replace(lines, targets);
     Ok(())
 }

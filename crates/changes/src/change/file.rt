@@ -1,14 +1,36 @@
-// The file of lines that were read one by one.
+// Whether lines that were read one by one are those of a file.
 
-ghost use Rattle.std.specs.Prelude.{◌≡◌, ◌≢◌, ◌↔◌, IsTrue, MatchOption, Ok};
-ghost use Rattle.std.specs.List.{AllByRecursion, concat};
+ghost use Rattle.std.specs.Prelude.{◌≡◌, ◌↔◌, IsTrue, Ok};
+ghost use Rattle.std.specs.List.{AllByRecursion, concat, list_all};
 ghost use Rattle.pep508.specs.Lines.{AreLines};
 ghost use Rattle.pep508.specs.Requirement.{IsLine, file_of};
-ghost use Rattle.changes.specs.Tied.Whole.{are_whole, is_whole};
+ghost use Rattle.changes.specs.Tied.Whole.{LastIsEnded, are_whole, is_ended, is_whole};
 
-use lists::Seq;
-use pep508::laws::a_file_reads_as_lines;
-use pep508::{Line, ReqFile};
+use pep508::Line;
+
+/// Whether the line has an ending.
+fn is_ended(line: &Line) -> bool
+    ensures { result ≡ is_ended line.now }
+{
+    !line.ending().is_empty()
+}
+
+/// Whether each of the lines has an ending.
+pub(crate) fn are_ended(lines: &[Line]) -> bool
+    ensures { result ≡ list_all is_ended lines.now }
+{
+    lines.iter().all(|line| is_ended(line))
+}
+
+/// Whether the last line has an ending, where there is a line.
+pub(crate) fn is_last_ended(lines: &[Line]) -> bool
+    ensures { IsTrue result → LastIsEnded lines.now }
+{
+    match lines.last() {
+        Some(line) => is_ended(line),
+        None => true,
+    }
+}
 
 /// Whether the line has an ending, or a byte at least where no line is behind it.
 fn is_whole(line: &Line, behind: &[Line]) -> bool
@@ -17,7 +39,7 @@ fn is_whole(line: &Line, behind: &[Line]) -> bool
     if behind.is_empty() {
         return !line.text().is_empty();
     }
-    !line.ending().is_empty()
+    is_ended(line)
 }
 
 /// Whether each line has an ending, and the last one a byte at least.
@@ -33,7 +55,7 @@ fn are_whole(lines: &[Line]) -> bool
 }
 
 /// What holds of the lines: each of them is lawful.
-fn recall_invariants(lines: &[Line])
+pub(crate) fn recall_invariants(lines: &[Line])
     ensures { AllByRecursion IsLine lines.now }
 {
     for line in lines {
@@ -42,20 +64,10 @@ fn recall_invariants(lines: &[Line])
 }
 
 /// Whether a text is cut into these lines. Since each of them reads, its ending tells it.
-fn are_lines(lines: &[Line]) -> bool
-    ensures { IsTrue result ↔ AreLines lines.now }
+pub(crate) fn are_lines(lines: &[Line]) -> bool
+    ensures lines { IsTrue result ↔ AreLines lines.now }
+    ensures read { IsTrue result → file_of (concat lines.now) ≡ Ok lines.now }
 {
     recall_invariants(lines);
     are_whole(lines)
-}
-
-/// The file of these lines; `None` where they are joined into others.
-pub(crate) fn file_of(lines: Seq<Line>) -> Option<ReqFile>
-    ensures { MatchOption result (file_of (concat lines) ≢ Ok lines) (λ file. file ≡ lines) }
-{
-    a_file_reads_as_lines();
-    if are_lines(lines.as_slice()) {
-        return Some(ReqFile::from_lines(lines));
-    }
-    None
 }

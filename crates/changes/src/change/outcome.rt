@@ -4,19 +4,21 @@ ghost use Rattle.std.specs.Prelude.{◌≡◌, IfOk, MatchOption, true};
 ghost use Rattle.std.specs.List.{AllZip, list_all, list_any};
 ghost use Rattle.std.specs.Str.{bytes_eq};
 ghost use Rattle.pylock.specs.Locks.{are_entries};
-ghost use Rattle.changes.specs.Changes.{After, ChangesDigest, ChangesTarget, LeadsNowhere};
-ghost use Rattle.changes.specs.Tied.Outcome.{with_entries, with_outcome};
+ghost use Rattle.changes.specs.Changes.{ChangesDigest, ChangesTarget, LeadsNowhere};
+ghost use Rattle.changes.specs.Tied.Outcome.{IsMade, with_entries};
 ghost use Rattle.changes.specs.Tied.Only.{IsTheOnly};
+ghost use Rattle.states.specs.StateParts.{StateParts};
 
 use crate::change::Change;
 use crate::change::by_target::own_changes;
 use crate::change::exchanged_entries::exchanged;
+use crate::change::file::is_last_ended;
 use crate::change::parts::{DigestChange, EntryChange};
-use crate::change::spliced_lines::spliced;
+use crate::change::spliced_lines::{exchanged_lines, lines_gone, lines_put};
 use lists::{Seq, Text};
 use pep508::Line;
 use pylock::{Entry, Lock};
-use states::{State, Target, TargetName};
+use states::{Target, TargetName};
 use std::alloc::{AllocError, Global};
 
 /// What a change makes of a state. What stays of the lines and of the entries is shared.
@@ -24,6 +26,12 @@ use std::alloc::{AllocError, Global};
 pub(crate) struct Outcome {
     pub(crate) lines: Seq<Line>,
     pub(crate) targets: Seq<Target>,
+    /// The lines that gave way.
+    pub(crate) gone: Seq<Line>,
+    /// The lines that were put in.
+    pub(crate) put: Seq<Line>,
+    /// Whether the last of the old lines has an ending, or there is none.
+    pub(crate) was_ended: bool,
 }
 
 /// The digest after the change; `None` where another one stood there.
@@ -116,24 +124,40 @@ fn are_known(targets: &[Target], changes: &[EntryChange]) -> bool
         .all(|change| is_known(targets, &change.target))
 }
 
-/// What the change makes of the state; `None` where an old part of it doesn't stand in its place, a
-/// target of it isn't there, or a new line doesn't read. Whether it is a state isn't tested.
+/// What the change makes of these lines and targets; `None` where an old part of it doesn't stand in its
+/// place, a target of it isn't there, or a new line doesn't read. Whether it is a state isn't tested.
 pub(crate) fn outcome_of(
     alloc: Global,
     change: &Change,
-    state: &State,
+    lines: Seq<Line>,
+    targets: &[Target],
 ) -> Result<Option<Outcome>, AllocError>
-    ensures { IfOk result (λ made. MatchOption made (LeadsNowhere state.now change.now)
-        (λ made. After state.now change.now (with_outcome made))) }
+    ensures { IfOk result (λ made.
+        let old : StateParts = record { lines = lines; targets = targets.now } in
+        MatchOption made (LeadsNowhere old change.now) (IsMade old change.now)) }
 {
-    if !are_known(state.targets(), change.entries()) {
+    change.recall_invariant();
+    if !are_known(targets, change.entries()) {
         return Ok(None);
     }
-    let Some(targets) = all_moved(alloc, change, state.targets())? else {
+    let Some(targets) = all_moved(alloc, change, targets)? else {
         return Ok(None);
     };
-    let Some(lines) = spliced(alloc, state.lines().lines(), change.splices())? else {
+    let splices = change.splices();
+    let Some(gone) = lines_gone(alloc, lines.as_slice(), splices)? else {
         return Ok(None);
     };
-    Ok(Some(Outcome { lines, targets }))
+    let Some(put) = lines_put(alloc, splices)? else {
+        return Ok(None);
+    };
+    let was_ended = is_last_ended(lines.as_slice());
+    let new = put.clone()?;
+    let lines = exchanged_lines(lines, splices, new)?;
+    Ok(Some(Outcome {
+        lines,
+        targets,
+        gone,
+        put,
+        was_ended,
+    }))
 }

@@ -1,8 +1,9 @@
 // Lines, some of them exchanged for others.
 
-ghost use Rattle.std.specs.Prelude.{◌≡◌, ◌↔◌, ◌+◌, ◌++◌, length, take, IfOk, IsTrue, MatchOption, OnOk};
+ghost use Rattle.std.specs.Prelude.{◌≡◌, ◌↔◌, ◌+◌, ◌≤◌, ◌++◌, drop, length, take, IfOk, IsTrue, MatchOption, OnOk};
 ghost use Rattle.std.specs.List.{AllByRecursion};
-ghost use Rattle.changes.specs.Tied.SplicedLines.{AreSpliced, Reads, StandsAt};
+ghost use Rattle.changes.specs.Changes.{RiseFrom, Splices};
+ghost use Rattle.changes.specs.Tied.SplicedLines.{LeadOn, LeadToNone, Reads, StandsAt, gone_by, put_by};
 
 use crate::change::parts::Splice;
 use lists::{Seq, Text};
@@ -60,6 +61,15 @@ fn keep(after: &mut Vec<Line>, lines: &[Line]) -> Result<(), AllocError>
     Ok(())
 }
 
+/// These lines once more. They are shared, not copied.
+pub(crate) fn kept(alloc: Global, lines: &[Line]) -> Result<Seq<Line>, AllocError>
+    ensures { IfOk result (λ kept. kept ≡ lines.now) }
+{
+    let mut kept = Vec::with_capacity(alloc, lines.len())?;
+    keep(&mut kept, lines)?;
+    Ok(Seq::from_vec(kept))
+}
+
 /// The line that the text is; `None` where it doesn't read.
 fn line_of(alloc: Global, text: &Text) -> Result<Option<Line>, AllocError>
     ensures { IfOk result
@@ -87,29 +97,80 @@ fn lines_of(alloc: Global, texts: &[Text]) -> Result<Option<Vec<Line>>, AllocErr
     Ok(Some(lines))
 }
 
-/// The lines after the splices, of which the new ones alone are read; `None` where old lines of one
-/// don't stand in their place, or new ones don't read.
-pub(crate) fn spliced(
+/// The lines that give way to the splices; `None` where old lines of one don't stand in their place.
+pub(crate) fn lines_gone(
     alloc: Global,
     lines: &[Line],
     splices: &[Splice],
 ) -> Result<Option<Seq<Line>>, AllocError>
-    ensures { IfOk result (AreSpliced splices.now lines.now) }
+    ensures { IfOk result (λ gone. MatchOption gone (LeadToNone splices.now lines.now)
+        (λ gone. (gone ≡ gone_by splices.now) × LeadOn splices.now lines.now)) }
 {
-    let mut after = Vec::with_capacity(alloc, lines.len())?;
+    let mut gone = Vec::new(alloc);
     let mut from = 0;
     for splice in splices {
         if !stands_at(lines, from, splice) {
             return Ok(None);
         }
-        let Some(mut new) = lines_of(alloc, splice.new.as_slice())? else {
+        let place = splice.place as usize;
+        from = place + splice.old.len();
+        keep(&mut gone, &lines[place..from])?;
+    }
+    Ok(Some(Seq::from_vec(gone)))
+}
+
+/// The lines that the splices put in, read; `None` where one doesn't read.
+pub(crate) fn lines_put(alloc: Global, splices: &[Splice]) -> Result<Option<Seq<Line>>, AllocError>
+    ensures { IfOk result (λ read. MatchOption read (AllByRecursion Reads (put_by splices.now) → ⊥)
+        (λ lines. lines ≡ put_by splices.now)) }
+{
+    let mut put = Vec::new(alloc);
+    for splice in splices {
+        let Some(mut lines) = lines_of(alloc, splice.new.as_slice())? else {
             return Ok(None);
         };
-        let place = splice.place as usize;
-        keep(&mut after, &lines[from..place])?;
-        after.append(&mut new)?;
-        from = place + splice.old.len();
+        put.append(&mut lines)?;
     }
-    keep(&mut after, &lines[from..])?;
-    Ok(Some(Seq::from_vec(after)))
+    Ok(Some(Seq::from_vec(put)))
+}
+
+/// Puts lines into the place of so many others.
+fn put_in(
+    lines: &mut Vec<Line>,
+    place: usize,
+    count: usize,
+    mut new: Vec<Line>,
+) -> Result<(), AllocError>
+    requires { place + count ≤ length lines.old.items }
+    ensures { OnOk result (lines.new.items
+        ≡ take place lines.old.items ++ new.items ++ drop (place + count) lines.old.items) }
+{
+    let mut behind = lines.split_off(place + count)?;
+    lines.truncate(place);
+    lines.append(&mut new)?;
+    lines.append(&mut behind)?;
+    Ok(())
+}
+
+/// The lines after the splices, which put these lines in. From the last splice on each of them is done in
+/// place, so that the lines in front of it are still where the file had them.
+pub(crate) fn exchanged_lines(
+    lines: Seq<Line>,
+    splices: &[Splice],
+    put: Seq<Line>,
+) -> Result<Seq<Line>, AllocError>
+    requires rising { RiseFrom 0 splices.now }
+    requires leads { LeadOn splices.now lines }
+    requires put { put ≡ put_by splices.now }
+    ensures { IfOk result (Splices 0 splices.now lines) }
+{
+    let mut after = lines.into_vec();
+    let mut left = put.into_vec();
+    for done in 0..splices.len() {
+        let place = splices.len() - 1 - done;
+        let splice = &splices[place];
+        let new = left.split_off(left.len() - splice.new.len())?;
+        put_in(&mut after, splice.place as usize, splice.old.len(), new)?;
+    }
+    Ok(Seq::from_vec(after))
 }

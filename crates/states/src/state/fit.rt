@@ -85,7 +85,7 @@ fn do_fit(alloc: Global, lines: &ReqFile, targets: &[Target]) -> Result<bool, Al
 
 /// The state of these lines and these targets; `None` where they make none: where there is no target,
 /// names don't rise, or a target doesn't fit the lines.
-pub fn state_of(
+pub(crate) fn state_of(
     alloc: Global,
     lines: ReqFile,
     targets: Seq<Target>,

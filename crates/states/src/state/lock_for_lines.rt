@@ -58,7 +58,7 @@ fn is_met(environment: &Environment, entries: &[Entry], requirement: &Requiremen
 }
 
 /// Whether an entry meets what the line asks for, where it is active.
-fn is_line_met(environment: &Environment, entries: &[Entry], line: &Line) -> bool
+pub fn is_line_met(environment: &Environment, entries: &[Entry], line: &Line) -> bool
     requires { are_entries entries.now ≡ true }
     ensures { IsTrue result ↔ IsLineMet environment.now entries.now line.now }
 {
@@ -71,7 +71,7 @@ fn is_line_met(environment: &Environment, entries: &[Entry], line: &Line) -> boo
 }
 
 /// Whether entries meet what the active ones of the lines ask for.
-fn are_lines_met(environment: &Environment, entries: &[Entry], lines: &[Line]) -> bool
+pub fn are_lines_met(environment: &Environment, entries: &[Entry], lines: &[Line]) -> bool
     requires { are_entries entries.now ≡ true }
     ensures { IsTrue result ↔ AllByRecursion (IsLineMet environment.now entries.now) lines.now }
 {
@@ -108,7 +108,7 @@ fn are_on_entries(entries: &[Entry], names: &[Name]) -> bool
 }
 
 /// Whether there are entries of what each of these entries depends on.
-fn are_closed(entries: &[Entry], some: &[Entry]) -> bool
+pub fn are_closed(entries: &[Entry], some: &[Entry]) -> bool
     requires { are_entries entries.now ≡ true }
     ensures { IsTrue result ↔ AllByRecursion (IsClosed entries.now) some.now }
 {

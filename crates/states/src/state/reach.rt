@@ -181,7 +181,7 @@ fn have_names(names: &Names, entries: &[Entry]) -> bool
 }
 
 /// Whether each entry is reached from an active line.
-pub(crate) fn are_reached(
+pub fn are_reached(
     alloc: Global,
     environment: &Environment,
     lines: &[Line],

@@ -1,19 +1,56 @@
 use Rattle.std.proofs.Common.{◌≡◌, true, false}
 use Rattle.std.specs.List.{list_all, list_any}
 use Rattle.std.specs.Str.{bytes_eq}
-use Rattle.changes.proofs.MovedFacts.{known-from, nowhere-unknown}
+use Rattle.states.specs.StateParts.{StateParts}
+use Rattle.changes.proofs.MovedFacts.{known-from, nowhere-gone, nowhere-put, nowhere-targets, nowhere-unknown}
 use Rattle.changes.proofs.change.outcome.outcome_of.Goals as goal
 
 pub returns-then-not-are_known : goal.returns-then-not-are_known
 returns-then-not-are_known c =
-    let unknown : list_all (λ e. list_any (λ t. bytes_eq e.target t.name) c.args.state.now.targets) c.args.change.now.entries ≡ false =
-    rw (c.are_known.ensures, c.targets.ensures, c.entries.ensures) at c.if-not-are_known.true in
-    nowhere-unknown c.args.change.now c.args.state.now unknown
+    let old : StateParts = record { lines = c.args.lines; targets = c.args.targets.now } in
+    let unknown : list_all (λ e. list_any (λ t. bytes_eq e.target t.name) old.targets) c.args.change.now.entries ≡ false =
+    rw (c.are_known.ensures, c.entries.ensures) at c.if-not-are_known.true in
+    nowhere-unknown c.args.change.now old unknown
+
+pub returns-in_default : goal.returns-in_default
+returns-in_default c =
+    let old : StateParts = record { lines = c.args.lines; targets = c.args.targets.now } in
+    nowhere-targets c.args.change.now old (rw c.in_default.is at c.in_ok-targets.ensures)
+
+pub returns-in_default-2 : goal.returns-in_default-2
+returns-in_default-2 c =
+    let old : StateParts = record { lines = c.args.lines; targets = c.args.targets.now } in
+    nowhere-gone c.args.change.now old (rw (c.in_default-2.is, c.as_slice.ensures, c.splices-splices.ensures) at c.in_ok-gone.ensures)
+
+pub returns-in_default-3 : goal.returns-in_default-3
+returns-in_default-3 c =
+    let old : StateParts = record { lines = c.args.lines; targets = c.args.targets.now } in
+    nowhere-put c.args.change.now old (rw (c.in_default-3.is, c.splices-splices.ensures) at c.in_ok-put.ensures)
+
+pub exchanged_lines-requires-clause-rising : goal.exchanged_lines-requires-clause-rising
+exchanged_lines-requires-clause-rising c = rw c.splices-splices.ensures c.recall_invariant.ensures.splices.apart
+
+pub exchanged_lines-requires-clause-leads : goal.exchanged_lines-requires-clause-leads
+exchanged_lines-requires-clause-leads c =
+    let gone = rw (c.in-Some-2.is, c.as_slice.ensures, c.splices-splices.ensures) at c.in_ok-gone.ensures in
+    rw c.splices-splices.ensures gone.1
+
+pub exchanged_lines-requires-clause-put : goal.exchanged_lines-requires-clause-put
+exchanged_lines-requires-clause-put c =
+    let put = rw (c.in-Some-3.is, c.splices-splices.ensures) at c.in_ok-put.ensures in
+    rw (c.splices-splices.ensures, c.in_ok-new.ensures.cases) put
 
 pub returns : goal.returns
 returns c =
-    let known : list_all (λ e. list_any (λ t. bytes_eq e.target t.name) c.args.state.now.targets) c.args.change.now.entries ≡ true =
-    rw (c.are_known.ensures, c.targets.ensures, c.entries.ensures) at c.if-not-are_known.false in
-    let moved = rw (c.in-Some.is, c.targets-2.ensures) at c.in_ok-targets.ensures in
-    let lines = rw (c.in-Some-2.is, c.lines-2.ensures, c.lines.ensures, c.splices.ensures) at c.in_ok-lines.ensures in
-    record { lines = lines.0; targets = moved.0; known = known-from c.args.state.now.targets c.args.change.now.entries known }
+    let known : list_all (λ e. list_any (λ t. bytes_eq e.target t.name) c.args.targets.now) c.args.change.now.entries ≡ true =
+    rw (c.are_known.ensures, c.entries.ensures) at c.if-not-are_known.false in
+    let moved = rw c.in-Some.is at c.in_ok-targets.ensures in
+    let gone = rw (c.in-Some-2.is, c.as_slice.ensures, c.splices-splices.ensures) at c.in_ok-gone.ensures in
+    let put = rw (c.in-Some-3.is, c.splices-splices.ensures) at c.in_ok-put.ensures in
+    let lines = rw c.splices-splices.ensures at c.in_ok-lines.ensures in
+    record {
+      after = record { lines = lines; targets = moved.0; known = known-from c.args.targets.now c.args.change.now.entries known };
+      gone_is = gone.0;
+      put_is = put;
+      ended = rw c.as_slice-2.ensures at c.is_last_ended-was_ended.ensures;
+    }
