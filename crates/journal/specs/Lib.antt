@@ -2,6 +2,7 @@ pub use Rattle.edits.specs.Edits
 pub mod Values
 pub mod Past
 pub mod Changes
+pub mod Forgotten
 pub mod Commands
 pub mod Steps
 pub mod Places

@@ -1,9 +1,10 @@
 // The history that keeps the present state and the change of each step.
 
-ghost use Rattle.std.specs.Prelude.{◌≡◌, ◌+◌, ◌-◌, ◌<◌, ◌≤◌, [], length, OnOk, OnErr, IfOk};
+ghost use Rattle.std.specs.Prelude.{◌≡◌, ◌+◌, ◌-◌, ◌<◌, ◌≤◌, [], drop, length, OnOk, OnErr, IfOk};
 ghost use Rattle.std.specs.List.{AllByRecursion};
 ghost use Rattle.states.specs.State.{IsState};
 ghost use Rattle.journal.specs.Changes.{AreSteps, with_change};
+ghost use Rattle.journal.specs.Forgotten.{forgotten};
 ghost use Rattle.journal.specs.Tied.Neighbours.{IsHistory, states_of};
 ghost use Rattle.journal.specs.Past.{starts};
 
@@ -59,6 +60,14 @@ fn push_at(changes: &mut Vec<Change>, cursor: usize, change: Change) -> Result<u
     Ok(changes.len())
 }
 
+/// Takes so many changes away, from the first on.
+fn without_first(changes: &mut Vec<Change>, count: usize)
+    requires { count ≤ length changes.old.items }
+    ensures { changes.new.items ≡ drop count changes.old.items }
+{
+    changes.drain(..count);
+}
+
 impl ChangeHistory {
     /// The history whose only state is this one. It has no refusal.
     pub fn new(alloc: Global, state: State) -> ChangeHistory
@@ -93,6 +102,15 @@ impl ChangeHistory {
         ensures { result.now ≡ self.now.changes }
     {
         self.changes.as_slice()
+    }
+
+    /// Forgets the first states and steps, so many of each. It has no refusal.
+    pub(crate) fn forget(&mut self, count: usize)
+        requires { count ≤ self.old.past.cursor }
+        ensures { self.new ≡ forgotten count self.old }
+    {
+        without_first(&mut self.changes, count);
+        self.cursor -= count;
     }
 
     /// How many changes there are: one less than states. They lead from each state to the next, and all

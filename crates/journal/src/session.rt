@@ -1,9 +1,10 @@
 // A history that begins with a requirements file.
 
-ghost use Rattle.std.specs.Prelude.{◌≡◌, ◌⊎◌, ◌+◌, ◌-◌, ◌<◌, [], length, map, Some, slice_get, IfOk, IfErr, OnErr};
+ghost use Rattle.std.specs.Prelude.{◌≡◌, ◌⊎◌, ◌+◌, ◌-◌, ◌<◌, ◌≤◌, [], length, map, Some, slice_get, IfOk, IfErr, OnErr};
 ghost use Rattle.edits.specs.Edits.{FirstResult, InitResult};
 ghost use Rattle.journal.specs.Past.{present};
 ghost use Rattle.journal.specs.Changes.{AreSteps, IsStepOf};
+ghost use Rattle.journal.specs.Forgotten.{forgotten};
 ghost use Rattle.journal.specs.Opens.{Opens, Tells};
 ghost use Rattle.journal.specs.Saved.{IsSaved, OpensAs};
 ghost use Rattle.journal.specs.Commands.{asked_of};
@@ -186,6 +187,15 @@ impl Session {
         ensures between { IfOk result (IsBetween self.now.past from to) }
     {
         places::change_between(alloc, &self.history, from, to)
+    }
+
+    /// Forgets the first states and steps, so many of each. The present state and all that follow it stay, and
+    /// what is left are the same states and changes. It has no refusal.
+    pub fn forget(&mut self, count: usize)
+        requires within { count ≤ self.old.past.cursor }
+        ensures forgotten { self.new ≡ forgotten count self.old }
+    {
+        self.history.forget(count);
     }
 
     /// Applies one command. Each lock of an edited state is the best solution, whatever the

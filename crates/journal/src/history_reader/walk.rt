@@ -10,6 +10,7 @@ ghost use Rattle.journal.specs.Tied.{Walks};
 ghost use Rattle.journal.specs.Opens.{Found, PastOf, StatesBefore, StatesBehind, Tells};
 
 use crate::change_history::ChangeHistory;
+use changes::MovingState;
 use edits::{Change, Refusal, State};
 use lists::Seq;
 use std::alloc::Global;
@@ -18,12 +19,12 @@ use std::alloc::Global;
 fn state_behind(
     alloc: Global,
     change: &Change,
-    state: &State,
+    state: MovingState,
     number: usize,
-) -> Result<State, Refusal>
-    ensures { Found (Leads state.now change.now) (refusals.JournalBroken number) result }
+) -> Result<MovingState, Refusal>
+    ensures { Found (Leads state change.now) (refusals.JournalBroken number) result }
 {
-    match change.apply(alloc, state)? {
+    match state.along(alloc, change)? {
         Some(next) => Ok(next),
         None => Err(Refusal::JournalBroken(number)),
     }
@@ -33,10 +34,10 @@ fn state_behind(
 fn state_before(
     alloc: Global,
     change: &Change,
-    state: &State,
+    state: MovingState,
     number: usize,
-) -> Result<State, Refusal>
-    ensures { Found (Leads state.now (inverse change.now)) (refusals.JournalBroken number) result }
+) -> Result<MovingState, Refusal>
+    ensures { Found (Leads state (inverse change.now)) (refusals.JournalBroken number) result }
 {
     let back = change.inverse(alloc)?;
     state_behind(alloc, &back, state, number)
@@ -47,10 +48,10 @@ fn state_before(
 fn walk_back(alloc: Global, changes: &[Change], present: &State) -> Result<(), Refusal>
     ensures { Walks (StatesBefore (reverse changes.now) present.now) result }
 {
-    let mut state = present.clone()?;
+    let mut state = MovingState::of(alloc, present)?;
     for behind in 0..changes.len() {
         let place = changes.len() - 1 - behind;
-        state = state_before(alloc, &changes[place], &state, place + 2)?;
+        state = state_before(alloc, &changes[place], state, place + 2)?;
     }
     Ok(())
 }
@@ -61,9 +62,9 @@ fn walk_on(alloc: Global, changes: &[Change], present: &State, number: usize) ->
     requires { number + length changes.now < 2 ^ 64 }
     ensures { Walks (StatesBehind number changes.now present.now) result }
 {
-    let mut state = present.clone()?;
+    let mut state = MovingState::of(alloc, present)?;
     for place in 0..changes.len() {
-        state = state_behind(alloc, &changes[place], &state, number + place)?;
+        state = state_behind(alloc, &changes[place], state, number + place)?;
     }
     Ok(())
 }
