@@ -1,7 +1,7 @@
 -- Requirements that are as wide as all that lines can ask for.
-use Rattle.std.proofs.Common.{◌≡◌, ◌∙◌, ◌&&◌, ◌||◌, not, inl, inr, ℕ, Bool, true, false, List, [], ◌∷◌, Contains, Option, Some, Result, Ok, refl, ap, subst, sym}
+use Rattle.std.proofs.Common.{◌≡◌, ◌∙◌, ◌&&◌, ◌||◌, not, inl, inr, ℕ, Bool, true, false, List, [], ◌∷◌, Contains, Option, Result, refl, ap, subst, sym}
 use Rattle.std.specs.Cmp.{first_so}
-use Rattle.std.specs.List.{AllByRecursion, list_all, list_any}
+use Rattle.std.specs.List.{AllByRecursion, list_all}
 use Rattle.std.specs.Str.{bytes_eq}
 use Rattle.std.proofs.lemmas.Bool.{cases_Bool}
 use Rattle.std.proofs.lemmas.Slice.Eq.{bytes_eq-Decides}
@@ -13,7 +13,6 @@ use Rattle.pep440.specs.Version.{VersionParts}
 use Rattle.pep440.specs.declared.specifier.Clause.{Clause}
 use Rattle.pep508.specs.Requirement.{RequirementParts, requirement_of}
 use Rattle.snapshot.specs.Packages.{Index, releases_of}
-use Rattle.snapshot.specs.Release.{Release}
 use Rattle.states.proofs.PartFacts.{All-member}
 use Rattle.exports.specs.Alike.{CanAsk, MatchedAlike, ReachAlike, ReleaseAlike, by_dependency, by_line}
 use Rattle.exports.specs.Tied.Implication.{does_follow}

@@ -4,8 +4,15 @@ mod ReachedRules
 mod SameRules
 mod ClosedRequirements
 mod SaidConditions
+mod OppositeSigns
 mod KeptConditions
+mod SettlingRelations
 mod RemovedMember
 mod ToldClauses
 mod ToldConditions
 mod ToldMarkers
+mod ApartCovers
+mod JointLocks
+mod JointPackages
+mod ToldAlternatives
+mod JointEntries

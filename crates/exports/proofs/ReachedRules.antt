@@ -16,7 +16,6 @@ use Rattle.pep508.specs.Requirement.{RequirementParts, applies, is_active, requi
 use Rattle.problems.specs.Admission.{admits, admits_release, fits, has_final, has_version, is_final, is_said, meets_python, release_at}
 use Rattle.problems.specs.Problem.{ProblemParts, active_in, requirements}
 use Rattle.problems.specs.Rules.{candidates, counts, nodes_of, rules_of, wants, wants_of}
-use Rattle.problems.specs.declared.node.Node.{Node}
 use Rattle.problems.proofs.Deciding.{found-is}
 use Rattle.snapshot.specs.Packages.{Index, releases_of}
 use Rattle.snapshot.specs.Release.{Release}

@@ -11,6 +11,12 @@ use Rattle.std.proofs.lemmas.Bool.Decides.{nat_tests}
 use Rattle.std.proofs.lemmas.Slice.Eq.{bytes_eq-Decides}
 use Rattle.markers.specs.Comparisons.{version_read}
 use Rattle.markers.specs.Environment.{Texts, place_of, text_of}
+use Rattle.markers.specs.MarkerAtoms.{operand_text, relates}
+use Rattle.markers.specs.declared.comparison.Comparison.TheVariants as comparisons
+use Rattle.markers.specs.declared.marker_atom.Operand.{Operand}
+use Rattle.markers.specs.declared.marker_atom.Operand.TheVariants as operands
+use Rattle.markers.specs.declared.marker_atom.Operator.{Operator as Sign}
+use Rattle.markers.specs.declared.marker_atom.Operator.TheVariants as signs
 use Rattle.markers.specs.declared.variable.Variable.{Variable}
 use Rattle.pep440.specs.Matching.{above, at_least, below, operator_matches, same_release}
 use Rattle.pep440.specs.Order.{public_cmp, trimmed}
@@ -20,10 +26,10 @@ use Rattle.pep440.specs.declared.specifier.Clause.{Clause}
 use Rattle.pep440.specs.declared.specifier.Operator.{Operator}
 use Rattle.pep440.specs.declared.specifier.Operator.TheVariants as operators
 use Rattle.exports.specs.Conditions.{is_matched}
-use Rattle.exports.specs.Tied.Implication.{are_both, does_follow, has_release_of, is_from, is_plain, is_same_clause, is_same_plain, is_up_to, number_of, opposite_of, says}
+use Rattle.exports.specs.Tied.Implication.{are_both, does_follow, has_no_other, has_release_of, is_from, is_plain, is_same_clause, is_same_operand, is_same_plain, is_same_sign, is_up_to, number_of, opposite_of, says, sign_number}
 use Rattle.exports.specs.Tied.Kept.{ClauseFollows, Says, SaysAmong}
 use Rattle.exports.specs.declared.condition.Condition.{Condition}
-use Rattle.exports.specs.declared.condition.Condition.TheVariants.{Same, Matches}
+use Rattle.exports.specs.declared.condition.Condition.TheVariants.{Same, Matches, Holds}
 
 -- ---- opposites
 
@@ -47,11 +53,11 @@ le-not_gt Less h = refl
 le-not_gt Equal h = refl
 le-not_gt Greater h = absurd cc
 
-both-first : (a b : Bool) → (a && b) ≡ true → a ≡ true
+pub both-first : (a b : Bool) → (a && b) ≡ true → a ≡ true
 both-first true b h = refl
 both-first false b h = h
 
-both-second : (a b : Bool) → (a && b) ≡ true → b ≡ true
+pub both-second : (a b : Bool) → (a && b) ≡ true → b ≡ true
 both-second true b h = h
 both-second false b h = absurd cc
 
@@ -128,7 +134,7 @@ neither Less h k = absurd cc
 neither Equal h k = refl
 neither Greater h k = absurd cc
 
-nat-same : (m n : ℕ) → (m == n) ≡ true → m ≡ n
+pub nat-same : (m n : ℕ) → (m == n) ≡ true → m ≡ n
 nat-same m n h = grind (arith, nat_tests)
 
 nat-itself : (m n : ℕ) → m ≡ n → (m == n) ≡ true
@@ -203,7 +209,7 @@ or-rest : (a b : Bool) → (a || b) ≡ false → b ≡ false
 or-rest true b e = absurd cc
 or-rest false b e = e
 
-one-of : (a b : Bool) → (a || b) ≡ true → (a ≡ true) ⊎ (b ≡ true)
+pub one-of : (a b : Bool) → (a || b) ≡ true → (a ≡ true) ⊎ (b ≡ true)
 one-of true b h = inl refl
 one-of false b h = inr h
 
@@ -211,7 +217,7 @@ pub none-left : {A : Type 0} (xs : List A) → length xs ≡ 0 → xs ≡ []
 none-left [] h = refl
 none-left (x ∷ xs) h = absurd (omega arith)
 
-abbrev numbered : ℕ → Operator
+abbrev pub numbered : ℕ → Operator
 numbered n =
     if n == 0 then operators.Compatible
     else if n == 1 then operators.Equal
@@ -223,7 +229,7 @@ numbered n =
     else if n == 7 then operators.Below
     else operators.Above
 
-told : (operator : Operator) → operator ≡ numbered (number_of operator)
+pub told : (operator : Operator) → operator ≡ numbered (number_of operator)
 told operators.Compatible = refl
 told operators.Equal = refl
 told operators.NotEqual = refl
@@ -234,7 +240,7 @@ told operators.AtLeast = refl
 told operators.Below = refl
 told operators.Above = refl
 
-is_with : (operator : Operator) (number : ℕ) → (number_of operator == number) ≡ true → operator ≡ numbered number
+pub is_with : (operator : Operator) (number : ℕ) → (number_of operator == number) ≡ true → operator ≡ numbered number
 is_with operator number h = told operator ∙ ap numbered (nat-same (number_of operator) number h)
 
 pub opposite-turns : (operator other : Operator) (wanted version : VersionParts) → opposite_of operator ≡ Some other → operator_matches other wanted version ≡ true → operator_matches operator wanted version ≡ false
@@ -263,7 +269,7 @@ no-post v h = no-some v.post (not-so (is_post v) (both-first (not (is_post v)) _
 no-local : (v : VersionParts) → is_plain v ≡ true → v.local ≡ []
 no-local v h = none-left v.local (nat-same (length v.local) 0 (both-second (not (is_post v)) _ (both-second (not (is_pre v)) _ h)))
 
-plain-same : (v w : VersionParts) → is_same_plain v w ≡ true → v ≡ w
+pub plain-same : (v w : VersionParts) → is_same_plain v w ≡ true → v ≡ w
 plain-same v w h =
     let p : is_plain v ≡ true = both-first (is_plain v) _ h in
     let both : (is_plain w && has_release_of v w) ≡ true = both-second (is_plain v) _ h in
@@ -308,12 +314,49 @@ follows clause wanted h = elim (one-of (are_both 6 clause wanted && is_from clau
 
 -- ---- conditions
 
+abbrev signed : ℕ → Sign
+signed n =
+    if n == 0 then signs.Compare comparisons.Compatible
+    else (if n == 1 then signs.Compare comparisons.Equal
+    else (if n == 2 then signs.Compare comparisons.NotEqual
+    else (if n == 3 then signs.Compare comparisons.AtMost
+    else (if n == 4 then signs.Compare comparisons.AtLeast
+    else (if n == 5 then signs.Compare comparisons.Below
+    else (if n == 6 then signs.Compare comparisons.Above
+    else (if n == 7 then signs.In else signs.NotIn)))))))
+
+told-sign : (sign : Sign) → sign ≡ signed (sign_number sign)
+told-sign (signs.Compare comparisons.Compatible) = refl
+told-sign (signs.Compare comparisons.Equal) = refl
+told-sign (signs.Compare comparisons.NotEqual) = refl
+told-sign (signs.Compare comparisons.AtMost) = refl
+told-sign (signs.Compare comparisons.AtLeast) = refl
+told-sign (signs.Compare comparisons.Below) = refl
+told-sign (signs.Compare comparisons.Above) = refl
+told-sign signs.In = refl
+told-sign signs.NotIn = refl
+
+pub same-sign : (sign wanted : Sign) → is_same_sign sign wanted ≡ true → sign ≡ wanted
+same-sign sign wanted h = told-sign sign ∙ ap signed (nat-same (sign_number sign) (sign_number wanted) h) ∙ sym (told-sign wanted)
+
 matched-follows : (clause wanted : Clause) (read : Option VersionParts) → ClauseFollows clause wanted → is_matched clause read ≡ true → is_matched wanted read ≡ true
 matched-follows clause wanted None f h = h
 matched-follows clause wanted (Some version) f h = f version h
 
-one-text : (texts : Texts) (own variable : Variable) → (place_of own == place_of variable) ≡ true → text_of texts own ≡ text_of texts variable
+pub one-text : (texts : Texts) (own variable : Variable) → (place_of own == place_of variable) ≡ true → text_of texts own ≡ text_of texts variable
 one-text texts own variable h = ap (λ (place : ℕ). slice_index_or texts place []) (nat-same (place_of own) (place_of variable) h)
+
+-- an operand with no other variable has the same text where this one has
+one-operand : (environment other : Texts) (own : Variable) (operand : Operand) → has_no_other own operand ≡ true → text_of other own ≡ text_of environment own
+    → operand_text other operand ≡ operand_text environment operand
+one-operand environment other own (operands.Variable variable) h same = sym (one-text other own variable h) ∙ same ∙ one-text environment own variable h
+one-operand environment other own (operands.Quoted text) h same = refl
+
+pub same-operand : (texts : Texts) (operand wanted : Operand) → is_same_operand operand wanted ≡ true → operand_text texts operand ≡ operand_text texts wanted
+same-operand texts (operands.Variable own) (operands.Variable variable) h = one-text texts own variable h
+same-operand texts (operands.Quoted text) (operands.Quoted other) h = (bytes_eq-Decides text other).0 h
+same-operand texts (operands.Variable own) (operands.Quoted other) h = absurd cc
+same-operand texts (operands.Quoted text) (operands.Variable variable) h = absurd cc
 
 said-by : (condition wanted : Condition) → says condition wanted ≡ true → Says condition wanted
 said-by (Same own) (Same variable) h environment other meets same = sym (one-text other own variable h) ∙ same ∙ one-text environment own variable h
@@ -324,6 +367,19 @@ said-by (Matches own clause) (Matches variable wanted) h environment other meets
     ap (λ (text : List ℕ). is_matched wanted (version_read text)) (sym (one-text other own variable (both-first (place_of own == place_of variable) _ h)))
     ∙ matched-follows clause wanted (version_read (text_of other own)) (follows clause wanted (both-second (place_of own == place_of variable) _ h)) matched
 said-by (Matches own clause) (Same variable) h environment other meets matched = absurd cc
+said-by (Same own) (Holds left sign right) h environment other meets same =
+    let lefts : operand_text other left ≡ operand_text environment left = one-operand environment other own left (both-first (has_no_other own left) _ h) same in
+    let rights : operand_text other right ≡ operand_text environment right = one-operand environment other own right (both-second (has_no_other own left) _ h) same in
+    (λ i. relates sign (lefts i) (rights i)) ∙ meets
+said-by (Holds left sign right) (Holds first wanted second) h environment other meets holds =
+    let operators : sign ≡ wanted = same-sign sign wanted (both-first (is_same_sign sign wanted) _ h) in
+    let both : (is_same_operand left first && is_same_operand right second) ≡ true = both-second (is_same_sign sign wanted) _ h in
+    let lefts : operand_text other left ≡ operand_text other first = same-operand other left first (both-first (is_same_operand left first) _ both) in
+    let rights : operand_text other right ≡ operand_text other second = same-operand other right second (both-second (is_same_operand left first) _ both) in
+    sym (λ i. relates (operators i) (lefts i) (rights i)) ∙ holds
+said-by (Matches own clause) (Holds left sign right) h environment other meets matched = absurd cc
+said-by (Holds left sign right) (Same variable) h environment other meets holds = absurd cc
+said-by (Holds left sign right) (Matches variable wanted) h environment other meets holds = absurd cc
 
 pub said-among : (conditions : List Condition) (wanted : Condition) → list_any (λ condition. says condition wanted) conditions ≡ true → SaysAmong conditions wanted
 said-among [] wanted h environment other meets all = absurd cc

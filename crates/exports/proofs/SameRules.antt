@@ -21,7 +21,7 @@ use Rattle.snapshot.specs.declared.package.Package.{Package}
 use Rattle.states.specs.Locks.{IsDependency, IsEntry, python_text, sdist_of, versions_of, wheels_of}
 use Rattle.exports.specs.Alike.{AnswersAlike, CanAsk}
 use Rattle.exports.specs.Laws.{Asking, HasSameBest, HasSameLock, problem_in}
-use Rattle.exports.proofs.AgreeingRules.{Agree, agree-back, answering, best-back, best-there, law-there, needed-there, reached-wants, solution-there}
+use Rattle.exports.proofs.AgreeingRules.{Agree, agree-back, answering, best-back, best-there, needed-there, reached-wants, solution-there}
 use Rattle.exports.proofs.ReachedRules.{rules-agree, rules-answering}
 
 -- ---- what is locked

@@ -26,12 +26,12 @@ use Rattle.markers.specs.declared.variable.Variable.TheVariants as variables
 use Rattle.pep440.specs.Matching.{clause_matches}
 use Rattle.pep440.specs.Version.{VersionParts}
 use Rattle.pep440.specs.declared.specifier.Clause.{Clause}
-use Rattle.exports.specs.Conditions.{IsMarkerOf, IsTellable, Meets, MeetsAll, is_matched}
+use Rattle.exports.specs.Conditions.{IsMarkerOf, IsTellable, Meets, MeetsAll, can_stand, is_matched}
 use Rattle.exports.specs.Tied.Told.{comparison_of, conditions_told, operand_told, related, relation_told, same_told, told, version_told, with_all, with_more}
 use Rattle.exports.specs.declared.condition.Condition.{Condition}
 use Rattle.exports.specs.declared.condition.Condition.TheVariants as conditions
 use Rattle.exports.proofs.ToldClauses.{told-inside, told-read}
-use Rattle.exports.proofs.ToldMarkers.{AreQuotable, ReadsAsSpelled, told-holds, told-reads, tree_told}
+use Rattle.exports.proofs.ToldMarkers.{AreQuotable, IsQuotable, ReadsAsSpelled, told-holds, told-reads, tree_told}
 
 -- ---- the text
 
@@ -201,6 +201,7 @@ condition-told environment other e (conditions.Matches v clause) t =
       λ h. sym is ∙ h.0,
       λ h. (is ∙ h, tt),
     )
+condition-told environment other e (conditions.Holds left sign right) t = (λ h. h.0, λ h. (h, tt))
 
 -- ---- all conditions
 
@@ -234,11 +235,16 @@ same-quotable : (v : Variable) (text : List ℕ) (reads : Bool) → list_all (is
 same-quotable v text true h = (record { left = tt; right = h }, (record { left = h; right = tt }, tt))
 same-quotable v text false h = (record { left = tt; right = h }, tt)
 
+operand-quotable : (operand : Operand) → can_stand operand ≡ true → IsQuotable operand
+operand-quotable (operands.Variable v) h = tt
+operand-quotable (operands.Quoted text) h = all-inside text h
+
 condition-quotable : (environment : Texts) → IsEnvironment environment → (c : Condition) → IsTellable c → AllByRecursion AreQuotable (told environment c)
 condition-quotable environment e (conditions.Same v) t = same-quotable v (text_of environment v) (is_some (clauses_read comparisons.Equal (text_of environment v))) (own-inside environment e v)
 condition-quotable environment e (conditions.Matches v clause) t = (record { left = tt; right = told-inside clause t.1 }, tt)
+condition-quotable environment e (conditions.Holds left sign right) t = (record { left = operand-quotable left t.0; right = operand-quotable right t.1 }, tt)
 
-all-quotable : (environment : Texts) → IsEnvironment environment → (cs : List Condition) → AllByRecursion IsTellable cs → AllByRecursion AreQuotable (flat_map (told environment) cs)
+pub all-quotable : (environment : Texts) → IsEnvironment environment → (cs : List Condition) → AllByRecursion IsTellable cs → AllByRecursion AreQuotable (flat_map (told environment) cs)
 all-quotable environment e [] t = tt
 all-quotable environment e (c ∷ cs) t =
     subst (AllByRecursion AreQuotable) (sym (flat_map-cons (told environment) c cs))
@@ -253,8 +259,9 @@ same-there v text false rest h = cc
 told-there : (environment : Texts) (c : Condition) (rest : List Relation) → told environment c ++ rest ≡ [] → ⊥
 told-there environment (conditions.Same v) rest h = same-there v (text_of environment v) (is_some (clauses_read comparisons.Equal (text_of environment v))) rest h
 told-there environment (conditions.Matches v clause) rest h = cc
+told-there environment (conditions.Holds left sign right) rest h = cc
 
-relations-there : (environment : Texts) (cs : List Condition) → (cs ≡ [] → ⊥) → flat_map (told environment) cs ≡ [] → ⊥
+pub relations-there : (environment : Texts) (cs : List Condition) → (cs ≡ [] → ⊥) → flat_map (told environment) cs ≡ [] → ⊥
 relations-there environment [] some h = some refl
 relations-there environment (c ∷ cs) some h = told-there environment c (flat_map (told environment) cs) (sym (flat_map-cons (told environment) c cs) ∙ h)
 

@@ -33,13 +33,13 @@ use Rattle.exports.specs.Tied.Told.{operand_told, operator_told, relation_told}
 -- ---- tokens
 
 -- the type of tokens, and the token `and`, neither of which has a name outside of its crate
-abbrev result_of : {A B : Type 0} → (A → B) → Type 0
+abbrev pub result_of : {A B : Type 0} → (A → B) → Type 0
 result_of {A} {B} f = B
 
-abbrev Token : Type 0
+abbrev pub Token : Type 0
 Token = result_of operand_token
 
-abbrev token_or : Token → Option Token → Token
+abbrev pub token_or : Token → Option Token → Token
 token_or other (Some token) = token
 token_or other None = other
 
@@ -98,60 +98,81 @@ relation-tokens r q after ts ends h =
     ([], operand_told r.left, behind, refl, refl, operand-token r.left q.left, operand-ends r.left behind refl, rest))
 
 -- relations behind another, each with `and` before it
-abbrev more_told : List Relation → List ℕ
+abbrev pub more_told : List Relation → List ℕ
 more_told rs = flat_map (λ next. codes " and " ++ next) (map relation_told rs)
 
-abbrev more_tokens : List Relation → List Token
+abbrev pub more_tokens : List Relation → List Token
 more_tokens [] = []
 more_tokens (r ∷ rs) = and_token ∷ (relation_tokens r ++ more_tokens rs)
 
-more-ends : (rs : List Relation) → starts_word (more_told rs) ≡ false
-more-ends [] = refl
-more-ends (r ∷ rs) = refl
+more-ends : (rs : List Relation) (after : List ℕ) → starts_word after ≡ false → starts_word (more_told rs ++ after) ≡ false
+more-ends [] after h = h
+more-ends (r ∷ rs) after h = refl
 
-space-first : (rest : List ℕ) (ts : List Token) → AreTokens rest ts → AreTokens (32 ∷ rest) ts
+pub space-first : (rest : List ℕ) (ts : List Token) → AreTokens rest ts → AreTokens (32 ∷ rest) ts
 space-first rest [] h = h
 space-first rest (t ∷ ts) h = (32 ∷ h.0, h.1, h.2, ap (λ (text : List ℕ). 32 ∷ text) h.3, h.4, h.5, h.6, h.7)
 
-more-tokens : (rs : List Relation) → AllByRecursion AreQuotable rs → AreTokens (more_told rs) (more_tokens rs)
-more-tokens [] q = refl
-more-tokens (r ∷ rs) q = (
-  32 ∷ [],
-  codes "and",
-  32 ∷ (relation_told r ++ more_told rs),
-  refl,
-  refl,
-  refl,
-  refl,
-  space-first (relation_told r ++ more_told rs) (relation_tokens r ++ more_tokens rs)
-      (relation-tokens r q.0 (more_told rs) (more_tokens rs) (more-ends rs) (more-tokens rs q.1)),
-)
+more-tokens : (rs : List Relation) → AllByRecursion AreQuotable rs → (after : List ℕ) (ts : List Token) → starts_word after ≡ false → AreTokens after ts
+    → AreTokens (more_told rs ++ after) (more_tokens rs ++ ts)
+more-tokens [] q after ts ends h = h
+more-tokens (r ∷ rs) q after ts ends h =
+    let behind : List ℕ = more_told rs ++ after in
+    let us : List Token = more_tokens rs ++ ts in
+    let text : more_told (r ∷ rs) ++ after ≡ codes " and " ++ (relation_told r ++ behind) = ap (λ (t : List ℕ). codes " and " ++ t) (append_assoc (relation_told r) (more_told rs) after) in
+    let tokens : (relation_tokens r ++ more_tokens rs) ++ ts ≡ relation_tokens r ++ us = append_assoc (relation_tokens r) (more_tokens rs) ts in
+    let rest : AreTokens (relation_told r ++ behind) (relation_tokens r ++ us) = relation-tokens r q.0 behind us (more-ends rs after ends) (more-tokens rs q.1 after ts ends h) in (
+      32 ∷ [],
+      codes "and",
+      32 ∷ (relation_told r ++ behind),
+      text,
+      refl,
+      refl,
+      refl,
+      space-first (relation_told r ++ behind) ((relation_tokens r ++ more_tokens rs) ++ ts) (subst (AreTokens (relation_told r ++ behind)) (sym tokens) rest),
+    )
+
+-- relations, joined, before something else
+abbrev pub conjoined_told : Relation → List Relation → List ℕ
+conjoined_told r rs = relation_told r ++ more_told rs
+
+abbrev pub conjoined_tokens : Relation → List Relation → List Token
+conjoined_tokens r rs = relation_tokens r ++ more_tokens rs
+
+pub conjoined-tokens : (r : Relation) (rs : List Relation) → AllByRecursion AreQuotable (r ∷ rs) → (after : List ℕ) (ts : List Token) → starts_word after ≡ false → AreTokens after ts
+    → AreTokens (conjoined_told r rs ++ after) (conjoined_tokens r rs ++ ts)
+conjoined-tokens r rs q after ts ends h =
+    let rest = relation-tokens r q.0 (more_told rs ++ after) (more_tokens rs ++ ts) (more-ends rs after ends) (more-tokens rs q.1 after ts ends h) in
+    subst (λ (text : List ℕ). AreTokens text (conjoined_tokens r rs ++ ts)) (sym (append_assoc (relation_told r) (more_told rs) after))
+    (subst (AreTokens (relation_told r ++ (more_told rs ++ after))) (sym (append_assoc (relation_tokens r) (more_tokens rs) ts)) rest)
 
 -- ---- the tree
 
-abbrev relation_tree : Relation → Tree
+abbrev pub relation_tree : Relation → Tree
 relation_tree r = atom (atoms.Relation r)
 
 abbrev pub tree_told : List Relation → Tree
 tree_told rs = any_of (tree (all_of (trees_of (map relation_tree rs))) no_trees)
 
-are-members : (r : Relation) (rs : List Relation) → AreMembers (relation_tokens r ++ more_tokens rs) (trees_of (map relation_tree (r ∷ rs)))
+pub are-members : (r : Relation) (rs : List Relation) → AreMembers (relation_tokens r ++ more_tokens rs) (trees_of (map relation_tree (r ∷ rs)))
 are-members r [] = append-nil (relation_tokens r)
 are-members r (s ∷ rs) = (relation_tokens r, relation_tokens s ++ more_tokens rs, refl, refl, are-members s rs)
 
 spells : (r : Relation) (rs : List Relation) → AllByRecursion AreQuotable (r ∷ rs) → SpellsMarker (joined (map relation_told (r ∷ rs))) (tree_told (r ∷ rs))
 spells r rs q = record {
   tokens = relation_tokens r ++ more_tokens rs;
-  are_tokens = relation-tokens r q.0 (more_told rs) (more_tokens rs) (more-ends rs) (more-tokens rs q.1);
+  are_tokens =
+      subst (λ (text : List ℕ). AreTokens text (conjoined_tokens r rs)) (append-nil (conjoined_told r rs))
+      (subst (AreTokens (conjoined_told r rs ++ [])) (append-nil (conjoined_tokens r rs)) (conjoined-tokens r rs q [] [] refl refl));
   are_marker = are-members r rs;
 }
 
 -- ---- no parenthesis is open outside quotes
 
-abbrev is_no_open : ℕ → Bool
+abbrev pub is_no_open : ℕ → Bool
 is_no_open b = not (eqb b 40)
 
-abbrev none_open : Option ℕ → List ℕ → Bool
+abbrev pub none_open : Option ℕ → List ℕ → Bool
 none_open quote text = list_all is_no_open (outside quote text)
 
 beginnings-open : (quote : Option ℕ) (text : List ℕ) → none_open quote text ≡ true → list_all (none_open quote) (beginnings text) ≡ true
@@ -180,7 +201,7 @@ none-passes : (p q : List ℕ → Bool) (xs : List (List ℕ)) → ((x : List �
 none-passes p q [] f h = refl
 none-passes p q (x ∷ xs) f h = rw (f x (first_so (p x) (list_all p xs) h), none-passes p q xs f (second_so (p x) (list_all p xs) h)) refl
 
-shallow : (text : List ℕ) → none_open None text ≡ true → is_too_deep text ≡ false
+pub shallow : (text : List ℕ) → none_open None text ≡ true → is_too_deep text ≡ false
 unfolding is_too_deep
 shallow text h = none-passes (none_open None) leaves_too_many (beginnings text) leaves-few (beginnings-open None text h)
 
@@ -245,9 +266,14 @@ relation-skipped r q rest =
     ∙ flat-skipped (operator_told r.operator) (32 ∷ (operand_told r.right ++ rest)) (operator-flat r.operator)
     ∙ operand-skipped r.right q.right rest
 
-more-shallow : (rs : List Relation) → AllByRecursion AreQuotable rs → none_open None (more_told rs) ≡ true
-more-shallow [] q = refl
-more-shallow (r ∷ rs) q = relation-skipped r q.0 (more_told rs) ∙ more-shallow rs q.1
+more-skipped : (rs : List Relation) → AllByRecursion AreQuotable rs → (rest : List ℕ) → none_open None (more_told rs ++ rest) ≡ none_open None rest
+more-skipped [] q rest = refl
+more-skipped (r ∷ rs) q rest =
+    ap (none_open None) (append_assoc (relation_told r) (more_told rs) rest) ∙ relation-skipped r q.0 (more_told rs ++ rest) ∙ more-skipped rs q.1 rest
+
+pub conjoined-skipped : (r : Relation) (rs : List Relation) → AllByRecursion AreQuotable (r ∷ rs) → (rest : List ℕ) → none_open None (conjoined_told r rs ++ rest) ≡ none_open None rest
+conjoined-skipped r rs q rest =
+    ap (none_open None) (append_assoc (relation_told r) (more_told rs) rest) ∙ relation-skipped r q.0 (more_told rs ++ rest) ∙ more-skipped rs q.1 rest
 
 -- ---- it holds where all relations do
 
@@ -267,9 +293,9 @@ ReadsAsSpelled = (text : List ℕ) (t : Tree) → is_too_deep text ≡ false →
 pub told-reads : ReadsAsSpelled → (r : Relation) (rs : List Relation) → AllByRecursion AreQuotable (r ∷ rs) → marker_of (joined (map relation_told (r ∷ rs))) ≡ Ok (tree_told (r ∷ rs))
 told-reads found r rs q =
     found (joined (map relation_told (r ∷ rs))) (tree_told (r ∷ rs))
-    (shallow (joined (map relation_told (r ∷ rs))) (relation-skipped r q.0 (more_told rs) ∙ more-shallow rs q.1)) (spells r rs q)
+    (shallow (joined (map relation_told (r ∷ rs))) (sym (ap (none_open None) (append-nil (conjoined_told r rs))) ∙ conjoined-skipped r rs q [])) (spells r rs q)
 
-or-false : (b : Bool) → (b || false) ≡ b
+pub or-false : (b : Bool) → (b || false) ≡ b
 or-false true = refl
 or-false false = refl
 

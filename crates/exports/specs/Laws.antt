@@ -1,5 +1,5 @@
 -- What is the same wherever the answers are. All of it is reqlock's own rule.
-use Rattle.std.specs.Prelude.{◌≡◌, ◌↔◌, ℕ, Bool, List, Option}
+use Rattle.std.specs.Prelude.{◌↔◌, ℕ, Bool, List, Option}
 use Rattle.markers.specs.Environment.{Texts, marker_text}
 use Rattle.pep440.specs.Version.{VersionParts}
 use Rattle.problems.specs.Problem.{ProblemParts, requirements}

@@ -1,5 +1,6 @@
 pub mod Alike
 pub mod Conditions
+pub mod Joint
 pub mod Laws
 pub mod NamedTarget
 pub mod Tied

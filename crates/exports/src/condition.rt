@@ -1,5 +1,6 @@
 // What a lock may ask of an environment.
 
+use markers::marker_relations::{Operand, Operator};
 use pep440::Clause;
 use pep508::Variable;
 
@@ -10,13 +11,6 @@ pub enum Condition {
     Same(Variable),
     /// The text of the variable, one of the two whose texts are versions, reads as one that the clause matches.
     Matches(Variable, Clause),
-}
-
-impl Condition {
-    /// The variable that is asked for.
-    pub fn variable(&self) -> Variable {
-        match self {
-            Condition::Same(variable) | Condition::Matches(variable, _) => *variable,
-        }
-    }
+    /// The relation between these operands holds there.
+    Holds(Operand, Operator, Operand),
 }

@@ -16,6 +16,7 @@ use crate::condition::Condition;
 use crate::kept_conditions::{keep, keep_marker, keep_matching, keep_releases};
 use crate::reach::{asked_by, is_closed};
 use lists::Seq;
+use markers::marker_relations::Operand;
 use pep440::Operator;
 use pep508::{Environment, Line, Marker, ReqFile, Requirement};
 use snapshot::Snapshot;
@@ -153,7 +154,17 @@ fn least(
     Ok(least)
 }
 
-/// Lower bounds come before upper ones, and these before all else.
+/// The place of the variable that a condition is about, in the order of their names.
+fn place_of(condition: &Condition) -> usize {
+    match condition {
+        Condition::Same(variable) | Condition::Matches(variable, _) => *variable as usize,
+        Condition::Holds(Operand::Variable(variable), _, _) => *variable as usize,
+        Condition::Holds(Operand::Quoted(_), _, Operand::Variable(variable)) => *variable as usize,
+        Condition::Holds(Operand::Quoted(_), _, Operand::Quoted(_)) => usize::MAX,
+    }
+}
+
+/// A whole text comes first, then lower bounds, upper ones, other clauses, and relations.
 fn rank_of(condition: &Condition) -> usize {
     match condition {
         Condition::Same(_) => 0,
@@ -166,6 +177,7 @@ fn rank_of(condition: &Condition) -> usize {
             | Operator::EqualPrefix
             | Operator::NotEqualPrefix => 3,
         },
+        Condition::Holds(_, _, _) => 4,
     }
 }
 
@@ -174,7 +186,7 @@ fn in_order(conditions: Seq<Condition>) -> Result<Seq<Condition>, AllocError>
     ensures { IfOk result (λ ordered. IsPermutation conditions ordered) }
 {
     let mut items = conditions.into_vec();
-    items.sort_by_key(|condition| (condition.variable() as usize, rank_of(condition)))?;
+    items.sort_by_key(|condition| (place_of(condition), rank_of(condition)))?;
     Ok(Seq::from_vec(items))
 }
 

@@ -3,11 +3,12 @@
 ghost use Rattle.std.specs.Prelude.{◌≡◌};
 ghost use Rattle.std.specs.List.{list_any};
 ghost use Rattle.markers.specs.Environment.{place_of};
-ghost use Rattle.exports.specs.Tied.Implication.{are_both, does_follow, has_release_of, is_from, is_plain, is_same_clause, is_same_plain, is_up_to, number_of, opposite_of, says};
+ghost use Rattle.exports.specs.Tied.Implication.{are_both, does_follow, has_no_other, has_release_of, is_from, is_plain, is_same_clause, is_same_operand, is_same_plain, is_same_sign, is_up_to, number_of, opposite_of, says, sign_number};
 
 use crate::condition::Condition;
+use markers::marker_relations::{Operand, Operator as Sign};
 use pep440::{Clause, Operator, Version};
-use pep508::Variable;
+use pep508::{Comparison, Variable};
 
 /// The operator that matches no version which this one matches with the same version; `None` where there is none.
 pub(crate) fn opposite(operator: Operator) -> Option<Operator>
@@ -26,7 +27,7 @@ pub(crate) fn opposite(operator: Operator) -> Option<Operator>
     }
 }
 
-fn number_of(operator: Operator) -> usize
+pub(crate) fn number_of(operator: Operator) -> usize
     ensures { result ≡ number_of operator }
 {
     match operator {
@@ -42,7 +43,7 @@ fn number_of(operator: Operator) -> usize
     }
 }
 
-fn place_of(variable: Variable) -> usize
+pub(crate) fn place_of(variable: Variable) -> usize
     ensures { result ≡ place_of variable }
 {
     variable as usize
@@ -61,7 +62,7 @@ fn has_release_of(one: &Version, other: &Version) -> bool
     one.epoch() == other.epoch() && one.release() == other.release()
 }
 
-fn is_same_plain(one: &Version, other: &Version) -> bool
+pub(crate) fn is_same_plain(one: &Version, other: &Version) -> bool
     ensures { result ≡ is_same_plain one.now other.now }
 {
     is_plain(one) && (is_plain(other) && has_release_of(one, other))
@@ -75,7 +76,7 @@ fn is_same_clause(clause: &Clause, wanted: &Clause) -> bool
         && is_same_plain(&clause.version, &wanted.version)
 }
 
-fn is_from(bound: &Version, wanted: &Version) -> bool
+pub(crate) fn is_from(bound: &Version, wanted: &Version) -> bool
     ensures { result ≡ is_from bound.now wanted.now }
 {
     bound.cmp_public(wanted).is_ge()
@@ -103,6 +104,51 @@ pub(crate) fn does_follow(clause: &Clause, wanted: &Clause) -> bool
             || is_same_clause(clause, wanted))
 }
 
+fn sign_number(sign: Sign) -> usize
+    ensures { result ≡ sign_number sign }
+{
+    match sign {
+        Sign::Compare(Comparison::Compatible) => 0,
+        Sign::Compare(Comparison::Equal) => 1,
+        Sign::Compare(Comparison::NotEqual) => 2,
+        Sign::Compare(Comparison::AtMost) => 3,
+        Sign::Compare(Comparison::AtLeast) => 4,
+        Sign::Compare(Comparison::Below) => 5,
+        Sign::Compare(Comparison::Above) => 6,
+        Sign::In => 7,
+        Sign::NotIn => 8,
+    }
+}
+
+pub(crate) fn is_same_sign(sign: Sign, wanted: Sign) -> bool
+    ensures { result ≡ is_same_sign sign wanted }
+{
+    sign_number(sign) == sign_number(wanted)
+}
+
+pub(crate) fn is_same_operand(operand: &Operand, wanted: &Operand) -> bool
+    ensures { result ≡ is_same_operand operand.now wanted.now }
+{
+    match (operand, wanted) {
+        (Operand::Variable(own), Operand::Variable(variable)) => {
+            place_of(*own) == place_of(*variable)
+        }
+        (Operand::Quoted(text), Operand::Quoted(other)) => text.as_str() == other.as_str(),
+        (Operand::Variable(_), Operand::Quoted(_)) => false,
+        (Operand::Quoted(_), Operand::Variable(_)) => false,
+    }
+}
+
+/// Whether no variable but this one stands there.
+fn has_no_other(own: Variable, operand: &Operand) -> bool
+    ensures { result ≡ has_no_other own operand.now }
+{
+    match operand {
+        Operand::Variable(variable) => place_of(own) == place_of(*variable),
+        Operand::Quoted(_) => true,
+    }
+}
+
 /// Whether one condition is known to say another, which its own environment meets.
 fn says(condition: &Condition, wanted: &Condition) -> bool
     ensures { result ≡ says condition.now wanted.now }
@@ -118,6 +164,16 @@ fn says(condition: &Condition, wanted: &Condition) -> bool
             place_of(*own) == place_of(*variable) && does_follow(clause, wanted)
         }
         (Condition::Matches(_, _), Condition::Same(_)) => false,
+        (Condition::Same(own), Condition::Holds(left, _, right)) => {
+            has_no_other(*own, left) && has_no_other(*own, right)
+        }
+        (Condition::Holds(left, sign, right), Condition::Holds(first, wanted, second)) => {
+            is_same_sign(*sign, *wanted)
+                && (is_same_operand(left, first) && is_same_operand(right, second))
+        }
+        (Condition::Matches(_, _), Condition::Holds(_, _, _)) => false,
+        (Condition::Holds(_, _, _), Condition::Same(_)) => false,
+        (Condition::Holds(_, _, _), Condition::Matches(_, _)) => false,
     }
 }
 

@@ -13,6 +13,7 @@ ghost use Rattle.exports.specs.Tied.Kept.{ClauseAlike, ClausesAlike, IsOwn, Keep
 
 use crate::condition::Condition;
 use crate::implication::{is_said, opposite};
+use crate::settling_relations::settling_relation;
 use lists::Seq;
 use markers::marker_relations::{CachedRelation, Operand, the_relations_decide};
 use pep440::Clause;
@@ -38,7 +39,7 @@ pub(crate) fn keep(
 }
 
 /// Whether the texts of the variable are versions, in every environment.
-fn is_versioned(variable: Variable) -> bool
+pub(crate) fn is_versioned(variable: Variable) -> bool
     ensures { result ≡ is_versioned variable }
 {
     match variable {
@@ -179,9 +180,9 @@ fn keep_operands(
     Ok(())
 }
 
-/// Asks for the same answer of a relation: by its clauses where a variable is compared with a text that reads as such, else
-/// for the same texts.
-fn keep_relation(
+/// Asks for what a relation compares: by its clauses where a variable is compared with a text that reads as such, else for the
+/// same texts.
+fn keep_compared(
     environment: &Environment,
     conditions: &mut Seq<Condition>,
     relation: &CachedRelation,
@@ -202,8 +203,31 @@ fn keep_relation(
     }
 }
 
+/// Asks for the same answer of a relation: for the answer itself where it can be told, else for what it compares.
+fn keep_relation(
+    alloc: Global,
+    environment: &Environment,
+    conditions: &mut Seq<Condition>,
+    relation: &CachedRelation,
+) -> Result<(), AllocError>
+    ensures { IfOk result (λ _. Keeps environment.now conditions.old conditions.new
+        (λ other. RelationAlike environment.now other relation.now)) }
+{
+    match settling_relation(alloc, environment, relation)? {
+        Some(condition) => {
+            keep(environment, conditions, condition)?;
+            Ok(())
+        }
+        None => {
+            keep_compared(environment, conditions, relation)?;
+            Ok(())
+        }
+    }
+}
+
 /// Asks for the same answers of relations.
 fn keep_relations(
+    alloc: Global,
     environment: &Environment,
     conditions: &mut Seq<Condition>,
     relations: &[&CachedRelation],
@@ -213,7 +237,7 @@ fn keep_relations(
         relations.now)) }
 {
     for relation in relations {
-        keep_relation(environment, conditions, relation)?;
+        keep_relation(alloc, environment, conditions, relation)?;
     }
     Ok(())
 }
@@ -233,7 +257,7 @@ pub(crate) fn keep_marker(
         return Ok(());
     };
     let relations = marker.relations(alloc)?;
-    keep_relations(environment, conditions, relations.as_slice())?;
+    keep_relations(alloc, environment, conditions, relations.as_slice())?;
     Ok(())
 }
 

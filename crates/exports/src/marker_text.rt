@@ -2,16 +2,18 @@
 
 ghost use Rattle.std.specs.Prelude.{◌≡◌, ◌++◌, [], ℕ, IfOk, List, is_some, map, string_bytes};
 ghost use Rattle.std.specs.List.{AllByRecursion};
-ghost use Rattle.markers.specs.Comparisons.{clauses_read, has_comma};
+ghost use Rattle.markers.specs.Comparisons.{clauses_read};
 ghost use Rattle.markers.specs.Variables.{variable_name};
 ghost use Rattle.markers.specs.declared.comparison.Comparison.TheVariants as comparisons;
 ghost use Rattle.pep440.specs.SetGrammar.{star};
 ghost use Rattle.exports.specs.Conditions.{IsMarkerOf, IsTellable};
-ghost use Rattle.exports.specs.Tied.Told.{comparison_of, has, related_told, relation_told, same_told, told, with_all, with_more};
+ghost use Rattle.exports.specs.Tied.Told.{comparison_of, conditions_told, has, operand_told, operator_told, related_told, relation_told, same_told, told, with_all, with_more};
 
 use crate::condition::Condition;
+use crate::sign_clauses::reads_as_clause;
 use markers::marker_laws::a_text_reads_as_the_marker_that_it_spells;
-use pep440::{Fault, Operator, SpecifierSet};
+use markers::marker_relations::{Operand, Operator as Sign};
+use pep440::Operator;
 use pep508::{Comparison, Environment, Variable};
 use std::alloc::{AllocError, Global};
 
@@ -39,30 +41,6 @@ fn star_of(operator: Operator) -> &'static str
     match operator {
         Operator::EqualPrefix | Operator::NotEqualPrefix => ".*",
         _ => "",
-    }
-}
-
-fn has_comma(text: &str) -> bool
-    ensures { result ≡ has_comma text.now }
-{
-    text.as_bytes().iter().any(|byte| *byte == b',')
-}
-
-/// Whether a marker would compare versions where this text stands behind `==`.
-#[tactic(auto, unfolding(markers::specs::Comparisons::clauses_read))]
-fn reads_as_clause(alloc: Global, text: &str) -> Result<bool, AllocError>
-    ensures { IfOk result (λ reads. reads
-        ≡ is_some (clauses_read comparisons.Equal text.now)) }
-{
-    if has_comma(text) {
-        return Ok(false);
-    }
-    let mut clause = String::from_str(alloc, "==")?;
-    clause.push_str(text)?;
-    match SpecifierSet::parse(alloc, clause.as_str()) {
-        Ok(_) => Ok(true),
-        Err(Fault::OutOfMemory) => Err(AllocError),
-        Err(_) => Ok(false),
     }
 }
 
@@ -123,12 +101,61 @@ fn push_same(
         (map relation_told (same_told variable value.now
         (is_some (clauses_read comparisons.Equal value.now))))) }
 {
-    if !reads_as_clause(alloc, value)? {
+    if !reads_as_clause(alloc, Comparison::Equal, value)? {
         push_related(text, variable, "==", value)?;
         return Ok(());
     }
     push_related(text, variable, "in", value)?;
     push_has(text, variable, value)?;
+    Ok(())
+}
+
+/// How an operator of markers is written.
+fn word_of(sign: Sign) -> &'static str
+    ensures { result.now ≡ operator_told sign }
+{
+    match sign {
+        Sign::Compare(comparison) => comparison.sign(),
+        Sign::In => "in",
+        Sign::NotIn => "not in",
+    }
+}
+
+/// Puts an operand behind what stands there: a variable by its name, and a text in quotes.
+fn push_operand(text: &mut String, operand: &Operand) -> Result<(), AllocError>
+    ensures { IfOk result (λ _. string_bytes text.new
+        ≡ string_bytes text.old ++ operand_told operand.now) }
+{
+    match operand {
+        Operand::Variable(variable) => {
+            text.push_str(variable.name())?;
+            Ok(())
+        }
+        Operand::Quoted(value) => {
+            text.push_str("\"")?;
+            text.push_str(value.as_str())?;
+            text.push_str("\"")?;
+            Ok(())
+        }
+    }
+}
+
+/// Puts a relation behind what stands there.
+fn push_relation(
+    text: &mut String,
+    left: &Operand,
+    sign: Sign,
+    right: &Operand,
+) -> Result<(), AllocError>
+    ensures { IfOk result (λ _. string_bytes text.new ≡ with_more (string_bytes text.old)
+        (relation_told (record { left = left.now; operator = sign; right = right.now }))) }
+{
+    push_and(text)?;
+    push_operand(text, left)?;
+    text.push_str(" ")?;
+    text.push_str(word_of(sign))?;
+    text.push_str(" ")?;
+    push_operand(text, right)?;
     Ok(())
 }
 
@@ -155,6 +182,10 @@ fn push_condition(
             push_related(text, *variable, sign, value.as_str())?;
             Ok(())
         }
+        Condition::Holds(left, sign, right) => {
+            push_relation(text, left, *sign, right)?;
+            Ok(())
+        }
     }
 }
 
@@ -166,6 +197,8 @@ pub fn marker_text_of(
     environment: &Environment,
 ) -> Result<String, AllocError>
     requires { AllByRecursion IsTellable conditions.now }
+    ensures told { IfOk result (λ text. string_bytes text
+        ≡ conditions_told environment.now conditions.now) }
     ensures none { IfOk result (λ text. conditions.now ≡ [] → string_bytes text ≡ []) }
     ensures some { IfOk result (λ text. (conditions.now ≡ [] → ⊥)
         → IsMarkerOf environment.now conditions.now (string_bytes text)) }

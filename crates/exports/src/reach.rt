@@ -190,7 +190,8 @@ pub(crate) fn is_closed(asked: &Asked, lines: &[Line], snapshot: &Snapshot) -> b
     covers_lines(asked, lines) && covers_matched(asked, snapshot, asked.requirements())
 }
 
-fn is_same_clause(clause: &Clause, other: &Clause) -> bool {
+/// Whether the operators are the same, and the versions equal in their order.
+fn is_equal_clause(clause: &Clause, other: &Clause) -> bool {
     clause.operator == other.operator && clause.version.cmp(&other.version).is_eq()
 }
 
@@ -203,7 +204,7 @@ fn is_same(one: &Requirement, other: &Requirement) -> bool {
         && clauses
             .iter()
             .zip(others.iter())
-            .all(|pair| is_same_clause(pair.0, pair.1))
+            .all(|pair| is_equal_clause(pair.0, pair.1))
 }
 
 /// Puts a requirement to the others, unless one of them is as wide, or the same: a clause on a pre-release isn't known to say

@@ -1,16 +1,23 @@
 -- Which conditions others are known to say.
 -- Tied to `Says` by the contract of `says`; need not be read.
-use Rattle.std.specs.Prelude.{ℕ, ◌==◌, ◌&&◌, ◌||◌, not, nat_eq, Bool, false, length, Option, Some, None}
+use Rattle.std.specs.Prelude.{ℕ, ◌==◌, ◌&&◌, ◌||◌, not, nat_eq, Bool, true, false, length, Option, Some, None}
 use Rattle.std.specs.Cmp.Lexicographic.{pointwise}
 use Rattle.std.specs.Ordering.{is_ge, is_le}
+use Rattle.std.specs.Str.{bytes_eq}
 use Rattle.markers.specs.Environment.{place_of}
+use Rattle.markers.specs.declared.comparison.Comparison.TheVariants as comparisons
+use Rattle.markers.specs.declared.marker_atom.Operand.{Operand}
+use Rattle.markers.specs.declared.marker_atom.Operand.TheVariants as operands
+use Rattle.markers.specs.declared.marker_atom.Operator.{Operator as Sign}
+use Rattle.markers.specs.declared.marker_atom.Operator.TheVariants as signs
+use Rattle.markers.specs.declared.variable.Variable.{Variable}
 use Rattle.pep440.specs.Order.{public_cmp}
 use Rattle.pep440.specs.Version.{VersionParts, is_post, is_pre}
 use Rattle.pep440.specs.declared.specifier.Clause.{Clause}
 use Rattle.pep440.specs.declared.specifier.Operator.{Operator}
 use Rattle.pep440.specs.declared.specifier.Operator.TheVariants as operators
 use Rattle.exports.specs.declared.condition.Condition.{Condition}
-use Rattle.exports.specs.declared.condition.Condition.TheVariants.{Same, Matches}
+use Rattle.exports.specs.declared.condition.Condition.TheVariants.{Same, Matches, Holds}
 
 -- the operator that matches nothing which this one matches with the same version
 abbrev pub opposite_of : Operator → Option Operator
@@ -69,8 +76,40 @@ does_follow clause wanted =
     || ((are_both 7 clause wanted && is_up_to clause.version wanted.version)
     || is_same_clause clause wanted)
 
+-- the number of an operator of markers
+abbrev pub sign_number : Sign → ℕ
+sign_number (signs.Compare comparisons.Compatible) = 0
+sign_number (signs.Compare comparisons.Equal) = 1
+sign_number (signs.Compare comparisons.NotEqual) = 2
+sign_number (signs.Compare comparisons.AtMost) = 3
+sign_number (signs.Compare comparisons.AtLeast) = 4
+sign_number (signs.Compare comparisons.Below) = 5
+sign_number (signs.Compare comparisons.Above) = 6
+sign_number signs.In = 7
+sign_number signs.NotIn = 8
+
+abbrev pub is_same_sign : Sign → Sign → Bool
+is_same_sign sign wanted = sign_number sign == sign_number wanted
+
+-- both are the same variable, or the same text
+abbrev pub is_same_operand : Operand → Operand → Bool
+is_same_operand (operands.Variable own) (operands.Variable variable) = place_of own == place_of variable
+is_same_operand (operands.Quoted text) (operands.Quoted other) = bytes_eq text other
+is_same_operand (operands.Variable own) (operands.Quoted other) = false
+is_same_operand (operands.Quoted text) (operands.Variable variable) = false
+
+-- no variable but this one stands there
+abbrev pub has_no_other : Variable → Operand → Bool
+has_no_other own (operands.Variable variable) = place_of own == place_of variable
+has_no_other own (operands.Quoted text) = true
+
 abbrev pub says : Condition → Condition → Bool
 says (Same own) (Same variable) = place_of own == place_of variable
 says (Same own) (Matches variable wanted) = place_of own == place_of variable
 says (Matches own clause) (Matches variable wanted) = (place_of own == place_of variable) && does_follow clause wanted
 says (Matches own clause) (Same variable) = false
+says (Same own) (Holds left sign right) = has_no_other own left && has_no_other own right
+says (Holds left sign right) (Holds first wanted second) = is_same_sign sign wanted && (is_same_operand left first && is_same_operand right second)
+says (Matches own clause) (Holds left sign right) = false
+says (Holds left sign right) (Same variable) = false
+says (Holds left sign right) (Matches variable clause) = false

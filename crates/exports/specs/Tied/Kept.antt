@@ -1,16 +1,19 @@
 -- Conditions that grow, question by question.
 -- Tied to `AnswersAlike` by the contract of `conditions_of`; need not be read.
-use Rattle.std.specs.Prelude.{◌≡◌, true, List, Some}
+use Rattle.std.specs.Prelude.{◌≡◌, true, false, List, Some}
 use Rattle.std.specs.List.{AllByRecursion}
 use Rattle.markers.specs.Comparisons.{version_read}
 use Rattle.markers.specs.Environment.{Texts, text_of}
-use Rattle.markers.specs.MarkerAtoms.{operand_text}
+use Rattle.markers.specs.MarkerAtoms.{Relation, operand_text, relation_holds}
+use Rattle.markers.specs.MarkerRelations.{RelationAlike}
 use Rattle.markers.specs.declared.marker_atom.Operand.{Operand}
+use Rattle.markers.specs.declared.marker_atom.Operator.{Operator as Sign}
 use Rattle.markers.specs.declared.variable.Variable.{Variable}
 use Rattle.pep440.specs.Matching.{clause_matches, matches}
 use Rattle.pep440.specs.Version.{VersionParts}
 use Rattle.pep440.specs.declared.specifier.Clause.{Clause}
-use Rattle.exports.specs.Conditions.{IsTellable, Meets, MeetsAll}
+use Rattle.exports.specs.Conditions.{IsTellable, Meets, MeetsAll, can_stand}
+use Rattle.exports.specs.Tied.Opposites.{are_opposed}
 use Rattle.exports.specs.declared.condition.Condition.{Condition}
 use Rattle.exports.specs.declared.condition.Condition.TheVariants as conditions
 
@@ -53,6 +56,31 @@ OperandAlike environment operand other = operand_text other operand ≡ operand_
 pub record Settles (environment : Texts) (variable : Variable) (clause settling : Clause) : Type 0 where
   pub own : IsOwn environment (conditions.Matches variable settling)
   pub alike : (one other : VersionParts) → clause_matches settling one ≡ true → clause_matches settling other ≡ true → ClauseAlike clause one other
+
+-- both operands can stand in a marker
+abbrev pub CanStand : Relation → Type 0
+CanStand r = (can_stand r.left ≡ true) × (can_stand r.right ≡ true)
+
+-- a relation with another sign
+abbrev pub with_sign : Relation → Sign → Relation
+with_sign r sign = record { left = r.left; operator = sign; right = r.right }
+
+-- the environment's own version of an operand matches the second clauses, of which one is opposed to one of the first
+pub record AreApart (environment : Texts) (left : Operand) (clauses opposed : List Clause) : Type 0 where
+  pub version : VersionParts
+  pub read : version_read (operand_text environment left) ≡ Some version
+  pub matched : matches opposed version ≡ true
+  pub are : are_opposed clauses opposed ≡ true
+
+-- with another sign the relation holds in its own environment, and with both signs in none
+pub record IsTurned (environment : Texts) (r : Relation) (sign : Sign) : Type 0 where
+  pub own : relation_holds (with_sign r sign) environment ≡ true
+  pub apart : (other : Texts) → relation_holds (with_sign r sign) other ≡ true → relation_holds r other ≡ false
+
+-- its own environment meets the condition, which can be told; wherever it is met, the relation holds as it does there
+pub record SettlesRelation (environment : Texts) (r : Relation) (settling : Condition) : Type 0 where
+  pub own : IsOwn environment settling
+  pub alike : (other : Texts) → Meets environment other settling → RelationAlike environment other r
 
 -- who meets the first condition meets the second, where its own environment does
 abbrev pub Says : Condition → Condition → Type 0

@@ -19,7 +19,7 @@ use Rattle.pep440.specs.declared.specifier.Clause.{Clause}
 use Rattle.pep440.specs.declared.specifier.Operator.{Operator}
 use Rattle.pep440.specs.declared.specifier.Operator.TheVariants as operators
 use Rattle.exports.specs.declared.condition.Condition.{Condition}
-use Rattle.exports.specs.declared.condition.Condition.TheVariants.{Same, Matches}
+use Rattle.exports.specs.declared.condition.Condition.TheVariants.{Same, Matches, Holds}
 
 -- the comparison that is written for an operator
 abbrev pub comparison_of : Operator → Comparison
@@ -53,6 +53,7 @@ same_told variable text reads = if reads then related variable relates.In text �
 abbrev pub told : Texts → Condition → List Relation
 told environment (Same variable) = same_told variable (text_of environment variable) (is_some (clauses_read comparisons.Equal (text_of environment variable)))
 told environment (Matches variable clause) = related variable (relates.Compare (comparison_of clause.operator)) (version_told clause) ∷ []
+told environment (Holds left operator right) = record { left = left; operator = operator; right = right } ∷ []
 
 -- ---- texts
 

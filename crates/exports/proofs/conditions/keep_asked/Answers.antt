@@ -1,4 +1,3 @@
-use Rattle.std.proofs.Common.{◌≡◌, ◌∙◌, ap, subst}
 use Rattle.std.specs.List.{AllByRecursion}
 use Rattle.snapshot.specs.Packages.{releases_of}
 use Rattle.exports.specs.Alike.{MatchedAlike}

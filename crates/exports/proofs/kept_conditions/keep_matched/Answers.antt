@@ -1,4 +1,4 @@
-use Rattle.std.proofs.Common.{◌≡◌, ◌∙◌, false, true, sym}
+use Rattle.std.proofs.Common.{◌≡◌, ◌∙◌, false, sym}
 use Rattle.pep440.specs.Matching.{matches}
 use Rattle.exports.specs.Alike.{MatchedAlike, ReleaseAlike}
 use Rattle.exports.proofs.KeptConditions.{kept-as, kept-none}

@@ -9,6 +9,10 @@ loop-condition-preserved c =
     told-step c.args.environment.now c.args.conditions.now c.loop-condition.condition-index c.condition-item.result (string_bytes c.loop-condition.text) (string_bytes c.push_condition.new.text)
     c.loop-condition-test.true c.condition-item.is c.loop-condition.invariant c.in_ok-push_condition.ensures
 
+pub returns-clause-told : goal.returns-clause-told
+returns-clause-told c =
+    told-whole c.args.environment.now c.args.conditions.now c.loop-condition.condition-index (string_bytes c.loop-condition.text) c.loop-condition-test.false c.loop-condition.invariant
+
 pub returns-clause-none : goal.returns-clause-none
 returns-clause-none c = λ none.
     told-whole c.args.environment.now c.args.conditions.now c.loop-condition.condition-index (string_bytes c.loop-condition.text) c.loop-condition-test.false c.loop-condition.invariant

@@ -1,0 +1,9 @@
+use Rattle.std.proofs.Common.{subst}
+use Rattle.exports.specs.Tied.Apart.{Fits}
+use Rattle.exports.proofs.EachOf.{each-more}
+use Rattle.exports.proofs.apart.first_unfit.Goals as goal
+
+pub loop-other-preserved : goal.loop-other-preserved
+loop-other-preserved c =
+    each-more (Fits c.args.one.now) c.args.covers.now c.loop-other.other-index c.other-item.result c.loop-other-test.true c.loop-other.invariant
+    (subst (Fits c.args.one.now) c.other-item.is (c.in_ok-do_fit.ensures.fits c.if-not-branch.false))
