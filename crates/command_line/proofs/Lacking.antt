@@ -5,7 +5,7 @@ use Rattle.command_line.specs.declared.misuse.Misuse.TheVariants.{Excluded, Lack
 use Rattle.command_line.specs.declared.misuse.ReadFault.{ReadFault}
 use Rattle.command_line.specs.declared.misuse.ReadFault.TheVariants.{Misused, Needed, OutOfMemory}
 use Rattle.command_line.specs.declared.usage.NeededOption.TheVariants.{Environment, Index}
-use Rattle.command_line.specs.UsageFaults.{HasNoPlace, IsLacking, IsNoQuestion, LacksIndex, LacksInput, NeedsEnvironment, NeedsIndex}
+use Rattle.command_line.specs.UsageFaults.{HasNoBeginning, HasNoPlace, IsLacking, IsNoQuestion, LacksIndex, LacksInput, NeedsEnvironment, NeedsIndex}
 
 pub index_lacks : (before behind : List Row) (name : Text) (fault : ReadFault) → NeedsIndex name behind → LacksIndex before behind fault → IsLacking before behind name fault
 index_lacks before behind name fault needs lacks = subst (IsLacking before behind name) (sym lacks.0) (needs, lacks.1)
@@ -17,7 +17,7 @@ input_lacks before behind name (Needed Environment) needs needs' lacks = (needs'
 input_lacks before behind name OutOfMemory needs needs' lacks = tt
 
 pub place_lacks : (before behind : List Row) (name : Text) (fault : ReadFault) → name ≡ codes "diff" → HasNoPlace behind fault → IsLacking before behind name fault
-place_lacks before behind name (Misused (NoNumber text shown cause)) named lacks = (named, lacks)
+place_lacks before behind name (Misused (NoNumber text shown cause)) named lacks = inl (named, lacks)
 place_lacks before behind name (Misused NoSubcommand) named lacks = absurd lacks
 place_lacks before behind name (Misused (Twice shown)) named lacks = absurd lacks
 place_lacks before behind name (Misused (Stray shown)) named lacks = absurd lacks
@@ -26,6 +26,17 @@ place_lacks before behind name (Misused (Lacks shown)) named lacks = absurd lack
 place_lacks before behind name (Misused (NoValue value shown values)) named lacks = absurd lacks
 place_lacks before behind name (Needed option) named lacks = absurd lacks
 place_lacks before behind name OutOfMemory named lacks = tt
+
+pub beginning_lacks : (before behind : List Row) (name : Text) (fault : ReadFault) → name ≡ codes "forget" → HasNoBeginning behind fault → IsLacking before behind name fault
+beginning_lacks before behind name (Misused (NoNumber text shown cause)) named lacks = inr (named, lacks)
+beginning_lacks before behind name (Misused (Lacks shown)) named lacks = (named, lacks)
+beginning_lacks before behind name (Misused NoSubcommand) named lacks = absurd lacks
+beginning_lacks before behind name (Misused (Twice shown)) named lacks = absurd lacks
+beginning_lacks before behind name (Misused (Stray shown)) named lacks = absurd lacks
+beginning_lacks before behind name (Misused (Excluded shown)) named lacks = absurd lacks
+beginning_lacks before behind name (Misused (NoValue value shown values)) named lacks = absurd lacks
+beginning_lacks before behind name (Needed option) named lacks = absurd lacks
+beginning_lacks before behind name OutOfMemory named lacks = absurd lacks
 
 pub no_question_lacks : (before behind : List Row) (name : Text) (fault : ReadFault) → name ≡ codes "why" → IsNoQuestion before behind fault → IsLacking before behind name fault
 no_question_lacks before behind name (Misused misuse) named unasked = absurd unasked

@@ -1,5 +1,5 @@
 -- The words of the program's command line. All of it is reqlock's own rule.
-use Rattle.std.specs.Prelude.{ℕ, true, List, [], ◌∷◌, ◌++◌, Some, codes}
+use Rattle.std.specs.Prelude.{ℕ, ◌-◌, true, List, [], ◌∷◌, ◌++◌, Some, codes}
 use Rattle.clap.specs.Lexer.{usize_max}
 use Rattle.clap.specs.Simple.{Shape, new_shape}
 use Rattle.clap.specs.Words.{App, Rule, Text, new_rule, with_subcommand}
@@ -104,6 +104,7 @@ abbrev pub step_shapes : List Shape
 step_shapes =
     shape_with (codes "undo") saving_rules
     ∷ shape_with (codes "redo") saving_rules
+    ∷ shape_with (codes "forget") (option_rule (codes "before") ∷ (option_rule (codes "keep") ∷ saving_rules))
     ∷ shape_with (codes "batch") (flag_rule (codes "all-or-none") ∷ keeping_rule ∷ [])
     ∷ shape_with (codes "try") []
     ∷ []
@@ -116,7 +117,7 @@ view_shapes =
     ∷ shape_with (codes "diff") (text_rule (codes "from") ∷ text_rule (codes "to") ∷ json_rules)
     ∷ shape_with (codes "check") (flag_rule (codes "current") ∷ json_rules)
     ∷ shape_with (codes "outdated") json_rules
-    ∷ shape_with (codes "export") (option_rule (codes "format") ∷ option_rule (codes "target") ∷ [])
+    ∷ shape_with (codes "export") (option_rule (codes "format") ∷ option_rule (codes "target") ∷ ranged_rule (codes "covers") 1 1 (usize_max - 1) ∷ [])
     ∷ shape_with (codes "skipped") []
     ∷ []
 

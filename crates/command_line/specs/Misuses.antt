@@ -67,10 +67,17 @@ lines_marks behind =
     ∷ (codes "--line <NAME> <TEXT>", is_given behind (codes "line"))
     ∷ []
 
+-- where a history is to begin, each option with whether it is given
+abbrev pub beginning_marks : List Row → List (Text × Bool)
+beginning_marks behind =
+    (codes "--before <N>", is_given behind (codes "before"))
+    ∷ (codes "--keep <N>", is_given behind (codes "keep"))
+    ∷ []
+
 -- the first argument beside which another stands that excludes it
 abbrev pub excluded : List Row → List Row → Option Text
 excluded before behind =
-    option_or (first_of_two (verbosity_marks before behind)) (option_or (first_of_two (shown_marks behind)) (option_or (first_of_two (question_marks behind)) (first_of_two (lines_marks behind))))
+    option_or (first_of_two (verbosity_marks before behind)) (option_or (first_of_two (shown_marks behind)) (option_or (first_of_two (question_marks behind)) (option_or (first_of_two (lines_marks behind)) (first_of_two (beginning_marks behind)))))
 
 -- whether lines are to be replaced, and whether new ones are named
 abbrev pub is_replacement : Text → List Row → Bool

@@ -6,6 +6,8 @@ use Rattle.std.specs.Option.{option_map_or}
 use Rattle.std.specs.Str.{bytes_eq}
 use Rattle.std.specs.Str.Parse.{IsNumeral, digits_value, without_leading_plus}
 use Rattle.clap.specs.Words.{Row, Text, first_of}
+use Rattle.command_line.specs.declared.invocation.Beginning.{Beginning}
+use Rattle.command_line.specs.declared.invocation.Beginning.TheVariants.{At, Back}
 use Rattle.command_line.specs.declared.invocation.ColorChoice.{ColorChoice}
 use Rattle.command_line.specs.declared.invocation.ColorChoice.TheVariants.{Always, Auto, Never}
 use Rattle.command_line.specs.declared.invocation.DiffRange.{DiffRange}
@@ -27,7 +29,7 @@ use Rattle.command_line.specs.declared.invocation.Saving.TheVariants.{Save, DryR
 use Rattle.command_line.specs.declared.invocation.Shown.{Shown}
 use Rattle.command_line.specs.declared.invocation.Shown.TheVariants.{Table, Entry, Tree}
 use Rattle.command_line.specs.declared.invocation.Subcommand.{Subcommand}
-use Rattle.command_line.specs.declared.invocation.Subcommand.TheVariants.{Init, Edit, Replace, Undo, Redo, Batch, Try, Show, Log, Diff, Check, Outdated, Export, Skipped, Why}
+use Rattle.command_line.specs.declared.invocation.Subcommand.TheVariants.{Init, Edit, Replace, Undo, Redo, Forget, Batch, Try, Show, Log, Diff, Check, Outdated, Export, Skipped, Why}
 use Rattle.command_line.specs.declared.invocation.Verbosity.{Verbosity as VerbosityValue}
 use Rattle.command_line.specs.declared.invocation.Verbosity.TheVariants.{Quiet, Usual, Verbose}
 use Rattle.command_line.specs.declared.invocation.Told.{Told as ToldValue}
@@ -98,6 +100,11 @@ IsRange behind LastStep = first_of (codes "from") behind ≡ None
 IsRange behind (Since from) = IsSomeAnd (first_of (codes "from") behind) (IsPlace from) × (first_of (codes "to") behind ≡ None)
 IsRange behind (Between from to) = IsSomeAnd (first_of (codes "from") behind) (IsPlace from) × IsSomeAnd (first_of (codes "to") behind) (IsPlace to)
 
+-- where the history is to begin: at the place that `--before` names, else so many states before the present one as `--keep` says
+abbrev pub IsBeginning : List Row → Beginning → Type 0
+IsBeginning behind (At place) = IsSomeAnd (first_of (codes "before") behind) (IsPlace place)
+IsBeginning behind (Back count) = (first_of (codes "before") behind ≡ None) × IsSomeAnd (first_of (codes "keep") behind) (IsPlace count)
+
 -- the index over which `check` tells whether the lock is current
 abbrev pub IsChecked : List Row → List Row → Option (Bor Text) → Type 0
 IsChecked before behind None = has_flag behind (codes "current") ≡ false
@@ -126,7 +133,7 @@ told_of behind =
     if has_flag behind (codes "explain") then Sentences else
     Conflicts
 
--- in which form a lock is printed, of which target and over which index
+-- in which form a lock is printed, of which target and over which index, and which environments are asked about
 abbrev pub format_named : Text → ExportFormat
 format_named value =
     if bytes_eq value (codes "dot") then Dot else
@@ -139,6 +146,7 @@ export_format_of behind = option_map_or format_named (first_of (codes "format") 
 abbrev pub IsExport : List Row → List Row → ExportValue → Type 0
 IsExport before behind export =
     (export.format ≡ export_format_of behind) × (text_of export.target ≡ first_of (codes "target") behind) × (text_of export.index ≡ index_of before behind)
+    × (export.covers ≡ values_in behind (codes "covers"))
 
 -- the question of `why`: about `init`, about a release, about other lines, or about an edit
 abbrev pub IsQuestion : List Row → List Row → Question → Type 0
@@ -159,6 +167,7 @@ IsSubcommand before behind name (Replace replacement inputs saving) =
     (name ≡ codes "replace") × IsReplacement (codes "new") behind replacement × HasEditInputs before behind inputs × (saving ≡ saving_of before behind)
 IsSubcommand before behind name (Undo saving) = (name ≡ codes "undo") × (saving ≡ saving_of before behind)
 IsSubcommand before behind name (Redo saving) = (name ≡ codes "redo") × (saving ≡ saving_of before behind)
+IsSubcommand before behind name (Forget beginning saving) = (name ≡ codes "forget") × IsBeginning behind beginning × (saving ≡ saving_of before behind)
 IsSubcommand before behind name (Batch inputs all) = (name ≡ codes "batch") × HasEditInputs before behind inputs × (all ≡ has_flag behind (codes "all-or-none"))
 IsSubcommand before behind name (Try inputs) = (name ≡ codes "try") × HasInputs before behind inputs
 IsSubcommand before behind name (Show shown format) = (name ≡ codes "show") × IsShown before behind shown × (format ≡ format_of before behind)

@@ -67,7 +67,7 @@ LacksInput before behind reads.OutOfMemory = Unit {0}
 
 -- the subcommands that make no edit, in the order of clap's command (`the_subcommands_are_known`)
 abbrev pub other_names : List Text
-other_names = codes "init" ∷ codes "replace" ∷ codes "undo" ∷ codes "redo" ∷ codes "batch" ∷ codes "try" ∷ codes "show" ∷ codes "log" ∷ codes "diff" ∷ codes "check" ∷ codes "outdated" ∷ codes "export" ∷ codes "skipped" ∷ codes "why" ∷ []
+other_names = codes "init" ∷ codes "replace" ∷ codes "undo" ∷ codes "redo" ∷ codes "forget" ∷ codes "batch" ∷ codes "try" ∷ codes "show" ∷ codes "log" ∷ codes "diff" ∷ codes "check" ∷ codes "outdated" ∷ codes "export" ∷ codes "skipped" ∷ codes "why" ∷ []
 
 -- no subcommand of the program, or an edit that lacks a text
 abbrev pub IsNoSubcommand : Text → List Row → Type 0
@@ -98,10 +98,28 @@ abbrev pub HasNoPlace : List Row → ReadFault → Type 0
 HasNoPlace behind (reads.Misused (misuses.NoNumber text shown cause)) = IsNoPlace text.now shown.now behind
 HasNoPlace behind fault = ⊥
 
+-- the value of `--before`, or else of `--keep`, that is no number, and how help shows it
+abbrev pub IsNoBeginning : Text → Text → List Row → Type 0
+IsNoBeginning text shown behind =
+    (((shown ≡ codes "--before <N>") × (first_of (codes "before") behind ≡ Some text))
+    ⊎ ((shown ≡ codes "--keep <N>") × (first_of (codes "before") behind ≡ None) × (first_of (codes "keep") behind ≡ Some text)))
+    × (IsPlaceText text → ⊥)
+
+-- neither option is given
+abbrev pub LacksBeginning : Text → List Row → Type 0
+LacksBeginning shown behind = (shown ≡ codes "--before or --keep") × (first_of (codes "before") behind ≡ None) × (first_of (codes "keep") behind ≡ None)
+
+abbrev pub HasNoBeginning : List Row → ReadFault → Type 0
+HasNoBeginning behind (reads.Misused (misuses.NoNumber text shown cause)) = IsNoBeginning text.now shown.now behind
+HasNoBeginning behind (reads.Misused (misuses.Lacks shown)) = LacksBeginning shown.now behind
+HasNoBeginning behind fault = ⊥
+
 -- why a subcommand of this name can't be done, of what clap found before it and behind it
 abbrev pub IsLacking : List Row → List Row → Text → ReadFault → Type 0
 IsLacking before behind name (reads.Misused misuses.NoSubcommand) = IsNoSubcommand name behind
-IsLacking before behind name (reads.Misused (misuses.NoNumber text shown cause)) = (name ≡ codes "diff") × IsNoPlace text.now shown.now behind
+IsLacking before behind name (reads.Misused (misuses.NoNumber text shown cause)) =
+    ((name ≡ codes "diff") × IsNoPlace text.now shown.now behind) ⊎ ((name ≡ codes "forget") × IsNoBeginning text.now shown.now behind)
+IsLacking before behind name (reads.Misused (misuses.Lacks shown)) = (name ≡ codes "forget") × LacksBeginning shown.now behind
 IsLacking before behind name (reads.Misused misuse) = ⊥
 IsLacking before behind name (reads.Needed Index) = NeedsIndex name behind × (index_of before behind ≡ None)
 IsLacking before behind name (reads.Needed Environment) = NeedsEnvironment name behind × IsSome (index_of before behind) × (environments_of before behind ≡ [])

@@ -4,7 +4,7 @@ ghost use Rattle.std.specs.Prelude.{◌≡◌, ◌&&◌, codes, not};
 ghost use Rattle.std.specs.Str.{bytes_eq};
 ghost use Rattle.clap.specs.Words.{found_of, rows_of};
 ghost use Rattle.command_line.specs.Marks.{first_marked, first_of_two};
-ghost use Rattle.command_line.specs.Misuses.{excluded, has_lines, has_old_or_line, is_given, is_replacement, lines_marks, missing_marks, question_marks, shown_marks, verbosity_marks};
+ghost use Rattle.command_line.specs.Misuses.{beginning_marks, excluded, has_lines, has_old_or_line, is_given, is_replacement, lines_marks, missing_marks, question_marks, shown_marks, verbosity_marks};
 ghost use Rattle.command_line.specs.Options.{has_flag, text_of};
 
 use crate::marks::{first_marked, first_of_two};
@@ -16,7 +16,8 @@ pub(crate) fn excluded(before: &ArgMatches<'_>, behind: &ArgMatches<'_>) -> Opti
     ensures { text_of result ≡ excluded (rows_of (found_of before.now))
         (rows_of (found_of behind.now)) }
 {
-    let other = excluded_question(behind).or(excluded_lines(behind));
+    let lines = excluded_lines(behind).or(excluded_beginning(behind));
+    let other = excluded_question(behind).or(lines);
     excluded_verbosity(before, behind).or(excluded_shown(behind).or(other))
 }
 
@@ -61,6 +62,15 @@ fn excluded_lines(behind: &ArgMatches<'_>) -> Option<&'static str>
         ("--replace [<NEW>]", has_value(behind, "replace")),
         ("--was <OLD>", is_given(behind, "was")),
         ("--line <NAME> <TEXT>", is_given(behind, "line")),
+    ])
+}
+
+fn excluded_beginning(behind: &ArgMatches<'_>) -> Option<&'static str>
+    ensures { text_of result ≡ first_of_two (beginning_marks (rows_of (found_of behind.now))) }
+{
+    first_of_two(&[
+        ("--before <N>", is_given(behind, "before")),
+        ("--keep <N>", is_given(behind, "keep")),
     ])
 }
 

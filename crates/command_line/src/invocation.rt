@@ -6,7 +6,7 @@ use lists::{Seq, Text};
 /// What the words of the command line mean. The texts are those of the words.
 #[derive(Drop)]
 pub struct Invocation<'a> {
-    /// The folder of the three files.
+    /// The folder of the requirements file, the locks and the journal.
     pub dir: &'a str,
     pub verbosity: Verbosity,
     pub color: ColorChoice,
@@ -43,6 +43,8 @@ pub enum Subcommand<'a> {
     Replace(Replacement<'a>, EditInputs<'a>, Saving),
     Undo(Saving),
     Redo(Saving),
+    /// Has the history begin with a later state.
+    Forget(Beginning, Saving),
     /// Does the commands of standard input over an index, and saves; all of them or none, or each by itself.
     Batch(EditInputs<'a>, bool),
     /// Does them on the state that `Init` would begin with, and saves nothing.
@@ -53,8 +55,8 @@ pub enum Subcommand<'a> {
     Log(bool, Format),
     /// Prints what changed between two places of the history.
     Diff(DiffRange, Format),
-    /// Tells whether the three files belong together; with an index, also whether a relock over it
-    /// would change an entry.
+    /// Tells whether requirements file, locks and journal belong together; with an index, also whether a
+    /// relock over it would change an entry.
     Check(Option<&'a str>, Format),
     /// Prints which locked releases have newer ones in this index.
     Outdated(&'a str, Format),
@@ -105,7 +107,7 @@ pub struct EditInputs<'a> {
     pub only_if_needed: bool,
 }
 
-/// Whether a first lock, an edit or a step is saved.
+/// Whether a first lock, an edit, a step or a shorter history is saved.
 #[derive(Clone, Copy, Debug, PartialEq, Eq)]
 pub enum Saving {
     Save,
@@ -132,6 +134,15 @@ pub enum Shown<'a> {
     Tree,
 }
 
+/// Where a history is to begin.
+#[derive(Clone, Copy, Debug, PartialEq, Eq)]
+pub enum Beginning {
+    /// At this place.
+    At(usize),
+    /// So many states before the present one.
+    Back(usize),
+}
+
 /// Two places of the history.
 #[derive(Clone, Copy, Debug, PartialEq, Eq)]
 pub enum DiffRange {
@@ -144,12 +155,14 @@ pub enum DiffRange {
 }
 
 /// How a lock is printed for another tool.
-#[derive(Clone, Copy, Debug, PartialEq, Eq)]
+#[derive(Debug, Drop)]
 pub struct Export<'a> {
     pub format: ExportFormat,
     /// The name of the target whose lock it is, where one is given.
     pub target: Option<&'a str>,
     pub index: Option<&'a str>,
+    /// The files of environments that are asked about, in their order; where there are some no lock is printed.
+    pub covers: Seq<Text>,
 }
 
 /// The form of a lock.

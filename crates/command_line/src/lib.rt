@@ -11,6 +11,7 @@
 #![tactic(auto)]
 
 mod arguments;
+mod beginning;
 mod command_words;
 mod descriptions;
 mod edit_words;

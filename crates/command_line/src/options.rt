@@ -152,7 +152,16 @@ fn takes_dry_run(subcommand: &str) -> bool
 {
     matches!(
         subcommand,
-        "init" | "add" | "remove" | "constrain" | "upgrade" | "relock" | "replace" | "undo" | "redo"
+        "init"
+            | "add"
+            | "remove"
+            | "constrain"
+            | "upgrade"
+            | "relock"
+            | "replace"
+            | "undo"
+            | "redo"
+            | "forget"
     )
 }
 

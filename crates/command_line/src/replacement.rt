@@ -2,6 +2,7 @@
 
 ghost use Rattle.std.specs.Prelude.{◌≡◌, map, IfOk};
 ghost use Rattle.clap.specs.Words.{found_of, rows_of};
+ghost use Rattle.command_line.specs.Options.{values_in};
 ghost use Rattle.command_line.specs.Questions.{text_at};
 ghost use Rattle.command_line.specs.Subcommands.{HasNewLines, IsReplacement, pins_of};
 
@@ -40,16 +41,28 @@ fn read_new_lines<'a>(behind: &ArgMatches<'a>, new: &str) -> NewLines<'a>
 }
 
 /// One of the texts, or the empty one where there is none.
-pub(crate) fn text_at<'a>(texts: &[&'a str], place: usize) -> &'a str
-    ensures text { result.now ≡ text_at (map (λ s. s.now) texts.now) place }
+pub(crate) fn text_at<'a>(texts: &[&'a str], position: usize) -> &'a str
+    ensures text { result.now ≡ text_at (map (λ s. s.now) texts.now) position }
 {
-    texts.get(place).copied().unwrap_or("")
+    texts.get(position).copied().unwrap_or("")
+}
+
+/// The values of an option, as they stand behind the subcommand.
+pub(crate) fn values_of(
+    alloc: Global,
+    behind: &ArgMatches<'_>,
+    name: &str,
+) -> Result<Seq<Text>, AllocError>
+    ensures { IfOk result
+        (λ values. values ≡ values_in (rows_of (found_of behind.now)) name.now) }
+{
+    let values = with_values(alloc, Vec::new(alloc), behind, name)?;
+    Ok(Seq::from_vec(values))
 }
 
 /// The values of `--pins`.
 pub(crate) fn read_pins(alloc: Global, behind: &ArgMatches<'_>) -> Result<Seq<Text>, AllocError>
     ensures { IfOk result (λ pins. pins ≡ pins_of (rows_of (found_of behind.now))) }
 {
-    let pins = with_values(alloc, Vec::new(alloc), behind, "pins")?;
-    Ok(Seq::from_vec(pins))
+    values_of(alloc, behind, "pins")
 }

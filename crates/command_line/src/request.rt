@@ -9,8 +9,8 @@ ghost use Rattle.command_line.specs.Requests.{IsFault, IsReadAs, IsRequest, IsUn
 use crate::command_words::command;
 use crate::exclusion::{excluded, missing};
 pub use crate::invocation::{
-    ColorChoice, DiffRange, EditInputs, Export, ExportFormat, Format, Inputs, Invocation, NewLines,
-    Question, Replacement, Saving, Shown, Subcommand, Told, Verbosity,
+    Beginning, ColorChoice, DiffRange, EditInputs, Export, ExportFormat, Format, Inputs,
+    Invocation, NewLines, Question, Replacement, Saving, Shown, Subcommand, Told, Verbosity,
 };
 use crate::manner::{color, unknown_color, unknown_format, verbosity};
 use crate::misuse::{Misuse, ReadFault, told};

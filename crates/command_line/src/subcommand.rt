@@ -7,6 +7,7 @@ ghost use Rattle.command_line.specs.Options.{has_flag, json_takers};
 ghost use Rattle.command_line.specs.Subcommands.{HasEditInputs, HasInputs, IsSubcommand, IsChecked, IsExport, IsPlace, IsRange, IsShown, export_format_of, format_named, format_of, index_of, saving_of, told_of};
 ghost use Rattle.command_line.specs.UsageFaults.{HasNoPlace, IsLacking, IsNoNumber, LacksIndex, LacksInput};
 
+use crate::beginning::read_beginning;
 use crate::edit_words::read_edit;
 use crate::invocation::{
     DiffRange, EditInputs, Export, ExportFormat, Format, Inputs, Saving, Shown, Subcommand, Told,
@@ -14,10 +15,10 @@ use crate::invocation::{
 use crate::misuse::{Misuse, ReadFault};
 use crate::options::{all_chosen, chosen, has_flag, is_flagged, value};
 use crate::question::read_question;
-use crate::replacement::{read_pins, read_replacement};
+use crate::replacement::{read_pins, read_replacement, values_of};
 use crate::usage::NeededOption;
 use clap::ArgMatches;
-use std::alloc::Global;
+use std::alloc::{AllocError, Global};
 
 /// The subcommand of this name, with what stands before it and behind it.
 pub(crate) fn read_subcommand<'a>(
@@ -58,9 +59,13 @@ pub(crate) fn read_subcommand<'a>(
             let inputs = needed_edit_inputs(before, behind)?;
             Ok(Subcommand::Replace(replacement, inputs, saving(before, behind)))
         }
-        "export" => Ok(Subcommand::Export(export(before, behind))),
+        "export" => Ok(Subcommand::Export(export(alloc, before, behind)?)),
         "undo" => Ok(Subcommand::Undo(saving(before, behind))),
         "redo" => Ok(Subcommand::Redo(saving(before, behind))),
+        "forget" => {
+            let beginning = read_beginning(behind)?;
+            Ok(Subcommand::Forget(beginning, saving(before, behind)))
+        }
         _ => Err(ReadFault::Misused(Misuse::NoSubcommand)),
     }
 }
@@ -100,14 +105,20 @@ fn saving(before: &ArgMatches<'_>, behind: &ArgMatches<'_>) -> Saving
 }
 
 /// In which form a lock is printed; where the value is unknown, as where none is given.
-fn export<'a>(before: &ArgMatches<'a>, behind: &ArgMatches<'a>) -> Export<'a>
-    ensures { IsExport (rows_of (found_of before.now)) (rows_of (found_of behind.now)) result }
+fn export<'a>(
+    alloc: Global,
+    before: &ArgMatches<'a>,
+    behind: &ArgMatches<'a>,
+) -> Result<Export<'a>, AllocError>
+    ensures { IfOk result
+        (IsExport (rows_of (found_of before.now)) (rows_of (found_of behind.now))) }
 {
-    Export {
+    Ok(Export {
         format: export_format(behind),
         target: value(behind, "target"),
         index: chosen(before, behind, "index"),
-    }
+        covers: values_of(alloc, behind, "covers")?,
+    })
 }
 
 fn export_format(behind: &ArgMatches<'_>) -> ExportFormat
@@ -178,7 +189,7 @@ fn read_range<'a>(behind: &ArgMatches<'a>) -> Result<DiffRange, ReadFault<'a>>
 }
 
 /// The place of the history that a text names, of an argument as help shows it.
-fn read_place<'a>(text: &'a str, shown: &'static str) -> Result<usize, ReadFault<'a>>
+pub(crate) fn read_place<'a>(text: &'a str, shown: &'static str) -> Result<usize, ReadFault<'a>>
     ensures place { IfOk result (λ place. IsPlace place text.entry.now) }
     ensures fault { IfErr result (IsNoNumber text.entry shown.entry) }
 {

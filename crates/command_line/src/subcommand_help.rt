@@ -103,6 +103,15 @@ pub(crate) const REDO: Help<'static> = Help {
     shows_environment: false,
 };
 
+/// Of `forget`.
+pub(crate) const FORGET: Help<'static> = Help {
+    about: "Take the first steps out of the history; the present state stays",
+    example: "Example: reqlock forget --keep 50",
+    shows_dir: true,
+    shows_index: false,
+    shows_environment: false,
+};
+
 /// Of `batch`.
 pub(crate) const BATCH: Help<'static> = Help {
     about: "Do the commands of standard input, and save at its end",
@@ -159,7 +168,7 @@ pub(crate) const OUTDATED: Help<'static> = Help {
 
 /// Of `check`.
 pub(crate) const CHECK: Help<'static> = Help {
-    about: "Tell whether the three files belong together; change nothing",
+    about: "Tell whether requirements, locks and journal belong together; change nothing",
     example: "Example: reqlock check --current --index index.json",
     shows_dir: true,
     shows_index: true,

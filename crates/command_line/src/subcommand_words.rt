@@ -5,8 +5,8 @@ use crate::descriptions::ArgWords::{
 };
 use crate::descriptions::{ArgWords, SubcommandWords};
 use crate::subcommand_help::{
-    ADD, BATCH, CHECK, CONSTRAIN, DIFF, EXPORT, INIT, LOG, OUTDATED, REDO, RELOCK, REMOVE, REPLACE,
-    SHOW, SKIPPED, TRY, UNDO, UPGRADE, WHY,
+    ADD, BATCH, CHECK, CONSTRAIN, DIFF, EXPORT, FORGET, INIT, LOG, OUTDATED, REDO, RELOCK, REMOVE,
+    REPLACE, SHOW, SKIPPED, TRY, UNDO, UPGRADE, WHY,
 };
 
 // Of an edit, or of its question.
@@ -21,7 +21,7 @@ const IF_NEEDED: ArgWords<'static> = Flag(
     "Answer same, and save nothing, where only the index would change",
 );
 
-// Of a first lock, an edit or a step.
+// Of a first lock, an edit, a step or a shorter history.
 const DRY_RUN: ArgWords<'static> = Flag("dry-run", "Save nothing; print what would change");
 
 // Of what is printed.
@@ -69,7 +69,7 @@ pub(crate) const TELLING: [ArgWords<'static>; 3] = [
 ];
 
 /// All subcommands, in the order of the program's help.
-pub(crate) const SUBCOMMANDS: [SubcommandWords<'static>; 19] = [
+pub(crate) const SUBCOMMANDS: [SubcommandWords<'static>; 20] = [
     SubcommandWords {
         name: "init",
         help: INIT,
@@ -150,6 +150,19 @@ pub(crate) const SUBCOMMANDS: [SubcommandWords<'static>; 19] = [
         name: "redo",
         help: REDO,
         args: &[DRY_RUN],
+    },
+    SubcommandWords {
+        name: "forget",
+        help: FORGET,
+        args: &[
+            Valued("before", "N", "Begin the history at this place"),
+            Valued(
+                "keep",
+                "N",
+                "Begin it so many states before the present one",
+            ),
+            DRY_RUN,
+        ],
     },
     SubcommandWords {
         name: "batch",
@@ -233,6 +246,13 @@ pub(crate) const SUBCOMMANDS: [SubcommandWords<'static>; 19] = [
                 "hashes, dot or pylock [default: hashes]",
             ),
             Valued("target", "NAME", "The target whose lock it is"),
+            Ranged(
+                "covers",
+                &["FILE"],
+                1,
+                usize::MAX,
+                "With --format pylock, tell which targets hold in these environments",
+            ),
         ],
     },
     SubcommandWords {

@@ -20,8 +20,8 @@ use Rattle.commands.specs.declared.batch_line.Item.{Item}
 use Rattle.commands.specs.declared.batch_line.Item.TheVariants.{Edit, Undo, Redo, BadCommand}
 use Rattle.commands.specs.BatchLine.{Line, item_of, ended_item_of, commands_of, ended_commands_of, input_lines_of, IsUnbroken, IsEdit}
 use Rattle.commands.specs.Replies.{text_of_reply, reply_text}
-use Rattle.commands.specs.declared.batch.BatchFault.{BatchFault}
-use Rattle.commands.specs.declared.batch.BatchFault.TheVariants.{OutOfMemory}
+use Rattle.commands.specs.declared.batch.StreamFault.{StreamFault}
+use Rattle.commands.specs.declared.batch.StreamFault.TheVariants.{OutOfMemory}
 use Rattle.commands.specs.Faults.{IsOfSink}
 use Rattle.commands.specs.Runs.{command_in, replies_of, Replied, Answered, AnsweredTo, IsCutOff, BreaksOff, Ends, EndsAt, SomeDone, SomeDoneTo, EndsInReading, EndsInWriting}
 use Rattle.commands.specs.Tied.Standings.{Standing, Advances, Answers, AnswersAllBut, ReadsOf, Reads, Breaks, SomeAdvance}
@@ -179,7 +179,7 @@ breaks_line (Err e) pool items reply old new before after replied cut =
     record { told = []; last = reply; replied = replied; front = cut.front; missing = cut.missing; last_is = cut.text_is; is_missing = cut.is_missing; written = cut.written }
 
 -- a reply to one line, written whole or in part
-pub answers_sent : {T : Type 0} (result : Result T BatchFault) (pool : Pool) (items : List Item) (reply : Reply) (old new : HistoryParts) (before after : Option (List ℕ)) (had has : Tally) (failed : Bool)
+pub answers_sent : {T : Type 0} (result : Result T StreamFault) (pool : Pool) (items : List Item) (reply : Reply) (old new : HistoryParts) (before after : Option (List ℕ)) (had has : Tally) (failed : Bool)
     → Replied pool items (reply ∷ []) old new → OnOk result (Appends before after (text_of_reply reply)) → OnOk result (has ≡ with_reply had reply) → OnErr result (IsCutOff (text_of_reply reply) before after) → IsOfSink result failed
     → Answers result pool items (record { history = old; written = before; tally = had }) (record { history = new; written = after; tally = has }) failed
 answers_sent result pool items reply old new before after had has failed replied written counted cut sink =
@@ -432,7 +432,7 @@ last_write pool (Some input) (Some rest) pending old next new after reads end la
       breaks_off = breaks_append pool done (commands_of pending) old next new after reads.answers.advances last;
     }
 
-pub ends_in_last : {T : Type 0} (result : Result T BatchFault) (pool : Pool) (had now : Option (List ℕ)) (pending : List ℕ) (old next new : Standing) (source_failed sink_failed : Bool)
+pub ends_in_last : {T : Type 0} (result : Result T StreamFault) (pool : Pool) (had now : Option (List ℕ)) (pending : List ℕ) (old next new : Standing) (source_failed sink_failed : Bool)
     → Reads pool had pending now old next → IsAtEnd now → source_failed ≡ false → Answers result pool (commands_of pending) next new sink_failed
     → Ends result pool had now source_failed old.history new.history old.written new.written sink_failed
 ends_in_last (Ok value) pool had now pending old next new source_failed sink_failed reads end unfailed last =
@@ -479,7 +479,7 @@ advances_empty pool [] old empty = advances_none pool old
 advances_empty pool (b ∷ bs) old empty = absurd (omega arith)
 
 -- a last line without an LF
-pub answers_last : {T : Type 0} (result : Result T BatchFault) (pool : Pool) (pending : List ℕ) (old new : Standing) (failed : Bool) → IsUnbroken pending → 0 < length pending
+pub answers_last : {T : Type 0} (result : Result T StreamFault) (pool : Pool) (pending : List ℕ) (old new : Standing) (failed : Bool) → IsUnbroken pending → 0 < length pending
     → Answers result pool (option_to_list (item_of (record { bytes = pending; is_ended = false }))) old new failed → Answers result pool (commands_of pending) old new failed
 answers_last result pool pending old new failed unbroken long answers =
     let P : List Item → Type 0 = λ items. Answers result pool items old new failed in subst P (sym (commands_last pending unbroken long)) answers

@@ -9,8 +9,8 @@ use Rattle.journal.specs.declared.commands.Reply.TheVariants.{Refused}
 use Rattle.journal.specs.Changes.{HistoryParts}
 use Rattle.journal.specs.Commands.{Asked, Editing, Undoing, Redoing}
 use Rattle.journal.specs.Histories.{RunWithChanges}
-use Rattle.commands.specs.declared.batch.BatchFault.{BatchFault}
-use Rattle.commands.specs.declared.batch.BatchFault.TheVariants.{Read, Write, OutOfMemory}
+use Rattle.commands.specs.declared.batch.StreamFault.{StreamFault}
+use Rattle.commands.specs.declared.batch.StreamFault.TheVariants.{Read, Write, OutOfMemory}
 use Rattle.commands.specs.declared.batch_end.BatchEnd.{BatchEnd}
 use Rattle.commands.specs.declared.batch_line.Item.{Item}
 use Rattle.commands.specs.declared.batch_line.Item.TheVariants.{Edit, Undo, Redo, BadCommand}
@@ -91,14 +91,14 @@ pub record EndsInWriting (pool : Pool) (input : List ℕ) (old new : HistoryPart
   pub breaks_off : BreaksOff pool done old new before after
 
 -- what is done where a batch ends at a fault, of an input of which these bytes are left
-abbrev pub EndsAt : BatchFault → Pool → List ℕ → Option (List ℕ) → HistoryParts → HistoryParts → Option (List ℕ) → Option (List ℕ) → Type 0
+abbrev pub EndsAt : StreamFault → Pool → List ℕ → Option (List ℕ) → HistoryParts → HistoryParts → Option (List ℕ) → Option (List ℕ) → Type 0
 EndsAt Read pool input left old new before after = EndsInReading pool input left old new before after
 EndsAt Write pool input left old new before after = EndsInWriting pool input old new before after
 EndsAt OutOfMemory pool input left old new before after = (new ≡ old) × (after ≡ before) × (left ≡ Some input)
 
 -- how a batch ends that begins where no call on its streams has failed: whatever the streams hold, some commands were done;
 -- without a fault all was read; the source has failed where the fault is `Read`, the sink where it is `Write`, and else neither
-pub record Ends {T : Type 0} (result : Result T BatchFault) (pool : Pool) (had rest : Option (List ℕ)) (source_failed : Bool) (old new : HistoryParts) (before after : Option (List ℕ)) (sink_failed : Bool) : Type 0 where
+pub record Ends {T : Type 0} (result : Result T StreamFault) (pool : Pool) (had rest : Option (List ℕ)) (source_failed : Bool) (old new : HistoryParts) (before after : Option (List ℕ)) (sink_failed : Bool) : Type 0 where
   pub done : SomeDone pool old new
   pub end : OnOk result (IsAtEnd rest)
   pub source : source_failed ≡ is_failed_read result

@@ -9,7 +9,7 @@ ghost use Rattle.commands.specs.Replies.{text_of_reply};
 ghost use Rattle.commands.specs.Runs.{Answered, AnsweredTo, Ends, IsCutOff, Replied, SomeDoneTo};
 ghost use Rattle.commands.specs.Tied.Standings.{Advances, Answers, AnswersAllBut, Breaks, Reads, SomeAdvance, standing};
 ghost use Rattle.commands.specs.Tied.Tallies.{with_reply};
-ghost use Rattle.commands.specs.declared.batch.BatchFault.TheVariants.{OutOfMemory};
+ghost use Rattle.commands.specs.declared.batch.StreamFault.TheVariants.{OutOfMemory};
 
 use crate::batch_end::{BatchEnd, Tally};
 use crate::batch_line::{Item, read_item};
@@ -25,22 +25,22 @@ use std::alloc::{AllocError, Global};
 // How many bytes one read takes at most.
 const PIECE: usize = 8192;
 
-/// Why a batch ended before the end of its input.
+/// Why a call ends before all that it reads was read, or all that it writes was written.
 #[derive(Clone, Copy, Debug, PartialEq, Eq)]
-pub enum BatchFault {
+pub enum StreamFault {
     /// The source failed.
     Read,
     /// The sink failed or took no bytes.
     Write,
-    /// There was no memory for the buffers. No command was done.
+    /// There was no memory. Of a batch no command was done.
     OutOfMemory,
 }
 
-impl From<AllocError> for BatchFault {
+impl From<AllocError> for StreamFault {
     ghost from_gives = { λ _ e. e ≡ OutOfMemory };
 
-    fn from(_error: AllocError) -> BatchFault {
-        BatchFault::OutOfMemory
+    fn from(_error: AllocError) -> StreamFault {
+        StreamFault::OutOfMemory
     }
 }
 
@@ -66,7 +66,7 @@ pub fn batch<S: Source, K: Sink>(
     sink: &mut K,
     session: &mut Session,
     pool: &Pool<'_>,
-) -> Result<(), BatchFault>
+) -> Result<(), StreamFault>
     requires source { S.has_failed source.old ≡ false }
     requires sink { K.has_failed sink.old ≡ false }
     // What was written is the text of the replies of a run over the commands of the input.
@@ -78,7 +78,7 @@ pub fn batch<S: Source, K: Sink>(
         (S.has_failed source.new) session.old session.new
         (K.contents sink.old) (K.contents sink.new) (K.has_failed sink.new) }
     // Want of memory comes before all else.
-    ensures memory { result ≡ Err BatchFault.OutOfMemory
+    ensures memory { result ≡ Err StreamFault.OutOfMemory
         → (session.new ≡ session.old) × (sink.new ≡ sink.old) × (source.new ≡ source.old) }
 {
     match batch_to_its_end(alloc, source, sink, session, pool, false) {
@@ -96,7 +96,7 @@ pub fn batch_to_its_end<S: Source, K: Sink>(
     session: &mut Session,
     pool: &Pool<'_>,
     is_all_or_none: bool,
-) -> Result<BatchEnd, BatchFault>
+) -> Result<BatchEnd, StreamFault>
     requires source { S.has_failed source.old ≡ false }
     requires sink { K.has_failed sink.old ≡ false }
     ensures answered { IfOk result (λ end. IfSome (S.remaining source.old) (λ input.
@@ -109,7 +109,7 @@ pub fn batch_to_its_end<S: Source, K: Sink>(
     ensures ends { Ends result pool.now (S.remaining source.old) (S.remaining source.new)
         (S.has_failed source.new) session.old session.new
         (K.contents sink.old) (K.contents sink.new) (K.has_failed sink.new) }
-    ensures memory { result ≡ Err BatchFault.OutOfMemory
+    ensures memory { result ≡ Err StreamFault.OutOfMemory
         → (session.new ≡ session.old) × (sink.new ≡ sink.old) × (source.new ≡ source.old) }
 {
     let text = ReplyText::new(alloc)?;
@@ -149,7 +149,7 @@ fn answer_all<S: Source, K: Sink>(
     sink: &mut K,
     session: &mut Session,
     pool: &Pool<'_>,
-) -> Result<(), BatchFault>
+) -> Result<(), StreamFault>
     requires piece { 0 < length piece.old }
     requires pending { batch.old.pending ≡ [] }
     requires source { S.has_failed source.old ≡ false }
@@ -164,7 +164,7 @@ fn answer_all<S: Source, K: Sink>(
     ensures ends { Ends result pool.now (S.remaining source.old) (S.remaining source.new)
         (S.has_failed source.new) session.old session.new
         (K.contents sink.old) (K.contents sink.new) (K.has_failed sink.new) }
-    ensures memory { IfErr result (λ e. e ≢ BatchFault.OutOfMemory) }
+    ensures memory { IfErr result (λ e. e ≢ StreamFault.OutOfMemory) }
 {
     answer_lines(batch, source, piece, sink, session, pool)?;
     answer_last(batch, sink, session, pool)
@@ -176,7 +176,7 @@ fn answer_last<K: Sink>(
     sink: &mut K,
     session: &mut Session,
     pool: &Pool<'_>,
-) -> Result<(), BatchFault>
+) -> Result<(), StreamFault>
     requires { K.has_failed sink.old ≡ false }
     ensures { Answers result pool.now (commands_of batch.old.pending)
         (standing session.old (K.contents sink.old) batch.old.tally)
@@ -198,7 +198,7 @@ fn answer_lines<S: Source, K: Sink>(
     sink: &mut K,
     session: &mut Session,
     pool: &Pool<'_>,
-) -> Result<(), BatchFault>
+) -> Result<(), StreamFault>
     requires piece { 0 < length piece.old }
     requires pending { batch.old.pending ≡ [] }
     requires source { S.has_failed source.old ≡ false }
@@ -210,7 +210,7 @@ fn answer_lines<S: Source, K: Sink>(
     ensures ends { Ends result pool.now (S.remaining source.old) (S.remaining source.new)
         (S.has_failed source.new) session.old session.new
         (K.contents sink.old) (K.contents sink.new) (K.has_failed sink.new) }
-    ensures memory { IfErr result (λ e. e ≢ BatchFault.OutOfMemory) }
+    ensures memory { IfErr result (λ e. e ≢ StreamFault.OutOfMemory) }
 {
     'pieces: loop {
         let count = match read_piece(source, piece) {
@@ -224,7 +224,7 @@ fn answer_lines<S: Source, K: Sink>(
     }
 }
 
-fn read_piece<S: Source>(source: &mut S, piece: &mut [u8]) -> Result<usize, BatchFault>
+fn read_piece<S: Source>(source: &mut S, piece: &mut [u8]) -> Result<usize, StreamFault>
     requires { S.has_failed source.old ≡ false }
     ensures bound { IfOk result (λ n. n ≤ length piece.new) }
     ensures bytes { IfOk result (λ n.
@@ -233,12 +233,12 @@ fn read_piece<S: Source>(source: &mut S, piece: &mut [u8]) -> Result<usize, Batc
         n ≡ 0 → 0 < length piece.new → IsAtEnd (S.remaining source.new)) }
     ensures calls { OnOk result (S.calls_left source.new < S.calls_left source.old) }
     ensures failure { S.has_failed source.new ≡ is_err result }
-    ensures fault { IfErr result (λ e. e ≡ BatchFault.Read) }
+    ensures fault { IfErr result (λ e. e ≡ StreamFault.Read) }
     ensures kept { OnErr result (Keeps (S.remaining source.old) (S.remaining source.new)) }
 {
     match source.read(piece) {
         Ok(count) => Ok(count),
-        Err(_) => Err(BatchFault::Read),
+        Err(_) => Err(StreamFault::Read),
     }
 }
 
@@ -249,7 +249,7 @@ fn answer_piece<K: Sink>(
     sink: &mut K,
     session: &mut Session,
     pool: &Pool<'_>,
-) -> Result<(), BatchFault>
+) -> Result<(), StreamFault>
     requires { K.has_failed sink.old ≡ false }
     ensures answers { OnOk result (AnswersAllBut pool.now
         (batch.old.pending ++ piece.now) batch.new.pending
@@ -301,7 +301,7 @@ fn answer_line<K: Sink>(
     sink: &mut K,
     session: &mut Session,
     pool: &Pool<'_>,
-) -> Result<(), BatchFault>
+) -> Result<(), StreamFault>
     requires { K.has_failed sink.old ≡ false }
     ensures { Answers result pool.now
         (option_to_list (item_of (record { bytes = batch.old.pending; is_ended = is_ended })))
@@ -328,7 +328,7 @@ fn next_line(batch: &BatchState) -> usize {
 }
 
 /// Writes a reply.
-fn send<K: Sink>(batch: &mut BatchState, reply: Reply, sink: &mut K) -> Result<(), BatchFault>
+fn send<K: Sink>(batch: &mut BatchState, reply: Reply, sink: &mut K) -> Result<(), StreamFault>
     requires { K.has_failed sink.old ≡ false }
     ensures reply { OnOk result
         (Appends (K.contents sink.old) (K.contents sink.new) (text_of_reply reply)) }
@@ -354,7 +354,7 @@ fn reply_to(alloc: Global, item: Item, session: &mut Session, pool: &Pool<'_>) -
 }
 
 /// Writes all of the bytes, in as many calls as it takes.
-pub(crate) fn write_all<K: Sink>(sink: &mut K, bytes: &[u8]) -> Result<(), BatchFault>
+pub(crate) fn write_all<K: Sink>(sink: &mut K, bytes: &[u8]) -> Result<(), StreamFault>
     requires { K.has_failed sink.old ≡ false }
     ensures bytes { OnOk result (Appends (K.contents sink.old) (K.contents sink.new) bytes.now) }
     ensures cut_off { OnErr result
@@ -364,7 +364,7 @@ pub(crate) fn write_all<K: Sink>(sink: &mut K, bytes: &[u8]) -> Result<(), Batch
     let mut rest = bytes;
     while !rest.is_empty() {
         match sink.write(rest) {
-            Ok(0) | Err(_) => return Err(BatchFault::Write),
+            Ok(0) | Err(_) => return Err(StreamFault::Write),
             Ok(count) => rest = rest.split_at(count).1,
         }
     }

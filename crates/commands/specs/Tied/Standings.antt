@@ -4,7 +4,7 @@ use Rattle.std.specs.Io.KnownBytes.{Appends}
 use Rattle.states.specs.declared.pool.Pool.{Pool}
 use Rattle.journal.specs.declared.commands.Reply.{Reply}
 use Rattle.journal.specs.Changes.{HistoryParts}
-use Rattle.commands.specs.declared.batch.BatchFault.{BatchFault}
+use Rattle.commands.specs.declared.batch.StreamFault.{StreamFault}
 use Rattle.commands.specs.declared.batch_end.Tally.{Tally}
 use Rattle.commands.specs.declared.batch_line.Item.{Item}
 use Rattle.commands.specs.BatchLine.{commands_of, ended_commands_of, IsUnbroken}
@@ -32,7 +32,7 @@ abbrev pub SomeAdvance : Pool → Standing → Standing → Type 0
 SomeAdvance pool old new = (items : List Item) × Advances pool items old new
 
 -- the items were answered, or the sink has failed and the reply to the last of them breaks off
-pub record Answers {T : Type 0} (result : Result T BatchFault) (pool : Pool) (items : List Item) (old new : Standing) (sink_failed : Bool) : Type 0 where
+pub record Answers {T : Type 0} (result : Result T StreamFault) (pool : Pool) (items : List Item) (old new : Standing) (sink_failed : Bool) : Type 0 where
   pub advances : OnOk result (Advances pool items old new)
   pub breaks : OnErr result (BreaksOff pool items old.history new.history old.written new.written)
   pub sink : IsOfSink result sink_failed

@@ -6,6 +6,7 @@ use Rattle.command_line.proofs.exclusion.excluded.Goals as goal
 
 pub returns : goal.returns
 returns c =
-    let other = ap text_of c.or-other.ensures ∙ text_of_either _ _ ∙ ap₂ option_or c.excluded_question.ensures c.excluded_lines.ensures in
+    let lines = ap text_of c.or-lines.ensures ∙ text_of_either _ _ ∙ ap₂ option_or c.excluded_lines.ensures c.excluded_beginning.ensures in
+    let other = ap text_of c.or-other.ensures ∙ text_of_either _ _ ∙ ap₂ option_or c.excluded_question.ensures lines in
     let shown = ap text_of c.or.ensures ∙ text_of_either _ _ ∙ ap₂ option_or c.excluded_shown.ensures other in
     ap text_of c.or-2.ensures ∙ text_of_either _ _ ∙ ap₂ option_or c.excluded_verbosity.ensures shown

@@ -44,4 +44,4 @@ returns-in_default-name-clause-fault c =
     let P : Option Subcommand → Type 0 = λ view. MatchOption view (AllByRecursion (λ known. c.args.name.now ≢ known) json_takers) (IsSubcommand before behind c.args.name.now) in
     let views = subst P c.in_default-2.is c.in_ok-view.ensures.subcommand in
     let d = c.in_default-name in
-    (sym c.in_ok-edit.ensures.edit ∙ c.in_default.is, (d.not-init, (d.not-replace, (d.not-undo, (d.not-redo, (d.not-batch, (d.not-try, (views.0, (views.1.0, (views.1.1.0, (views.1.1.1.0, (views.1.1.1.1.0, (d.not-export, (d.not-skipped, (d.not-why, tt)))))))))))))))
+    (sym c.in_ok-edit.ensures.edit ∙ c.in_default.is, (d.not-init, (d.not-replace, (d.not-undo, (d.not-redo, (d.not-forget, (d.not-batch, (d.not-try, (views.0, (views.1.0, (views.1.1.0, (views.1.1.1.0, (views.1.1.1.1.0, (d.not-export, (d.not-skipped, (d.not-why, tt))))))))))))))))
