@@ -59,9 +59,9 @@ fn is_page(text: &str) -> bool {
 
 /// The number of the first line that is a mark of a conflict, as git leaves them.
 pub fn conflict_line(text: &str) -> Option<usize> {
-    for (place, line) in text.lines().enumerate() {
+    for (position, line) in text.lines().enumerate() {
         if is_conflict_mark(line) {
-            return Some(place.saturating_add(1));
+            return Some(position.saturating_add(1));
         }
     }
     None

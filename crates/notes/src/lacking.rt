@@ -21,9 +21,9 @@ pub(crate) enum Extent {
 #[derive(Drop)]
 pub(crate) struct Lack<'a> {
     pub(crate) node: &'a Node,
-    /// The places of the releases of the node's name that need such packages, newest first; none where the index has no package of
+    /// The positions of the releases of the node's name that need such packages, newest first; none where the index has no package of
     /// that name.
-    pub(crate) places: Vec<usize>,
+    pub(crate) positions: Vec<usize>,
     /// The packages that these need, and that the index hasn't.
     pub(crate) packages: Vec<&'a Name>,
 }
@@ -55,11 +55,11 @@ pub(crate) fn lacks_of<'a>(
     };
     let mut found = Vec::new(alloc);
     for node in nodes {
-        let places = sought.lacking_places(alloc, node, extent)?;
-        if !places.is_empty() || sought.lacks_name(node)? {
+        let positions = sought.lacking_positions(alloc, node, extent)?;
+        if !positions.is_empty() || sought.lacks_name(node)? {
             found.push(Lack {
                 node,
-                places,
+                positions,
                 packages: Vec::new(alloc),
             })?;
         }
@@ -118,8 +118,8 @@ impl<'a> Sought<'a> {
         Ok(false)
     }
 
-    /// The places of the releases of a node's name that need at the node what the index lacks.
-    fn lacking_places(
+    /// The positions of the releases of a node's name that need at the node what the index lacks.
+    fn lacking_positions(
         &mut self,
         alloc: Global,
         node: &Node,
@@ -131,13 +131,13 @@ impl<'a> Sought<'a> {
             (Extent::Newer, Some(locked)) => newer_count(releases, locked),
             _ => releases.len(),
         };
-        let mut places = Vec::new(alloc);
-        for (place, release) in releases.iter().enumerate().take(count) {
+        let mut positions = Vec::new(alloc);
+        for (position, release) in releases.iter().enumerate().take(count) {
             if self.needs_lacking(node, release)? {
-                places.push(place)?;
+                positions.push(position)?;
             }
         }
-        Ok(places)
+        Ok(positions)
     }
 
     /// What is left of the lacks with the releases that all admit that ask for them: those by which the newest of these is ruled out.
@@ -151,16 +151,22 @@ impl<'a> Sought<'a> {
         for lack in found {
             let Lack {
                 node,
-                places,
+                positions,
                 packages: _,
             } = lack;
-            let is_of_name = places.is_empty();
-            let places = admitted_places(alloc, self.problem, node, places.as_slice(), asks)?;
-            if is_of_name || !places.is_empty() {
-                let packages = self.packages_at(alloc, node, places.as_slice())?;
+            let is_of_name = positions.is_empty();
+            let positions = admitted_positions(
+                alloc,
+                self.problem,
+                node,
+                positions.as_slice(),
+                asks,
+            )?;
+            if is_of_name || !positions.is_empty() {
+                let packages = self.packages_at(alloc, node, positions.as_slice())?;
                 left.push(Lack {
                     node,
-                    places,
+                    positions,
                     packages,
                 })?;
             }
@@ -168,17 +174,17 @@ impl<'a> Sought<'a> {
         Ok(left)
     }
 
-    /// The packages that the releases at these places need at a node, and that the index lacks.
+    /// The packages that the releases at these positions need at a node, and that the index lacks.
     fn packages_at(
         &mut self,
         alloc: Global,
         node: &Node,
-        places: &[usize],
+        positions: &[usize],
     ) -> Result<Vec<&'a Name>, AllocError> {
         let problem = self.problem;
         let mut packages = Vec::new(alloc);
-        for place in places {
-            if let Some(release) = problem.releases(&node.name).get(*place) {
+        for position in positions {
+            if let Some(release) = problem.releases(&node.name).get(*position) {
                 self.add_packages(&mut packages, node, release)?;
             }
         }
@@ -268,13 +274,13 @@ fn add_ask<'a>(
     Ok(())
 }
 
-/// Those of the places whose releases all admit that ask for the name; none where the newest release that they admit isn't
+/// Those of the positions whose releases all admit that ask for the name; none where the newest release that they admit isn't
 /// among them.
-fn admitted_places(
+fn admitted_positions(
     alloc: Global,
     problem: &Problem<'_>,
     node: &Node,
-    places: &[usize],
+    positions: &[usize],
     asks: &BTreeMap<Name, Vec<&Requirement>>,
 ) -> Result<Vec<usize>, AllocError> {
     let mut admitted = Vec::new(alloc);
@@ -287,7 +293,7 @@ fn admitted_places(
             admitted = both(alloc, admitted.as_slice(), admits.as_slice())?;
         }
     }
-    places_in(alloc, places, admitted.as_slice())
+    positions_in(alloc, positions, admitted.as_slice())
 }
 
 /// What is admitted by both.
@@ -299,11 +305,15 @@ fn both(alloc: Global, admitted: &[bool], admits: &[bool]) -> Result<Vec<bool>, 
     Ok(left)
 }
 
-fn places_in(alloc: Global, places: &[usize], admitted: &[bool]) -> Result<Vec<usize>, AllocError> {
+fn positions_in(
+    alloc: Global,
+    positions: &[usize],
+    admitted: &[bool],
+) -> Result<Vec<usize>, AllocError> {
     let mut left = Vec::new(alloc);
-    for place in places {
-        if admitted.get(*place).copied().unwrap_or(false) {
-            left.push(*place)?;
+    for position in positions {
+        if admitted.get(*position).copied().unwrap_or(false) {
+            left.push(*position)?;
         }
     }
     let newest = admitted.iter().position(|is_admitted| *is_admitted);

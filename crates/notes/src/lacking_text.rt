@@ -13,14 +13,14 @@ pub(crate) fn lack_text(
     problem: &Problem<'_>,
     lack: &Lack<'_>,
 ) -> Result<String, AllocError> {
-    if lack.places.is_empty() {
+    if lack.positions.is_empty() {
         lacking_name(alloc, problem, lack)
     } else {
         ruled_out(alloc, problem, lack)
     }
 }
 
-/// The places of releases that stand side by side in an index, newest first.
+/// The positions of releases that stand side by side in an index, newest first.
 #[derive(Clone, Copy)]
 struct Run {
     newest: usize,
@@ -31,8 +31,8 @@ struct Run {
 fn ruled_out(alloc: Global, problem: &Problem<'_>, lack: &Lack<'_>) -> Result<String, AllocError> {
     let mut text = String::from_str(alloc, lack.node.name.normal())?;
     let releases = problem.releases(&lack.node.name);
-    add_releases(alloc, &mut text, releases, lack.places.as_slice())?;
-    let verb = if lack.places.len() == 1 {
+    add_releases(alloc, &mut text, releases, lack.positions.as_slice())?;
+    let verb = if lack.positions.len() == 1 {
         "was"
     } else {
         "were"
@@ -97,19 +97,19 @@ fn lacking_name(
     format!(in alloc; "the snapshot has no package {name}, which {verb}")
 }
 
-/// The releases at these places, newest first, from the oldest on: by the ends of their runs, or by their number and their
+/// The releases at these positions, newest first, from the oldest on: by the ends of their runs, or by their number and their
 /// ends where there are many runs.
 fn add_releases(
     alloc: Global,
     text: &mut String,
     releases: &[Release],
-    places: &[usize],
+    positions: &[usize],
 ) -> Result<(), AllocError> {
-    let runs = runs_of(alloc, places)?;
+    let runs = runs_of(alloc, positions)?;
     if runs.len() > MOST_PARTS {
-        let count = places.len();
+        let count = positions.len();
         write!(text, ": {count} releases from")?;
-        return match (places.first(), places.last()) {
+        return match (positions.first(), positions.last()) {
             (Some(newest), Some(oldest)) => add_run(
                 text,
                 releases,
@@ -130,15 +130,15 @@ fn add_releases(
     Ok(())
 }
 
-/// The runs in which places follow one another, from the oldest releases on.
-fn runs_of(alloc: Global, places: &[usize]) -> Result<Vec<Run>, AllocError> {
+/// The runs in which positions follow one another, from the oldest releases on.
+fn runs_of(alloc: Global, positions: &[usize]) -> Result<Vec<Run>, AllocError> {
     let mut runs: Vec<Run> = Vec::new(alloc);
-    for place in places.iter().rev() {
+    for position in positions.iter().rev() {
         match runs.last_mut() {
-            Some(run) if run.newest == place.saturating_add(1) => run.newest = *place,
+            Some(run) if run.newest == position.saturating_add(1) => run.newest = *position,
             _ => runs.push(Run {
-                newest: *place,
-                oldest: *place,
+                newest: *position,
+                oldest: *position,
             })?,
         }
     }

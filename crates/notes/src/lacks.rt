@@ -91,7 +91,7 @@ impl Lacks {
         let lacks = lacks_of(alloc, problem, nodes.as_slice(), Extent::All)?;
         for lack in lacks.as_slice() {
             self.add_packages(alloc, lack)?;
-            if tells_lines || !lack.places.is_empty() {
+            if tells_lines || !lack.positions.is_empty() {
                 self.add_note(alloc, target.as_str(), lack_text(alloc, problem, lack)?)?;
             }
         }
@@ -188,7 +188,7 @@ impl Lacks {
             let extra = extra.normal();
             return add_new(&mut self.packages, format!(in alloc; "{name}[{extra}]")?);
         }
-        if lack.places.is_empty() {
+        if lack.positions.is_empty() {
             return add_new(&mut self.packages, String::from_str(alloc, name)?);
         }
         for package in lack.packages.as_slice() {

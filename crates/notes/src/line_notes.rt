@@ -15,11 +15,11 @@ const MOST: usize = 20;
 /// write in its place where that is known. What is the same for several lines is told once.
 pub fn add_bad_lines(alloc: Global, text: &mut String, file: &str) -> Result<(), AllocError> {
     let mut count: usize = 0;
-    for (place, line) in file.split_inclusive('\n').enumerate() {
+    for (position, line) in file.split_inclusive('\n').enumerate() {
         if let Some(cause) = fault_of(alloc, line)? {
             count = count.saturating_add(1);
             if count <= MOST {
-                add_bad_line(alloc, text, place.saturating_add(1), line, cause)?;
+                add_bad_line(alloc, text, position.saturating_add(1), line, cause)?;
             }
         }
     }

@@ -89,9 +89,9 @@ fn add_lines_on(
         Err(Cause::OutOfMemory) => return Err(AllocError),
         Err(_) => return Ok(()),
     };
-    for (place, line) in lines.iter().enumerate() {
+    for (position, line) in lines.iter().enumerate() {
         if is_on(line, &name) {
-            add_line(text, place.saturating_add(1), line)?;
+            add_line(text, position.saturating_add(1), line)?;
         }
     }
     Ok(())

@@ -70,7 +70,7 @@ fn has_other_hashes(old: &Entry, new: &Entry) -> bool {
 fn has_other_wheel(file: &FileEntry, wheels: &[FileEntry]) -> bool {
     let name = file.name.as_str();
     match wheels.binary_search_by(|other| other.name.as_str().cmp(name)) {
-        Ok(place) => match wheels.get(place) {
+        Ok(position) => match wheels.get(position) {
             Some(other) => has_other_digest(file, other),
             None => false,
         },

@@ -1,6 +1,6 @@
 // One entry of a lock, for people.
 
-use crate::lock_text::place_of;
+use crate::lock_text::position_of;
 use crate::required_by::{RequiredBy, Requirer, problem_over, requirers_of};
 use crate::requirer_text::{add_line_text, add_requirer};
 use crate::shown::ShownLocks;
@@ -19,29 +19,29 @@ pub fn entry_text(
     let mut text = String::new(alloc);
     for target in locks.targets {
         let entries = target.lock.entries();
-        if let Some(place) = place_of(entries, name.normal()) {
+        if let Some(position) = position_of(entries, name.normal()) {
             if !text.is_empty() {
                 text.push_str("\n")?;
             }
             let problem = problem_over(alloc, locks.lines, target, snapshot)?;
             let lines = locks.lines.lines();
             let requirers = requirers_of(alloc, lines, target, problem.as_ref())?;
-            add_target(&mut text, target, place, requirers.as_slice())?;
+            add_target(&mut text, target, position, requirers.as_slice())?;
         }
     }
     Ok(text)
 }
 
-/// The entry at a place of a target's lock, given what requires each of its entries.
+/// The entry at a position of a target's lock, given what requires each of its entries.
 fn add_target(
     text: &mut String,
     target: &Target,
-    place: usize,
+    position: usize,
     requirers: &[Vec<RequiredBy<'_>>],
 ) -> Result<(), AllocError> {
     add_target_line(text, target.name.as_str())?;
     let entries = target.lock.entries();
-    match (entries.get(place), requirers.get(place)) {
+    match (entries.get(position), requirers.get(position)) {
         (Some(entry), Some(own)) => add_entry(text, entries, entry, own.as_slice()),
         _ => Ok(()),
     }
@@ -103,10 +103,10 @@ fn add_required_by_line(text: &mut String, by: RequiredBy<'_>) -> Result<(), All
 }
 
 fn add_need(text: &mut String, entries: &[Entry], needed: &Name) -> Result<(), AllocError> {
-    let Some(place) = place_of(entries, needed.normal()) else {
+    let Some(position) = position_of(entries, needed.normal()) else {
         return Ok(());
     };
-    let Some(entry) = entries.get(place) else {
+    let Some(entry) = entries.get(position) else {
         return Ok(());
     };
     text.push_str("  needs ")?;

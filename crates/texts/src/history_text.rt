@@ -23,9 +23,9 @@ pub fn history_text(
     let mut text = String::new(alloc);
     add_number(&mut text, 0, steps.cursor)?;
     text.push_str("init\n")?;
-    for (place, change) in steps.changes.iter().enumerate() {
+    for (position, change) in steps.changes.iter().enumerate() {
         let mut line = String::new(alloc);
-        add_number(&mut line, place.saturating_add(1), steps.cursor)?;
+        add_number(&mut line, position.saturating_add(1), steps.cursor)?;
         add_step(alloc, &mut line, change)?;
         add_cut(&mut text, line.as_str())?;
         text.push_str("\n")?;

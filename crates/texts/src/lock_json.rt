@@ -2,7 +2,7 @@
 
 use crate::entry_json::entry_value;
 use crate::json_text::{pin_value, target_object, targets_text};
-use crate::lock_text::place_of;
+use crate::lock_text::position_of;
 use crate::required_by::{RequiredBy, problem_over, requirers_of};
 use crate::requirer_text::requirers_value;
 use crate::shown::ShownLocks;
@@ -75,8 +75,8 @@ fn told_value(
 fn needs_value(alloc: Global, entries: &[Entry], entry: &Entry) -> Result<Value, AllocError> {
     let mut needs = Vec::with_capacity(alloc, entry.dependencies().len())?;
     for needed in entry.dependencies() {
-        if let Some(place) = place_of(entries, needed.normal()) {
-            if let Some(found) = entries.get(place) {
+        if let Some(position) = position_of(entries, needed.normal()) {
+            if let Some(found) = entries.get(position) {
                 needs.push(pin_value(alloc, found)?)?;
             }
         }

@@ -43,9 +43,9 @@ fn add_lock(
     for entry in entries {
         rows.push(new_row(alloc, entry)?)?;
     }
-    for (place, line) in lines.iter().enumerate() {
+    for (position, line) in lines.iter().enumerate() {
         if is_active(&target.environment, line) {
-            add_line(alloc, &mut rows, entries, line, place.saturating_add(1))?;
+            add_line(alloc, &mut rows, entries, line, position.saturating_add(1))?;
         }
     }
     for entry in entries {
@@ -85,11 +85,11 @@ fn add_line(
     let Some(requirement) = line.requirement() else {
         return Ok(());
     };
-    let Some(place) = place_of(entries, requirement.name().normal()) else {
+    let Some(position) = position_of(entries, requirement.name().normal()) else {
         return Ok(());
     };
     let number = format!(in alloc; "{number}")?;
-    match rows.get_mut(place) {
+    match rows.get_mut(position) {
         Some(row) => add_item(&mut row.lines, number.as_str()),
         None => Ok(()),
     }
@@ -109,17 +109,17 @@ fn add_need(
     needed: &str,
     by: &str,
 ) -> Result<(), AllocError> {
-    let Some(place) = place_of(entries, needed) else {
+    let Some(position) = position_of(entries, needed) else {
         return Ok(());
     };
-    match rows.get_mut(place) {
+    match rows.get_mut(position) {
         Some(row) => add_item(&mut row.needed_by, by),
         None => Ok(()),
     }
 }
 
 /// Where the entry of a name is: the entries are in the order of their names.
-pub(crate) fn place_of(entries: &[Entry], name: &str) -> Option<usize> {
+pub(crate) fn position_of(entries: &[Entry], name: &str) -> Option<usize> {
     entries
         .binary_search_by(|entry| entry.name().normal().cmp(name))
         .ok()

@@ -12,10 +12,10 @@ pub fn log_json(alloc: Global, steps: ShownSteps<'_>) -> Result<String, AllocErr
     let mut text = String::new(alloc);
     let first = step_value(alloc, Map::new(alloc), steps, 0, "init")?;
     text.push_str(json_text(alloc, &first)?.as_str())?;
-    for (place, change) in steps.changes.iter().enumerate() {
+    for (position, change) in steps.changes.iter().enumerate() {
         let members = diff_members(alloc, change)?;
         let told = step_text(alloc, change)?;
-        let step = place.saturating_add(1);
+        let step = position.saturating_add(1);
         let value = step_value(alloc, members, steps, step, told.as_str())?;
         text.push_str(json_text(alloc, &value)?.as_str())?;
     }

@@ -65,10 +65,10 @@ fn upgraded_in<'a>(
     let needs = needs_of(alloc, changes)?;
     let mut reached = none_reached(alloc, needs.len())?;
     let mut last = 0;
-    for place in 0..needs.len() {
-        if !is_reached(reached.as_slice(), place) {
-            last = place;
-            walk(alloc, needs.as_slice(), &mut reached, place)?;
+    for position in 0..needs.len() {
+        if !is_reached(reached.as_slice(), position) {
+            last = position;
+            walk(alloc, needs.as_slice(), &mut reached, position)?;
         }
     }
     let mut reached = none_reached(alloc, needs.len())?;
@@ -89,20 +89,23 @@ fn has_moved(change: &EntryChange) -> bool {
     }
 }
 
-/// The places of the changes of the names that each changed entry needs, before the step or behind it; and of its own name, which
+/// The positions of the changes of the names that each changed entry needs, before the step or behind it; and of its own name, which
 /// several targets may have.
 fn needs_of(alloc: Global, changes: &[EntryChange]) -> Result<Vec<Vec<usize>>, AllocError> {
-    let mut places = BTreeMap::new(alloc);
-    for (place, change) in changes.iter().enumerate() {
+    let mut positions = BTreeMap::new(alloc);
+    for (position, change) in changes.iter().enumerate() {
         let name = change.name.clone()?;
-        places.entry(name)?.or_insert(Vec::new(alloc)).push(place)?;
+        positions
+            .entry(name)?
+            .or_insert(Vec::new(alloc))
+            .push(position)?;
     }
     let mut needs = Vec::new(alloc);
     for change in changes {
         let mut own = Vec::new(alloc);
-        add_places(&mut own, &places, &change.name)?;
-        add_needs(&mut own, &places, &change.old)?;
-        add_needs(&mut own, &places, &change.new)?;
+        add_positions(&mut own, &positions, &change.name)?;
+        add_needs(&mut own, &positions, &change.old)?;
+        add_needs(&mut own, &positions, &change.new)?;
         needs.push(own)?;
     }
     Ok(needs)
@@ -110,25 +113,25 @@ fn needs_of(alloc: Global, changes: &[EntryChange]) -> Result<Vec<Vec<usize>>, A
 
 fn add_needs(
     own: &mut Vec<usize>,
-    places: &BTreeMap<Name, Vec<usize>>,
+    positions: &BTreeMap<Name, Vec<usize>>,
     entry: &Option<Entry>,
 ) -> Result<(), AllocError> {
     if let Some(entry) = entry {
         for name in entry.dependencies() {
-            add_places(own, places, name)?;
+            add_positions(own, positions, name)?;
         }
     }
     Ok(())
 }
 
-fn add_places(
+fn add_positions(
     own: &mut Vec<usize>,
-    places: &BTreeMap<Name, Vec<usize>>,
+    positions: &BTreeMap<Name, Vec<usize>>,
     name: &Name,
 ) -> Result<(), AllocError> {
-    if let Some(found) = places.get(name) {
-        for place in found.as_slice() {
-            own.push(*place)?;
+    if let Some(found) = positions.get(name) {
+        for position in found.as_slice() {
+            own.push(*position)?;
         }
     }
     Ok(())
@@ -142,11 +145,11 @@ fn none_reached(alloc: Global, count: usize) -> Result<Vec<bool>, AllocError> {
     Ok(reached)
 }
 
-fn is_reached(reached: &[bool], place: usize) -> bool {
-    reached.get(place).copied().unwrap_or(true)
+fn is_reached(reached: &[bool], position: usize) -> bool {
+    reached.get(position).copied().unwrap_or(true)
 }
 
-/// Marks what is reached from a place. Each place is looked at once.
+/// Marks what is reached from a position. Each position is looked at once.
 fn walk(
     alloc: Global,
     needs: &[Vec<usize>],
@@ -157,10 +160,10 @@ fn walk(
     left.push(start)?;
     mark(reached, start);
     for _ in 0..needs.len() {
-        let Some(place) = left.pop() else {
+        let Some(position) = left.pop() else {
             return Ok(());
         };
-        if let Some(own) = needs.get(place) {
+        if let Some(own) = needs.get(position) {
             add_unreached(&mut left, reached, own.as_slice())?;
         }
     }
@@ -170,19 +173,19 @@ fn walk(
 fn add_unreached(
     left: &mut Vec<usize>,
     reached: &mut Vec<bool>,
-    places: &[usize],
+    positions: &[usize],
 ) -> Result<(), AllocError> {
-    for place in places {
-        if !is_reached(reached.as_slice(), *place) {
-            mark(reached, *place);
-            left.push(*place)?;
+    for position in positions {
+        if !is_reached(reached.as_slice(), *position) {
+            mark(reached, *position);
+            left.push(*position)?;
         }
     }
     Ok(())
 }
 
-fn mark(reached: &mut Vec<bool>, place: usize) {
-    if let Some(is_reached) = reached.get_mut(place) {
+fn mark(reached: &mut Vec<bool>, position: usize) {
+    if let Some(is_reached) = reached.get_mut(position) {
         *is_reached = true;
     }
 }

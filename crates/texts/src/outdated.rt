@@ -67,10 +67,10 @@ fn add_outdated<'a>(
         by_name,
         by_requirers: admitted_by(alloc, problem, requirers)?,
     };
-    let Some(place) = newest_of(releases, &admitted) else {
+    let Some(position) = newest_of(releases, &admitted) else {
         return Ok(());
     };
-    match newer_at(alloc, entry, releases, place, &admitted)? {
+    match newer_at(alloc, entry, releases, position, &admitted)? {
         Some(outdated) => Ok(found.push(outdated)?),
         None => Ok(()),
     }
@@ -114,41 +114,41 @@ fn admitted_by<'a>(
     Ok(admitted)
 }
 
-fn admits(releases: &Seq<bool>, place: usize) -> bool {
-    match releases.as_slice().get(place) {
+fn admits(releases: &Seq<bool>, position: usize) -> bool {
+    match releases.as_slice().get(position) {
         Some(admits) => *admits,
         None => false,
     }
 }
 
-/// Whether the name alone or one of those that require the entry admits the release at a place.
-fn does_count(admitted: &Admitted<'_>, place: usize) -> bool {
-    if admits(&admitted.by_name, place) {
+/// Whether the name alone or one of those that require the entry admits the release at a position.
+fn does_count(admitted: &Admitted<'_>, position: usize) -> bool {
+    if admits(&admitted.by_name, position) {
         return true;
     }
     for one in admitted.by_requirers.as_slice() {
-        if admits(&one.admits, place) {
+        if admits(&one.admits, position) {
             return true;
         }
     }
     false
 }
 
-/// Whether all that require the entry admit the release at a place, and it counts.
-fn do_admit(admitted: &Admitted<'_>, place: usize) -> bool {
+/// Whether all that require the entry admit the release at a position, and it counts.
+fn do_admit(admitted: &Admitted<'_>, position: usize) -> bool {
     for one in admitted.by_requirers.as_slice() {
-        if !admits(&one.admits, place) {
+        if !admits(&one.admits, position) {
             return false;
         }
     }
-    does_count(admitted, place)
+    does_count(admitted, position)
 }
 
-/// The place of the newest release that counts.
+/// The position of the newest release that counts.
 fn newest_of(releases: &[Release], admitted: &Admitted<'_>) -> Option<usize> {
-    for place in 0..releases.len() {
-        if does_count(admitted, place) {
-            return Some(place);
+    for position in 0..releases.len() {
+        if does_count(admitted, position) {
+            return Some(position);
         }
     }
     None
@@ -156,23 +156,23 @@ fn newest_of(releases: &[Release], admitted: &Admitted<'_>) -> Option<usize> {
 
 /// The newest version that all admit that require the entry.
 fn admitted_of<'a>(releases: &'a [Release], admitted: &Admitted<'_>) -> Option<&'a Version> {
-    for (place, release) in releases.iter().enumerate() {
-        if do_admit(admitted, place) {
+    for (position, release) in releases.iter().enumerate() {
+        if do_admit(admitted, position) {
             return Some(release.version());
         }
     }
     None
 }
 
-/// An entry where the release at a place is newer than what is locked.
+/// An entry where the release at a position is newer than what is locked.
 fn newer_at<'a>(
     alloc: Global,
     entry: &'a Entry,
     releases: &'a [Release],
-    place: usize,
+    position: usize,
     admitted: &Admitted<'a>,
 ) -> Result<Option<Outdated<'a>>, AllocError> {
-    let Some(release) = releases.get(place) else {
+    let Some(release) = releases.get(position) else {
         return Ok(None);
     };
     let newest = release.version();
@@ -183,19 +183,19 @@ fn newer_at<'a>(
         entry,
         admitted: admitted_of(releases, admitted),
         newest,
-        holders: holders_of(alloc, admitted, place)?,
+        holders: holders_of(alloc, admitted, position)?,
     }))
 }
 
-/// What doesn't admit the release at a place.
+/// What doesn't admit the release at a position.
 fn holders_of<'a>(
     alloc: Global,
     admitted: &Admitted<'a>,
-    place: usize,
+    position: usize,
 ) -> Result<Vec<RequiredBy<'a>>, AllocError> {
     let mut holders = Vec::new(alloc);
     for one in admitted.by_requirers.as_slice() {
-        if !admits(&one.admits, place) {
+        if !admits(&one.admits, position) {
             holders.push(one.by)?;
         }
     }

@@ -1,6 +1,6 @@
 // What requires the entries of a lock.
 
-use crate::lock_text::{is_active, place_of};
+use crate::lock_text::{is_active, position_of};
 use edits::{Entry, Environment, Line, Name, Problem, ReqFile, Requirement, Snapshot, Target};
 use problems::Node;
 use problems::parts::counts;
@@ -75,9 +75,9 @@ fn add_lines<'a>(
     lines: &'a [Line],
     entries: &[Entry],
 ) -> Result<(), AllocError> {
-    for (place, line) in lines.iter().enumerate() {
+    for (position, line) in lines.iter().enumerate() {
         if is_active(environment, line) {
-            add_line(requirers, entries, line, place.saturating_add(1))?;
+            add_line(requirers, entries, line, position.saturating_add(1))?;
         }
     }
     Ok(())
@@ -106,10 +106,10 @@ fn add_requirer<'a>(
     name: &str,
     by: RequiredBy<'a>,
 ) -> Result<(), AllocError> {
-    let Some(place) = place_of(entries, name) else {
+    let Some(position) = position_of(entries, name) else {
         return Ok(());
     };
-    match requirers.get_mut(place) {
+    match requirers.get_mut(position) {
         Some(found) => Ok(found.push(by)?),
         None => Ok(()),
     }
@@ -185,10 +185,10 @@ fn add_extra(extras: &mut Vec<Vec<Node>>, entries: &[Entry], node: Node) -> Resu
     if node.extra.is_none() {
         return Ok(());
     }
-    let Some(place) = place_of(entries, node.name.normal()) else {
+    let Some(position) = position_of(entries, node.name.normal()) else {
         return Ok(());
     };
-    match extras.get_mut(place) {
+    match extras.get_mut(position) {
         Some(nodes) => Ok(nodes.push(node)?),
         None => Ok(()),
     }

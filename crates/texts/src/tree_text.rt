@@ -1,7 +1,7 @@
 // Locks as trees, from the lines down.
 
 use crate::json_text::{target_object, targets_text, text_value, version_value};
-use crate::lock_text::{is_active, place_of};
+use crate::lock_text::{is_active, position_of};
 use crate::requirer_text::add_line_text;
 use crate::shown::ShownLocks;
 use edits::{Entry, Line, Name, Target};
@@ -21,7 +21,7 @@ enum TreeRow<'a> {
     Entry(&'a Entry, usize, bool),
 }
 
-// What is left to be told: the places of entries, each with the number of entries that lead to it; and which entries
+// What is left to be told: the positions of entries, each with the number of entries that lead to it; and which entries
 // were told.
 #[derive(Drop)]
 struct Walk {
@@ -88,9 +88,9 @@ fn rows_of<'a>(
         left: Vec::new(alloc),
         told: vec![in alloc; false; entries.len()]?,
     };
-    for (place, line) in lines.iter().enumerate() {
+    for (position, line) in lines.iter().enumerate() {
         if is_active(&target.environment, line) {
-            rows.push(TreeRow::Line(place.saturating_add(1), line))?;
+            rows.push(TreeRow::Line(position.saturating_add(1), line))?;
             begin(&mut walk, entries, line)?;
             add_entries(&mut rows, &mut walk, entries, turns)?;
         }
@@ -112,8 +112,8 @@ fn put_left(
     name: &Name,
     depth: usize,
 ) -> Result<(), AllocError> {
-    match place_of(entries, name.normal()) {
-        Some(place) => Ok(walk.left.push((place, depth))?),
+    match position_of(entries, name.normal()) {
+        Some(position) => Ok(walk.left.push((position, depth))?),
         None => Ok(()),
     }
 }
@@ -127,11 +127,11 @@ fn add_entries<'a>(
     turns: usize,
 ) -> Result<(), AllocError> {
     for _ in 0..turns {
-        let Some((place, depth)) = walk.left.pop() else {
+        let Some((position, depth)) = walk.left.pop() else {
             return Ok(());
         };
-        if let Some(entry) = entries.get(place) {
-            let is_above = was_told(walk, place);
+        if let Some(entry) = entries.get(position) {
+            let is_above = was_told(walk, position);
             rows.push(TreeRow::Entry(entry, depth, is_above))?;
             if !is_above {
                 put_needed(walk, entries, entry, depth.saturating_add(1))?;
@@ -164,8 +164,8 @@ fn put_needed(
 }
 
 /// Whether an entry was told. From now on it was.
-fn was_told(walk: &mut Walk, place: usize) -> bool {
-    match walk.told.get_mut(place) {
+fn was_told(walk: &mut Walk, position: usize) -> bool {
+    match walk.told.get_mut(position) {
         Some(told) => {
             let before = *told;
             *told = true;
