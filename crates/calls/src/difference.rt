@@ -9,8 +9,9 @@ use journal::Session;
 use std::alloc::Global;
 use stops::Stop;
 
-/// The change that leads from one place of the history to another. The first place behind its last one is refused.
-pub fn change_between(
+/// What differs between two places of the history, as the change from one to the other. The first place behind its last one is
+/// refused.
+pub fn difference_between(
     alloc: Global,
     session: &Session,
     from: usize,

@@ -3,7 +3,7 @@
 use command_line::request::Inputs;
 use files::first_inputs::FirstPaths;
 use inputs::pins_files::pins_paths;
-use inputs::target_files::TargetFile;
+use inputs::target_files::TargetPath;
 use std::alloc::Global;
 use stops::Stop;
 
@@ -11,7 +11,7 @@ use stops::Stop;
 pub fn first_paths<'a>(
     alloc: Global,
     inputs: &Inputs<'a>,
-    targets: Vec<TargetFile>,
+    targets: Vec<TargetPath>,
 ) -> Result<FirstPaths<'a>, Stop> {
     let pins = pins_paths(alloc, inputs.pins.as_slice())?;
     Ok(FirstPaths {

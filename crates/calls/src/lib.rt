@@ -12,7 +12,7 @@ mod replacement;
 pub mod subcommand_files;
 
 pub use crate::call::Call;
-pub use crate::difference::change_between;
+pub use crate::difference::difference_between;
 pub use crate::first_files::first_paths;
 pub use crate::pool::pool_of;
 pub use crate::replacement::{ReplacedHistory, replaced, replaced_to_save};

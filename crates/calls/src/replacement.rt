@@ -3,10 +3,11 @@
 use command_line::request::{EditInputs, NewLines, Replacement};
 use edits::{Edit, Refusal, ReqFile, Target, TargetPins, with_line_exchanged};
 use files::SavedFiles;
-use files::hand_changed::open_old_to_save;
+use files::hand_changed::open_hand_changed;
 use files::saved_history::{SavedHistory, saved_files};
 use inputs::handed_in::HandedIn;
-use inputs::pins_files::{PinsBytes, PinsTarget, pins_of, pins_paths, read_pins};
+use inputs::named_file::NamedBytes;
+use inputs::pins_files::{LentTarget, pins_of, pins_paths, read_pins};
 use inputs::{Fault, InputFile, LockFile, in_file, read_bytes, read_index, read_requirements};
 use journal::Session;
 use lists::{Seq, Text};
@@ -45,7 +46,7 @@ pub fn replaced_to_save<R: Files + AllocGlobal, I: Read + Drop>(
     let files = SavedFiles::read_to_save(rt, dir)?;
     let read = read_handed(rt, replacement, inputs, input)?;
     let (files, session) = match &read.lines {
-        LinesRead::Old(old) => open_old_to_save(rt, dir, files, old.as_slice())?,
+        LinesRead::Old(old) => open_hand_changed(rt, dir, files, old.as_slice())?,
         LinesRead::New(_) | LinesRead::Line(_, _) => files.open_to_save(rt, dir)?,
     };
     made_of(rt.alloc(), files, session, read)
@@ -77,7 +78,7 @@ where
 struct HandedRead<'a> {
     index: Vec<u8>,
     lines: LinesRead<'a>,
-    pins: Vec<PinsBytes>,
+    pins: Vec<NamedBytes<Text>>,
 }
 
 fn read_handed<'a, R: Files + AllocGlobal, I: Read + Drop>(
@@ -147,11 +148,11 @@ fn new_lines(
 fn pins_for_targets(
     alloc: Global,
     targets: &[Target],
-    read: Vec<PinsBytes>,
+    read: Vec<NamedBytes<Text>>,
 ) -> Result<Seq<TargetPins>, Fault> {
     let mut given = Vec::with_capacity(alloc, targets.len())?;
     for target in targets {
-        given.push(PinsTarget {
+        given.push(LentTarget {
             name: &target.name,
             environment: &target.environment,
         })?;

@@ -30,6 +30,7 @@ pub fn index_of<'a>(subcommand: &Subcommand<'a>) -> Option<&'a str>
         Subcommand::Export(export) => export.index,
         Subcommand::Undo(_)
         | Subcommand::Redo(_)
+        | Subcommand::Forget(_, _)
         | Subcommand::Show(Shown::Table | Shown::Tree, _)
         | Subcommand::Log(_, _)
         | Subcommand::Diff(_, _) => None,
@@ -88,6 +89,7 @@ pub fn environments_of<'a>(subcommand: &'a Subcommand<'_>) -> &'a [Text]
         | Subcommand::Replace(_, _, _)
         | Subcommand::Undo(_)
         | Subcommand::Redo(_)
+        | Subcommand::Forget(_, _)
         | Subcommand::Batch(_, _)
         | Subcommand::Show(_, _)
         | Subcommand::Log(_, _)
@@ -131,12 +133,14 @@ where
         | Subcommand::Replace(_, _, Saving::Save)
         | Subcommand::Undo(Saving::Save)
         | Subcommand::Redo(Saving::Save)
+        | Subcommand::Forget(_, Saving::Save)
         | Subcommand::Batch(_, _) => Ok(lock_to_save(rt, dir)?),
         Subcommand::Init(_, Saving::DryRun)
         | Subcommand::Edit(_, _, Saving::DryRun)
         | Subcommand::Replace(_, _, Saving::DryRun)
         | Subcommand::Undo(Saving::DryRun)
         | Subcommand::Redo(Saving::DryRun)
+        | Subcommand::Forget(_, Saving::DryRun)
         | Subcommand::Try(_)
         | Subcommand::Show(_, _)
         | Subcommand::Log(_, _)

@@ -5,7 +5,7 @@ use crate::growing_text::GrowingText;
 use crate::session_rows::session_of;
 use crate::streams::{Narrow, Pieces};
 use commands::Counted;
-use commands::batch::{BatchFault, batch};
+use commands::batch::{StreamFault, batch};
 use edits::Pool;
 use journal::Session;
 use std::alloc::Global;
@@ -38,7 +38,7 @@ impl<'a> Drop for Case<'a> {
 /// What a batch comes to, what it writes, where the session stands, and its lines.
 fn told(
     alloc: Global,
-    done: &Result<(), BatchFault>,
+    done: &Result<(), StreamFault>,
     written: Vec<u8>,
     session: &Session,
 ) -> Option<String> {

@@ -4,9 +4,9 @@ use crate::environment_rows::bytes_of;
 use crate::growing_text::GrowingText;
 use crate::notation::owned;
 use command_line::request::{
-    ColorChoice, DiffRange, EditInputs, Export, ExportFormat, Format, Inputs, Invocation,
-    NeededOption, NewLines, Question, Replacement, RequestFault, Saving, Shown, Subcommand, Told,
-    Verbosity, request,
+    Beginning, ColorChoice, DiffRange, EditInputs, Export, ExportFormat, Format, Inputs,
+    Invocation, NeededOption, NewLines, Question, Replacement, RequestFault, Saving, Shown,
+    Subcommand, Told, Verbosity, request,
 };
 use commands::{Item, read_item};
 use edits::Edit;
@@ -95,6 +95,14 @@ fn push_shown(text: &mut GrowingText, shown: Shown<'_>) {
     }
 }
 
+/// Pushes where a shorter history begins.
+fn push_beginning(text: &mut GrowingText, beginning: Beginning) {
+    match beginning {
+        Beginning::At(place) => write!(text, "forget before {place}"),
+        Beginning::Back(count) => write!(text, "forget all but {count}"),
+    }
+}
+
 /// Pushes two places of the history.
 fn push_range(text: &mut GrowingText, range: DiffRange) {
     match range {
@@ -160,6 +168,10 @@ fn push_subcommand(text: &mut GrowingText, subcommand: Subcommand<'_>) {
         }
         Subcommand::Redo(saving) => {
             text.push_str("redo");
+            push_saving(text, saving);
+        }
+        Subcommand::Forget(beginning, saving) => {
+            push_beginning(text, beginning);
             push_saving(text, saving);
         }
         Subcommand::Batch(inputs, is_all_or_none) => {
@@ -235,6 +247,7 @@ fn push_view(text: &mut GrowingText, view: Subcommand<'_>) {
         | Subcommand::Replace(_, _, _)
         | Subcommand::Undo(_)
         | Subcommand::Redo(_)
+        | Subcommand::Forget(_, _)
         | Subcommand::Batch(_, _)
         | Subcommand::Try(_)
         | Subcommand::Skipped(_)

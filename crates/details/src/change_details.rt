@@ -154,6 +154,12 @@ impl Details {
         )
     }
 
+    /// Notes that nothing would change.
+    pub(crate) fn add_no_change(&mut self) -> Result<(), AllocError> {
+        self.known
+            .push_str("Nothing changes, and nothing is saved.\n")
+    }
+
     /// Notes that an edit would change nothing.
     pub fn add_same(&mut self, command: &Command<'_>) -> Result<(), AllocError> {
         if !self.manner.is_person {
@@ -174,9 +180,7 @@ impl Details {
                 _,
             )
             | Command::Undo
-            | Command::Redo => self
-                .known
-                .push_str("Nothing changes, and nothing is saved.\n"),
+            | Command::Redo => self.add_no_change(),
         }
     }
 }

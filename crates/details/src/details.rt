@@ -2,7 +2,7 @@
 
 use crate::index_maker::maker_of;
 use crate::manner::Manner;
-use inputs::target_files::TargetFile;
+use inputs::target_files::TargetPath;
 use inputs::{InputFile, path_of};
 use notes::{IndexMaker, IndexPlan, Lacks};
 use phrases::{Style, add_word};
@@ -47,7 +47,7 @@ pub struct CallFiles<'a> {
     pub is_old: bool,
     /// The text that is to name a package or a release that the call tells of.
     pub named: Option<&'a str>,
-    pub targets: Vec<TargetFile>,
+    pub targets: Vec<TargetPath>,
 }
 
 impl Details {

@@ -30,7 +30,7 @@ impl Details {
             Stop::Input(file, InputFault::Unreadable) => self.add_unread(rt, files, file),
             Stop::Input(file, fault) => self.add_refused_file(rt, files, file, fault),
             Stop::Unwritten(_) if !self.is_of_fault => Ok(self.add_unwritten()?),
-            Stop::NoPlace(_) if self.manner.is_person => Ok(
+            Stop::NoPlace(_) | Stop::NoBeginning(_, _) if self.manner.is_person => Ok(
                 self.steps.push_str("The places of the history are told by:\n    reqlock log\n")?,
             ),
             Stop::Refused(Refusal::BadTarget) if self.manner.is_person => Ok(
@@ -43,7 +43,8 @@ impl Details {
                 write!(self.known, "{refusal}\n")?;
                 Ok(self.add_named(rt.alloc(), files, refusal)?)
             }
-            Stop::Unwritten(_) | Stop::NoPlace(_) | Stop::Refused(_) => Ok(()),
+            Stop::Unwritten(_) | Stop::NoPlace(_) | Stop::NoBeginning(_, _) | Stop::Refused(_) =>
+                Ok(()),
             // what these stop for is told already
             Stop::Usage(_)
             | Stop::Needed(_)
@@ -51,6 +52,7 @@ impl Details {
             | Stop::Explained(_)
             | Stop::NoneSaved(_)
             | Stop::Stale(_)
+            | Stop::Uncovered(_)
             | Stop::NoTarget(_)
             | Stop::Fault(_) => Ok(()),
         }

@@ -9,6 +9,7 @@ mod changed_file_details;
 mod checkout_details;
 mod details;
 mod fault_details;
+mod forgotten_details;
 mod index_maker;
 mod manner;
 mod older_journal_details;

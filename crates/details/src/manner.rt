@@ -9,6 +9,8 @@ pub struct Manner {
     pub tells: bool,
     /// Whether a person reads it at once, who is also told what to type next.
     pub is_person: bool,
+    /// Whether it was asked to tell nothing beside its answer.
+    pub is_quiet: bool,
     /// Whether it tells what an index lacks, which a job is told too.
     pub tells_lacks: bool,
     pub style: Style,
@@ -20,6 +22,7 @@ impl Manner {
         Manner {
             tells: false,
             is_person: false,
+            is_quiet: true,
             tells_lacks: false,
             style: Style::plain(),
         }

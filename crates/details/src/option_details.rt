@@ -70,8 +70,8 @@ impl Details {
     /// The call with one option more, behind the program's name.
     fn add_call(&mut self, words: &[String], option: &str, value: &str) -> Result<(), AllocError> {
         write!(self.known, "    reqlock {option} {value}")?;
-        for (place, word) in words.iter().enumerate() {
-            if place > 0 {
+        for (position, word) in words.iter().enumerate() {
+            if position > 0 {
                 add_word(&mut self.known, word.as_str())?;
             }
         }

@@ -46,6 +46,7 @@ impl Details {
             | "replace"
             | "undo"
             | "redo"
+            | "forget"
                 if cut.has_json => { self.add_json(&cut) }
             _ => Ok(()),
         }

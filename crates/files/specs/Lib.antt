@@ -1,3 +1,3 @@
 pub mod Beside
-pub mod Replaced
-pub mod Replacements
+pub mod RewriteParts
+pub mod Rewrites

@@ -3,9 +3,11 @@
 use crate::saved_files::SavedFiles;
 use edits::{FirstTargets, ReqFile, Targets};
 use inputs::handed_in::HandedIn;
-use inputs::pins_files::{PinsPath, PinsTarget, pins_of, read_pins};
-use inputs::target_files::{TargetFile, read_all, targets_of};
+use inputs::named_file::NamedPath;
+use inputs::pins_files::{LentTarget, pins_of, read_pins};
+use inputs::target_files::{TargetPath, read_all, targets_of};
 use inputs::{Fault, InputFile, in_file, read_bytes, read_index, read_requirements};
+use lists::Text;
 use snapshot::Snapshot;
 use std::alloc::{AllocError, Global};
 use std::io::Read;
@@ -15,9 +17,9 @@ use std::rt::Files;
 #[derive(Drop)]
 pub struct FirstPaths<'a> {
     pub index: &'a str,
-    pub targets: Vec<TargetFile>,
+    pub targets: Vec<TargetPath>,
     /// The pins that it keeps.
-    pub pins: Vec<PinsPath>,
+    pub pins: Vec<NamedPath<Text>>,
 }
 
 /// What a history begins with.
@@ -62,10 +64,10 @@ pub fn first_inputs<R: Files + AllocGlobal, I: Read + Drop>(
 }
 
 /// The targets, for which pins may be handed in.
-fn named_targets(alloc: Global, targets: &Targets) -> Result<Vec<PinsTarget<'_>>, AllocError> {
+fn named_targets(alloc: Global, targets: &Targets) -> Result<Vec<LentTarget<'_>>, AllocError> {
     let mut named = Vec::new(alloc);
     for (name, environment) in targets.as_slice() {
-        named.push(PinsTarget { name, environment })?;
+        named.push(LentTarget { name, environment })?;
     }
     Ok(named)
 }

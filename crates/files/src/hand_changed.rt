@@ -9,7 +9,7 @@ use std::rt::Files;
 /// The files, with the history that they stand for with the old text in the place of the requirements file, to save
 /// another in their place. Where they stand for none, a save may have been stopped: then that is ended first. Nothing
 /// of one is left.
-pub fn open_old_to_save<R: Files + AllocGlobal>(
+pub fn open_hand_changed<R: Files + AllocGlobal>(
     rt: &R,
     dir: &str,
     files: SavedFiles,

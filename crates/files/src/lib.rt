@@ -2,7 +2,7 @@
 //!
 //! The requirements file, the lock of each target and the journal stand in one folder. `SavedFiles` reads them, opens
 //! the history that they stand for, and saves another in their place: each file is written whole beside its place,
-//! and only when all of them stand are they renamed to their places (`replacement`). No first save goes through a
+//! and only when all of them stand are they renamed to their places (`rewrite`). No first save goes through a
 //! link to what isn't reqlock's (`links_out`). What a save that was stopped has left beside is renamed to its place,
 //! or removed (`stopped_save`).
 #![tactic(auto)]
@@ -11,12 +11,12 @@ pub mod first_inputs;
 pub mod hand_changed;
 pub mod held;
 mod links_out;
-mod replacement;
+mod rewrite;
 mod saved_files;
 pub mod saved_history;
 mod stopped_save;
 
 pub use crate::links_out::link_out;
-pub use crate::replacement::Replacement;
+pub use crate::rewrite::Rewrite;
 pub use crate::saved_files::SavedFiles;
 pub use crate::stopped_save::{Beside, end_left, remove_left};

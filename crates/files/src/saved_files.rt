@@ -5,10 +5,10 @@ ghost use Rattle.journal.specs.Opens.{NamesTargets, Opens, ToldBy};
 ghost use Rattle.states.specs.declared.refusal.Refusal.TheVariants.{JournalBroken};
 ghost use Rattle.files.specs.Beside.{StandFor};
 ghost use Rattle.inputs.specs.Faults.{TellsFault};
-ghost use Rattle.files.specs.Replacements.{has_lock, lock_replacements, replacements_of, replacing};
+ghost use Rattle.files.specs.Rewrites.{has_lock, lock_rewrites, rewrites_of, rewriting};
 ghost use Rattle.inputs.specs.declared.fault.Fault.TheVariants.{OutOfMemory};
 
-use crate::replacement::{Places, Replacement, places_at, replace_all};
+use crate::rewrite::{FilePaths, Rewrite, paths_at, rewrite_all};
 use crate::stopped_save::{Beside, end_save, remove_left_of_opened};
 use edits::{Refusal, TargetName};
 use inputs::{Fault, InputFault, InputFile, LockFile, path_of, read_bytes};
@@ -139,7 +139,7 @@ impl SavedFiles {
     }
 
     /// Saves a history in the place of these files. A file that doesn't change isn't touched.
-    pub fn replace<R: Files + AllocGlobal>(
+    pub fn rewrite<R: Files + AllocGlobal>(
         &self,
         rt: &R,
         dir: &str,
@@ -149,18 +149,18 @@ impl SavedFiles {
         R::File: LockFile,
     {
         let saved = session.save(rt.alloc())?;
-        let replacements = self.replacements(rt.alloc(), &saved)?;
-        replace_all(rt, dir, replacements.as_slice())
+        let rewrites = self.rewrites(rt.alloc(), &saved)?;
+        rewrite_all(rt, dir, rewrites.as_slice())
     }
 
     /// The files that are to hold other bytes than were read, with these: the requirements file, the locks by
     /// name, and the journal.
-    pub fn replacements<'a>(
+    pub fn rewrites<'a>(
         &self,
         alloc: Global,
         saved: &'a Saved,
-    ) -> Result<Vec<Replacement<'a>>, AllocError>
-        ensures { IfOk result (λ files. files.items ≡ replacements_of self.now saved.now) }
+    ) -> Result<Vec<Rewrite<'a>>, AllocError>
+        ensures { IfOk result (λ files. files.items ≡ rewrites_of self.now saved.now) }
     {
         let mut files = Vec::new(alloc);
         let text = saved.requirements.as_str();
@@ -176,11 +176,11 @@ impl SavedFiles {
     /// Puts the locks that are to hold other bytes behind other files.
     fn push_locks<'a>(
         &self,
-        files: &mut Vec<Replacement<'a>>,
+        files: &mut Vec<Rewrite<'a>>,
         locks: &'a BTreeMap<TargetName, Text>,
     ) -> Result<(), AllocError>
         ensures { OnOk result (files.new.items ≡ files.old.items
-            ++ lock_replacements self.now locks.now.entries) }
+            ++ lock_rewrites self.now locks.now.entries) }
     {
         for (name, lock) in locks {
             let text = lock.as_str();
@@ -203,19 +203,19 @@ impl SavedFiles {
 
 /// Puts a file with the bytes that are to stand in its place behind others, unless it holds them.
 fn push_unless<'a>(
-    files: &mut Vec<Replacement<'a>>,
+    files: &mut Vec<Rewrite<'a>>,
     is_same: bool,
     file: InputFile,
     text: &'a str,
 ) -> Result<(), AllocError>
     ensures { OnOk result
-        (files.new.items ≡ files.old.items ++ replacing is_same file text.now) }
+        (files.new.items ≡ files.old.items ++ rewriting is_same file text.now) }
 {
     if is_same {
         return Ok(());
     }
     let bytes = text.as_bytes();
-    files.push(Replacement { file, bytes })?;
+    files.push(Rewrite { file, bytes })?;
     Ok(())
 }
 
@@ -243,14 +243,14 @@ pub fn journal_in<R: Files + AllocGlobal>(
     Ok(Journal::read(rt.alloc(), Seq::from_vec(bytes))?)
 }
 
-/// The places of a file of the folder. Nothing where it can have none.
-pub fn places_in<R: Files + AllocGlobal>(
+/// The paths of a file of the folder. Nothing where it can have none.
+pub fn paths_in<R: Files + AllocGlobal>(
     rt: &R,
     dir: &str,
     file: InputFile,
-) -> Result<Option<Places>, Fault> {
+) -> Result<Option<FilePaths>, Fault> {
     let path = path_of(rt.alloc(), dir, &file)?;
-    places_at(rt, file, path.as_str())
+    paths_at(rt, file, path.as_str())
 }
 
 /// The bytes of a file, in its place or, where it is among these, beside it.
@@ -264,8 +264,8 @@ pub fn read_in<R: Files + AllocGlobal>(
         let path = path_of(rt.alloc(), dir, &file)?;
         return read_bytes(rt, file, path.as_str());
     }
-    match places_in(rt, dir, file.clone()?)? {
-        Some(places) => read_bytes(rt, file, places.beside.as_str()),
+    match paths_in(rt, dir, file.clone()?)? {
+        Some(paths) => read_bytes(rt, file, paths.beside.as_str()),
         None => Err(Fault::Input(file, InputFault::Unreadable)),
     }
 }

@@ -4,8 +4,8 @@ ghost use Rattle.std.specs.Prelude.{◌≡◌, ◌++◌, [], IfOk, IsSomeAnd, On
 ghost use Rattle.journal.specs.Past.{IsAtEnd, IsRedone, IsUndone, present};
 ghost use Rattle.files.specs.Beside.{completed_by, files_of, has, has_lines, has_requirements, one_where};
 
-use crate::replacement::{Places, rename_to_place};
-use crate::saved_files::{SavedFiles, journal_in, names_in, places_in, read_in};
+use crate::rewrite::{FilePaths, rename_to_path};
+use crate::saved_files::{SavedFiles, journal_in, names_in, paths_in, read_in};
 use edits::TargetName;
 use inputs::{Fault, InputFile};
 use journal::{Command, Journal, Reply, Session};
@@ -143,8 +143,8 @@ pub fn remove_left<R: Files + AllocGlobal>(
     for target in session.state().targets() {
         left.locks.insert(target.name.clone()?)?;
     }
-    for places in all_places(rt, dir, &left)? {
-        let _ = fs::remove_file(rt, places.beside.as_str());
+    for paths in all_paths(rt, dir, &left)? {
+        let _ = fs::remove_file(rt, paths.beside.as_str());
     }
     Ok(())
 }
@@ -157,8 +157,8 @@ pub(crate) fn is_left<R: Files + AllocGlobal>(rt: &R, dir: &str) -> Result<bool,
 
 /// Whether one of these files stands beside its place.
 fn is_any_left<R: Files + AllocGlobal>(rt: &R, dir: &str, named: &Beside) -> Result<bool, Fault> {
-    for places in all_places(rt, dir, named)? {
-        if fs::symlink_metadata(rt, places.beside.as_str()).is_ok() {
+    for paths in all_paths(rt, dir, named)? {
+        if fs::symlink_metadata(rt, paths.beside.as_str()).is_ok() {
             return Ok(true);
         }
     }
@@ -197,24 +197,24 @@ fn add_names(alloc: Global, beside: &mut Beside, journal: &Journal) -> Result<()
 }
 
 fn rename_left<R: Files + AllocGlobal>(rt: &R, dir: &str, left: &Beside) -> Result<(), Fault> {
-    let found = all_places(rt, dir, left)?;
-    for places in found.as_slice() {
-        rename_to_place(rt, places)?;
+    let all = all_paths(rt, dir, left)?;
+    for paths in all.as_slice() {
+        rename_to_path(rt, paths)?;
     }
     Ok(())
 }
 
-/// The places of those of the files that can have some. All memory for them is taken before a file
+/// The paths of those of the files that can have some. All memory for them is taken before a file
 /// changes.
-fn all_places<R: Files + AllocGlobal>(
+fn all_paths<R: Files + AllocGlobal>(
     rt: &R,
     dir: &str,
     beside: &Beside,
-) -> Result<Vec<Places>, Fault> {
+) -> Result<Vec<FilePaths>, Fault> {
     let mut found = Vec::new(rt.alloc());
     for file in beside.files(rt.alloc())? {
-        if let Some(places) = places_in(rt, dir, file)? {
-            found.push(places)?;
+        if let Some(paths) = paths_in(rt, dir, file)? {
+            found.push(paths)?;
         }
     }
     Ok(found)

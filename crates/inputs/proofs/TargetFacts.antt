@@ -8,7 +8,7 @@ use Rattle.std.specs.Ordering.{is_eq, nat_cmp}
 use Rattle.std.proofs.lemmas.List.{drop_more}
 use Rattle.inputs.specs.TargetFiles.{in_front, names_of, repeated}
 use Rattle.inputs.specs.declared.fault.Fault.{Fault}
-use Rattle.inputs.specs.declared.target_files.TargetFile.{TargetFile}
+use Rattle.inputs.specs.declared.named_file.NamedPath.{NamedPath}
 
 -- what others make goes behind what is made
 abbrev pub behind : {A : Type 0} → List A → Result (List A) Fault → Result (List A) Fault
@@ -20,13 +20,13 @@ behind-one done one (Ok others) = ap (λ all. Ok all) (sym (append_assoc done (o
 behind-one done one (Err fault) = refl
 
 -- a name that is new
-pub repeated-more : (seen : List (List ℕ)) (files : List TargetFile) (place : ℕ) (file : TargetFile) → place < length files → get_or files place file ≡ file
+pub repeated-more : (seen : List (List ℕ)) (files : List (NamedPath (List ℕ))) (place : ℕ) (file : NamedPath (List ℕ)) → place < length files → get_or files place file ≡ file
     → list_any (λ other. is_eq (slice_cmp nat_cmp file.name other)) seen ≡ false
     → repeated seen (names_of (drop place files)) ≡ repeated (insert_key (slice_cmp nat_cmp) seen file.name) (names_of (drop (place + 1) files))
 repeated-more seen files place file within is new = rw (drop_more files place file within, is, new) refl
 
 -- a name that stands before it too
-pub repeated-here : (seen : List (List ℕ)) (files : List TargetFile) (place : ℕ) (file : TargetFile) → place < length files → get_or files place file ≡ file
+pub repeated-here : (seen : List (List ℕ)) (files : List (NamedPath (List ℕ))) (place : ℕ) (file : NamedPath (List ℕ)) → place < length files → get_or files place file ≡ file
     → list_any (λ other. is_eq (slice_cmp nat_cmp file.name other)) seen ≡ true
     → repeated seen (names_of (drop place files)) ≡ Some file.name
 repeated-here seen files place file within is old = rw (drop_more files place file within, is, old) refl

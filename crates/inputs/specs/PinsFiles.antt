@@ -12,7 +12,7 @@ use Rattle.inputs.specs.declared.pin_file.PinFile.{PinFile}
 use Rattle.inputs.specs.declared.input_files.InputFault.{InputFault}
 use Rattle.inputs.specs.declared.input_files.InputFault.TheVariants as inputs
 use Rattle.inputs.specs.declared.pins_files.PinsFile.{PinsFile}
-use Rattle.inputs.specs.declared.pins_files.PinsTarget.{PinsTarget}
+use Rattle.inputs.specs.declared.pins_files.LentTarget.{LentTarget}
 
 -- what was read, or its fault as that of an input
 abbrev pub as_pins : Result PinFile PinFault → Result PinFile InputFault
@@ -47,5 +47,5 @@ abbrev pub versions_for : List PinsFile → List ℕ → Texts → List (List �
 versions_for files target environment = flat_map (λ f. pins_in environment f.file) (filter (is_for (has_own files target) target) files)
 
 -- what files pin for each of the targets
-abbrev pub pins_for : List PinsFile → List PinsTarget → List TargetPins
+abbrev pub pins_for : List PinsFile → List LentTarget → List TargetPins
 pins_for files targets = map (λ t. record { target = t.name.now; versions = versions_for files t.name.now t.environment.now }) targets

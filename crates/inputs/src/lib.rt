@@ -18,6 +18,7 @@ mod folder_lock;
 pub mod handed_in;
 mod input_files;
 mod link_out;
+pub mod named_file;
 mod pin_fault;
 mod pin_file;
 mod pinned_version;

@@ -9,6 +9,7 @@ ghost use Rattle.inputs.specs.declared.input_files.InputFault.TheVariants.{OutOf
 use crate::fault::{Fault, in_file};
 use crate::handed_in::HandedIn;
 use crate::input_files::{InputFault, InputFile};
+use crate::named_file::{NamedBytes, NamedPath};
 use crate::pin_fault::PinFault;
 use crate::pin_file::PinFile;
 use crate::target_files::parts_of;
@@ -22,38 +23,23 @@ use std::rt::Files;
 // How many dots any lock may have.
 const MANY_DOTS: usize = 1000;
 
-/// The target that a file of pins is for, by a name which there may be none of, and where the file stands. Without a
-/// name it is for every target that no other file is for.
-#[derive(Drop)]
-pub struct PinsPath {
-    target: Text,
-    path: Text,
-}
-
-/// A file of pins as it was read, and the target that it is for.
+/// A file of pins as it was read, and the target that it is for, by a name which there may be none of. Without a name it
+/// is for every target that no other file is for.
 #[derive(Drop)]
 pub struct PinsFile {
     pub target: Text,
     pub file: PinFile,
 }
 
-/// What a file of pins holds.
-#[derive(Drop)]
-pub struct PinsBytes {
-    target: Text,
-    is_lock: bool,
-    bytes: Vec<u8>,
-}
-
-/// A target of a history, or of one that is to begin.
+/// A target of a history, or of one that is to begin, lent.
 #[derive(Clone, Copy)]
-pub struct PinsTarget<'a> {
+pub struct LentTarget<'a> {
     pub name: &'a TargetName,
     pub environment: &'a Environment,
 }
 
 /// The files that values of `--pins` name, in their order. No file has been read.
-pub fn pins_paths(alloc: Global, values: &[Text]) -> Result<Vec<PinsPath>, AllocError> {
+pub fn pins_paths(alloc: Global, values: &[Text]) -> Result<Vec<NamedPath<Text>>, AllocError> {
     let mut paths = Vec::with_capacity(alloc, values.len())?;
     for value in values {
         paths.push(pins_path(alloc, value.as_str())?)?;
@@ -62,27 +48,22 @@ pub fn pins_paths(alloc: Global, values: &[Text]) -> Result<Vec<PinsPath>, Alloc
 }
 
 /// The target and the path of a value.
-fn pins_path(alloc: Global, value: &str) -> Result<PinsPath, AllocError> {
+fn pins_path(alloc: Global, value: &str) -> Result<NamedPath<Text>, AllocError> {
     let (name, path) = parts_of(value);
-    let target = Text::copy_of(alloc, name)?;
+    let name = Text::copy_of(alloc, name)?;
     let path = Text::copy_of(alloc, path)?;
-    Ok(PinsPath { target, path })
+    Ok(NamedPath { name, path })
 }
 
 /// The bytes of the files, read in the order of the command line.
 pub fn read_pins<R: Files + AllocGlobal, I: Read + Drop>(
     handed_in: &mut HandedIn<'_, R, I>,
-    paths: Vec<PinsPath>,
-) -> Result<Vec<PinsBytes>, Fault> {
+    paths: Vec<NamedPath<Text>>,
+) -> Result<Vec<NamedBytes<Text>>, Fault> {
     let mut read = Vec::with_capacity(handed_in.alloc(), paths.len())?;
-    for PinsPath { target, path } in paths {
-        let bytes = handed_in.read(InputFile::Pins(target.clone()?), path.as_str())?;
-        let is_lock = path.as_str().ends_with(".toml");
-        read.push(PinsBytes {
-            target,
-            is_lock,
-            bytes,
-        })?;
+    for NamedPath { name, path } in paths {
+        let bytes = handed_in.read(InputFile::Pins(name.clone()?), path.as_str())?;
+        read.push(NamedBytes { name, path, bytes })?;
     }
     Ok(read)
 }
@@ -130,16 +111,13 @@ fn as_input(read: Result<PinFile, PinFault>) -> Result<PinFile, InputFault>
 }
 
 /// The files that the bytes are; faults are told in their order.
-fn pins_files(alloc: Global, read: Vec<PinsBytes>) -> Result<Vec<PinsFile>, Fault> {
+fn pins_files(alloc: Global, read: Vec<NamedBytes<Text>>) -> Result<Vec<PinsFile>, Fault> {
     let mut files = Vec::with_capacity(alloc, read.len())?;
-    for PinsBytes {
-        target,
-        is_lock,
-        bytes,
-    } in read {
-        let file = InputFile::Pins(target.clone()?);
+    for NamedBytes { name, path, bytes } in read {
+        let is_lock = path.as_str().ends_with(".toml");
+        let file = InputFile::Pins(name.clone()?);
         let file = in_file(file, read_pin_file(alloc, is_lock, bytes.as_slice()))?;
-        files.push(PinsFile { target, file })?;
+        files.push(PinsFile { target: name, file })?;
     }
     Ok(files)
 }
@@ -148,8 +126,8 @@ fn pins_files(alloc: Global, read: Vec<PinsBytes>) -> Result<Vec<PinsFile>, Faul
 /// is no file of pins.
 pub fn pins_of(
     alloc: Global,
-    read: Vec<PinsBytes>,
-    targets: &[PinsTarget<'_>],
+    read: Vec<NamedBytes<Text>>,
+    targets: &[LentTarget<'_>],
 ) -> Result<Seq<TargetPins>, Fault> {
     let files = pins_files(alloc, read)?;
     for file in files.as_slice() {
@@ -200,7 +178,7 @@ fn add_versions(
 fn versions_for(
     alloc: Global,
     files: &[PinsFile],
-    target: PinsTarget<'_>,
+    target: LentTarget<'_>,
 ) -> Result<Seq<(Name, Version)>, AllocError>
     ensures { IfOk result (λ versions.
         versions ≡ spec.versions_for files.now target.entry.name.now target.entry.environment.now) }
@@ -219,7 +197,7 @@ fn versions_for(
 pub fn pins_for(
     alloc: Global,
     files: &[PinsFile],
-    targets: &[PinsTarget<'_>],
+    targets: &[LentTarget<'_>],
 ) -> Result<Seq<TargetPins>, AllocError>
     ensures { IfOk result (λ pins. pins ≡ spec.pins_for files.now targets.now) }
 {

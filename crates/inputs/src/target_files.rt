@@ -12,20 +12,17 @@ ghost use Rattle.inputs.specs.declared.fault.Fault.TheVariants.{OutOfMemory};
 
 use crate::fault::{Fault, in_file};
 use crate::input_files::{InputFile, read_bytes, read_environment};
+use crate::named_file::{NamedBytes, NamedPath};
 use edits::{Environment, Refusal, TargetName, Targets};
 use lists::{Seq, Text};
 use std::alloc::{AllocError, Global};
 use std::collections::BTreeSet;
 use std::rt::Files;
 
-/// A target, and the file of its environment.
-#[derive(Drop)]
-pub struct TargetFile {
-    name: TargetName,
-    path: Text,
-}
+/// The name of a target, and where the file of its environment stands.
+pub type TargetPath = NamedPath<TargetName>;
 
-impl TargetFile {
+impl NamedPath<TargetName> {
     /// The name of the target.
     pub fn name(&self) -> &TargetName
         ensures { result.now ≡ self.now.name }
@@ -50,11 +47,11 @@ impl TargetFile {
     }
 }
 
-impl Clone for TargetFile {
+impl Clone for NamedPath<TargetName> {
     ghost is_clone = { λ file copy. copy ≡ file };
 
-    fn clone(&self) -> Result<TargetFile, AllocError> {
-        Ok(TargetFile {
+    fn clone(&self) -> Result<NamedPath<TargetName>, AllocError> {
+        Ok(NamedPath {
             name: self.name.clone()?,
             path: self.path.clone()?,
         })
@@ -62,7 +59,7 @@ impl Clone for TargetFile {
 }
 
 /// The path of the environment of a target; empty where no target has the name.
-pub fn environment_path<'a>(targets: &'a [TargetFile], name: &TargetName) -> &'a str
+pub fn environment_path<'a>(targets: &'a [TargetPath], name: &TargetName) -> &'a str
     ensures { result.now ≡ path_named name.now targets.now }
 {
     match target_named(targets, name.as_str()) {
@@ -72,22 +69,15 @@ pub fn environment_path<'a>(targets: &'a [TargetFile], name: &TargetName) -> &'a
 }
 
 /// The target of a name.
-fn target_named<'a>(targets: &'a [TargetFile], name: &str) -> Option<&'a TargetFile>
+fn target_named<'a>(targets: &'a [TargetPath], name: &str) -> Option<&'a TargetPath>
     ensures { option_copied result ≡ find (has_name name.now) targets.now }
 {
     targets.iter().find(|target| target.name().as_str() == name)
 }
 
-/// What the file of a target holds.
-#[derive(Drop)]
-pub struct TargetBytes {
-    name: TargetName,
-    bytes: Vec<u8>,
-}
-
 /// The targets that values of `--env` name, with their files, in the order of the values. A bad name is told
 /// before one that stands twice, and no file has been read.
-pub fn target_files(alloc: Global, values: &[Text]) -> Result<Vec<TargetFile>, Fault>
+pub fn target_files(alloc: Global, values: &[Text]) -> Result<Vec<TargetPath>, Fault>
     ensures files { IfOk result (λ files. target_files_of values.now ≡ Ok files.items) }
     ensures refused { IfErr result (λ fault. (fault ≡ OutOfMemory)
         ⊎ (refused (target_files_of values.now) ≡ Err fault)) }
@@ -98,7 +88,7 @@ pub fn target_files(alloc: Global, values: &[Text]) -> Result<Vec<TargetFile>, F
 }
 
 /// The same, where a name may stand twice.
-fn named_files(alloc: Global, values: &[Text]) -> Result<Vec<TargetFile>, Fault>
+fn named_files(alloc: Global, values: &[Text]) -> Result<Vec<TargetPath>, Fault>
     ensures files { IfOk result (λ files. files.items ≡ map target_file_of values.now) }
     ensures named { OnOk result (are_named values.now ≡ true) }
     ensures refused { IfErr result (λ fault. (fault ≡ OutOfMemory)
@@ -120,20 +110,20 @@ pub(crate) fn parts_of(value: &str) -> (&str, &str)
     value.split_once('=').unwrap_or(("", value))
 }
 
-fn target_file(alloc: Global, value: &str) -> Result<TargetFile, Fault>
+fn target_file(alloc: Global, value: &str) -> Result<TargetPath, Fault>
     ensures file { IfOk result (λ file. file ≡ target_file_of value.now) }
     ensures named { OnOk result (is_target_name (name_in value.now) ≡ true) }
     ensures refused { IfErr result (λ fault. (fault ≡ OutOfMemory)
         ⊎ ((fault ≡ Fault.Refused BadTarget) × (is_target_name (name_in value.now) ≡ false))) }
 {
     let (name, path) = parts_of(value);
-    Ok(TargetFile {
+    Ok(NamedPath {
         name: TargetName::parse(alloc, name)?,
         path: Text::copy_of(alloc, path)?,
     })
 }
 
-fn refuse_twice(alloc: Global, files: &[TargetFile]) -> Result<(), Fault>
+fn refuse_twice(alloc: Global, files: &[TargetPath]) -> Result<(), Fault>
     ensures once { OnOk result (repeated [] (names_of files.now) ≡ None) }
     ensures refused { IfErr result (λ fault. (fault ≡ OutOfMemory)
         ⊎ IsSomeAnd (repeated [] (names_of files.now))
@@ -153,22 +143,22 @@ fn refuse_twice(alloc: Global, files: &[TargetFile]) -> Result<(), Fault>
 /// The bytes of the environments, read in the order of the command line.
 pub fn read_all<R: Files + AllocGlobal>(
     rt: &R,
-    files: Vec<TargetFile>,
-) -> Result<Vec<TargetBytes>, Fault>
+    files: Vec<TargetPath>,
+) -> Result<Vec<NamedBytes<TargetName>>, Fault>
     ensures { IfOk result
         (λ read. map (λ target. target.name) read.items ≡ names_of files.items) }
 {
     let mut read = Vec::with_capacity(rt.alloc(), files.len())?;
-    for TargetFile { name, path } in files {
+    for NamedPath { name, path } in files {
         let file = InputFile::Environment(name.clone()?);
         let bytes = read_bytes(rt, file, path.as_str())?;
-        read.push(TargetBytes { name, bytes })?;
+        read.push(NamedBytes { name, path, bytes })?;
     }
     Ok(read)
 }
 
 /// The targets with the environments that the bytes are; faults are told in their order.
-pub fn targets_of(alloc: Global, read: Vec<TargetBytes>) -> Result<Targets, Fault>
+pub fn targets_of(alloc: Global, read: Vec<NamedBytes<TargetName>>) -> Result<Targets, Fault>
     ensures { Answers OutOfMemory (targets_in read.items) result }
 {
     let environments = environments_of(alloc, read)?;
@@ -178,7 +168,7 @@ pub fn targets_of(alloc: Global, read: Vec<TargetBytes>) -> Result<Targets, Faul
 /// The environments that the bytes are, with their names.
 fn environments_of(
     alloc: Global,
-    read: Vec<TargetBytes>,
+    read: Vec<NamedBytes<TargetName>>,
 ) -> Result<Seq<(TargetName, Environment)>, Fault>
     ensures { Answers OutOfMemory (environments_in read.items) result }
 {
@@ -189,10 +179,17 @@ fn environments_of(
     Ok(Seq::from_vec(environments))
 }
 
-fn environment_of(alloc: Global, target: TargetBytes) -> Result<(TargetName, Environment), Fault>
+fn environment_of(
+    alloc: Global,
+    target: NamedBytes<TargetName>,
+) -> Result<(TargetName, Environment), Fault>
     ensures { Answers OutOfMemory (named_environment target) result }
 {
-    let TargetBytes { name, bytes } = target;
+    let NamedBytes {
+        name,
+        path: _,
+        bytes,
+    } = target;
     let file = InputFile::Environment(name.clone()?);
     let environment = in_file(file, read_environment(alloc, bytes.as_slice()))?;
     Ok((name, environment))

@@ -4,11 +4,11 @@ use Rattle.std.specs.Io.KnownBytes.{Appends}
 use Rattle.std.specs.declared.io.ErrorKind.{ErrorKind}
 use Rattle.std.specs.declared.io.ErrorKind.TheVariants as kinds
 use Rattle.commands.specs.Runs.{IsCutOff}
-use Rattle.commands.specs.declared.batch.BatchFault.{BatchFault}
-use Rattle.commands.specs.declared.batch.BatchFault.TheVariants.{Write}
+use Rattle.commands.specs.declared.batch.StreamFault.{StreamFault}
+use Rattle.commands.specs.declared.batch.StreamFault.TheVariants.{Write}
 
 -- a text that people read was written whole; or something of it is missing, since its reader has closed the output or a write failed
-abbrev pub IsShown : List ℕ → Result Bool BatchFault → Option (List ℕ) → Option (List ℕ) → Type 0
+abbrev pub IsShown : List ℕ → Result Bool StreamFault → Option (List ℕ) → Option (List ℕ) → Type 0
 IsShown text (Ok true) before after = Appends before after text
 IsShown text (Ok false) before after = IsCutOff text before after
 IsShown text (Err fault) before after = (fault ≡ Write) × IsCutOff text before after

@@ -9,8 +9,9 @@ use std::fmt;
 
 /// The text of a fault of an input.
 #[derive(Clone, Copy)]
-pub(crate) struct InputFaultText<'a> {
-    pub(crate) fault: &'a InputFault,
+pub struct InputFaultText<'a> {
+    /// The fault.
+    pub fault: &'a InputFault,
 }
 
 impl fmt::Display for InputFaultText<'_> {

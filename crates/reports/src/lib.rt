@@ -7,4 +7,5 @@ mod input_fault_text;
 mod output;
 pub mod report;
 
+pub use crate::input_fault_text::InputFaultText;
 pub use crate::output::{is_closed, print, show};

@@ -4,28 +4,28 @@ ghost use Rattle.std.specs.Prelude.{◌≡◌, IfErr, OnErr, OnOk};
 ghost use Rattle.std.specs.Io.KnownBytes.{Appends};
 ghost use Rattle.std.specs.IoError.{error_kind};
 ghost use Rattle.commands.specs.Runs.{IsCutOff};
-ghost use Rattle.commands.specs.declared.batch.BatchFault.TheVariants as batches;
+ghost use Rattle.commands.specs.declared.batch.StreamFault.TheVariants as streams;
 ghost use Rattle.reports.specs.Printed.{IsShown, tells_closed};
 
-use commands::batch::BatchFault;
+use commands::batch::StreamFault;
 use std::io::{self, ErrorKind, Write};
 
 /// Writes all of a text to the output. Where it fails, something of the text isn't written.
-pub fn print<O: Write>(output: &mut O, text: &[u8]) -> Result<(), BatchFault>
+pub fn print<O: Write>(output: &mut O, text: &[u8]) -> Result<(), StreamFault>
     ensures bytes { OnOk result (Appends (O.contents output.old) (O.contents output.new) text.now) }
     ensures cut_off { OnErr result
         (IsCutOff text.now (O.contents output.old) (O.contents output.new)) }
-    ensures fault { IfErr result (λ fault. fault ≡ batches.Write) }
+    ensures fault { IfErr result (λ fault. fault ≡ streams.Write) }
 {
     match written(output, text) {
         Ok(()) => Ok(()),
-        Err(_) => Err(BatchFault::Write),
+        Err(_) => Err(StreamFault::Write),
     }
 }
 
 /// Writes a text that people read to the output, and tells whether all of it went. Who closes the output early,
 /// as `head` does, has read what they wanted, and that is no fault.
-pub fn show<O: Write>(output: &mut O, text: &[u8]) -> Result<bool, BatchFault>
+pub fn show<O: Write>(output: &mut O, text: &[u8]) -> Result<bool, StreamFault>
     ensures { IsShown text.now result (O.contents output.old) (O.contents output.new) }
 {
     match written(output, text) {
@@ -34,7 +34,7 @@ pub fn show<O: Write>(output: &mut O, text: &[u8]) -> Result<bool, BatchFault>
             if is_closed(&error) {
                 Ok(false)
             } else {
-                Err(BatchFault::Write)
+                Err(StreamFault::Write)
             }
         }
     }

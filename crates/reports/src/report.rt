@@ -10,8 +10,8 @@ ghost use Rattle.reports.specs.declared.report.Status.TheVariants as statuses;
 use crate::input_fault_text::InputFaultText;
 use crate::output::{print, show};
 use clap::error::ErrorKind;
-use command_line::request::NeededOption;
-use commands::batch::BatchFault;
+use command_line::request::{Beginning, NeededOption};
+use commands::batch::StreamFault;
 use commands::refusal_word;
 use edits::Refusal;
 use std::io::Write;
@@ -58,7 +58,9 @@ pub fn report<O: Write, E: Write>(stop: &Stop, output: &mut O, errors: &mut E) -
         Stop::Refuted(text) => report_text(text.as_str(), Status::NoSolution, output, errors),
         Stop::Explained(text) => report_explanation(text.as_str(), output, errors),
         Stop::NoneSaved(refusal) => report_none_saved(refusal, errors),
-        Stop::Stale(text) => report_text(text.as_str(), Status::Refused, output, errors),
+        Stop::Stale(text) | Stop::Uncovered(text) => {
+            report_text(text.as_str(), Status::Refused, output, errors)
+        }
         Stop::Input(file, fault) => {
             let fault = InputFaultText { fault };
             let _ = writeln!(errors, "reqlock: {file}: {fault}");
@@ -68,6 +70,7 @@ pub fn report<O: Write, E: Write>(stop: &Stop, output: &mut O, errors: &mut E) -
             let _ = writeln!(errors, "reqlock: the history has no place {place}");
             Status::Usage
         }
+        Stop::NoBeginning(beginning, cursor) => report_no_beginning(*beginning, *cursor, errors),
         Stop::NoTarget(name) => {
             let name = name.as_str();
             let _ = writeln!(errors, "reqlock: --pins has no target {name}");
@@ -82,13 +85,13 @@ pub fn report<O: Write, E: Write>(stop: &Stop, output: &mut O, errors: &mut E) -
 }
 
 /// Tells a fault of memory or of a stream, and gives its status.
-pub fn report_fault<E: Write>(fault: BatchFault, errors: &mut E) -> Status
+pub fn report_fault<E: Write>(fault: StreamFault, errors: &mut E) -> Status
     ensures { result ≡ statuses.Fault }
 {
     let text = match fault {
-        BatchFault::Read => "input: read failed",
-        BatchFault::Write => "output: write failed",
-        BatchFault::OutOfMemory => "out of memory",
+        StreamFault::Read => "input: read failed",
+        StreamFault::Write => "output: write failed",
+        StreamFault::OutOfMemory => "out of memory",
     };
     let _ = writeln!(errors, "reqlock: {text}");
     Status::Fault
@@ -100,7 +103,7 @@ fn report_none_saved<E: Write>(refusal: &Refusal, errors: &mut E) -> Status
 {
     match refusal {
         Refusal::NoSolution => Status::NoSolution,
-        Refusal::OutOfMemory => report_fault(BatchFault::OutOfMemory, errors),
+        Refusal::OutOfMemory => report_fault(StreamFault::OutOfMemory, errors),
         Refusal::BadText
         | Refusal::AlreadyPresent(_)
         | Refusal::NotPresent
@@ -126,6 +129,23 @@ fn report_needed<E: Write>(option: NeededOption, errors: &mut E) -> Status
         NeededOption::Environment => "--env",
     };
     let _ = writeln!(errors, "reqlock: {shown} is needed");
+    Status::Usage
+}
+
+/// Tells that a history which stands in this place can't begin where it is asked to.
+fn report_no_beginning<E: Write>(beginning: Beginning, cursor: usize, errors: &mut E) -> Status
+    ensures { result ≡ statuses.Usage }
+{
+    let _ = match beginning {
+        Beginning::At(place) => writeln!(
+            errors,
+            "reqlock: the history stands at place {cursor}, and can't begin at place {place}"
+        ),
+        Beginning::Back(count) => writeln!(
+            errors,
+            "reqlock: the history stands at place {cursor}, and can't begin {count} before it"
+        ),
+    };
     Status::Usage
 }
 
@@ -199,7 +219,7 @@ fn report_word<O: Write, E: Write>(
     }
 }
 
-fn print_refusal<O: Write>(refusal: &Refusal, output: &mut O) -> Result<(), BatchFault>
+fn print_refusal<O: Write>(refusal: &Refusal, output: &mut O) -> Result<(), StreamFault>
     ensures bytes { OnOk result
         (Appends (O.contents output.old) (O.contents output.new) (refusal_line refusal.now)) }
     ensures cut_off { OnErr result

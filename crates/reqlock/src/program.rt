@@ -7,18 +7,20 @@ use calls::{Call, first_paths};
 use clap::error::ErrorKind;
 use command_line::command;
 use command_line::request::{
-    ColorChoice, Format, Inputs, Invocation, RequestFault, Saving, Subcommand, Verbosity, request,
+    Beginning, ColorChoice, Format, Inputs, Invocation, RequestFault, Saving, Subcommand,
+    Verbosity, request,
 };
-use commands::batch::BatchFault;
+use commands::batch::StreamFault;
 use details::{CallFiles, Details};
 use inputs::LockFile;
-use inputs::target_files::{TargetFile, target_files};
+use inputs::target_files::{TargetPath, target_files};
 use journal::Command;
 use phrases::Style;
 use reports::report::{Status, report, report_fault};
 use saves::{
-    add_near_names, begin_history, edit_once, rehearse_edit, rehearse_init, rehearse_replace,
-    rehearse_step, replace_once, run_batch, step_once, try_commands,
+    add_near_names, begin_history, edit_once, forget_once, rehearse_edit, rehearse_forget,
+    rehearse_init, rehearse_replace, rehearse_step, replace_once, run_batch, step_once,
+    try_commands,
 };
 use shell::given_words::has_option;
 use shell::screen::{Screen, shown_stop};
@@ -41,7 +43,7 @@ pub struct Given<'a> {
 
 /// Does what the words mean. Commands are read from `input`, replies and help are written to `output`, and other
 /// texts to `errors`.
-pub fn program<R: Files + Clock + AllocGlobal, I: Read + Drop, O: Write, E: Write>(
+pub fn program<R: Files + Clock + AllocGlobal + Clone + Drop, I: Read + Drop, O: Write, E: Write>(
     rt: &R,
     given: Given<'_>,
     input: I,
@@ -97,7 +99,7 @@ fn report_shown<O: Write, E: Write>(
 ) -> Status {
     match shown_stop(alloc, stop, style) {
         Ok(stop) => report(&stop, output, errors),
-        Err(_) => report_fault(BatchFault::OutOfMemory, errors),
+        Err(_) => report_fault(StreamFault::OutOfMemory, errors),
     }
 }
 
@@ -122,7 +124,7 @@ fn refuse_words<R: Files + AllocGlobal, O: Write, E: Write>(
     };
     let status = match noted.and_then(|_| without_tip(rt.alloc(), fault, &details, given.words)) {
         Ok(fault) => report(&stop_of_request(rt.alloc(), fault), output, errors),
-        Err(_) => report_fault(BatchFault::OutOfMemory, errors),
+        Err(_) => report_fault(StreamFault::OutOfMemory, errors),
     };
     details.tell(rt.alloc(), status == Status::Fault, errors);
     status
@@ -167,7 +169,7 @@ fn verbosity_in(words: &[String]) -> Verbosity {
 }
 
 /// What is known of a file that is refused is noted behind all else.
-fn obey<R: Files + Clock + AllocGlobal, I: Read + Drop, O: Write, E: Write>(
+fn obey<R: Files + Clock + AllocGlobal + Clone + Drop, I: Read + Drop, O: Write, E: Write>(
     call: &mut Call<'_, R, O>,
     subcommand: Subcommand<'_>,
     names_environment: bool,
@@ -203,10 +205,10 @@ where
     done
 }
 
-fn obey_in<R: Files + Clock + AllocGlobal, I: Read + Drop, O: Write, E: Write>(
+fn obey_in<R: Files + Clock + AllocGlobal + Clone + Drop, I: Read + Drop, O: Write, E: Write>(
     call: &mut Call<'_, R, O>,
     subcommand: Subcommand<'_>,
-    targets: Vec<TargetFile>,
+    targets: Vec<TargetPath>,
     input: I,
     details: &mut Details,
     errors: &mut E,
@@ -230,6 +232,7 @@ where
         }
         Subcommand::Undo(saving) => step(call, details, &Command::Undo, saving),
         Subcommand::Redo(saving) => step(call, details, &Command::Redo, saving),
+        Subcommand::Forget(beginning, saving) => forget(call, details, beginning, saving),
         Subcommand::Batch(inputs, is_all_or_none) => {
             run_batch(call, details, inputs, is_all_or_none, input)
         }
@@ -237,7 +240,7 @@ where
         Subcommand::Show(shown, format) => print_shown(call, errors, shown, format),
         Subcommand::Log(long, format) => print_history(call, errors, long, format),
         Subcommand::Diff(range, format) => print_diff(call, errors, range, format),
-        Subcommand::Check(index, format) => check(call, details, index, format),
+        Subcommand::Check(index, format) => check(call, details, errors, index, format),
         Subcommand::Outdated(index, format) => {
             print_outdated(call, &mut details.lacks, index, format)
         }
@@ -252,16 +255,22 @@ where
 }
 
 /// Whether the files belong together. That the lock is current over another index than its own is noted.
-fn check<R: Files + AllocGlobal, O: Write>(
+fn check<R: Files + AllocGlobal + Clone + Drop, O: Write, E: Write>(
     call: &mut Call<'_, R, O>,
     details: &mut Details,
+    errors: &mut E,
     index: Option<&str>,
     format: Format,
 ) -> Result<(), Stop>
 where
     R::File: LockFile,
 {
-    if let Some(change) = print_check(call, index, format)? {
+    let errors = if details.manner.is_quiet {
+        None
+    } else {
+        Some(errors)
+    };
+    if let Some(change) = print_check(call, errors, index, format)? {
         if details.tells() {
             details.changes = diff_text(call.rt.alloc(), &change)?;
         }
@@ -275,7 +284,7 @@ fn init<R: Files + AllocGlobal, I: Read + Drop, O: Write>(
     details: &mut Details,
     inputs: &Inputs<'_>,
     saving: Saving,
-    targets: Vec<TargetFile>,
+    targets: Vec<TargetPath>,
     input: I,
 ) -> Result<(), Stop>
 where
@@ -301,5 +310,21 @@ where
     match saving {
         Saving::Save => step_once(call, details, command),
         Saving::DryRun => rehearse_step(call, details, command),
+    }
+}
+
+/// A shorter history, saved or not.
+fn forget<R: Files + AllocGlobal, O: Write>(
+    call: &mut Call<'_, R, O>,
+    details: &mut Details,
+    beginning: Beginning,
+    saving: Saving,
+) -> Result<(), Stop>
+where
+    R::File: LockFile,
+{
+    match saving {
+        Saving::Save => forget_once(call, details, beginning),
+        Saving::DryRun => rehearse_forget(call, details, beginning),
     }
 }

@@ -4,7 +4,7 @@ use Rattle.stops.specs.Stops.{stop_of}
 use Rattle.stops.specs.declared.stop.Stop.{Stop}
 use Rattle.stops.specs.declared.stop.Stop.TheVariants as stops
 use Rattle.commands.specs.Needed.{IsApplied}
-use Rattle.commands.specs.declared.batch.BatchFault.TheVariants as batches
+use Rattle.commands.specs.declared.batch.StreamFault.TheVariants as streams
 use Rattle.inputs.specs.Faults.{fault_of}
 use Rattle.journal.specs.Commands.{Asked}
 use Rattle.journal.specs.Past.{Past}
@@ -25,5 +25,5 @@ GoesOn only_if_needed old asked new reply = IsApplied only_if_needed old asked r
 -- a call stops at its command as the refusal says, or for want of memory
 abbrev pub StopsAt : Bool → Past → Asked → Past → Stop → Type 0
 StopsAt only_if_needed old asked new stop =
-    (stop ≡ stops.Fault batches.OutOfMemory)
+    (stop ≡ stops.Fault streams.OutOfMemory)
     ⊎ ((refusal : Refusal) × IsApplied only_if_needed old asked (Refused refusal) new × (stop ≡ stop_of (fault_of refusal)))

@@ -10,7 +10,7 @@ use edits::Pool;
 use files::first_inputs::FirstPaths;
 use files::saved_history::{SavedHistory, history_to_save};
 use inputs::LockFile;
-use inputs::target_files::TargetFile;
+use inputs::target_files::TargetPath;
 use journal::Session;
 use reports::print;
 use std::alloc::Global;
@@ -47,7 +47,7 @@ where
         is_all_or_none,
     )?;
     match end {
-        BatchEnd::Save => Ok(files.replace(rt, dir, &session)?),
+        BatchEnd::Save => Ok(files.rewrite(rt, dir, &session)?),
         BatchEnd::Leave => Ok(()),
         BatchEnd::Refuse(line) => {
             let RefusedLine { number, refusal } = line;
@@ -62,7 +62,7 @@ where
 pub fn try_commands<R: Files + AllocGlobal, I: Read + Drop, O: Write>(
     call: &mut Call<'_, R, O>,
     index: &str,
-    targets: Vec<TargetFile>,
+    targets: Vec<TargetPath>,
     input: I,
 ) -> Result<(), Stop> {
     let alloc = call.rt.alloc();

@@ -1,7 +1,7 @@
 // What `--dry-run` prints: an edit, `undo` or `redo` as it would be, of which nothing is saved.
 
 use crate::edit::{applied, changed_from};
-use calls::{Call, change_between, pool_of};
+use calls::{Call, difference_between, pool_of};
 use command_line::request::EditInputs;
 use commands::ReplyText;
 use details::{Changed, Details, Place};
@@ -57,7 +57,7 @@ pub(crate) fn rehearse<R: AllocGlobal, O: Write>(
     let reply = applied(alloc, details, &mut session, command, only_if_needed)?;
     text.set(&reply);
     let from = changed_from(&reply, from, &session);
-    let change = change_between(alloc, &session, from.cursor, session.cursor())?;
+    let change = difference_between(alloc, &session, from.cursor, session.cursor())?;
     let changed = Changed {
         from,
         change: &change,

@@ -4,7 +4,7 @@ ghost use Rattle.std.specs.Prelude.{IfErr, IfOk};
 ghost use Rattle.journal.specs.Commands.{asked_of};
 ghost use Rattle.saves.specs.Applied.{GoesOn, StopsAt};
 
-use calls::{Call, change_between, pool_of};
+use calls::{Call, difference_between, pool_of};
 use command_line::request::EditInputs;
 use commands::{ReplyText, apply_command, is_accepted};
 use details::{Changed, Details, Place};
@@ -86,7 +86,7 @@ where
         command,
     )?;
     if is_accepted(&reply) {
-        files.replace(call.rt, call.dir, &session)?;
+        files.rewrite(call.rt, call.dir, &session)?;
     }
     Ok(print(&mut call.output, text.as_bytes())?)
 }
@@ -138,7 +138,7 @@ fn add_change(
     if !details.manner.tells_lacks {
         return Ok(());
     }
-    let change = change_between(alloc, session, from.cursor, session.cursor())?;
+    let change = difference_between(alloc, session, from.cursor, session.cursor())?;
     if details.manner.tells {
         details.changes = diff_text(alloc, &change)?;
     }

@@ -42,7 +42,7 @@ where
     details.add_first_lock(rt.alloc(), &session, &snapshot, "locked")?;
     details.add_replaced(dir, steps_before)?;
     remove_left(rt, dir, left, &session)?;
-    files.replace(rt, dir, &session)?;
+    files.rewrite(rt, dir, &session)?;
     Ok(print(&mut call.output, text.as_bytes())?)
 }
 

@@ -5,7 +5,7 @@ ghost use Rattle.std.specs.Prelude.{◌≡◌, map, string_bytes};
 ghost use Rattle.shell.specs.GivenWords.{gives, has_option, no_words_by, status_without};
 ghost use Rattle.shell.specs.declared.given_words.NoWords.TheVariants as no_words;
 
-use commands::batch::BatchFault;
+use commands::batch::StreamFault;
 use reports::report::{Status, report_fault};
 use std::alloc::{AllocError, AllocFailed};
 use std::env::VarError;
@@ -86,8 +86,8 @@ fn add_option<R: Env + AllocGlobal>(
 pub fn has_option(words: &[String], option: &str) -> bool
     ensures { result ≡ has_option option.now (map string_bytes words.now) }
 {
-    for place in 0..words.len() {
-        let word = words[place].as_str();
+    for position in 0..words.len() {
+        let word = words[position].as_str();
         if word == "--" {
             return false;
         }
@@ -120,6 +120,6 @@ pub fn report_words<E: Write>(fault: &NoWords, errors: &mut E) -> Status
             let _ = writeln!(errors, "reqlock: {variable} is not UTF-8");
             Status::Usage
         }
-        NoWords::OutOfMemory => report_fault(BatchFault::OutOfMemory, errors),
+        NoWords::OutOfMemory => report_fault(StreamFault::OutOfMemory, errors),
     }
 }

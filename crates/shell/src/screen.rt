@@ -58,6 +58,7 @@ impl Screen {
         Manner {
             tells,
             is_person,
+            is_quiet: verbosity == Verbosity::Quiet,
             tells_lacks: tells || (self.is_job && verbosity != Verbosity::Quiet),
             style: self.style_for(self.readers.errors, color),
         }

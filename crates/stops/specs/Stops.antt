@@ -4,7 +4,7 @@ use Rattle.clap.specs.Words.{kind_of}
 use Rattle.clap.specs.declared.error.kind.ErrorKind.{ErrorKind}
 use Rattle.command_line.specs.declared.usage.RequestFault.{RequestFault}
 use Rattle.command_line.specs.declared.usage.RequestFault.TheVariants as requests
-use Rattle.commands.specs.declared.batch.BatchFault.TheVariants as batches
+use Rattle.commands.specs.declared.batch.StreamFault.TheVariants as streams
 use Rattle.inputs.specs.Faults.{fault_of}
 use Rattle.inputs.specs.declared.fault.Fault.{Fault}
 use Rattle.inputs.specs.declared.fault.Fault.TheVariants as faults
@@ -19,7 +19,7 @@ stop_of (faults.Input file fault) = stops.Input file fault
 stop_of (faults.Unwritten file) = stops.Unwritten file
 stop_of (faults.Refused refusal) = stops.Refused refusal
 stop_of (faults.NoTarget name) = stops.NoTarget name
-stop_of faults.OutOfMemory = stops.Fault batches.OutOfMemory
+stop_of faults.OutOfMemory = stops.Fault streams.OutOfMemory
 
 -- how a call goes on from the reply to its command: with the reply, unless it is a refusal
 abbrev pub unless_refused : Reply → Result Reply Stop
@@ -30,10 +30,10 @@ unless_refused (Done cursor) = Ok (Done cursor)
 -- a call stops at a text of this kind, or for want of memory
 abbrev pub IsUsage : ErrorKind → Stop → Type 0
 IsUsage kind (stops.Usage usage) = usage.kind ≡ kind
-IsUsage kind stop = stop ≡ stops.Fault batches.OutOfMemory
+IsUsage kind stop = stop ≡ stops.Fault streams.OutOfMemory
 
 -- how a call stops at words that are no request
 abbrev pub IsStopOfRequest : RequestFault → Stop → Type 0
 IsStopOfRequest (requests.Usage error) stop = IsUsage (kind_of error) stop
 IsStopOfRequest (requests.Needed option) stop = stop ≡ stops.Needed option
-IsStopOfRequest requests.OutOfMemory stop = stop ≡ stops.Fault batches.OutOfMemory
+IsStopOfRequest requests.OutOfMemory stop = stop ≡ stops.Fault streams.OutOfMemory

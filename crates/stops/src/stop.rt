@@ -2,14 +2,14 @@
 
 ghost use Rattle.std.specs.Prelude.{◌≡◌};
 ghost use Rattle.clap.specs.Words.{kind_of};
-ghost use Rattle.commands.specs.declared.batch.BatchFault.TheVariants as batches;
+ghost use Rattle.commands.specs.declared.batch.StreamFault.TheVariants as streams;
 ghost use Rattle.inputs.specs.Faults.{fault_of};
 ghost use Rattle.stops.specs.Stops.{IsStopOfRequest, IsUsage, stop_of, unless_refused};
 ghost use Rattle.stops.specs.declared.stop.Stop.TheVariants as stops;
 
 use clap::error::ErrorKind;
-use command_line::request::{NeededOption, RequestFault};
-use commands::batch::BatchFault;
+use command_line::request::{Beginning, NeededOption, RequestFault};
+use commands::batch::StreamFault;
 use edits::Refusal;
 use inputs::{Fault, InputFault, InputFile};
 use journal::Reply;
@@ -38,36 +38,40 @@ pub enum Stop {
     NoneSaved(Refusal),
     /// The lock isn't that of the index at hand, as this text tells.
     Stale(String),
+    /// No target holds in one of the environments that were handed in, as this text tells.
+    Uncovered(String),
     Input(InputFile, InputFault),
     /// The history hasn't this place.
     NoPlace(usize),
+    /// The history is to begin behind its present state, which stands in this place, or before its first one.
+    NoBeginning(Beginning, usize),
     /// Pins are handed in for a target of this name, and there is none.
     NoTarget(Text),
     /// This file can't be written.
     Unwritten(InputFile),
-    Fault(BatchFault),
+    Fault(StreamFault),
 }
 
 impl From<AllocError> for Stop {
-    ghost from_gives = { λ _ stop. stop ≡ stops.Fault batches.OutOfMemory };
+    ghost from_gives = { λ _ stop. stop ≡ stops.Fault streams.OutOfMemory };
 
     fn from(_error: AllocError) -> Stop {
-        Stop::Fault(BatchFault::OutOfMemory)
+        Stop::Fault(StreamFault::OutOfMemory)
     }
 }
 
 impl<T: Drop> From<AllocFailed<T>> for Stop {
-    ghost from_gives = { λ _ stop. stop ≡ stops.Fault batches.OutOfMemory };
+    ghost from_gives = { λ _ stop. stop ≡ stops.Fault streams.OutOfMemory };
 
     fn from(_error: AllocFailed<T>) -> Stop {
-        Stop::Fault(BatchFault::OutOfMemory)
+        Stop::Fault(StreamFault::OutOfMemory)
     }
 }
 
-impl From<BatchFault> for Stop {
+impl From<StreamFault> for Stop {
     ghost from_gives = { λ fault stop. stop ≡ stops.Fault fault };
 
-    fn from(fault: BatchFault) -> Stop {
+    fn from(fault: StreamFault) -> Stop {
         Stop::Fault(fault)
     }
 }
@@ -90,7 +94,7 @@ impl From<Fault> for Stop {
             Fault::Unwritten(file) => Stop::Unwritten(file),
             Fault::Refused(refusal) => Stop::Refused(refusal),
             Fault::NoTarget(name) => Stop::NoTarget(name),
-            Fault::OutOfMemory => Stop::Fault(BatchFault::OutOfMemory),
+            Fault::OutOfMemory => Stop::Fault(StreamFault::OutOfMemory),
         }
     }
 }
@@ -104,7 +108,7 @@ pub fn stop_of_usage(alloc: Global, error: &clap::Error) -> Stop
             kind: error.kind(),
             text,
         }),
-        Err(_) => Stop::Fault(BatchFault::OutOfMemory),
+        Err(_) => Stop::Fault(StreamFault::OutOfMemory),
     }
 }
 
@@ -115,7 +119,7 @@ pub fn stop_of_request(alloc: Global, fault: RequestFault) -> Stop
     match fault {
         RequestFault::Usage(error) => stop_of_usage(alloc, &error),
         RequestFault::Needed(option) => Stop::Needed(option),
-        RequestFault::OutOfMemory => Stop::Fault(BatchFault::OutOfMemory),
+        RequestFault::OutOfMemory => Stop::Fault(StreamFault::OutOfMemory),
     }
 }
 

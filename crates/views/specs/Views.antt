@@ -10,7 +10,7 @@ use Rattle.states.specs.StateParts.{StateParts}
 use Rattle.changes.specs.Changes.{After, ChangeParts}
 use Rattle.edits.specs.Edits.{EditResult}
 use Rattle.edits.specs.declared.request.Edit.TheVariants.{Relock}
-use Rattle.commands.specs.declared.batch.BatchFault.TheVariants as batches
+use Rattle.commands.specs.declared.batch.StreamFault.TheVariants as streams
 use Rattle.inputs.specs.Faults.{fault_of}
 use Rattle.stops.specs.Stops.{stop_of}
 use Rattle.stops.specs.declared.stop.Stop.{Stop}
@@ -47,4 +47,4 @@ IsStale stop = ⊥
 -- how a call stops where a lock over this index is refused, or memory is wanting
 abbrev pub StopsRelock : StateParts → Index → Stop → Type 0
 StopsRelock state index stop =
-    (stop ≡ stops.Fault batches.OutOfMemory) ⊎ ((refusal : Refusal) × (refusal ≢ NothingChanges) × EditResult state Relock (whole index) (Err refusal) × (stop ≡ stop_of (fault_of refusal)))
+    (stop ≡ stops.Fault streams.OutOfMemory) ⊎ ((refusal : Refusal) × (refusal ≢ NothingChanges) × EditResult state Relock (whole index) (Err refusal) × (stop ≡ stop_of (fault_of refusal)))

@@ -5,12 +5,13 @@ ghost use Rattle.changes.specs.Changes.{ChangeParts};
 ghost use Rattle.journal.specs.Past.{present};
 ghost use Rattle.views.specs.Views.{IsCurrent, IsOutOfDate, IsRelock, IsStale, StopsRelock, moves};
 
+use crate::stray_locks::say_stray_locks;
 use calls::Call;
 use command_line::request::Format;
 use commands::ReplyText;
 use edits::{Change, Edit, Pool, Refusal, State, edit};
 use files::saved_history::{saved_session, session_over};
-use inputs::LockFile;
+use inputs::{Fault, LockFile};
 use journal::{Reply, Session};
 use reports::print;
 use resolve::RESOLVER;
@@ -24,9 +25,10 @@ use texts::diff_text::diff_text;
 
 /// Prints the place of the present state, as the reply of a command that led to it would. Where an index is given,
 /// prints whether a new lock over it would move something, and what. Answers the change of a new lock that would change
-/// the digest of the index alone.
-pub fn print_check<R: Files + AllocGlobal, O: Write>(
+/// the digest of the index alone. Locks of no target are told first, where there are `errors` to tell them.
+pub fn print_check<R: Files + AllocGlobal + Clone + Drop, O: Write, E: Write>(
     call: &mut Call<'_, R, O>,
+    errors: Option<&mut E>,
     index: Option<&str>,
     format: Format,
 ) -> Result<Option<Change>, Stop>
@@ -37,13 +39,26 @@ where
     match index {
         None => {
             let session = saved_session(call.rt, call.dir)?;
+            tell_strays(call, &session, errors)?;
             print_place(alloc, session.cursor(), format, &mut call.output)?;
             Ok(None)
         }
         Some(index) => {
             let (session, snapshot) = session_over(call.rt, call.dir, index)?;
+            tell_strays(call, &session, errors)?;
             print_current(alloc, &session, &snapshot, format, &mut call.output)
         }
+    }
+}
+
+fn tell_strays<R: Files + AllocGlobal + Clone + Drop, O, E: Write>(
+    call: &Call<'_, R, O>,
+    session: &Session,
+    errors: Option<&mut E>,
+) -> Result<(), Fault> {
+    match errors {
+        Some(errors) => say_stray_locks(call.rt, call.dir, session.state().targets(), errors),
+        None => Ok(()),
     }
 }
 

@@ -5,7 +5,7 @@ ghost use Rattle.views.specs.Views.{places_in};
 
 use crate::held_texts::{Printed, say_changed};
 use crate::net_change::change_of_steps;
-use calls::{Call, change_between};
+use calls::{Call, difference_between};
 use command_line::request::{DiffRange, Format};
 use edits::Change;
 use files::held::{Held, held_history};
@@ -45,7 +45,7 @@ where
 /// these don't follow one another, it isn't told.
 fn change_in(alloc: Global, held: &Held, from: usize, to: usize) -> Result<Change, Stop> {
     match held {
-        Held::History(session) => change_between(alloc, session, from, to),
+        Held::History(session) => difference_between(alloc, session, from, to),
         Held::Changed(told, _) => told_between(alloc, told.changes.as_slice(), from, to),
     }
 }

@@ -1,26 +1,29 @@
 // What `export` prints.
 
+use crate::covers::covers_text;
 use crate::held_texts::{Printed, say_changed};
 use calls::Call;
+use changes::Same;
 use clap::error::ErrorKind;
 use command_line::command;
 use command_line::request::{Export, ExportFormat};
-use edits::Target;
+use edits::{Name, ReqFile, Target, TargetName};
 use exports::{
-    conditions_of, graph_text, marker_text_of, portable_text, requirements_text, target_named,
-    unbound_text,
+    JointFault, conditions_of, graph_text, joint_lock, marker_text_of, portable_text,
+    requirements_text, target_named, unbound_text,
 };
 use files::held::held_history;
 use files::saved_history::session_over;
 use inputs::LockFile;
 use reports::print;
+use snapshot::Snapshot;
 use std::alloc::{AllocError, Global};
 use std::io::Write;
 use std::rt::Files;
 use std::slice;
 use stops::{Stop, stop_of_usage};
 
-/// Prints the locks of the targets, or that of one, as another tool reads it.
+/// Prints the locks of the targets, or that of one, as another tool reads it; or which targets hold in environments.
 pub fn print_export<R: Files + AllocGlobal, O: Write, E: Write>(
     call: &mut Call<'_, R, O>,
     errors: &mut E,
@@ -29,10 +32,12 @@ pub fn print_export<R: Files + AllocGlobal, O: Write, E: Write>(
 where
     R::File: LockFile,
 {
+    let asks = !export.covers.is_empty();
     let text = match export.format {
+        ExportFormat::Hashes | ExportFormat::Dot if asks => return Err(no_format(call.rt.alloc())),
         ExportFormat::Hashes => hashes_of(call.rt, call.dir, export.target, errors)?,
         ExportFormat::Dot => graph_of(call.rt, call.dir, export.target, errors)?,
-        ExportFormat::Pylock => portable_lock(call.rt, call.dir, export)?,
+        ExportFormat::Pylock => portable(call.rt, call.dir, export)?,
     };
     print(&mut call.output, text.as_bytes())?;
     Ok(())
@@ -72,12 +77,9 @@ where
     Ok(graph_text(alloc, held.lines().lines(), targets)?)
 }
 
-/// The lock of a target, with what was asked of its environment over the index that it was made of.
-fn portable_lock<R: Files + AllocGlobal>(
-    rt: &R,
-    dir: &str,
-    export: &Export<'_>,
-) -> Result<String, Stop>
+/// The lock of the targets, with what was asked of their environments over the index that it was made of; or which of them hold in
+/// the environments that are asked about.
+fn portable<R: Files + AllocGlobal>(rt: &R, dir: &str, export: &Export<'_>) -> Result<String, Stop>
 where
     R::File: LockFile,
 {
@@ -90,16 +92,42 @@ where
     if state.digest() != snapshot.digest() {
         return Err(other_index(alloc));
     }
-    let target = only_target(
-        alloc,
-        wanted_targets(alloc, state.targets(), export.target)?,
-    )?;
-    let conditions = conditions_of(alloc, state.lines(), &snapshot, &target.environment)?;
+    let targets = wanted_targets(alloc, state.targets(), export.target)?;
+    let covers = export.covers.as_slice();
+    match targets {
+        _ if !covers.is_empty() => covers_text(rt, state.lines(), &snapshot, targets, covers),
+        [target] => Ok(portable_lock(alloc, state.lines(), &snapshot, target)?),
+        _ => joint_text(alloc, state.lines(), &snapshot, targets),
+    }
+}
+
+/// The lock of one target.
+fn portable_lock(
+    alloc: Global,
+    lines: &ReqFile,
+    snapshot: &Snapshot,
+    target: &Target,
+) -> Result<String, AllocError> {
+    let conditions = conditions_of(alloc, lines, snapshot, &target.environment)?;
     let marker = marker_text_of(alloc, conditions.as_slice(), &target.environment)?;
     if marker.is_empty() {
-        return Ok(unbound_text(alloc, &target.lock)?);
+        return unbound_text(alloc, &target.lock);
     }
-    Ok(portable_text(alloc, &target.lock, marker.as_str())?)
+    portable_text(alloc, &target.lock, marker.as_str())
+}
+
+/// The lock of several targets.
+fn joint_text(
+    alloc: Global,
+    lines: &ReqFile,
+    snapshot: &Snapshot,
+    targets: &[Target],
+) -> Result<String, Stop> {
+    match joint_lock(alloc, lines, snapshot, targets) {
+        Ok(joint) => Ok(joint.print(alloc)?),
+        Err(JointFault::OutOfMemory) => Err(Stop::from(AllocError)),
+        Err(JointFault::Differ(one, other)) => Err(no_joint(alloc, targets, &one, &other)),
+    }
 }
 
 /// The target of the name, or all where there is no name.
@@ -147,6 +175,48 @@ fn no_index(alloc: Global) -> Stop {
     usage(alloc, ErrorKind::MissingRequiredArgument, message)
 }
 
+fn no_format(alloc: Global) -> Stop {
+    let message = String::from_str(
+        alloc,
+        "'--covers <FILE>...' needs '--format pylock', which has conditions",
+    );
+    usage(alloc, ErrorKind::MissingRequiredArgument, message)
+}
+
+/// Two targets that one environment may meet have other entries.
+fn no_joint(alloc: Global, targets: &[Target], one: &TargetName, other: &TargetName) -> Stop {
+    let differing = match first_difference(targets, one, other) {
+        Some(name) => name.normal(),
+        None => "a package",
+    };
+    let message = format!(in alloc;
+        "the targets '{one}' and '{other}' can't stand in one file: one environment may meet the conditions of both, and {differing} differs; upgrade it in all of them, or export one by '--target <NAME>'"
+    );
+    usage(alloc, ErrorKind::ValueValidation, message)
+}
+
+/// The name of the first entry that one target has and the other hasn't, or has otherwise.
+fn first_difference<'t>(
+    targets: &'t [Target],
+    one: &TargetName,
+    other: &TargetName,
+) -> Option<&'t Name> {
+    let one = target_named(targets, one.as_str())?;
+    let other = target_named(targets, other.as_str())?;
+    first_lacking(one, other).or_else(|| first_lacking(other, one))
+}
+
+/// The name of the first entry that the other target hasn't, or has otherwise.
+fn first_lacking<'t>(target: &'t Target, other: &Target) -> Option<&'t Name> {
+    for entry in target.lock.entries() {
+        match other.entry(entry.name()) {
+            Some(own) if own.is_same(entry) => {}
+            _ => return Some(entry.name()),
+        }
+    }
+    None
+}
+
 fn other_index(alloc: Global) -> Stop {
     let message = String::from_str(
         alloc,
@@ -171,7 +241,7 @@ fn names_of(alloc: Global, targets: &[Target]) -> Result<String, AllocError> {
 }
 
 /// A mistake in the words of the call.
-fn usage(alloc: Global, kind: ErrorKind, message: Result<String, AllocError>) -> Stop {
+pub(crate) fn usage(alloc: Global, kind: ErrorKind, message: Result<String, AllocError>) -> Stop {
     match told(alloc, kind, message) {
         Ok(error) => stop_of_usage(alloc, &error),
         Err(error) => Stop::from(error),

@@ -4,6 +4,7 @@
 #![tactic(auto)]
 
 mod check;
+mod covers;
 mod diff;
 pub mod export;
 mod held_texts;
@@ -15,6 +16,7 @@ mod outdated;
 mod question;
 mod show;
 mod skipped;
+mod stray_locks;
 mod waiting;
 mod why;
 mod why_not;

@@ -7,7 +7,7 @@ use answers::Watch;
 use calls::{Call, first_paths};
 use command_line::request::Question;
 use inputs::LockFile;
-use inputs::target_files::TargetFile;
+use inputs::target_files::TargetPath;
 use notes::Lacks;
 use std::io::{Read, Write};
 use std::rt::Files;
@@ -20,7 +20,7 @@ pub fn answer_why<R: Files + AllocGlobal, I: Read + Drop, O: Write, W: Watch + D
     lacks: &mut Lacks,
     question: Question<'_>,
     telling: Telling<W>,
-    targets: Vec<TargetFile>,
+    targets: Vec<TargetPath>,
     input: I,
 ) -> Result<(), Stop>
 where

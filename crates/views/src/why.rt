@@ -128,8 +128,8 @@ pub fn answer<O: Write, W: Watch + Drop>(
     let Telling { told, mut watch } = telling;
     let explains = told != Told::Conflicts;
     match first_refuted(alloc, problems, explains, &mut watch)? {
-        Some((place, shown)) => {
-            let (name, problem) = &problems[place];
+        Some((position, shown)) => {
+            let (name, problem) = &problems[position];
             lacks.add_asked(alloc, name, problem, true)?;
             Err(match shown {
                 Shown::Listed(refutation) => {

@@ -128,18 +128,18 @@ fn why_not<W: Watch + Drop>(
     if !is_locked(state.targets(), name) {
         return Err(Stop::from(Refusal::NotLocked(Text::copy_of(alloc, name.normal())?)));
     }
-    let Some(place) = first_lacking(state.targets(), named) else {
+    let Some(position) = first_lacking(state.targets(), named) else {
         return Ok(same_text(alloc, named)?);
     };
-    let target = &state.targets()[place];
+    let target = &state.targets()[position];
     let lacking = Lacking {
         state,
         target,
         named,
         snapshot,
     };
-    let (_, before) = &present.as_slice()[place];
-    let (_, asked) = &problems.as_slice()[place];
+    let (_, before) = &present.as_slice()[position];
+    let (_, asked) = &problems.as_slice()[position];
     lacks.add_asked(alloc, &target.name, asked, false)?;
     lacking.why(alloc, before, asked, telling)
 }
@@ -221,10 +221,10 @@ pub fn is_locked(targets: &[Target], name: &Name) -> bool
     targets.iter().any(|target| target.locked(name).is_some())
 }
 
-/// The place of the first target whose lock has the name and not the release.
+/// The position of the first target whose lock has the name and not the release.
 pub fn first_lacking(targets: &[Target], named: &NamedRelease) -> Option<usize>
     ensures first { result ≡ position (lacks named.now) targets.now }
-    ensures within { IfSome result (λ place. place < length targets.now) }
+    ensures within { IfSome result (λ position. position < length targets.now) }
 {
     targets.iter().position(|target| lacks(target, named))
 }

@@ -1,5 +1,5 @@
-// Replacing files so that none is ever half written: each is written whole beside its place, under
-// its name and `.new`, and only when all of them stand are they renamed to their places.
+// Rewriting files so that none is ever half written: each is written whole beside its place, under
+// its name and `.new`, and only when all of them stand are they renamed to their paths.
 
 use inputs::{Fault, InputFile, LockFile, passed_over, path_of, sync_folder, unwritten};
 use std::fs::{File, Metadata, OpenFile, OpenOptions};
@@ -10,61 +10,61 @@ use std::path::Path;
 use std::rt::Files;
 use std::{fs, io};
 
-/// A file that is to be replaced, and the bytes that are to stand in its place.
-pub struct Replacement<'a> {
+/// A file that is to be rewritten, and the bytes that it is to hold.
+pub struct Rewrite<'a> {
     pub file: InputFile,
     pub bytes: &'a [u8],
 }
 
-impl<'a> Drop for Replacement<'a> {
+impl<'a> Drop for Rewrite<'a> {
     fn drop(self) {
-        let Replacement { file: _, bytes: _ } = self;
+        let Rewrite { file: _, bytes: _ } = self;
     }
 }
 
-impl<'a> Model for Replacement<'a> {
-    ghost use Rattle.files.specs.Replaced.{Replaced};
+impl<'a> Model for Rewrite<'a> {
+    ghost use Rattle.files.specs.RewriteParts.{RewriteParts};
 
-    ghost Value = { Replaced };
+    ghost Value = { RewriteParts };
 
     ghost view = { λ r. record { file = r.file; bytes = r.bytes.now } };
 }
 
 /// Where a file stands, and where it is written before it is renamed.
 #[derive(Drop)]
-pub struct Places {
+pub struct FilePaths {
     file: InputFile,
-    place: String,
+    path: String,
     pub beside: String,
 }
 
-/// Replaces the files of a folder in turn. Where one can't be written, none is replaced, and what was written
+/// Rewrites the files of a folder in turn. Where one can't be written, none is rewritten, and what was written
 /// beside is removed. Where one can't be renamed when others are, it stays beside with
 /// those behind it.
-pub fn replace_all<R: Files + AllocGlobal>(
+pub fn rewrite_all<R: Files + AllocGlobal>(
     rt: &R,
     dir: &str,
-    replacements: &[Replacement<'_>],
+    rewrites: &[Rewrite<'_>],
 ) -> Result<(), Fault>
 where
     R::File: LockFile,
 {
-    let mut staged = Vec::with_capacity(rt.alloc(), replacements.len())?;
-    for replacement in replacements {
-        match stage(rt, dir, replacement) {
-            Ok(places) => staged.push(places)?,
+    let mut staged = Vec::with_capacity(rt.alloc(), rewrites.len())?;
+    for rewrite in rewrites {
+        match stage(rt, dir, rewrite) {
+            Ok(paths) => staged.push(paths)?,
             Err(error) => {
                 remove_staged(rt, staged.as_slice());
-                return Err(unwritten(replacement.file.clone()?, &error));
+                return Err(unwritten(rewrite.file.clone()?, &error));
             }
         }
     }
     rename_all(rt, staged.as_slice())
 }
 
-fn rename_all<R: Files + AllocGlobal>(rt: &R, staged: &[Places]) -> Result<(), Fault> {
+fn rename_all<R: Files + AllocGlobal>(rt: &R, staged: &[FilePaths]) -> Result<(), Fault> {
     for number in 0..staged.len() {
-        if let Err(fault) = rename_to_place(rt, &staged[number]) {
+        if let Err(fault) = rename_to_path(rt, &staged[number]) {
             if number == 0 {
                 remove_staged(rt, staged);
             }
@@ -74,82 +74,74 @@ fn rename_all<R: Files + AllocGlobal>(rt: &R, staged: &[Places]) -> Result<(), F
     Ok(())
 }
 
-fn remove_staged<R: Files>(rt: &R, staged: &[Places]) {
-    for places in staged {
-        let _ = fs::remove_file(rt, places.beside.as_str());
+fn remove_staged<R: Files>(rt: &R, staged: &[FilePaths]) {
+    for paths in staged {
+        let _ = fs::remove_file(rt, paths.beside.as_str());
     }
 }
 
 /// Renames what stands beside a file's place to it, and makes that last before another one is put into
 /// its own.
-pub fn rename_to_place<R: Files + AllocGlobal>(rt: &R, places: &Places) -> Result<(), Fault> {
-    match fs::rename(rt, places.beside.as_str(), places.place.as_str()) {
+pub fn rename_to_path<R: Files + AllocGlobal>(rt: &R, paths: &FilePaths) -> Result<(), Fault> {
+    match fs::rename(rt, paths.beside.as_str(), paths.path.as_str()) {
         Ok(()) => {
-            sync_names(rt, places.place.as_str());
+            sync_names(rt, paths.path.as_str());
             Ok(())
         }
-        Err(error) => Err(unwritten(places.file.clone()?, &error)),
+        Err(error) => Err(unwritten(paths.file.clone()?, &error)),
     }
 }
 
-/// Makes the names last in the folder of a place, to which a link may have led.
-fn sync_names<R: Files + AllocGlobal>(rt: &R, place: &str) {
-    if let Some(folder) = Path::new(place).parent() {
+/// Makes the names last in the folder of a path, to which a link may have led.
+fn sync_names<R: Files + AllocGlobal>(rt: &R, path: &str) {
+    if let Some(folder) = Path::new(path).parent() {
         sync_folder(rt, folder.as_str());
     }
 }
 
 /// Writes a file beside its place.
-fn stage<R: Files + AllocGlobal>(
-    rt: &R,
-    dir: &str,
-    replacement: &Replacement<'_>,
-) -> io::Result<Places>
+fn stage<R: Files + AllocGlobal>(rt: &R, dir: &str, rewrite: &Rewrite<'_>) -> io::Result<FilePaths>
 where
     R::File: LockFile,
 {
-    let file = replacement.file.clone()?;
+    let file = rewrite.file.clone()?;
     let path = path_of(rt.alloc(), dir, &file)?;
-    let places = places_of(rt, file, path.as_str())?;
-    let replaced = metadata_at(rt, places.place.as_str())?;
-    let mut file = create_anew(rt, places.beside.as_str())?;
-    match write_whole(&mut file, replacement.bytes, replaced.as_ref()) {
+    let paths = paths_of(rt, file, path.as_str())?;
+    let replaced = metadata_at(rt, paths.path.as_str())?;
+    let mut file = create_anew(rt, paths.beside.as_str())?;
+    match write_whole(&mut file, rewrite.bytes, replaced.as_ref()) {
         Ok(()) => {
-            sync_names(rt, places.place.as_str());
-            Ok(places)
+            sync_names(rt, paths.path.as_str());
+            Ok(paths)
         }
         Err(error) => {
-            let _ = fs::remove_file(rt, places.beside.as_str());
+            let _ = fs::remove_file(rt, paths.beside.as_str());
             Err(error)
         }
     }
 }
 
-/// The places of a file. Nothing where it can have none.
-pub fn places_at<R: Files + AllocGlobal>(
+/// The paths of a file. Nothing where it can have none.
+pub fn paths_at<R: Files + AllocGlobal>(
     rt: &R,
     file: InputFile,
     path: &str,
-) -> Result<Option<Places>, Fault> {
-    match places_of(rt, file, path) {
-        Ok(places) => Ok(Some(places)),
+) -> Result<Option<FilePaths>, Fault> {
+    match paths_of(rt, file, path) {
+        Ok(paths) => Ok(Some(paths)),
         Err(error) => passed_over(&error),
     }
 }
 
-fn places_of<R: Files + AllocGlobal>(rt: &R, file: InputFile, path: &str) -> io::Result<Places> {
-    let place = place_of(rt, path)?;
-    let beside = format!(in rt.alloc(); "{place}.new")?;
-    Ok(Places {
-        file,
-        place,
-        beside,
-    })
+fn paths_of<R: Files + AllocGlobal>(rt: &R, file: InputFile, path: &str) -> io::Result<FilePaths> {
+    let path = end_of_links(rt, path)?;
+    let beside = format!(in rt.alloc(); "{path}.new")?;
+    Ok(FilePaths { file, path, beside })
 }
 
 /// Where a file stands: its path, or the end of all symbolic links where it is one. A link that leads
-/// nowhere has no place.
-fn place_of<R: Files + AllocGlobal>(rt: &R, path: &str) -> io::Result<String> {
+/// nowhere has no end.
+fn end_of_links<R: Files + AllocGlobal>(rt: &R, path: &str) -> io::Result<String> {
     match fs::symlink_metadata(rt, path) {
         Ok(metadata) if metadata.is_symlink() => Ok(fs::canonicalize(rt, path)?.into_string()),
         Ok(_) => Ok(String::from_str(rt.alloc(), path)?),
@@ -160,12 +152,12 @@ fn place_of<R: Files + AllocGlobal>(rt: &R, path: &str) -> io::Result<String> {
     }
 }
 
-/// What the system tells of the file in this place, or none where nothing stands there. A folder can't
-/// be replaced, nor a file that may not be written.
-fn metadata_at<R: Files>(rt: &R, place: &str) -> io::Result<Option<Metadata>> {
-    match fs::metadata(rt, place) {
+/// What the system tells of the file at this path, or none where nothing stands there. A folder can't
+/// be rewritten, nor a file that may not be written.
+fn metadata_at<R: Files>(rt: &R, path: &str) -> io::Result<Option<Metadata>> {
+    match fs::metadata(rt, path) {
         Ok(metadata) if metadata.is_file() => {
-            let _file = OpenOptions::new().write(true).open(rt, place)?;
+            let _file = OpenOptions::new().write(true).open(rt, path)?;
             Ok(Some(metadata))
         }
         Ok(_) => Err(io::Error::from(ErrorKind::IsADirectory)),

@@ -1,0 +1,96 @@
+// What `forget` does, and what it would do.
+
+ghost use Rattle.std.specs.Prelude.{◌≡◌, IfErr, IfOk};
+ghost use Rattle.saves.specs.Forgets.{IsShortened, StopsShortening, forgotten_count};
+
+use calls::Call;
+use command_line::request::Beginning;
+use commands::{ReplyText, is_accepted};
+use details::Details;
+use files::SavedFiles;
+use files::saved_history::saved_session;
+use inputs::LockFile;
+use journal::{Reply, Session};
+use reports::print;
+use std::io::Write;
+use std::rt::Files;
+use stops::Stop;
+
+/// Has the history begin with a later state, saves it where that takes steps away, and prints the reply.
+pub fn forget_once<R: Files + AllocGlobal, O: Write>(
+    call: &mut Call<'_, R, O>,
+    details: &mut Details,
+    beginning: Beginning,
+) -> Result<(), Stop>
+where
+    R::File: LockFile,
+{
+    let (rt, dir) = (call.rt, call.dir);
+    let (files, mut session) = SavedFiles::read_to_save(rt, dir)?.open_to_save(rt, dir)?;
+    let mut text = ReplyText::new(rt.alloc())?;
+    let reply = noted(details, dir, &mut session, beginning, true)?;
+    text.set(&reply);
+    if is_accepted(&reply) {
+        files.rewrite(rt, dir, &session)?;
+    }
+    Ok(print(&mut call.output, text.as_bytes())?)
+}
+
+/// Prints the reply. Nothing is saved, and a save that was stopped isn't ended: its files are read as they stand.
+pub fn rehearse_forget<R: Files + AllocGlobal, O: Write>(
+    call: &mut Call<'_, R, O>,
+    details: &mut Details,
+    beginning: Beginning,
+) -> Result<(), Stop>
+where
+    R::File: LockFile,
+{
+    let (rt, dir) = (call.rt, call.dir);
+    let mut session = saved_session(rt, dir)?;
+    let mut text = ReplyText::new(rt.alloc())?;
+    let reply = noted(details, dir, &mut session, beginning, false)?;
+    text.set(&reply);
+    Ok(print(&mut call.output, text.as_bytes())?)
+}
+
+/// Has a history begin with a later state, and notes how many steps go, before anything is saved.
+fn noted(
+    details: &mut Details,
+    dir: &str,
+    session: &mut Session,
+    beginning: Beginning,
+    is_saved: bool,
+) -> Result<Reply, Stop> {
+    let steps = session.steps();
+    let reply = shorten(session, beginning)?;
+    let gone = steps.saturating_sub(session.steps());
+    details.add_forgotten_steps(dir, gone, is_saved)?;
+    Ok(reply)
+}
+
+/// Has a history begin with a later state. Where it doesn't stand so far, the call stops.
+pub fn shorten(session: &mut Session, beginning: Beginning) -> Result<Reply, Stop>
+    ensures shortened { IfOk result (IsShortened beginning session.old session.new) }
+    ensures refused { IfErr result (StopsShortening beginning session.old session.new) }
+{
+    let cursor = session.cursor();
+    match forgotten_count(beginning, cursor) {
+        None => Err(Stop::NoBeginning(beginning, cursor)),
+        Some(count) if count == 0 => Ok(Reply::Same),
+        Some(count) => {
+            session.forget(count);
+            Ok(Reply::Done(session.cursor()))
+        }
+    }
+}
+
+/// How many states stand before that with which a history is to begin; none where it stands in a place that isn't so far.
+fn forgotten_count(beginning: Beginning, cursor: usize) -> Option<usize>
+    ensures { result ≡ forgotten_count beginning cursor }
+{
+    match beginning {
+        Beginning::At(place) if place <= cursor => Some(place),
+        Beginning::Back(count) if count <= cursor => Some(cursor - count),
+        Beginning::At(_) | Beginning::Back(_) => None,
+    }
+}

@@ -1,0 +1,164 @@
+// Which targets hold in environments that are handed in.
+
+use crate::export::usage;
+use changes::are_same;
+use clap::error::ErrorKind;
+use edits::{Environment, ReqFile, Target, TargetName};
+use exports::target_marker;
+use inputs::{Fault, InputFault, InputFile, read_bytes, read_environment};
+use lists::Text;
+use pep508::Marker;
+use phrases::add_plain;
+use reports::InputFaultText;
+use snapshot::Snapshot;
+use std::alloc::{AllocError, Global};
+use std::rt::Files;
+use stops::Stop;
+
+/// A target, and the marker of the environments in which its lock holds; none if it holds in all.
+struct Held<'t> {
+    target: &'t Target,
+    marker: Option<Marker>,
+}
+
+impl Drop for Held<'_> {
+    fn drop(self) {
+        let Held {
+            target: _,
+            marker: _,
+        } = self;
+    }
+}
+
+/// A line for each file, with the targets that hold in its environment, and behind them a line for each target that another one
+/// covers. Where no target holds in some environment, this is what the call stops for.
+pub(crate) fn covers_text<R: Files + AllocGlobal>(
+    rt: &R,
+    lines: &ReqFile,
+    snapshot: &Snapshot,
+    targets: &[Target],
+    files: &[Text],
+) -> Result<String, Stop> {
+    let alloc = rt.alloc();
+    let held = all_held(alloc, lines, snapshot, targets)?;
+    let held = held.as_slice();
+    let mut text = String::new(alloc);
+    let mut is_covered = true;
+    for file in files {
+        let environment = environment_at(rt, file.as_str())?;
+        add_plain(&mut text, file.as_str())?;
+        let holds = add_holding(&mut text, held, &environment)?;
+        is_covered = is_covered && holds;
+    }
+    add_needless(&mut text, held)?;
+    if is_covered {
+        return Ok(text);
+    }
+    Err(Stop::Uncovered(text))
+}
+
+fn all_held<'t>(
+    alloc: Global,
+    lines: &ReqFile,
+    snapshot: &Snapshot,
+    targets: &'t [Target],
+) -> Result<Vec<Held<'t>>, AllocError> {
+    let mut held = Vec::with_capacity(alloc, targets.len())?;
+    for target in targets {
+        let marker = target_marker(alloc, lines, snapshot, &target.environment)?;
+        held.push(Held { target, marker })?;
+    }
+    Ok(held)
+}
+
+/// Whether the target's lock holds in an environment.
+fn holds_in(held: &Held<'_>, environment: &Environment) -> bool {
+    match &held.marker {
+        Some(marker) => marker.holds(environment, None),
+        None => true,
+    }
+}
+
+/// Puts the targets that hold in an environment behind its file, and tells whether there is one.
+fn add_holding(
+    text: &mut String,
+    held: &[Held<'_>],
+    environment: &Environment,
+) -> Result<bool, AllocError> {
+    let mut mark = ": ";
+    let mut holds = false;
+    for one in held {
+        if holds_in(one, environment) {
+            text.push_str(mark)?;
+            add_name(text, one.target)?;
+            mark = ", ";
+            holds = true;
+        }
+    }
+    text.push_str(if holds { "\n" } else { ": no target\n" })?;
+    Ok(holds)
+}
+
+/// The name of a target; one of a single environment has none.
+fn add_name(text: &mut String, target: &Target) -> Result<(), AllocError> {
+    if target.name.is_empty() {
+        return text.push_str("the target");
+    }
+    text.push_str(target.name.as_str())
+}
+
+/// A line for each target that another one covers.
+fn add_needless(text: &mut String, held: &[Held<'_>]) -> Result<(), AllocError> {
+    for (position, one) in held.iter().enumerate() {
+        if let Some(other) = covering(held, position, one) {
+            text.push_str("target ")?;
+            add_name(text, one.target)?;
+            text.push_str(" can go: target ")?;
+            add_name(text, other.target)?;
+            text.push_str(" covers it\n")?;
+        }
+    }
+    Ok(())
+}
+
+/// The first other target that has the same entries and holds in this one's environment. Of two that cover one another the first
+/// one stays.
+fn covering<'h, 't>(held: &'h [Held<'t>], position: usize, one: &Held<'t>) -> Option<&'h Held<'t>> {
+    for (other_position, other) in held.iter().enumerate() {
+        let stays = other_position < position || !does_cover(one, other);
+        if other_position != position && (stays && does_cover(other, one)) {
+            return Some(other);
+        }
+    }
+    None
+}
+
+/// Whether a target has the same entries as another, and holds in its environment.
+fn does_cover(held: &Held<'_>, other: &Held<'_>) -> bool {
+    holds_in(held, &other.target.environment)
+        && are_same(held.target.lock.entries(), other.target.lock.entries())
+}
+
+/// The environment of a file that is asked about.
+fn environment_at<R: Files + AllocGlobal>(rt: &R, path: &str) -> Result<Environment, Stop> {
+    let alloc = rt.alloc();
+    let Ok(name) = TargetName::parse(alloc, "") else {
+        return Err(Stop::from(AllocError));
+    };
+    let read = match read_bytes(rt, InputFile::Environment(name), path) {
+        Ok(bytes) => read_environment(alloc, bytes.as_slice()),
+        Err(Fault::Input(_, fault)) => Err(fault),
+        Err(_) => Err(InputFault::OutOfMemory),
+    };
+    match read {
+        Ok(environment) => Ok(environment),
+        Err(InputFault::OutOfMemory) => Err(Stop::from(AllocError)),
+        Err(fault) => Err(no_environment(alloc, path, &fault)),
+    }
+}
+
+fn no_environment(alloc: Global, path: &str, fault: &InputFault) -> Stop {
+    let fault = InputFaultText { fault };
+    let message = format!(in alloc; "'{path}' of '--covers <FILE>...' is no environment: {fault}");
+    usage(alloc, ErrorKind::ValueValidation, message)
+}
