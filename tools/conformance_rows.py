@@ -39,7 +39,7 @@ def expanded(row: str) -> str:
 
 def plain(row: str, number: int) -> str:
     """A text with no repetition, in the round of this number."""
-    return MARK.sub(lambda it: str(number) if it[2] else chr(int(it[3], 16)) if it[3] else MEANT[it[1]], row)
+    return MARK.sub(lambda mark: str(number) if mark[2] else chr(int(mark[3], 16)) if mark[3] else MEANT[mark[1]], row)
 
 
 def row_of(kind: str, *texts: str) -> str:

@@ -100,11 +100,11 @@ class Watch:
 
     def look(self) -> None:
         for key, words, folder, seconds in processes():
-            found = check_of(words, folder)
-            if found and found[1] == "edits" and self.name(key, found[0], folder)[1] is None:
-                found = found[0], "second proofs"
-            if found:
-                self.seen[key] = found, seconds
+            check = check_of(words, folder)
+            if check and check[1] == "edits" and self.name(key, check[0], folder)[1] is None:
+                check = check[0], "second proofs"
+            if check:
+                self.seen[key] = check, seconds
 
     def run(self) -> None:
         next_pace = time.monotonic()
@@ -116,8 +116,8 @@ class Watch:
 
     def used(self) -> dict[Work, float]:
         used: dict[Work, float] = {}
-        for found, seconds in self.seen.values():
-            used[found] = used.get(found, 0) + seconds
+        for check, seconds in self.seen.values():
+            used[check] = used.get(check, 0) + seconds
         return used
 
     def edits(self) -> dict[Work, float]:
@@ -142,8 +142,8 @@ def table(used: dict[Work, float], whole: float, wall: float) -> list[str]:
 
 def dearest(spent: dict[Work, float]) -> list[str]:
     """A line for each of the edits that took the most seconds."""
-    found = sorted(spent.items(), key=lambda item: -item[1])[:DEAREST]
-    return [f"{seconds:.0f} s {crate} {name}" for (crate, name), seconds in found]
+    dearest = sorted(spent.items(), key=lambda item: -item[1])[:DEAREST]
+    return [f"{seconds:.0f} s {crate} {name}" for (crate, name), seconds in dearest]
 
 
 def told_pace(paces: list[float]) -> list[str]:

@@ -128,9 +128,9 @@ def shown(run: Run) -> str:
     return f"{status}  {lines[-1].decode('utf-8', 'backslashreplace')}".rstrip()
 
 
-def told(found: list[Run]) -> str:
+def told(runs: list[Run]) -> str:
     """A line for runs in turn that show the same."""
-    first, last = found[0], found[-1]
+    first, last = runs[0], runs[-1]
     if last.refused is None:
         return f"none refused: {shown(last)}"
     numbers = str(first.number) if first is last else f"{first.number}-{last.number}"

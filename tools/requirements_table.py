@@ -219,15 +219,15 @@ def atom_class(left: Any, sign: Any, right: Any) -> str | None:
 
 def atoms(text: str) -> list[Any]:
     """The comparisons of a text's marker, as they are written."""
-    found: list[Any] = []
+    parts: list[Any] = []
     left: list[Any] = [parse_requirement(text).marker or []]
     while left:
         for part in left.pop():
             if isinstance(part, list):
                 left.append(part)
             elif isinstance(part, tuple):
-                found.append(part)
-    return found
+                parts.append(part)
+    return parts
 
 
 def mark(marker: Any, extra: str) -> str:

@@ -75,11 +75,11 @@ def prover_says(folder: Path, crates: list[str]) -> dict[tuple[str, str], str]:
     said = dict[tuple[str, str], str]()
     with subprocess.Popen(["rt", "ci", *crates], cwd=folder, stdout=subprocess.PIPE, encoding="utf-8", errors="replace") as run:
         for line in run.stdout or ():
-            found = SAID.match(line)
-            if found is None:
+            saying = SAID.match(line)
+            if saying is None:
                 print(line, end="", file=sys.stderr, flush=True)
             else:
-                said[found[1], found[2]] = found[3]
+                said[saying[1], saying[2]] = saying[3]
     return said
 
 

@@ -8,7 +8,7 @@ function __reqlock_command
     set -l command
     while set -q words[1]
         switch $words[1]
-            case --dir --index --env --color --pins --was --line --format --target --constrain --remove --not
+            case --dir --index --env --color --pins --was --line --before --keep --format --target --covers --constrain --remove --not
                 set words $words[3..-1]
             case '-*'
                 set words $words[2..-1]
@@ -55,12 +55,13 @@ complete -c reqlock -n __reqlock_before -a relock -d 'Lock again over the index 
 complete -c reqlock -n __reqlock_before -a replace -d 'Put other lines in the place of those of the file; versions stay where they can'
 complete -c reqlock -n __reqlock_before -a undo -d 'Go back to the state before the last edit'
 complete -c reqlock -n __reqlock_before -a redo -d 'Go on to the state that an undo left'
+complete -c reqlock -n __reqlock_before -a forget -d 'Take the first steps out of the history; the present state stays'
 complete -c reqlock -n __reqlock_before -a batch -d 'Do the commands of standard input, and save at its end'
 complete -c reqlock -n __reqlock_before -a try -d 'Do the commands of standard input on a new history; save nothing'
 complete -c reqlock -n __reqlock_before -a show -d 'Print the lock as a table, with what asks for each entry'
 complete -c reqlock -n __reqlock_before -a log -d 'Print the history, a line for each edit'
 complete -c reqlock -n __reqlock_before -a diff -d 'Print what changed between two places of the history'
-complete -c reqlock -n __reqlock_before -a check -d 'Tell whether the three files belong together; change nothing'
+complete -c reqlock -n __reqlock_before -a check -d 'Tell whether requirements, locks and journal belong together; change nothing'
 complete -c reqlock -n __reqlock_before -a outdated -d 'Print which locked releases have newer ones, and who holds them back'
 complete -c reqlock -n __reqlock_before -a export -d 'Print the lock in the form of another tool'
 complete -c reqlock -n __reqlock_before -a skipped -d 'Print which releases of the index are left out, and why'
@@ -69,12 +70,12 @@ complete -c reqlock -n __reqlock_before -a help -d 'Print this message or the he
 complete -c reqlock -n '__reqlock_in remove constrain' -a '(__reqlock_line_names)'
 complete -c reqlock -n '__reqlock_in upgrade show' -a '(__reqlock_locked_names)'
 complete -c reqlock -n '__reqlock_in replace' -F
-complete -c reqlock -n '__reqlock_in help' -a 'init add remove constrain upgrade relock replace undo redo batch try show log diff check outdated export skipped why help'
-complete -c reqlock -n '__reqlock_before; or __reqlock_in init add remove constrain upgrade relock replace undo redo batch try show log diff check outdated export why' -l dir -x -a '(__fish_complete_directories)' -d 'The folder of requirements.txt'
+complete -c reqlock -n '__reqlock_in help' -a 'init add remove constrain upgrade relock replace undo redo forget batch try show log diff check outdated export skipped why help'
+complete -c reqlock -n '__reqlock_before; or __reqlock_in init add remove constrain upgrade relock replace undo redo forget batch try show log diff check outdated export why' -l dir -x -a '(__fish_complete_directories)' -d 'The folder of requirements.txt'
 complete -c reqlock -n '__reqlock_before; or __reqlock_in init add remove constrain upgrade relock replace batch try show check outdated export skipped why' -l index -r -F -d 'The snapshot of the index'
 complete -c reqlock -n '__reqlock_before; or __reqlock_in init try why' -l env -r -F -d 'The environment that a lock is for; or NAME=FILE'
 complete -c reqlock -n '__reqlock_before; or __reqlock_in add remove constrain upgrade relock replace batch why' -l keep-locked -d 'Move no locked version that is still needed, but for names to upgrade'
-complete -c reqlock -n '__reqlock_before; or __reqlock_in init add remove constrain upgrade relock replace undo redo' -l dry-run -d 'Save nothing; print what would change'
+complete -c reqlock -n '__reqlock_before; or __reqlock_in init add remove constrain upgrade relock replace undo redo forget' -l dry-run -d 'Save nothing; print what would change'
 complete -c reqlock -n '__reqlock_before; or __reqlock_in show log diff check outdated' -l json -d 'Print JSON'
 complete -c reqlock -s v -l verbose -d 'Tell what changed, or what is known of a refusal'
 complete -c reqlock -s q -l quiet -d 'Tell nothing beside the answer'
@@ -85,12 +86,15 @@ complete -c reqlock -n '__reqlock_in init replace why' -l pins -r -F -d 'Keep th
 complete -c reqlock -n '__reqlock_in add remove constrain upgrade relock replace' -l if-needed -d 'Answer same, and save nothing, where only the index would change'
 complete -c reqlock -n '__reqlock_in replace why' -l was -r -F -d 'Take the lines of the file in the folder; OLD is what it was'
 complete -c reqlock -n '__reqlock_in replace why' -l line -x -a '(__reqlock_line_names)' -d 'Put the text in the place of the line of the name'
+complete -c reqlock -n '__reqlock_in forget' -l before -x -d 'Begin the history at this place'
+complete -c reqlock -n '__reqlock_in forget' -l keep -x -d 'Begin it so many states before the present one'
 complete -c reqlock -n '__reqlock_in batch' -l all-or-none -d 'Save nothing where a command is refused, and end with its status'
 complete -c reqlock -n '__reqlock_in show' -l tree -d 'Print the entries below the lines that ask for them'
 complete -c reqlock -n '__reqlock_in log' -l long -d 'Print each entry that a step changed on a line of its own'
 complete -c reqlock -n '__reqlock_in check' -l current -d 'Tell whether a relock over the index would change an entry'
 complete -c reqlock -n '__reqlock_in export' -l format -x -a 'hashes dot pylock' -d 'hashes, dot or pylock'
 complete -c reqlock -n '__reqlock_in export' -l target -x -d 'The target whose lock it is'
+complete -c reqlock -n '__reqlock_in export' -l covers -r -F -d 'With --format pylock, tell which targets hold in these environments'
 complete -c reqlock -n '__reqlock_in why' -l explain -d 'Tell it in sentences'
 complete -c reqlock -n '__reqlock_in why' -l long -d 'With --explain, leave nothing out'
 complete -c reqlock -n '__reqlock_in why' -l init -d 'Ask about a first lock, for the environments given'

@@ -56,6 +56,7 @@ complete -c rql -n __rql_before -a index -d 'make the index anew, with these nam
 complete -c rql -n __rql_before -a env -d 'add, remove, lock or list the environments that are locked for'
 complete -c rql -n __rql_before -a undo -d 'go back to the state before the last edit'
 complete -c rql -n __rql_before -a redo -d 'go on to the state that an undo left'
+complete -c rql -n __rql_before -a forget -d 'take the first steps out of the history; the present state stays'
 complete -c rql -n __rql_before -a show -d 'print the lock as a table, with what asks for each entry'
 complete -c rql -n __rql_before -a tree -d 'print the lock below the lines that ask for it'
 complete -c rql -n __rql_before -a outdated -d 'print which locked releases have newer ones, and who holds them back'
@@ -72,7 +73,7 @@ complete -c rql -n '__rql_in env' -a remove -d 'lock for one environment less'
 complete -c rql -n '__rql_in env' -a lock -d 'lock for the environments as the settings have them, whoever changed these'
 complete -c rql -n '__rql_in env' -a list -d 'print the environments'
 complete -c rql -n '__rql_in remove set upgrade constrain' -a '(__rql_line_names)'
-complete -c rql -n '__rql_in undo redo show tree outdated why log diff export skipped fleet merge check-refutation' -F
+complete -c rql -n '__rql_in undo redo forget show tree outdated why log diff export skipped fleet merge check-refutation' -F
 complete -c rql -s h -l help -d 'show this help message and exit'
 complete -c rql -n __rql_before -s C -x -a '(__fish_complete_directories)' -d 'look for the project\'s settings in DIR and above'
 complete -c rql -n __rql_before -l offline -d 'ask nobody: take all from the cache'

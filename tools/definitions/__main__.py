@@ -33,7 +33,7 @@ def main(words: list[str]) -> None:
     if words == ["--left"]:
         sys.stdout.write(left(definitions))
         return
-    keys = [it for it in definitions.texts if not words or it[0].startswith(f"Rattle.{words[0]}.")]
+    keys = [key for key in definitions.texts if not words or key[0].startswith(f"Rattle.{words[0]}.")]
     sys.stdout.write("\n\n".join(map(definitions.text_of, keys)))
 
 

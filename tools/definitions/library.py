@@ -45,14 +45,14 @@ def compared(one: Any, other: Any) -> Made:
 
 def slice_cmp(compare: Callable[[Any, Any], Made], one: tuple[Any, ...], other: tuple[Any, ...]) -> Made:
     for left, right in zip(one, other):
-        if (found := compare(left, right)) != EQUAL:
-            return found
+        if (order := compare(left, right)) != EQUAL:
+            return order
     return compared(len(one), len(other))
 
 
 def then_cmp(first: Callable[[Any, Any], Made], second: Callable[[Any, Any], Made], one: Any, other: Any) -> Made:
-    found = first(one, other)
-    return second(one, other) if found == EQUAL else found
+    order = first(one, other)
+    return second(one, other) if order == EQUAL else order
 
 
 def option_cmp(compare: Callable[[Any, Any], Made], one: Made, other: Made) -> Made:
@@ -65,11 +65,11 @@ def option_cmp(compare: Callable[[Any, Any], Made], one: Made, other: Made) -> M
 
 
 def prefix_len(test: Callable[[Any], bool], items: tuple[Any, ...]) -> int:
-    return next((at for at, it in enumerate(items) if not test(it)), len(items))
+    return next((at for at, item in enumerate(items) if not test(item)), len(items))
 
 
 def position_or_len(test: Callable[[Any], bool], items: tuple[Any, ...]) -> int:
-    return next((at for at, it in enumerate(items) if test(it)), len(items))
+    return next((at for at, item in enumerate(items) if test(item)), len(items))
 
 
 def position_from(test: Callable[[Any], bool], first: int, items: tuple[Any, ...]) -> Made:
@@ -78,18 +78,18 @@ def position_from(test: Callable[[Any], bool], first: int, items: tuple[Any, ...
 
 
 def fold(step: Callable[[Any, Any], Any], start: Any, items: tuple[Any, ...]) -> Any:
-    for it in items:
-        start = step(start, it)
+    for item in items:
+        start = step(start, item)
     return start
 
 
 def slice_split(test: Callable[[Any], bool], items: tuple[Any, ...]) -> tuple[tuple[Any, ...], ...]:
     pieces: list[list[Any]] = [[]]
-    for it in items:
-        if test(it):
+    for item in items:
+        if test(item):
             pieces.append([])
         else:
-            pieces[-1].append(it)
+            pieces[-1].append(item)
     return tuple(map(tuple, pieces))
 
 
@@ -104,19 +104,19 @@ def onto_first(byte: int, pieces: tuple[Bytes, ...]) -> tuple[Bytes, ...]:
 def insert_entry(compare: Callable[[Any, Any], Made], entries: tuple[Any, ...], key: Any, value: Any) -> tuple[Any, ...]:
     """The entries with this one in its place among rising keys; one of an equal key keeps its key."""
     for at, entry in enumerate(entries):
-        found = compare(key, entry[0])
-        if found == LESS:
+        order = compare(key, entry[0])
+        if order == LESS:
             return (*entries[:at], (key, value), *entries[at:])
-        if found == EQUAL:
+        if order == EQUAL:
             return (*entries[:at], (entry[0], value), *entries[at + 1 :])
     return (*entries, (key, value))
 
 
 def insert_key(compare: Callable[[Any, Any], Made], keys: tuple[Any, ...], key: Any) -> tuple[Any, ...]:
-    for at, it in enumerate(keys):
-        found = compare(key, it)
-        if found != GREATER:
-            return (*keys[:at], key, *keys[at:]) if found == LESS else keys
+    for at, other in enumerate(keys):
+        order = compare(key, other)
+        if order != GREATER:
+            return (*keys[:at], key, *keys[at:]) if order == LESS else keys
     return (*keys, key)
 
 
@@ -128,7 +128,7 @@ def found_first(test: Callable[[Any], bool], entries: tuple[Any, ...]) -> Made:
 
 
 def filter_map(change: Callable[[Any], Made], items: tuple[Any, ...]) -> tuple[Any, ...]:
-    return tuple(it for found in map(change, items) for it in found.parts)
+    return tuple(part for option in map(change, items) for part in option.parts)
 
 
 def enumerate_from(first: int, items: tuple[Any, ...]) -> tuple[tuple[int, Any], ...]:
@@ -149,15 +149,15 @@ def is_utf8(data: Bytes) -> bool:
 def decode_sized(digits: Bytes, size: int) -> Made:
     """The bytes that hexadecimal digits write, as many as are wanted; else a fault, whichever it is."""
     try:
-        found = bytes.fromhex(bytes(digits).decode("ascii"))
+        decoded = bytes.fromhex(bytes(digits).decode("ascii"))
     except ValueError:
         return Made("Err", (Made("InvalidHexCharacter"),))
-    return Made("Ok", (tuple(found),)) if len(digits) == 2 * size == 2 * len(found) else Made("Err", (Made("InvalidStringLength"),))
+    return Made("Ok", (tuple(decoded),)) if len(digits) == 2 * size == 2 * len(decoded) else Made("Err", (Made("InvalidStringLength"),))
 
 
 def is_in(*ranges: str) -> Callable[[int], bool]:
     """Whether a byte lies in one of these ranges, each its first and last character."""
-    return lambda byte: any(ord(it[0]) <= byte <= ord(it[1]) for it in ranges)
+    return lambda byte: any(ord(ends[0]) <= byte <= ord(ends[1]) for ends in ranges)
 
 
 def ends_with(same: Callable[[Any, Any], bool], items: tuple[Any, ...], end: tuple[Any, ...]) -> bool:
@@ -169,10 +169,10 @@ def ends_with(same: Callable[[Any, Any], bool], items: tuple[Any, ...], end: tup
 
 def linked(items: list[Any], one: str, none: str) -> Made:
     """Items as the data of the libraries has them: each with the rest behind it."""
-    found = Made(none)
-    for it in reversed(items):
-        found = Made(one, (*it, found))
-    return found
+    chain = Made(none)
+    for fields in reversed(items):
+        chain = Made(one, (*fields, chain))
+    return chain
 
 
 def members(table: dict[str, Any], data_of: Callable[[Any], Made]) -> Made:
@@ -196,7 +196,7 @@ def json_data(value: Any) -> Made:
     if isinstance(value, str):
         return Made("string", (text(value),))
     if isinstance(value, list):
-        return Made("array", (linked([(json_data(it),) for it in value], "item", "no_items"),))
+        return Made("array", (linked([(json_data(item),) for item in value], "item", "no_items"),))
     return Made("object", (members(value, json_data),))
 
 
@@ -204,7 +204,7 @@ def is_too_deep(value: Any) -> bool:
     """Whether arrays and objects nest deeper than is read."""
     level = [value]
     for _ in range(DEEPEST + 1):
-        level = [it for held in level for it in (held if isinstance(held, list) else held.values() if isinstance(held, dict) else ())]
+        level = [inner for held in level for inner in (held if isinstance(held, list) else held.values() if isinstance(held, dict) else ())]
         if not level:
             return False
     return True
@@ -232,7 +232,7 @@ def toml_data(value: Any) -> Made:
     if isinstance(value, str):
         return Made("string", (text(value),))
     if isinstance(value, list):
-        return Made("array", (linked([(toml_data(it),) for it in value], "item", "no_items"),))
+        return Made("array", (linked([(toml_data(item),) for item in value], "item", "no_items"),))
     return Made("table", (members(value, toml_data),)) if isinstance(value, dict) else Made("datetime", (value,))
 
 
@@ -268,7 +268,7 @@ def members_len(held: Made) -> int:
 
 
 def is_made(*names: str) -> Callable[[Made], bool]:
-    return lambda it: it.name in names
+    return lambda made: made.name in names
 
 
 def same_text(one: Bytes, other: Bytes) -> bool:
@@ -279,12 +279,12 @@ def each_pair(same: Callable[[Any, Any], bool], one: tuple[Any, ...], other: tup
     return len(one) == len(other) and all(map(same, one, other))
 
 
-def mapped(change: Callable[[Any], Any], it: Made) -> Made:
-    return some(change(it.parts[0])) if it.parts else NONE
+def mapped(change: Callable[[Any], Any], option: Made) -> Made:
+    return some(change(option.parts[0])) if option.parts else NONE
 
 
 NAMES: dict[str, tuple[int, Any]] = {
-    "not": (1, lambda it: not it),
+    "not": (1, lambda truth: not truth),
     "suc": (1, lambda n: n + 1),
     "max": (2, max),
     "min": (2, min),
@@ -308,8 +308,8 @@ NAMES: dict[str, tuple[int, Any]] = {
     "map": (2, lambda change, items: tuple(map(change, items))),
     "filter": (2, lambda test, items: tuple(filter(test, items))),
     "filter_map": (2, filter_map),
-    "flat_map": (2, lambda change, items: tuple(it for found in items for it in change(found))),
-    "concat": (1, lambda lists: tuple(it for found in lists for it in found)),
+    "flat_map": (2, lambda change, items: tuple(part for item in items for part in change(item))),
+    "concat": (1, lambda lists: tuple(item for items in lists for item in items)),
     "fold": (3, fold),
     "find": (2, lambda test, items: option(next(filter(test, items), None))),
     "position": (2, lambda test, items: position_from(test, 0, items)),
@@ -340,14 +340,14 @@ NAMES: dict[str, tuple[int, Any]] = {
     "is_none": (1, is_made("None")),
     "is_ok": (1, is_made("Ok")),
     "is_err": (1, is_made("Err")),
-    "result_ok": (1, lambda it: some(it.parts[0]) if it.name == "Ok" else NONE),
-    "ok_or": (2, lambda it, fault: Made("Ok", it.parts) if it.parts else Made("Err", (fault,))),
-    "unwrap_or": (2, lambda it, other: it.parts[0] if it.parts else other),
-    "option_or": (2, lambda it, other: it if it.parts else other),
+    "result_ok": (1, lambda result: some(result.parts[0]) if result.name == "Ok" else NONE),
+    "ok_or": (2, lambda option, fault: Made("Ok", option.parts) if option.parts else Made("Err", (fault,))),
+    "unwrap_or": (2, lambda option, other: option.parts[0] if option.parts else other),
+    "option_or": (2, lambda option, other: option if option.parts else other),
     "option_map": (2, mapped),
-    "option_map_or": (3, lambda change, it, other: change(it.parts[0]) if it.parts else other),
-    "option_and_then": (2, lambda change, it: change(it.parts[0]) if it.parts else NONE),
-    "option_to_list": (1, lambda it: it.parts),
+    "option_map_or": (3, lambda change, option, other: change(option.parts[0]) if option.parts else other),
+    "option_and_then": (2, lambda change, option: change(option.parts[0]) if option.parts else NONE),
+    "option_to_list": (1, lambda option: option.parts),
     "bytes_eq": (2, same_text),
     "is_utf8": (1, is_utf8),
     "decimal": (1, lambda number: text(str(number))),
@@ -359,8 +359,8 @@ NAMES: dict[str, tuple[int, Any]] = {
     "is_ascii_hexdigit": (1, is_in("09", "af", "AF")),
     "to_ascii_lowercase": (1, lambda byte: byte + 32 if 65 <= byte <= 90 else byte),
     "tt": (0, ()),
-    "match_ordering": (4, lambda found, one, same, other: {"Less": one, "Equal": same, "Greater": other}[found.name]),
-    "items_of": (1, lambda items: linked([(it,) for it in items], "item", "no_items")),
+    "match_ordering": (4, lambda order, one, same, other: {"Less": one, "Equal": same, "Greater": other}[order.name]),
+    "items_of": (1, lambda items: linked([(item,) for item in items], "item", "no_items")),
     "members_len": (1, members_len),
     "sha256": (1, lambda data: tuple(hashlib.sha256(bytes(data)).digest())),
     "encode_lower": (1, lambda data: text(bytes(data).hex())),

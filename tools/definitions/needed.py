@@ -46,13 +46,13 @@ class Uses:
             return
         for token in dict.fromkeys(TOKEN.findall(self.modules[key[0]].items[key[1]])):
             for word in {token, token.split(".")[0], token.rstrip(".")}:
-                found = self.place(key[0], word)
-                if found is not None and found != key:
-                    yield found
+                named = self.place(key[0], word)
+                if named is not None and named != key:
+                    yield named
 
     def all_from(self, roots: list[Key]) -> list[Key]:
         """What these rest on and they, each behind what it names."""
-        found: dict[Key, None] = {}
+        reached: dict[Key, None] = {}
         begun: set[Key] = set()
         stack = [(root, iter(tuple(self.named_by(root)))) for root in reversed(roots)]
         begun.update(roots)
@@ -60,12 +60,12 @@ class Uses:
             key, rest = stack[-1]
             following = next(rest, None)
             if following is None:
-                found[key] = None
+                reached[key] = None
                 stack.pop()
             elif following not in begun:
                 begun.add(following)
                 stack.append((following, iter(tuple(self.named_by(following)))))
-        return list(found)
+        return list(reached)
 
     def lines_of(self, key: Key) -> int:
         return self.modules[key[0]].items[key[1]].count("\n")

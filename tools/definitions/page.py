@@ -58,20 +58,20 @@ def path_of(module: str) -> str:
     return "/".join(["crates", crate, *inner]) + ".antt"
 
 
-def is_standard(it: Needed) -> bool:
-    return it.module.split(".")[1] in STANDARDS
+def is_standard(file: Needed) -> bool:
+    return file.module.split(".")[1] in STANDARDS
 
 
 def counted(files: list[Needed]) -> str:
     """How many lines the files have, and how many of them say what the PEPs say."""
-    lines, of_peps = sum(it.lines for it in files), sum(it.lines for it in files if is_standard(it))
-    told = f", of which {of_peps} say what the PEPs say ({', '.join(f'`{it}`' for it in STANDARDS)})" if of_peps else ""
+    lines, of_peps = sum(file.lines for file in files), sum(file.lines for file in files if is_standard(file))
+    told = f", of which {of_peps} say what the PEPs say ({', '.join(f'`{standard}`' for standard in STANDARDS)})" if of_peps else ""
     return f"{len(files)} files, {lines} lines{told}:"
 
 
-def row(it: Needed, place: str) -> str:
-    shown = ", ".join(f"`{name}`" for name in it.names)
-    return f"| [{path_of(it.module)}]({place}{path_of(it.module)}) | {it.lines} | {shown} |"
+def row(file: Needed, place: str) -> str:
+    shown = ", ".join(f"`{name}`" for name in file.names)
+    return f"| [{path_of(file.module)}]({place}{path_of(file.module)}) | {file.lines} | {shown} |"
 
 
 class Reader:
@@ -82,8 +82,8 @@ class Reader:
         self.listed: set[Key] = set()
 
     def new(self, roots: tuple[tuple[str, str, str], ...]) -> list[Needed]:
-        keys = [it for it in self.uses.all_from([(f"Rattle.{crate}.specs.{module}", name) for crate, module, name in roots]) if it not in TOLD_BY]
-        new = [it for it in keys if it not in self.listed]
+        keys = [key for key in self.uses.all_from([(f"Rattle.{crate}.specs.{module}", name) for crate, module, name in roots]) if key not in TOLD_BY]
+        new = [key for key in keys if key not in self.listed]
         self.listed.update(new)
         return files_of(self.uses, new)
 
@@ -95,7 +95,7 @@ def page(modules: dict[str, Module], place: str = "../") -> str:
         files = reader.new(roots)
         lines += [
             f"## {sentence}", "", f"The contracts are those of {contracts}. {counted(files)}", "",
-            "| File | Lines | Definitions |", "|---|---|---|", *(row(it, place) for it in files), "",
+            "| File | Lines | Definitions |", "|---|---|---|", *(row(file, place) for file in files), "",
         ]
     lines += ["## What laws say in place of a loop", TIED]
     lines += [f"- `{name}` of {path_of(module)}: `laws::{law}` of its crate" for (module, name), (law, _) in TOLD_BY.items()]

@@ -63,15 +63,15 @@ def without_comments(text: str) -> list[str]:
 
 def opened(lines: list[str]) -> list[str]:
     """The lines, those of a `mutual` block as if each stood for itself."""
-    found, is_within = [], False
+    opened_lines, is_within = [], False
     for line in lines:
         if not line.startswith(" "):
             is_within = line.endswith("mutual")
-            found += [] if is_within else [line]
+            opened_lines += [] if is_within else [line]
             continue
         inner = line[2:] if is_within else line
-        found.append("abbrev " + inner if is_within and re.match(r"pub (?!data )", inner) else inner)
-    return found
+        opened_lines.append("abbrev " + inner if is_within and re.match(r"pub (?!data )", inner) else inner)
+    return opened_lines
 
 
 def items_of(text: str) -> list[str]:
@@ -91,7 +91,7 @@ def import_of(item: str) -> Import:
     if words is None:
         raise Unread(f"an import of another form: {item}")
     module, listed, alias = words.groups()
-    names = [it.replace("◌", "").strip().partition(" as ")[::2] for it in (listed or "").split(",") if it.strip()]
+    names = [name.replace("◌", "").strip().partition(" as ")[::2] for name in (listed or "").split(",") if name.strip()]
     return Import(module, {new or old: old for old, new in names}, alias, is_handed_on)
 
 
@@ -160,10 +160,10 @@ def body_of(text: str) -> object:
     if text.startswith(" do\n"):
         return steps_of(text[4:].split("\n"))
     parser = Parser(TOKEN.findall(text))
-    found = parser.expression()
+    body = parser.expression()
     if not parser.is_at_end():
         raise Unread(f"`{parser.peek()}` where the body should end")
-    return found
+    return body
 
 
 def steps_of(lines: list[str]) -> object:
@@ -206,9 +206,9 @@ class Parser:
         return self.tokens[self.at - 1]
 
     def want(self, token: str) -> None:
-        found = self.next()
-        if found != token:
-            raise Unread(f"`{found}` where `{token}` should stand")
+        word = self.next()
+        if word != token:
+            raise Unread(f"`{word}` where `{token}` should stand")
 
     def skip_braces(self) -> None:
         depth = 0
@@ -220,9 +220,9 @@ class Parser:
 
     def expression(self, least: int = 0) -> object:
         left = self.prefixed()
-        while (found := OPERATORS.get(self.peek())) is not None and found[0] >= least:
+        while (operator := OPERATORS.get(self.peek())) is not None and operator[0] >= least:
             sign = self.next()
-            right = self.expression(found[0] + (found[1] != "right"))
+            right = self.expression(operator[0] + (operator[1] != "right"))
             left = ("operator", sign, left, right)
         return left
 
@@ -348,8 +348,8 @@ class Parser:
         given = []
         while self.peek() not in ("", ")", ",", "∷"):
             given.append(self.pattern_atom())
-        found = ("constructor", head, given) if given else head
+        first = ("constructor", head, given) if given else head
         if self.peek() == "∷":
             self.next()
-            return ("cons", found, self.pattern())
-        return found
+            return ("cons", first, self.pattern())
+        return first

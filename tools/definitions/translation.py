@@ -21,8 +21,8 @@ LIBRARY_SIGNS = {"-": "_less", "/": "_quotient", "%": "_remainder"}
 
 def plain(name: str) -> str:
     """A name as Python may have it."""
-    found = re.sub(r"\W", "_", name)
-    return found + "_" if keyword.iskeyword(found) or found in ("match", "case", "type") else found
+    word = re.sub(r"\W", "_", name)
+    return word + "_" if keyword.iskeyword(word) or word in ("match", "case", "type") else word
 
 
 @dataclass(frozen=True)
@@ -69,10 +69,10 @@ class Names:
         return None
 
     def of(self, module: str, word: str) -> Named:
-        found = Named("library", word) if word == "tt" else self.in_module(module, word)
-        if found is None:
+        named = Named("library", word) if word == "tt" else self.in_module(module, word)
+        if named is None:
             raise Unread(f"`{word}` isn't known")
-        return found
+        return named
 
     def under(self, module: str, alias: str, word: str) -> Named | None:
         """What `alias.word` stands for; None where no import has that alias."""
@@ -90,9 +90,9 @@ class Writer:
 
     # ---- expressions
 
-    def expression(self, it: Any, own: frozenset[str]) -> str:
-        write: Callable[..., str] = getattr(self, "of_" + it[0])
-        return write(*it[1:], own)
+    def expression(self, parsed: Any, own: frozenset[str]) -> str:
+        write: Callable[..., str] = getattr(self, "of_" + parsed[0])
+        return write(*parsed[1:], own)
 
     def of_number(self, value: int, own: frozenset[str]) -> str:
         return str(value)
@@ -104,7 +104,7 @@ class Writer:
         return "()"
 
     def of_tuple(self, members: list[Any], own: frozenset[str]) -> str:
-        return f"({', '.join(self.expression(it, own) for it in members)})"
+        return f"({', '.join(self.expression(member, own) for member in members)})"
 
     def of_if(self, condition: Any, then: Any, other: Any, own: frozenset[str]) -> str:
         return f"({self.expression(then, own)} if {self.expression(condition, own)} else {self.expression(other, own)})"
@@ -113,14 +113,14 @@ class Writer:
         return f"Function(1, lambda {plain(name)}: {self.expression(body, own | {name})})"
 
     def of_record(self, base: Any, parts: dict[str, Any], own: frozenset[str]) -> str:
-        given = ", ".join(f"{plain(name)}={self.expression(it, own)}" for name, it in parts.items())
+        given = ", ".join(f"{plain(name)}={self.expression(part, own)}" for name, part in parts.items())
         return f"Record({given})" if base is None else f"{self.expression(base, own)}.but({given})"
 
     def of_fields(self, value: Any, fields: list[str], own: frozenset[str]) -> str:
         return self.expression(value, own) + self.fields(fields)
 
     def fields(self, fields: Iterable[str]) -> str:
-        return "".join(f"[{it}]" if it.isdigit() else f".{plain(it)}" for it in fields)
+        return "".join(f"[{field}]" if field.isdigit() else f".{plain(field)}" for field in fields)
 
     def of_operator(self, sign: str, left: Any, right: Any, own: frozenset[str]) -> str:
         one, other = self.expression(left, own), self.expression(right, own)
@@ -135,7 +135,7 @@ class Writer:
     def of_apply(self, function: Any, given: list[Any], own: frozenset[str]) -> str:
         if function == ("name", "codes") and given[0][0] == "text":
             return self.expression(given[0], own)
-        arguments = [self.expression(it, own) for it in given]
+        arguments = [self.expression(argument, own) for argument in given]
         word = self.called(function[1], own) if function[0] == "name" else None
         if word is None or not 0 < word.arity <= len(given):
             return f"{self.expression(function, own)}({', '.join(arguments)})"
@@ -150,68 +150,68 @@ class Writer:
         first, *fields = word.split(".")
         if first in own:
             return plain(first) + self.fields(fields)
-        if fields and (found := self.names.under(self.module, first, fields[0])) is not None:
-            return self.named(found).value() + self.fields(fields[1:])
+        if fields and (named := self.names.under(self.module, first, fields[0])) is not None:
+            return self.named(named).value() + self.fields(fields[1:])
         return self.word(first) + self.fields(fields)
 
     def word(self, word: str) -> str:
         return self.named(self.names.of(self.module, word)).value()
 
-    def named(self, found: Named) -> Word:
-        if found.kind == "constructor":
-            return Word(f'Made("{found.name}")', 0)
-        if found.kind == "library":
-            return library_word(found)
-        return self.calls(found.module, found.name)
+    def named(self, named: Named) -> Word:
+        if named.kind == "constructor":
+            return Word(f'Made("{named.name}")', 0)
+        if named.kind == "library":
+            return library_word(named)
+        return self.calls(named.module, named.name)
 
     # ---- clauses
 
-    def pattern(self, it: Any, tails: list[str], guards: list[str]) -> str:
+    def pattern(self, parsed: Any, tails: list[str], guards: list[str]) -> str:
         """A pattern in Python. A rest of a list is bound as a list there: `tails` says which names are to be tuples."""
-        if it[0] == "list":
+        if parsed[0] == "list":
             return "()"
-        if it[0] == "number":
-            return str(it[1])
-        if it[0] == "tuple":
-            return f"({', '.join(self.pattern(member, tails, guards) for member in it[1])})"
-        if it[0] == "cons":
-            return f"({self.pattern(it[1], tails, guards)}, {self.rest(it[2], tails, guards)})"
-        if it[0] == "constructor":
-            return self.constructed(it[1][1], it[2], tails, guards)
-        return self.bound(it[1])
+        if parsed[0] == "number":
+            return str(parsed[1])
+        if parsed[0] == "tuple":
+            return f"({', '.join(self.pattern(member, tails, guards) for member in parsed[1])})"
+        if parsed[0] == "cons":
+            return f"({self.pattern(parsed[1], tails, guards)}, {self.rest(parsed[2], tails, guards)})"
+        if parsed[0] == "constructor":
+            return self.constructed(parsed[1][1], parsed[2], tails, guards)
+        return self.bound(parsed[1])
 
-    def rest(self, it: Any, tails: list[str], guards: list[str]) -> str:
-        if it[0] == "cons":
-            return f"{self.pattern(it[1], tails, guards)}, {self.rest(it[2], tails, guards)}"
-        if it[0] == "list":
+    def rest(self, parsed: Any, tails: list[str], guards: list[str]) -> str:
+        if parsed[0] == "cons":
+            return f"{self.pattern(parsed[1], tails, guards)}, {self.rest(parsed[2], tails, guards)}"
+        if parsed[0] == "list":
             return ""
-        tails.append(plain(it[1]))
-        return f"*{plain(it[1])}"
+        tails.append(plain(parsed[1]))
+        return f"*{plain(parsed[1])}"
 
     def constructed(self, word: str, given: list[Any], tails: list[str], guards: list[str]) -> str:
-        found = self.constructor(word)
-        if found == "suc":
+        made = self.constructor(word)
+        if made == "suc":
             name = plain(given[0][1])
             guards.append(name)
             return name
-        if found is None:
+        if made is None:
             raise Unread(f"`{word}` in a pattern")
-        inner = "".join(self.pattern(it, tails, guards) + ", " for it in given)
-        return f'Made("{found}", ({inner}))'
+        inner = "".join(self.pattern(pattern, tails, guards) + ", " for pattern in given)
+        return f'Made("{made}", ({inner}))'
 
     def bound(self, word: str) -> str:
         """A word alone: a constructor that takes nothing, or a name for what stands there."""
         if word in ("true", "false", "zero"):
             return {"true": "True", "false": "False", "zero": "0"}[word]
-        found = self.constructor(word)
-        return plain(word) if found is None else f'Made("{found}", ())'
+        made = self.constructor(word)
+        return plain(word) if made is None else f'Made("{made}", ())'
 
     def constructor(self, word: str) -> str | None:
         first, _, last = word.partition(".")
-        found = self.names.under(self.module, first, last) if last else self.names.in_module(self.module, word)
+        named = self.names.under(self.module, first, last) if last else self.names.in_module(self.module, word)
         if word == "suc":
             return "suc"
-        return found.name if found is not None and found.kind == "constructor" else None
+        return named.name if named is not None and named.kind == "constructor" else None
 
     def function(self, function: Function, name: str) -> str:
         """A function of as many arguments as its clauses have patterns."""
@@ -228,13 +228,13 @@ class Writer:
     def clause(self, patterns: list[Any], body: Any) -> list[str]:
         tails: list[str] = []
         guards: list[str] = []
-        heads = "".join(self.pattern(it, tails, guards) + ", " for it in patterns)
-        own = frozenset(it for pattern in patterns for it in self.names_in(pattern))
-        condition = "".join(f"{' if' if n == 0 else ' and'} {it} > 0" for n, it in enumerate(guards))
+        heads = "".join(self.pattern(pattern, tails, guards) + ", " for pattern in patterns)
+        own = frozenset(name for pattern in patterns for name in self.names_in(pattern))
+        condition = "".join(f"{' if' if n == 0 else ' and'} {guard} > 0" for n, guard in enumerate(guards))
         return [
             f"        case ({heads}){condition}:",
-            *(f"            {it} = tuple({it})" for it in tails),
-            *(f"            {it} = {it} - 1" for it in guards),
+            *(f"            {tail} = tuple({tail})" for tail in tails),
+            *(f"            {guard} = {guard} - 1" for guard in guards),
             f"            return {self.expression(body, own)}",
         ]
 
@@ -243,22 +243,22 @@ class Writer:
             if pattern[1] not in ("true", "false", "zero") and self.constructor(pattern[1]) is None:
                 yield pattern[1]
         elif pattern[0] == "tuple":
-            for it in pattern[1]:
-                yield from self.names_in(it)
+            for member in pattern[1]:
+                yield from self.names_in(member)
         elif pattern[0] == "cons":
             yield from self.names_in(pattern[1])
             yield from self.names_in(pattern[2])
         elif pattern[0] == "constructor":
-            for it in pattern[2]:
-                yield from self.names_in(it)
+            for member in pattern[2]:
+                yield from self.names_in(member)
 
 
-def library_word(found: Named) -> Word:
-    if found.name in ("true", "false"):
-        return Word(found.name.capitalize(), 0)
-    arity = library.arity_of(found.module, found.name)
+def library_word(named: Named) -> Word:
+    if named.name in ("true", "false"):
+        return Word(named.name.capitalize(), 0)
+    arity = library.arity_of(named.module, named.name)
     if arity is None:
-        raise Unread(f"`{found.name}` of {found.module} isn't among what the library here has")
-    return Word(f"_{found.name}", arity)
+        raise Unread(f"`{named.name}` of {named.module} isn't among what the library here has")
+    return Word(f"_{named.name}", arity)
 
 

@@ -42,7 +42,7 @@ class Record:
         return isinstance(other, Record) and self.__dict__ == other.__dict__
 
     def __hash__(self) -> int:
-        return hash(tuple(sorted(self.__dict__.items(), key=lambda it: it[0])))
+        return hash(tuple(sorted(self.__dict__.items(), key=lambda member: member[0])))
 
     def __repr__(self) -> str:
         return f"Record({', '.join(f'{name}={value!r}' for name, value in self.__dict__.items())})"
@@ -60,8 +60,8 @@ class Function:
         given = self.given + more
         if len(given) < self.arity:
             return Function(self.arity, self.body, given)
-        found = self.body(*given[: self.arity])
-        return found(*given[self.arity :]) if len(given) > self.arity else found
+        result = self.body(*given[: self.arity])
+        return result(*given[self.arity :]) if len(given) > self.arity else result
 
 
 NONE = Made("None")

@@ -18,11 +18,11 @@ DEEPEST = 20_000
 
 def modules_in(crates: Path) -> dict[str, Module]:
     """The modules of all crates, by their names."""
-    found = {}
+    modules = {}
     for path in sorted(crates.glob("*/specs/**/*.antt")):
         name = ".".join(["Rattle", *path.relative_to(crates).with_suffix("").parts])
-        found[name] = read_module(name, path)
-    return found
+        modules[name] = read_module(name, path)
+    return modules
 
 
 def python_name(key: Key) -> str:
@@ -66,8 +66,8 @@ class Definitions:
         """What calls a function that was left is left too."""
         callers: dict[Key, list[Key]] = {}
         for key, called in self.called.items():
-            for it in called:
-                callers.setdefault(it, []).append(key)
+            for callee in called:
+                callers.setdefault(callee, []).append(key)
         waiting = list(self.left)
         while waiting:
             gone = waiting.pop()

@@ -11,10 +11,10 @@ ARM, INNER = " " * 8, " " * 12
 
 def arms(pairs: Iterable[tuple[str, str]], indent: str = ARM) -> str:
     """The arms of a `case`, those that do the same in one."""
-    found: dict[str, list[str]] = {}
+    by_arm: dict[str, list[str]] = {}
     for pattern, done in pairs:
-        found.setdefault(done, []).append(pattern)
-    return "".join(f"{indent}{' | '.join(patterns)}) {done} ;;\n" for done, patterns in found.items())
+        by_arm.setdefault(done, []).append(pattern)
+    return "".join(f"{indent}{' | '.join(patterns)}) {done} ;;\n" for done, patterns in by_arm.items())
 
 
 def chosen(kind: Kind, choices: tuple[str, ...]) -> str:
@@ -26,7 +26,8 @@ def chosen(kind: Kind, choices: tuple[str, ...]) -> str:
 
 def places(top: Command) -> str:
     """How a word before the one that is completed is read."""
-    valued = {form: "" for it in below(top) for option in it.options for form in option.forms if option.values and option.values[0].is_needed}
+    options = [option for command in below(top) for option in command.options if option.values and option.values[0].is_needed]
+    valued = {form: "" for option in options for form in option.forms}
     step = '[ "${COMP_WORDS[place + 1]}" = = ] || ((place++))'
     text = ""
     if has_names(top):
@@ -43,42 +44,42 @@ def commands(top: Command) -> str:
         return f"{ARM}*) ((given++)) ;;\n"
     first = '"") command=${COMP_WORDS[place]} ;;\n'
     if top.words:
-        names = " | ".join(it.name for it in top.inner)
+        names = " | ".join(command.name for command in top.inner)
         first = (
             f'"")\n{INNER}    case ${{COMP_WORDS[place]}} in\n{INNER}    {names}) command=${{COMP_WORDS[place]}} ;;\n'
             f"{INNER}    *) ((given++)) ;;\n{INNER}    esac\n{INNER}    ;;\n"
         )
-    more = "".join(f"{INNER}{it.name}) command+=/${{COMP_WORDS[place]}} ;;\n" for it in top.inner if it.inner)
+    more = "".join(f"{INNER}{command.name}) command+=/${{COMP_WORDS[place]}} ;;\n" for command in top.inner if command.inner)
     return f"{ARM}*)\n{INNER}case $command in\n{INNER}{first}{more}{INNER}*) ((given++)) ;;\n{INNER}esac\n{INNER};;\n"
 
 
 def values(top: Command) -> str:
     """What stands behind options. One means the same in each command that has it."""
-    found: dict[str, str] = {}
-    for option in (option for it in below(top) for option in it.options):
+    kinds: dict[str, str] = {}
+    for option in (option for command in below(top) for option in command.options):
         for value, kind in list(behind(top, option))[:1]:
             for form in option.forms:
-                if found.setdefault(f"*,{form},*", chosen(kind, value.choices)) != chosen(kind, value.choices):
+                if kinds.setdefault(f"*,{form},*", chosen(kind, value.choices)) != chosen(kind, value.choices):
                     raise ValueError(f"{form} means several things")
-    return arms(found.items(), ARM[4:])
+    return arms(kinds.items(), ARM[4:])
 
 
 def words(top: Command) -> str:
     """What stands behind commands."""
-    found = [
-        (f"{key(it)},{place}", chosen(kind, value.choices))
-        for it in below(top) for place, value, kind in offers(top, it) if kind is not Kind.OTHER or value.choices
+    rows = [
+        (f"{key(command)},{place}", chosen(kind, value.choices))
+        for command in below(top) for place, value, kind in offers(top, command) if kind is not Kind.OTHER or value.choices
     ]
-    return arms(found + [(f"{key(it)},*", "kind=files") for it in below(top) if it.passes])
+    return arms(rows + [(f"{key(command)},*", "kind=files") for command in below(top) if command.passes])
 
 
 def options(top: Command) -> str:
-    found = []
-    for it in below(top):
-        named = f' commands="{" ".join(inner.name for inner in it.inner)}"' if it.inner else ""
-        if it.options or it.inner:
-            found.append((key(it) or '""', f'words="{" ".join(option_words(it))}"{named}'))
-    return arms(found)
+    rows = []
+    for command in below(top):
+        named = f' commands="{" ".join(inner.name for inner in command.inner)}"' if command.inner else ""
+        if command.options or command.inner:
+            rows.append((key(command) or '""', f'words="{" ".join(option_words(command))}"{named}'))
+    return arms(rows)
 
 
 def bash(top: Command) -> str:

@@ -67,9 +67,9 @@ class Command:
 
     def below(self) -> Iterator["Command"]:
         """The commands below it, at any depth."""
-        for it in self.inner:
-            yield it
-            yield from it.below()
+        for command in self.inner:
+            yield command
+            yield from command.below()
 
 
 # What the values are that are called NAME, and those of options and commands whose other names tell nothing.

@@ -30,7 +30,7 @@ def action(top: Command, value: Value, kind: Kind) -> str:
 
 
 def option_text(top: Command, option: Option) -> str:
-    forms = "".join(f" -l {it[2:]}" if it.startswith("--") else f" -s {it[1:]}" for it in option.forms)
+    forms = "".join(f" -l {form[2:]}" if form.startswith("--") else f" -s {form[1:]}" for form in option.forms)
     for value, kind in behind(top, option):
         forms += f" {'-r' if kind is Kind.FILE else '-x'}{action(top, value, kind)}"
         break
@@ -39,8 +39,8 @@ def option_text(top: Command, option: Option) -> str:
 
 def condition(top: Command, commands: list[Command]) -> str:
     """Where something is offered: behind some of the commands, before all of them, or everywhere."""
-    keys = [key(it) for it in commands]
-    if not top.inner or len(keys) == len([it for it in below(top) if it.options]):
+    keys = [key(command) for command in commands]
+    if not top.inner or len(keys) == len([command for command in below(top) if command.options]):
         return ""
     if keys == [""]:
         return f" -n __{id_of(top)}_before"
@@ -50,27 +50,28 @@ def condition(top: Command, commands: list[Command]) -> str:
 
 def lines(top: Command) -> list[str]:
     """What is offered: options, commands and words; what is the same of several commands in one line."""
-    found: dict[str, list[Command]] = {}
+    takers: dict[str, list[Command]] = {}
     texts = []
-    for it in below(top):
-        for option in it.options:
-            found.setdefault(option_text(top, option), []).append(it)
-        for inner in it.inner:
-            texts.append(f"{condition(top, [it])} -a {inner.name} -d {quoted(inner.first_line)}")
+    for command in below(top):
+        for option in command.options:
+            takers.setdefault(option_text(top, option), []).append(command)
+        for inner in command.inner:
+            texts.append(f"{condition(top, [command])} -a {inner.name} -d {quoted(inner.first_line)}")
     words: dict[str, list[Command]] = {}
-    for it in below(top):
-        for _, value, kind in offers(top, it):
+    for command in below(top):
+        for _, value, kind in offers(top, command):
             if text := action(top, value, kind):
-                words.setdefault(text, []).append(it)
-        if it.passes:
-            words.setdefault(" -F", []).append(it)
+                words.setdefault(text, []).append(command)
+        if command.passes:
+            words.setdefault(" -F", []).append(command)
     texts += [f"{condition(top, places)}{text}" for text, places in words.items()]
-    return [*texts, *(f"{condition(top, places)}{text}" for text, places in found.items())]
+    return [*texts, *(f"{condition(top, places)}{text}" for text, places in takers.items())]
 
 
 def functions(top: Command) -> str:
-    valued = {form: "" for it in below(top) for option in it.options for form in option.forms if option.values and option.values[0].is_needed}
-    inner = " ".join(it.name for it in top.inner if it.inner)
+    options = [option for command in below(top) for option in command.options if option.values and option.values[0].is_needed]
+    valued = {form: "" for option in options for form in option.forms}
+    inner = " ".join(command.name for command in top.inner if command.inner)
     deeper = DEEPER.format(inner) if inner else ""
     text = filled("commands.fish", ID=id_of(top), NAME=top.name, VALUED=" ".join(valued), DEEPER=deeper) if top.inner else ""
     return text + name_functions(top, "fish")

@@ -20,23 +20,23 @@ def paragraphs(text: str) -> str:
     for block in filter(None, text.strip("\n").split("\n\n")):
         lines = [quoted(line) for line in block.strip("\n").split("\n")]
         told.append("\n".join([".nf", *lines, ".fi"] if "\n " in f"\n{block}" else lines))
-    return "".join(f".PP\n{it}\n" for it in told).removeprefix(".PP\n")
+    return "".join(f".PP\n{paragraph}\n" for paragraph in told).removeprefix(".PP\n")
 
 
 def told_option(option: Option) -> str:
-    forms = ", ".join(f"\\fB{quoted(it)}\\fR" for it in option.forms)
+    forms = ", ".join(f"\\fB{quoted(form)}\\fR" for form in option.forms)
     return f".TP\n{' '.join((forms, *map(shown, option.values)))}\n{quoted(option.help)}\n"
 
 
 def told_words(command: Command) -> str:
-    return "".join(f".TP\n\\fI{quoted(it.name)}\\fR\n{quoted(it.help)}\n" for it in command.words if it.help)
+    return "".join(f".TP\n\\fI{quoted(word.name)}\\fR\n{quoted(word.help)}\n" for word in command.words if word.help)
 
 
 def told_options(command: Command, others: tuple[Option, ...] = ()) -> str:
     """The options of a command; of those that others are too, the names alone."""
-    options = [it for it in command.options if "--help" not in it.forms]
-    shared = ", ".join(f"\\fB{quoted(it.longest())}\\fR" for it in options if it in others)
-    return "".join(told_option(it) for it in options if it not in others) + (f".PP\nTakes also: {shared}\n" if shared else "")
+    options = [option for option in command.options if "--help" not in option.forms]
+    shared = ", ".join(f"\\fB{quoted(option.longest())}\\fR" for option in options if option in others)
+    return "".join(told_option(option) for option in options if option not in others) + (f".PP\nTakes also: {shared}\n" if shared else "")
 
 
 def head(names: tuple[str, ...], command: Command, option: str = "") -> str:
@@ -47,7 +47,7 @@ def head(names: tuple[str, ...], command: Command, option: str = "") -> str:
 def told_command(command: Command, top: Command) -> str:
     """What a page says of a command below another one."""
     if command.inner:
-        return "".join(told_command(it, top) for it in command.inner)
+        return "".join(told_command(inner, top) for inner in command.inner)
     example = f".PP\n{paragraphs(command.more)}" if command.more not in ("", top.more) else ""
     text = f".SS {head(command.path[len(top.path) :], command)}\n{paragraphs(command.about)}"
     return text + told_words(command) + told_options(command, top.options) + example
@@ -67,6 +67,6 @@ def manual(command: Command, page: str) -> str:
         page, TITLE=quoted(command.name.upper()), NAME=quoted(command.name), FIRST=quoted(first.rstrip(".")),
         SYNOPSIS=quoted(command.usage) if command.usage else "\n.br\n".join(words), ABOUT=paragraphs(rest), WHOLE_ABOUT=paragraphs(command.about),
         WORDS=told_words(command), OPTIONS=told_options(command), MORE=paragraphs(command.more),
-        COMMANDS=section("COMMANDS", "".join(told_command(it, command) for it in command.inner)),
+        COMMANDS=section("COMMANDS", "".join(told_command(inner, command) for inner in command.inner)),
         VALUES=section("VALUES", paragraphs(command.more)),
     )

@@ -39,7 +39,7 @@ def help_of(action: argparse.Action) -> str:
 
 def value_of(action: argparse.Action, told: str = "") -> Value:
     name = action.metavar if isinstance(action.metavar, str) else action.dest
-    choices = tuple(str(it) for it in action.choices) if action.choices else ()
+    choices = tuple(str(choice) for choice in action.choices) if action.choices else ()
     return Value(name, told, action.nargs not in ("?", "*"), action.nargs in ("+", "*"), choices)
 
 
@@ -48,8 +48,8 @@ def command_of(path: tuple[str, ...], about: str, parser: argparse.ArgumentParse
     words, options, inner = [], [], list(more)
     for action in parser._actions:
         if isinstance(action, argparse._SubParsersAction):
-            told = {it.dest: it.help or "" for it in action._choices_actions}
-            inner += [command_of((*path, name), told[name], it) for name, it in action.choices.items()]
+            told = {choice.dest: choice.help or "" for choice in action._choices_actions}
+            inner += [command_of((*path, name), told[name], inner_parser) for name, inner_parser in action.choices.items()]
         elif not action.option_strings:
             words.append(value_of(action, help_of(action)))
         elif action.help != argparse.SUPPRESS:
@@ -76,5 +76,5 @@ def tool_command(module: str, command: str) -> Command:
         if module == "snapshot":
             request = importlib.import_module("reqlock_tools.simple.request")
             kinds = (("simple", request.simple_parser()), ("again", request.again_parser()))
-            more = tuple(described((command, name), it) for name, it in kinds)
+            more = tuple(described((command, name), inner_parser) for name, inner_parser in kinds)
         return described((command,), parser, more)

@@ -25,14 +25,14 @@ class Unread(Exception):
 
 def values_of(text: str, told: str = "") -> tuple[Value, ...]:
     """The values that a text shows, as ` <NAME> [SPEC]`."""
-    found, choices = [], CHOICES.search(told)
+    values, choices = [], CHOICES.search(told)
     words = tuple(re.split(", | or ", choices[1])) if choices else ()
-    for it in VALUE.finditer(text):
-        maybe, many, needed, all_needed, word, several = it.groups()
-        found.append(Value(maybe or needed or word, told, needed is not None, bool(many or all_needed or several), words))
+    for value in VALUE.finditer(text):
+        maybe, many, needed, all_needed, word, several = value.groups()
+        values.append(Value(maybe or needed or word, told, needed is not None, bool(many or all_needed or several), words))
     if VALUE.sub("", text).strip():
         raise Unread(text)
-    return tuple(found)
+    return tuple(values)
 
 
 def option_of(left: str, told: str) -> Option:
@@ -41,7 +41,7 @@ def option_of(left: str, told: str) -> Option:
         raise Unread(left)
     short, long, values = shape.groups()
     forms = (short, long) if short else (long,)
-    return Option(forms, tuple(replace(it, help="") for it in values_of(values, told)), told, long in REPEATED)
+    return Option(forms, tuple(replace(value, help="") for value in values_of(values, told)), told, long in REPEATED)
 
 
 def rows(text: str) -> Iterator[tuple[str, str]]:
@@ -66,7 +66,7 @@ def command_of(path: tuple[str, ...], help_of: Callable[[Iterable[str]], str]) -
         Command((*path, name), about, (asked,), ()) if name == "help" else command_of((*path, name), help_of) for name, about in below.items()
     ]
     example = re.search(r"(?m)^Example: .*", told)
-    options = tuple(option_of(*it) for it in rows(sections["Options"]))
+    options = tuple(option_of(*row) for row in rows(sections["Options"]))
     return Command(path, told.split("\n", 1)[0], tuple(words), options, tuple(inner), example[0] if example else "")
 
 
@@ -81,15 +81,17 @@ def program_command(program: Path) -> Command:
 
 def needed(program: Path, command: Command) -> list[str]:
     """The options that a program asks for where a subcommand lacks them, in their order."""
-    words = ["a" for it in command.words if it.is_needed]
+    words = ["a" for word in command.words if word.is_needed]
     with tempfile.TemporaryDirectory() as folder:
-        found: list[str] = []
-        while (option := missing(program, folder, [*(word for it in found for word in (it, "none")), command.name, *words])) is not None:
+        options: list[str] = []
+        while (option := missing(program, folder, [*(word for given in options for word in (given, "none")), command.name, *words])) is not None:
+            if option == "" and len(words) == len(command.words):
+                break  # (one of several options is needed)
             if option == "":
                 words = ["a" for _ in command.words]
             else:
-                found.append(option)
-    return found
+                options.append(option)
+    return options
 
 
 def missing(program: Path, folder: str, words: list[str]) -> str | None:

@@ -32,7 +32,7 @@ def brief(option: Option) -> str:
 
 def option_words(command: Command) -> list[str]:
     """The options that are offered: of those with several forms the long one."""
-    return [it.longest() for it in command.options]
+    return [option.longest() for option in command.options]
 
 
 def offers(top: Command, command: Command) -> Iterator[tuple[str, Value, Kind]]:

@@ -15,30 +15,30 @@ def table(head: Iterable[str], rows: Iterable[Iterable[str]]) -> str:
 
 
 def words(names: Iterable[str], values: Iterable[Value]) -> str:
-    return f"`{' '.join((*names, *(it.shown() for it in values)))}`"
+    return f"`{' '.join((*names, *(value.shown() for value in values)))}`"
 
 
 def options(top: Command) -> str:
     """The options that stand before a subcommand or behind it."""
-    told = [it for it in top.options if it.longest() not in ("--help", "--version")]
-    return table(("Option", "Means"), ((", ".join(words([form], it.values) for form in it.forms), it.help) for it in told))
+    told = [option for option in top.options if option.longest() not in ("--help", "--version")]
+    return table(("Option", "Means"), ((", ".join(words([form], option.values) for form in option.forms), option.help) for option in told))
 
 
 def subcommands(top: Command, needs: Callable[[Command], list[str]]) -> str:
     """The subcommands, with the options that the program asks for where they are missing."""
-    told = [it for it in top.inner if it.options]
-    rows = ((words([it.name], it.words), it.about, ", ".join(f"`{need}`" for need in needs(it))) for it in told)
+    told = [command for command in top.inner if command.options]
+    rows = ((words([command.name], command.words), command.about, ", ".join(f"`{need}`" for need in needs(command))) for command in told)
     return table(("Subcommand", "Does", "Needs"), rows)
 
 
 def own_options(top: Command) -> str:
     """The options of some subcommands alone."""
-    found: dict[tuple[str, str], list[str]] = {}
+    takers: dict[tuple[str, str], list[str]] = {}
     for command in top.inner:
         for option in command.options:
             if option not in top.options:
-                found.setdefault((words([option.longest()], option.values), option.help), []).append(f"`{command.name}`")
-    return table(("Option", "Of", "Means"), ((name, ", ".join(names), told) for (name, told), names in found.items()))
+                takers.setdefault((words([option.longest()], option.values), option.help), []).append(f"`{command.name}`")
+    return table(("Option", "Of", "Means"), ((name, ", ".join(names), told) for (name, told), names in takers.items()))
 
 
 def put(page: str, tables: dict[str, str]) -> str:

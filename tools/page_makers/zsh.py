@@ -54,7 +54,7 @@ def called(indent: str, words: list[str], flag: str = "") -> str:
 
 def arguments(top: Command, command: Command, indent: str) -> str:
     """What offers the words of a command, and of those below it."""
-    options = [text for it in command.options for text in option_texts(top, it)]
+    options = [text for option in command.options for text in option_texts(top, option)]
     if command.passes:
         return called(indent, [*options, ANY])
     if command.inner:
@@ -65,12 +65,12 @@ def arguments(top: Command, command: Command, indent: str) -> str:
 def states(top: Command, command: Command, indent: str, options: list[str]) -> str:
     """What is offered for the name of a command below it, and behind one."""
     folder = FOLDER_OPTIONS.get(top.name) if command is top else None
-    bodies = [(it.name, arguments(top, it, " " * 8)) for it in command.inner]
+    bodies = [(inner.name, arguments(top, inner, " " * 8)) for inner in command.inner]
     if command.words:
         bodies.append(("*", called(" " * 8, [*options, ANY])))
     text = filled(
         "states.zsh", FOLDER=f"folder=${{opt_args[{folder}]:-.}}\n" if folder else "", FILES="    _files -/\n" if command.words else "",
-        COMMANDS="".join(f"        {quoted(f'{it.name}:{told(it.first_line)}')}\n" for it in command.inner),
+        COMMANDS="".join(f"        {quoted(f'{inner.name}:{told(inner.first_line)}')}\n" for inner in command.inner),
         ARMS="".join(f"    {name})\n{body}        ;;\n" for name, body in bodies if body),
     )
     return textwrap.indent(text, indent)

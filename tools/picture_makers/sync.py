@@ -41,7 +41,7 @@ def picture(outside: Path) -> str:
     try:
         for package in json.loads((WEB / "index.json").read_text(encoding="utf-8"))["packages"]:
             name = package["name"].lower()
-            index.add(name, *(wheel_of(name, it["version"], *it.get("requires_dist", [])) for it in package["releases"]))
+            index.add(name, *(wheel_of(name, release["version"], *release.get("requires_dist", [])) for release in package["releases"]))
         nobody = {"PIP_CONFIG_FILE": "/dev/null", "PIP_RETRIES": "0", "NETRC": "/dev/null", "NO_PROXY": "*", "no_proxy": "*"}
         terminal = Terminal(outside, outside, {"INDEX": index.url, **PERSON, **nobody})
         (outside / "bin" / "python3").symlink_to(sys.executable)

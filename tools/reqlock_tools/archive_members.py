@@ -96,11 +96,11 @@ class UnpackedFile(SoughtFile):
 
 def member_of_zip(path: str, archive: zipfile.ZipFile, wanted: re.Pattern[str], limits: Limits) -> tuple[str, bytes] | list[str]:
     """The one member of an open zip file whose name matches, with what it holds; else the names that match."""
-    found = [info for info in archive.infolist() if wanted.fullmatch(info.filename)]
-    if len(found) != 1:
-        return [info.filename for info in found]
-    limits.refuse_over("metadata", found[0].file_size, path)
-    return found[0].filename, b"".join(pieces_of(archive, found[0]))
+    members = [info for info in archive.infolist() if wanted.fullmatch(info.filename)]
+    if len(members) != 1:
+        return [info.filename for info in members]
+    limits.refuse_over("metadata", members[0].file_size, path)
+    return members[0].filename, b"".join(pieces_of(archive, members[0]))
 
 
 def pieces_of(archive: zipfile.ZipFile, info: zipfile.ZipInfo) -> Iterator[bytes]:

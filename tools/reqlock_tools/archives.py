@@ -61,7 +61,7 @@ def version_key(text: str) -> object:
 def is_of(stem: str, name: str, version: str) -> bool:
     """Whether the beginning of a file's name is that of a release, as NAME-VERSION. `_` may stand for `-` in it."""
     wanted_name, wanted_key = normal(name), version_key(version)
-    for place in (found.start() for found in re.finditer("-", stem)):
+    for place in (dash.start() for dash in re.finditer("-", stem)):
         ours = stem[place + 1 :]
         if normal(stem[:place]) == wanted_name and wanted_key in (version_key(ours), version_key(ours.replace("_", "-"))):
             return True
@@ -71,13 +71,13 @@ def is_of(stem: str, name: str, version: str) -> bool:
 def metadata_of(path: str, file: IO[bytes], is_wheel: bool, find: Find, limits: Limits) -> tuple[str, bytes]:
     """The folder of an archive that holds its metadata, and the bytes of the metadata."""
     try:
-        found = find(path, file, METADATA if is_wheel else PKG_INFO, limits)
+        members = find(path, file, METADATA if is_wheel else PKG_INFO, limits)
     except BROKEN as error:
         raise Refusal(f"{path}: not a whole archive: {error}") from None
-    if isinstance(found, list):
+    if isinstance(members, list):
         form = "NAME-VERSION.dist-info/METADATA" if is_wheel else "NAME-VERSION/PKG-INFO"
-        raise Refusal(f"{path}: one {form} is wanted in it, and it has {len(found)}")
-    name, data = found
+        raise Refusal(f"{path}: one {form} is wanted in it, and it has {len(members)}")
+    name, data = members
     return name.rpartition("/")[0], data
 
 
@@ -146,17 +146,17 @@ def plain(text: str) -> object:
 
 def difference(one: Archive, other: Archive) -> str:
     """What the second archive asks for otherwise than the first, of what both tell; empty where they agree."""
-    found = []
+    differences = []
     if one.tells_python and other.tells_python:
         pythons = [archive.told.requires_python or "" for archive in (other, one)]
         if plain(pythons[0]) != plain(pythons[1]):
-            found.append("Requires-Python is {}, and there {}".format(*(text or "absent" for text in pythons)))
+            differences.append("Requires-Python is {}, and there {}".format(*(text or "absent" for text in pythons)))
     if one.tells_dependencies and other.tells_dependencies:
         for first, second, place in (other, one, "is here alone"), (one, other, "is there alone"):
             known = set(map(repr, map(plain, second.told.requires_dist or [])))
             alone = [text for text in first.told.requires_dist or [] if repr(plain(text)) not in known]
-            found += [f"Requires-Dist {text} {place}" for text in alone]
-    return "; ".join(found)
+            differences += [f"Requires-Dist {text} {place}" for text in alone]
+    return "; ".join(differences)
 
 
 def release_of_archives(archives: list[Archive], say: Say) -> ArchivedRelease:

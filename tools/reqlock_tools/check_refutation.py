@@ -49,14 +49,14 @@ class Release(NamedTuple):
 
 def read_conflict(line: str) -> Conflict:
     texts = line.removesuffix("\n").split(" ") if line != "-\n" else []
-    found = [re.fullmatch(r"([a-z0-9-]+)(?:\[([a-z0-9-]+)\])?==([!-~]+)", text) for text in texts]
-    want(all(found) and texts == sorted(set(texts)), "no conflict, which is - or sorted choices NAME==VERSION")
-    return frozenset((it[1], it[2], read_version(it[3])) for it in found if it)
+    choices = [re.fullmatch(r"([a-z0-9-]+)(?:\[([a-z0-9-]+)\])?==([!-~]+)", text) for text in texts]
+    want(all(choices) and texts == sorted(set(texts)), "no conflict, which is - or sorted choices NAME==VERSION")
+    return frozenset((choice[1], choice[2], read_version(choice[3])) for choice in choices if choice)
 
 
 def read_index(text: str) -> dict[str, list[dict[str, Any]]]:
     """The releases of each name, as they stand there. Their form is tested as far as they are read."""
-    value, found = json.loads(text), dict[str, list[dict[str, Any]]]()
+    value, releases_by_name = json.loads(text), dict[str, list[dict[str, Any]]]()
     want(isinstance(value, dict) and value.get("snapshot") == 1, called("no index of reqlock; tools/snapshot.py makes one"))
     for package in value["packages"]:
         for release in package["releases"]:
@@ -64,17 +64,17 @@ def read_index(text: str) -> dict[str, list[dict[str, Any]]]:
             texts += [file["name"] for file in release["files"]]
             want(all(isinstance(text, str) for text in texts), f"in {package['name']!a} something is no text that should be one")
         name = read_name(package["name"])
-        want(name not in found, f"duplicate-package {name}")
-        found[name] = package["releases"]
-    return found
+        want(name not in releases_by_name, f"duplicate-package {name}")
+        releases_by_name[name] = package["releases"]
+    return releases_by_name
 
 
 def read_held(text: str) -> dict[str, Any]:
     """The versions that a lock has, by name."""
     packages = read_toml(text)["packages"]
-    found = {read_name(package["name"]): read_version(package["version"]) for package in packages}
-    want(len(found) == len(packages), "a name stands twice in it")
-    return found
+    versions = {read_name(package["name"]): read_version(package["version"]) for package in packages}
+    want(len(versions) == len(packages), "a name stands twice in it")
+    return versions
 
 
 def read_environment(text: str) -> dict[str, str]:
@@ -136,17 +136,17 @@ class Problem:
     def releases(self, name: str) -> dict[Any, Release]:
         """The releases of a name by version, without those that can't be read, have no file or stand twice."""
         if name not in self.read:
-            found: dict[Any, Release] = {}
-            self.read[name] = found
-            for it in self.packages.get(name, []):
+            by_version: dict[Any, Release] = {}
+            self.read[name] = by_version
+            for listed in self.packages.get(name, []):
                 try:
-                    version, python = read_version(it["version"]), read_set(it.get("requires_python") or "")
-                    needs = list(map(read_requirement, it.get("requires_dist") or []))
+                    version, python = read_version(listed["version"]), read_set(listed.get("requires_python") or "")
+                    needs = list(map(read_requirement, listed.get("requires_dist") or []))
                 except Refusal:
                     continue
-                if any(file["name"].endswith((".whl", ".tar.gz", ".zip")) for file in it["files"]):
-                    release = Release(version, matches(python, self.python), needs, it.get("yanked", False))
-                    found.setdefault(version, release)
+                if any(file["name"].endswith((".whl", ".tar.gz", ".zip")) for file in listed["files"]):
+                    release = Release(version, matches(python, self.python), needs, listed.get("yanked", False))
+                    by_version.setdefault(version, release)
         return self.read[name]
 
     def candidates(self, name: str) -> list[Any]:
@@ -175,8 +175,9 @@ class Problem:
             return False
         if not version.is_prerelease or name in self.with_pre_releases or names_pre_release(requirement):
             return True
-        finals = [it.version for it in self.releases(name).values() if it.fits_python and not (it.version.is_prerelease or it.is_yanked)]
-        return not any(self.matches(requirement, it) for it in finals)
+        usable = [other for other in self.releases(name).values() if other.fits_python and not other.is_yanked]
+        finals = [other.version for other in usable if not other.version.is_prerelease]
+        return not any(self.matches(requirement, final) for final in finals)
 
     def lines_refuse(self, name: str, version: Any) -> bool:
         """Whether a line on a name doesn't admit a version."""
@@ -190,7 +191,7 @@ class Problem:
         if choice not in self.needed:
             name, extra, version = choice
             asked = getattr(self.releases(name).get(version), "needs", [])
-            self.needed[choice] = [it for it in asked if holds(it.marker, self.environment, extra)]
+            self.needed[choice] = [need for need in asked if holds(need.marker, self.environment, extra)]
         return self.needed[choice]
 
     def is_ruled_out(self, choices: Conflict, earlier: dict[Choice | None, list[Conflict]]) -> bool:
@@ -205,12 +206,12 @@ class Problem:
 
     def left(self, conflict: Conflict, earlier: dict[Choice | None, list[Conflict]]) -> list[str] | None:
         """For each needed node a release that is left; None where the conflict follows. Earlier ones stand under a choice."""
-        versions, found = {name: version for name, _, version in conflict}, dict[tuple[str, Extra], str]()
-        needs = [(told([choice]), it) for choice in conflict for it in self.needs(choice)]
-        refuses = any(it.name in versions and not self.admits(it, versions[it.name]) for _, it in needs)
+        versions, unmet = {name: version for name, _, version in conflict}, dict[tuple[str, Extra], str]()
+        needs = [(told([choice]), need) for choice in conflict for need in self.needs(choice)]
+        refuses = any(need.name in versions and not self.admits(need, versions[need.name]) for _, need in needs)
         if refuses or any(versions[name] != version or self.lines_refuse(name, version) for name, _, version in conflict):
             return None
-        nodes = self.nodes | {node: (who, it.text) for who, it in needs for node in it.nodes}
+        nodes = self.nodes | {node: (who, need.text) for who, need in needs for node in need.nodes}
         self.spend(len(needs) + len(nodes))
         for node, (who, text) in nodes.items():
             for version in self.candidates(node[0]):
@@ -218,12 +219,12 @@ class Problem:
                     break
             else:
                 return None
-            found[node] = f"{who} needs {text.encode('unicode_escape').decode()}, and {told([(*node, version)])} is left"
-        return list(found.values())
+            unmet[node] = f"{who} needs {text.encode('unicode_escape').decode()}, and {told([(*node, version)])} is left"
+        return list(unmet.values())
 
 
 def told(conflict: Iterable[Choice]) -> str:
-    return " ".join(sorted(f"{name}[{extra}]=={it}" if extra else f"{name}=={it}" for name, extra, it in conflict)) or "-"
+    return " ".join(sorted(f"{name}[{extra}]=={version}" if extra else f"{name}=={version}" for name, extra, version in conflict)) or "-"
 
 
 def check(problem: Problem, conflicts: list[Conflict]) -> list[str]:
@@ -231,7 +232,7 @@ def check(problem: Problem, conflicts: list[Conflict]) -> list[str]:
     earlier: dict[Choice | None, list[Conflict]] = {}
     for number, conflict in enumerate(conflicts, 1):
         if (left := problem.left(conflict, earlier)) is not None:
-            return [f"line {number}: {told(conflict)} doesn't follow from those before", *(f"  {it}" for it in left[:MOST_TOLD])]
+            return [f"line {number}: {told(conflict)} doesn't follow from those before", *(f"  {text}" for text in left[:MOST_TOLD])]
         rarest = min(conflict, key=lambda choice: len(earlier.get(choice, ())), default=None)
         earlier.setdefault(rarest, []).append(conflict)
     end = f"line {len(conflicts)}: the last conflict isn't the empty one, -" if conflicts else "there is no conflict at all"

@@ -135,8 +135,8 @@ def windows_platforms(machine: str) -> List[str]:
 
 def pair_of(text: str) -> Optional[Pair]:
     """The first two numbers of a version."""
-    found = re.search(r"([0-9]{1,3})\.([0-9]{1,3})", text)
-    return (int(found.group(1)), int(found.group(2))) if found else None
+    numbers = re.search(r"([0-9]{1,3})\.([0-9]{1,3})", text)
+    return (int(numbers.group(1)), int(numbers.group(2))) if numbers else None
 
 
 def glibc_version() -> Optional[Pair]:
@@ -152,9 +152,9 @@ def musl_version() -> Optional[Pair]:
     """The version of the musl that is installed; None where there is none. Its loader tells it where it is called without words."""
     for loader in sorted(glob.glob("/lib/ld-musl-*.so.1")):
         done = subprocess.run([loader], stdin=subprocess.DEVNULL, stdout=subprocess.DEVNULL, stderr=subprocess.PIPE, timeout=SECONDS)
-        found = re.search(rb"(?m)^Version ([0-9.]+)", done.stderr)
-        if found:
-            return pair_of(found.group(1).decode())
+        version_line = re.search(rb"(?m)^Version ([0-9.]+)", done.stderr)
+        if version_line:
+            return pair_of(version_line.group(1).decode())
     return None
 
 
@@ -218,10 +218,10 @@ def described_platforms(told: Described, versions: Dict[str, Pair]) -> List[str]
 
 def described_environment(version: str, name: str, versions: Dict[str, Pair]) -> Dict[str, Any]:
     """The environment of a CPython of a version on a platform that has a name."""
-    found, told = VERSION.fullmatch(version), PLATFORMS[name]
-    if found is None:
+    parts, told = VERSION.fullmatch(version), PLATFORMS[name]
+    if parts is None:
         raise Refused("--python: {!a} is no version of Python 3, as 3.9, 3.9.18 or 3.13.0rc1".format(version))
-    major, minor, micro, kind, serial = found.groups()
+    major, minor, micro, kind, serial = parts.groups()
     plain, short = "{}.{}.{}".format(major, minor, micro or 0), "{}.{}".format(major, minor)
     pair = int(major), int(minor)
     values = (
@@ -242,9 +242,9 @@ def asked_environment(path: str) -> Dict[str, Any]:
     command = [program, "-I", "-B", os.path.abspath(__file__)]
     try:
         done = subprocess.run(command, stdin=subprocess.DEVNULL, stdout=subprocess.PIPE, stderr=subprocess.PIPE, timeout=SECONDS)
-        found = json.loads(done.stdout.decode())
-        if isinstance(found, dict) and all(isinstance(found.get(name), str) for name in VARIABLES):
-            return found
+        variables = json.loads(done.stdout.decode())
+        if isinstance(variables, dict) and all(isinstance(variables.get(name), str) for name in VARIABLES):
+            return variables
     except (OSError, ValueError, subprocess.SubprocessError):
         pass
     raise Refused("--python: {} is no Python of version 3.6 or later that prints its environment".format(path))
@@ -286,7 +286,7 @@ def parser_of() -> argparse.ArgumentParser:
 
 def versions_of(parser: argparse.ArgumentParser, platform: Optional[str], typed: Dict[str, Optional[str]]) -> Dict[str, Pair]:
     """The versions of systems that a described platform has, of those that were typed."""
-    found = dict(SYSTEMS)
+    versions = dict(SYSTEMS)
     family = PLATFORMS[platform].family if platform else None
     for name, text in typed.items():
         if text is None:
@@ -296,8 +296,8 @@ def versions_of(parser: argparse.ArgumentParser, platform: Optional[str], typed:
         pair = pair_of(text if "." in text else text + ".0") if re.fullmatch(r"[0-9.]{1,9}", text) else None
         if pair is None:
             parser.error("--{}: {!a} is no version".format(name, text))
-        found[name] = pair
-    return found
+        versions[name] = pair
+    return versions
 
 
 def request_of(words: Optional[List[str]]) -> Request:
@@ -338,17 +338,17 @@ def write(text: str) -> int:
 def main(words: Optional[List[str]] = None) -> int:
     request = request_of(words)
     try:
-        found = wanted(request)
+        variables = wanted(request)
     except Refused as fault:
         say(str(fault))
         return 1
     except KeyboardInterrupt:
         say("stopped")
         return 130
-    refused = [name for name in VARIABLES if not is_lawful(found[name])]
+    refused = [name for name in VARIABLES if not is_lawful(variables[name])]
     for name in refused:
-        say("reqlock refuses {}: {!a}".format(name, found[name]))
-    return 1 if refused else write(json.dumps(found, sort_keys=True) + "\n")
+        say("reqlock refuses {}: {!a}".format(name, variables[name]))
+    return 1 if refused else write(json.dumps(variables, sort_keys=True) + "\n")
 
 
 if __name__ == "__main__":

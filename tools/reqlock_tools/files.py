@@ -39,45 +39,45 @@ class Node:
         return self.below(key, self.object().get(key))
 
     def members(self) -> dict[str, "Node"]:
-        return {Node(self.path, key, self.pointer).text(): self.below(key, it) for key, it in self.object().items()}
+        return {Node(self.path, key, self.pointer).text(): self.below(key, value) for key, value in self.object().items()}
 
     def items(self) -> list["Node"]:
         items = self.want(isinstance(self.value, list), "an array")
         return [self.below(place, item) for place, item in enumerate(items)]
 
     def object(self) -> dict[str, Any]:
-        found: dict[str, Any] = self.want(isinstance(self.value, dict), "an object")
-        return found
+        members: dict[str, Any] = self.want(isinstance(self.value, dict), "an object")
+        return members
 
     def text(self) -> str:
         # JSON can write half of a surrogate pair, which UTF-8 can't.
         is_text = isinstance(self.value, str) and not re.search("[\ud800-\udfff]", self.value)
-        found: str = self.want(is_text, "a text")
-        return found
+        text: str = self.want(is_text, "a text")
+        return text
 
     def texts(self) -> list[str]:
         return [item.text() for item in self.items()]
 
     def full_text(self) -> str:
-        found: str = self.want(self.text() != "", "a text that isn't empty")
-        return found
+        text: str = self.want(self.text() != "", "a text that isn't empty")
+        return text
 
     def name(self) -> str:
-        found: str = self.want(is_name(self.text()), "a name")
-        return found
+        name: str = self.want(is_name(self.text()), "a name")
+        return name
 
     def sha256(self) -> str:
-        found: str = self.want(re.fullmatch("[0-9A-Fa-f]{64}", self.text()), "a text of 64 hexadecimal digits")
-        return found
+        digest: str = self.want(re.fullmatch("[0-9A-Fa-f]{64}", self.text()), "a text of 64 hexadecimal digits")
+        return digest
 
     def boolean(self) -> bool:
-        found: bool = self.want(isinstance(self.value, bool), "true or false")
-        return found
+        value: bool = self.want(isinstance(self.value, bool), "true or false")
+        return value
 
     def size(self) -> int:
         is_size = type(self.value) is int and 0 <= self.value <= LARGEST_SIZE
-        found: int = self.want(is_size, f"a number from 0 to {LARGEST_SIZE}")
-        return found
+        number: int = self.want(is_size, f"a number from 0 to {LARGEST_SIZE}")
+        return number
 
     def or_none(self, read: Callable[["Node"], Read]) -> Read | None:
         return None if self.value is None else read(self)

@@ -3,9 +3,9 @@
   fleet.py --index index.json services/* -- constrain urllib3 '>=2' --dry-run
 
 Behind -- stand the words of one subcommand: init, add, remove, constrain, upgrade, relock,
-undo, redo or check. It is called in each folder. A table tells each folder's reply and what
-changed, or with --dry-run what would change; then come the counts. With --explain each folder
-without a solution is asked why, and those with the same reason are told together.
+undo, redo, forget or check. It is called in each folder. A table tells each folder's reply and
+what changed, or with --dry-run what would change; then come the counts. With --explain each
+folder without a solution is asked why, and those with the same reason are told together.
 
 A folder that lacks the line, or the locked name, is told so and counts as no refusal. With
 Ctrl-C no new call begins; those that run are let end, and the table tells what is done.

@@ -130,7 +130,7 @@ class Dask:
         for call in self.running.values():
             if call.address in loads:
                 loads[call.address] += 1
-        room, address = max(((self.workers[it].threads - load, it) for it, load in loads.items()), default=(0, ""))
+        room, address = max(((self.workers[worker].threads - load, worker) for worker, load in loads.items()), default=(0, ""))
         if room <= 0 or (self.jobs is not None and len(self.running) >= self.jobs):
             return False
         future = self.client.submit(
@@ -138,7 +138,7 @@ class Dask:
             key=f"reqlock-{uuid.uuid4().hex}", workers=[address], allow_other_workers=False, pure=False,
         )
         self.running[task.place] = Call(task, address, future)
-        future.add_done_callback(lambda it: self.events.put((task.place, it)))
+        future.add_done_callback(lambda done: self.events.put((task.place, done)))
         return True
 
     def ended(self, seconds: float) -> tuple[list[tuple[Task, Row]], list[Task]]:
@@ -154,7 +154,7 @@ class Dask:
                 self.finish(call, rows, again)
         if time.monotonic() - self.looked >= SECONDS_BETWEEN_LOOKS and not self.fault:
             self.look()
-        for call in [it for it in self.running.values() if self.fault or it.address not in self.workers]:
+        for call in [running for running in self.running.values() if self.fault or running.address not in self.workers]:
             if not call.future.done():
                 self.lose(call, rows, again)
         return rows, again

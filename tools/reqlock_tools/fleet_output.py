@@ -24,8 +24,8 @@ def counts_of(rows: list[Row]) -> dict[str, int]:
 
 
 def counts_text(rows: list[Row]) -> str:
-    found = [f"{count} {KINDS[kind]}" for kind, count in counts_of(rows).items() if count]
-    return f"{len(rows)} folder{'s' * (len(rows) != 1)}: {', '.join(found)}\n"
+    counts = [f"{count} {KINDS[kind]}" for kind, count in counts_of(rows).items() if count]
+    return f"{len(rows)} folder{'s' * (len(rows) != 1)}: {', '.join(counts)}\n"
 
 
 def same_reason(text: str) -> str:
@@ -35,11 +35,11 @@ def same_reason(text: str) -> str:
 
 def groups_of(rows: list[Row]) -> list[list[Row]]:
     """The rows without a solution, those with the same reason together: the largest group first."""
-    found: dict[str, list[Row]] = {}
+    groups: dict[str, list[Row]] = {}
     for row in rows:
         if row.reason:
-            found.setdefault(same_reason(row.reason), []).append(row)
-    return sorted(found.values(), key=lambda group: -len(group))
+            groups.setdefault(same_reason(row.reason), []).append(row)
+    return sorted(groups.values(), key=lambda group: -len(group))
 
 
 def group_text(group: list[Row]) -> str:

@@ -12,7 +12,7 @@ from reqlock_tools.refusal import Refusal, Say
 # The subcommands that have one reply for a folder, each with the words of the `why` that asks about it.
 WHY: dict[str, list[str]] = {
     "init": ["--init"], "add": ["--"], "remove": ["--remove"], "constrain": ["--constrain"], "upgrade": ["--upgrade"], "relock": [],
-    "check": [], "undo": [], "redo": [],
+    "check": [], "undo": [], "redo": [], "forget": [],
 }
 # The others, with what to do in their place.
 OTHERS = {
@@ -25,6 +25,8 @@ OTHERS = {
 } | {name: f"it has no reply: type reqlock --dir FOLDER {name} for each folder" for name in ("show", "log", "diff", "outdated", "export")}
 FLAGS = "--dry-run", "--keep-locked", "--if-needed", "--verbose", "-v", "--current"
 OWN = "--index", "--env", "--json"
+# Those that a value stands behind.
+VALUED = "--before", "--keep"
 
 
 class Usage(Refusal):
@@ -78,7 +80,8 @@ def read_words(words: list[str]) -> Words:
             raise Usage(f"{option} stands before --, with the folders")
         if option == "--dir":
             raise Usage("--dir isn't given to a fleet: the folders stand before --")
-        (flags if word.startswith("-") and word != "-" else texts).append(word)
+        is_value = place > 0 and words[place - 1] in VALUED
+        (flags if is_value or (word.startswith("-") and word != "-") else texts).append(word)
     known = f"a fleet is asked {', '.join(WHY)}"
     if not texts:
         raise Usage(f"a subcommand is missing: it stands behind --; {known}")
@@ -106,16 +109,16 @@ def leads_out(folder: str, place: str) -> bool:
 
 def folders_of(given: list[str], say: Say) -> list[str]:
     """The folders in their order, each once."""
-    found: dict[str, str] = {}
+    by_place: dict[str, str] = {}
     for folder in given:
         if not folder:
             raise Usage("an empty text is no folder")
         place = os.path.realpath(folder)
-        if found.setdefault(place, folder) is not folder:
+        if by_place.setdefault(place, folder) is not folder:
             say(f"{folder}: this folder is named twice; it is asked once")
         elif leads_out(folder, place):
             say(f"{folder}: a link leads out to {place}, which is asked")
-    return list(found.values())
+    return list(by_place.values())
 
 
 @dataclass(frozen=True)
@@ -130,11 +133,11 @@ class Request:
 
     def options(self, folder: str) -> list[str]:
         index = [f"--index={self.index}"] if self.index else []
-        return [f"--dir={folder}", *index, *(f"--env={it}" for it in self.environments)]
+        return [f"--dir={folder}", *index, *(f"--env={environment}" for environment in self.environments)]
 
     def files(self) -> list[str]:
         """The files that each call reads beside those of its folder."""
-        return [*([self.index] if self.index else []), *(it.partition("=")[2] or it for it in self.environments)]
+        return [*([self.index] if self.index else []), *(environment.partition("=")[2] or environment for environment in self.environments)]
 
     def task(self, place: int, folder: str, path: str) -> Task:
         start = [self.program, *self.options(path)]

@@ -21,6 +21,8 @@ INDEX = re.compile(r"[-+] index: [0-9a-f]{64}")
 MOVED = re.compile(r"(\S+) (\S+) -> (\S+)(?: \([a-z-]+(?:, [a-z-]+)*\))?")
 CAME = re.compile(r"([-+]) (\S+) (\S+)")
 MOST_SHOWN = 3
+# The status of words that are no request, or ask for a place that a history hasn't.
+NO_REQUEST = 2
 
 
 class Entry(NamedTuple):
@@ -103,6 +105,8 @@ def kind_of(reply: str) -> str:
 def row_of(task: Task, answer: Answer) -> Row:
     status, output, errors, lack, why = answer
     reply, _, rest = output.partition("\n")
+    if status == NO_REQUEST:  # (of words that the program knows: this folder can't have what they ask for)
+        return Row(task.folder, REFUSED, "refused", status, told=call_fault(answer[:3]))
     if status not in (0, 1, 3) or not REPLY.fullmatch(reply):
         return broken_row(task, status, fault_text(task, answer))
     lines, entries, is_other, others = read_changes(rest + errors)
@@ -156,7 +160,7 @@ def fault_text(task: Task, answer: Answer) -> str:
         return f"{fault}: {folder_call(task, 'check')} tells whether the files are whole"
     if fault == "out of memory":
         return f"{fault}: give fewer --jobs; nothing has changed"
-    if status == NO_PROGRAM or status == 2:
+    if status == NO_PROGRAM:
         return fault
     return f"{fault}: {folder_call(task, 'check')} tells more"
 

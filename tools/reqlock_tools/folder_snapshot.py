@@ -47,13 +47,13 @@ def own_documents(documents: list[Document]) -> dict[str, Document]:
 
 def listed_files(documents: list[Document]) -> Listed:
     """For each version that a document lists the files, and the document's path."""
-    found: Listed = {}
+    by_version: Listed = {}
     for document in documents:
         for version, files in (document.listed or {}).items():
-            first, path = found.setdefault(version, (files, document.path))
+            first, path = by_version.setdefault(version, (files, document.path))
             if files != first:
                 raise Refusal(f"{document.path}: {path} lists other files of {document.name} {version}")
-    return found
+    return by_version
 
 
 def refuse_other_digests(release: ArchivedRelease, files: list[File], path: str) -> None:

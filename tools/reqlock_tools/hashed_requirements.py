@@ -68,10 +68,10 @@ def hashes_of(package: dict[str, Any], name: str) -> list[str]:
     files = tables(package, "wheels", name)
     if "sdist" in package:
         files.append(want(package["sdist"], dict, f"{name}: sdist"))
-    found = [want(file.get("hashes"), dict, f"{name}: hashes").get("sha256") for file in files]
-    if not found:
+    digests = [want(file.get("hashes"), dict, f"{name}: hashes").get("sha256") for file in files]
+    if not digests:
         raise Refusal(f"{name}: it has no file")
-    return sorted({matching(DIGEST, digest, f"{name}: sha256") for digest in found})
+    return sorted({matching(DIGEST, digest, f"{name}: sha256") for digest in digests})
 
 
 def read_package(package: dict[str, Any]) -> Package:
@@ -80,7 +80,7 @@ def read_package(package: dict[str, Any]) -> Package:
     if read_version(version) is None or version != version.strip():
         raise Refusal(f"{name}: {version!a} is no version")
     dependencies = [item.get("name") for item in tables(package, "dependencies", name)]
-    return Package(name, version, hashes_of(package, name), [want(it, str, f"{name}: dependencies") for it in dependencies])
+    return Package(name, version, hashes_of(package, name), [want(dependency, str, f"{name}: dependencies") for dependency in dependencies])
 
 
 def read_lock(text: str) -> tuple[list[str], dict[str, Package]]:
@@ -106,7 +106,7 @@ def requirements_text(environments: list[str], packages: dict[str, Package]) -> 
             users.setdefault(name, set()).add(package.name)
     lines = [f"# for {marker}\n" for marker in environments]
     for name, package in sorted(packages.items()):
-        lines.append(f"{name}=={package.version}" + "".join(f" \\\n    --hash=sha256:{it}" for it in package.digests) + "\n")
+        lines.append(f"{name}=={package.version}" + "".join(f" \\\n    --hash=sha256:{digest}" for digest in package.digests) + "\n")
         if name in users:
             lines.append(f"    # via {', '.join(sorted(users[name]))}\n")
     return "".join(lines)

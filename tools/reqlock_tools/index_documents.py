@@ -93,9 +93,9 @@ def header_lines(text: str) -> Iterator[str]:
     """The lines before the first blank one, without their ends."""
     blank = HEADERS_END.search(text)
     place, end = 0, blank.start() if blank else len(text)
-    for found in LINE_END.finditer(text, 0, end):
-        yield text[place : found.start()]
-        place = found.end()
+    for line_end in LINE_END.finditer(text, 0, end):
+        yield text[place : line_end.start()]
+        place = line_end.end()
     yield text[place:end]
 
 
@@ -106,11 +106,11 @@ def header_values(path: str, text: str) -> dict[str, list[str]]:
     last: list[str] | None = None
     is_read = False
     for line in header_lines(text):
-        found = HEADER.match(line)
-        if found:
-            last, is_read = [line[found.end() :]], found[1].lower() in READ
+        header = HEADER.match(line)
+        if header:
+            last, is_read = [line[header.end() :]], header[1].lower() in READ
             if is_read:
-                folded.setdefault(found[1].lower(), []).append(last)
+                folded.setdefault(header[1].lower(), []).append(last)
         elif last is not None and line[:1] in (" ", "\t", ""):
             if is_read and line.strip():
                 last.append(line)
@@ -178,15 +178,15 @@ def refuse_large(path: str, limits: Limits) -> None:
 def documents_of(folder: str, limits: Limits, say: Say) -> list[Document]:
     """The documents of a folder and those below it, by path. A METADATA counts before a PKG-INFO beside it. Where
     neither is, a files.json is a body, such as that of a package named `files`. Snapshots are passed over."""
-    found: list[tuple[str, Callable[[str], Document | None]]] = []
+    readers: list[tuple[str, Callable[[str], Document | None]]] = []
     for place, _, names in os.walk(folder, onerror=fail):
         headers = [name for name in ("METADATA", "PKG-INFO") if name in names]
         bodies = [name for name in names if re.search(r"(^|\.)json\Z", name) and not (headers and name == FILE_LIST)]
-        found += [(os.path.join(place, name), read_metadata) for name in headers[:1]]
-        found += [(os.path.join(place, name), read_api_body) for name in bodies]
-    for path, _ in found:
+        readers += [(os.path.join(place, name), read_metadata) for name in headers[:1]]
+        readers += [(os.path.join(place, name), read_api_body) for name in bodies]
+    for path, _ in readers:
         refuse_large(path, limits)
-    documents = {path: read(path) for path, read in sorted(found, key=lambda pair: pair[0])}
+    documents = {path: read(path) for path, read in sorted(readers, key=lambda pair: pair[0])}
     for path, document in documents.items():
         if document is None:
             say(f"{path}: passed over, as it is a snapshot")

@@ -21,10 +21,10 @@ def library(name: str) -> Any:
 
 def needed(name: str) -> Any:
     """The same of one without which nothing goes on."""
-    found = library(name)
-    if found is None:
+    module = library(name)
+    if module is None:
         raise Refusal(absent_text(name.partition(".")[0]))
-    return found
+    return module
 
 
 __all__ = [
@@ -40,9 +40,9 @@ class Late:
         self.name = name
 
     def __getattr__(self, attribute: str) -> object:
-        found: object = getattr(needed(self.name), attribute)
-        setattr(self, attribute, found)
-        return found
+        value: object = getattr(needed(self.name), attribute)
+        setattr(self, attribute, value)
+        return value
 
 
 if TYPE_CHECKING:

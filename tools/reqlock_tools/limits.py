@@ -10,8 +10,8 @@ MEGABYTE = 2**20
 
 def limit(count: int, meaning: str) -> int:
     """A limit that stands at a count unless it is given."""
-    found: int = field(default=count, metadata={"meaning": meaning})
-    return found
+    value: int = field(default=count, metadata={"meaning": meaning})
+    return value
 
 
 @dataclass(frozen=True)
@@ -42,23 +42,23 @@ class Limits:
         return Refusal(f"{what}: over {getattr(self, name)} {meaning}; --limit {name}=NUMBER takes more")
 
 
-MEANINGS: dict[str, str] = {it.name: it.metadata["meaning"] for it in fields(Limits)}
+MEANINGS: dict[str, str] = {limit_field.name: limit_field.metadata["meaning"] for limit_field in fields(Limits)}
 MOST = 2**62
 
 
 def limits_of(words: list[str]) -> Limits:
     """The limits that words of the form NAME=NUMBER set, the others as they are."""
-    found: dict[str, int] = {}
+    values: dict[str, int] = {}
     for word in words:
         name, _, number = word.partition("=")
         is_number = number.isascii() and number.isdigit() and len(number) < 19 and 0 < int(number) <= MOST
         if name not in MEANINGS or not is_number:
             raise Refusal(f"--limit: {word!a} isn't NAME=NUMBER, with one of the names {' '.join(MEANINGS)}")
-        found[name] = int(number)
-    return Limits(**found)
+        values[name] = int(number)
+    return Limits(**values)
 
 
 def limits_text() -> str:
     """The limits in lines, for help."""
-    lines = [f"  {it.name:<10}{it.default:>11}  {it.metadata['meaning']}" for it in fields(Limits)]
+    lines = [f"  {limit_field.name:<10}{limit_field.default:>11}  {limit_field.metadata['meaning']}" for limit_field in fields(Limits)]
     return "\n".join(["limits, by their names, with what is taken where --limit says nothing else:", *lines])

@@ -59,8 +59,8 @@ class Unread(Exception):
 class Reader:
     """Takes a marker's words one by one."""
 
-    def __init__(self, text: str, takes_all: bool) -> None:
-        self.words, self.takes_all = list(words_of(text)), takes_all
+    def __init__(self, text: str) -> None:
+        self.words = list(words_of(text))
         self.place = self.open = 0
 
     def next(self) -> str:
@@ -98,21 +98,15 @@ class Reader:
         left, sign = self.side(), self.take()
         if sign == "not" and self.next() == "in":
             sign = f"not {self.take()}"
-        if sign not in (*SIGNS, "~=", "in", "not in") and not (sign == "===" and self.takes_all):
+        if sign not in (*SIGNS, "~=", "===", "in", "not in"):
             raise Unread
-        found = Comparison(left, sign, self.side())
-        is_extra, has_text = "extra" in found.names(), found.left.is_name != found.right.is_name
-        if is_extra and not self.takes_all and not (has_text and sign in ("==", "!=")):
-            raise Unread
-        return found
+        return Comparison(left, sign, self.side())
 
     def side(self) -> Side:
         word = self.take()
         if word.startswith(("'", '"')):
-            if not self.takes_all and re.fullmatch(r"[ -[\]-~]*", word) is None:
-                raise Unread
             return Side(word[1:-1], False)
-        name = OLDER.get(word, word) if self.takes_all else word
+        name = OLDER.get(word, word)
         if name not in (*VARIABLES, "extra"):
             raise Unread
         return Side(name, True)
@@ -121,21 +115,20 @@ class Reader:
 def words_of(text: str) -> Iterator[str]:
     place, text = 0, text.rstrip(" \t")
     while place < len(text):
-        found = TOKEN.match(text, place)
-        if found is None:
+        token = TOKEN.match(text, place)
+        if token is None:
             raise Unread
-        yield found[0].lstrip(" \t")
-        place = found.end()
+        yield token[0].lstrip(" \t")
+        place = token.end()
 
 
 @lru_cache(maxsize=2**12)
-def tree_of(text: str, takes_all: bool = True) -> Tree | None:
-    """The tree of a marker; None where it is none, or a longer one than any is. Unless all is taken that was ever lawful, it is one
-    that reqlock takes."""
+def tree_of(text: str) -> Tree | None:
+    """The tree of a marker, also of one that was lawful once; None where it is none, or a longer one than any is."""
     if len(text) > LONGEST:
         return None
     try:
-        reader = Reader(text, takes_all)
+        reader = Reader(text)
         tree = reader.joined("or")
     except Unread:
         return None
@@ -173,22 +166,22 @@ ALL = Extras(frozenset(), True)
 
 
 def union(parts: list[Extras]) -> Extras:
-    names = frozenset[str]().union(*(it.names for it in parts if not it.is_others))
-    others = [it.names for it in parts if it.is_others]
+    names = frozenset[str]().union(*(part.names for part in parts if not part.is_others))
+    others = [part.names for part in parts if part.is_others]
     return Extras(frozenset.intersection(*others) - names, True) if others else Extras(names, False)
 
 
-def comparison_extras(it: Comparison, environment: Mapping[str, str] | None) -> Extras:
+def comparison_extras(comparison: Comparison, environment: Mapping[str, str] | None) -> Extras:
     """The extras with which a comparison can hold. Without an environment each can, but for one of `extra`; so can `===`."""
-    names = it.names()
+    names = comparison.names()
     if "extra" in names:
-        if it.sign not in ("==", "!=") or it.left.is_name == it.right.is_name:
+        if comparison.sign not in ("==", "!=") or comparison.left.is_name == comparison.right.is_name:
             return ALL
-        extra = it.extra()
-        return Extras(frozenset() if extra is None else frozenset([extra]), it.sign == "!=")
-    if it.sign == "===" or environment is None and names:
+        extra = comparison.extra()
+        return Extras(frozenset() if extra is None else frozenset([extra]), comparison.sign == "!=")
+    if comparison.sign == "===" or environment is None and names:
         return ALL
-    holds = compare(value(it.left, environment or {}), it.sign, value(it.right, environment or {}))
+    holds = compare(value(comparison.left, environment or {}), comparison.sign, value(comparison.right, environment or {}))
     return ALL if holds else ALL.others()
 
 
@@ -197,7 +190,7 @@ def tree_extras(tree: Tree, environment: Mapping[str, str] | None) -> Extras:
     if isinstance(tree, Comparison):
         return comparison_extras(tree, environment)
     parts = [tree_extras(part, environment) for part in tree.parts]
-    return union(parts) if tree.takes_one else union([it.others() for it in parts]).others()
+    return union(parts) if tree.takes_one else union([part.others() for part in parts]).others()
 
 
 def comparisons(tree: Tree) -> Iterator[Comparison]:
@@ -210,24 +203,7 @@ def comparisons(tree: Tree) -> Iterator[Comparison]:
 
 def extras_of(tree: Tree) -> set[str]:
     """The extras that a marker compares with. With each other one it holds as with none."""
-    return {extra for it in comparisons(tree) if "extra" in it.names() and (extra := it.extra()) is not None}
-
-
-def decided(tree: Tree, extra: str) -> bool | None:
-    """Whether a marker holds with an extra, or with none, in every environment, or in no environment; None where that depends."""
-    if isinstance(tree, Comparison):
-        return None if tree.names() - {"extra"} else comparison_extras(tree, {}).has(extra)
-    found = [decided(part, extra) for part in tree.parts]
-    if tree.takes_one in found:
-        return tree.takes_one
-    return None if None in found else not tree.takes_one
-
-
-def variables_of(tree: Tree, extra: str) -> set[str]:
-    """The variables that decide whether a marker holds with an extra, or with none."""
-    if decided(tree, extra) is not None:
-        return set()
-    return set[str]().union(*(it.names() for it in comparisons(tree))) - {"extra"}
+    return {extra for comparison in comparisons(tree) if "extra" in comparison.names() and (extra := comparison.extra()) is not None}
 
 
 class Markers:
@@ -245,7 +221,7 @@ class Markers:
             return self.all
         if marker not in self.known:
             tree = tree_of(marker)
-            self.known[marker] = [tree_extras(tree, it) if tree else ALL for it in self.environments]
+            self.known[marker] = [tree_extras(tree, environment) if tree else ALL for environment in self.environments]
         return sum(1 << place for place, extras in enumerate(self.known[marker]) if extras.has(extra))
 
     def can_hold(self, marker: str, extra: str) -> bool:

@@ -31,7 +31,7 @@ from reqlock_tools.merge_git import Checkout
 from reqlock_tools.merge_pins import told_pins, versions_in
 from reqlock_tools.merge_place import put
 from reqlock_tools.merge_sides import (
-    FOLDER, JOURNAL, REQUIREMENTS, Found, Journal, Side, are_of_one_history, digest_of, lock_name, read_journal, read_side, saved,
+    FOLDER, JOURNAL, REQUIREMENTS, Journal, SavedFile, Side, are_of_one_history, digest_of, lock_name, read_journal, read_side, saved,
 )
 from reqlock_tools.names import called, tool
 from reqlock_tools.program import program_path
@@ -57,7 +57,7 @@ class MergeRequest:
     theirs: bool
 
 
-class Folder:
+class MergedFolder:
     """The folder as it stands, and what is asked for."""
 
     def __init__(self, options: MergeRequest) -> None:
@@ -93,8 +93,8 @@ class Folder:
         except Refusal:
             return False
         digests = {lock_name(target): digest for target, digest in journal.locks.items()}
-        found = {name: digest_of(self.read(name) or b"") for name in digests}
-        return digests == found and journal.requirements == digest_of(requirements or b"")
+        present = {name: digest_of(self.read(name) or b"") for name in digests}
+        return digests == present and journal.requirements == digest_of(requirements or b"")
 
     def changed(self) -> Side:
         """The folder's own files, whose requirements file was changed."""
@@ -121,7 +121,7 @@ def names_of(*journals: Journal | None) -> list[str]:
     return [REQUIREMENTS, *map(lock_name, sorted(targets)), JOURNAL]
 
 
-def chosen(folder: Folder) -> tuple[Side, Side | None] | None:
+def chosen(folder: MergedFolder) -> tuple[Side, Side | None] | None:
     """The side whose history goes on, and the other one where something is in progress; None where nothing is to be done."""
     checkout = folder.checkout
     sides = checkout.sides([REQUIREMENTS, JOURNAL])
@@ -155,7 +155,7 @@ def refuse_others(one: Side, other: Side | None) -> None:
         kind = "other environments under the same names" if here == there else f"{there}; here: {here}"
         raise Refusal(f"{THEIRS} locks for other targets ({kind}); {choice()}. Its pins count for targets of the same name")
     if not are_of_one_history(one, other):
-        raise Refusal(f"{THEIRS} began another history, by reqlock init; {choice()}")
+        raise Refusal(f"{THEIRS} began another history, by reqlock init or forget; {choice()}")
 
 
 # The call of reqlock
@@ -186,7 +186,7 @@ def told_fault(options: MergeRequest, fault: str) -> str:
 class Trial:
     """A folder of its own, in which reqlock does what is then put into the folder."""
 
-    def __init__(self, path: Path, options: MergeRequest, one: Side, old: Found, requirements: bytes) -> None:
+    def __init__(self, path: Path, options: MergeRequest, one: Side, old: SavedFile, requirements: bytes) -> None:
         self.path, self.options = path, options
         self.made, self.others = path / "made", path / "others"
         for folder in self.made, self.others:
@@ -199,13 +199,13 @@ class Trial:
 
     def pins(self, one: Side, other: Side | None) -> list[str]:
         """The options for the locks of the other side."""
-        found: list[str] = []
+        words: list[str] = []
         for target, data in (other.locks if other else {}).items():
             if target in one.locks and data is not None:
                 path = self.others / lock_name(target)
                 path.write_bytes(data)
-                found += ["--pins", f"{target}={path}"]
-        return found
+                words += ["--pins", f"{target}={path}"]
+        return words
 
     def replace(self, pins: list[str]) -> tuple[int, str]:
         """The status and the reply of reqlock."""
@@ -224,7 +224,7 @@ def told_result(trial: Trial, one: Side, other: Side | None, files: dict[str, by
         return answered(trial.options, ["--dir", str(trial.made), "diff"])[1].splitlines() if reply.startswith("ok") else []
     lines: list[str] = []
     for target, lock in one.locks.items():
-        versions = [versions_in(it) for it in (lock, other.locks.get(target), files[lock_name(target)])]
+        versions = [versions_in(data) for data in (lock, other.locks.get(target), files[lock_name(target)])]
         lines += told_pins(target, *versions)
     return lines
 
@@ -232,22 +232,22 @@ def told_result(trial: Trial, one: Side, other: Side | None, files: dict[str, by
 # What to type where nothing fits
 
 
-def question(folder: Folder, one: Side, old: Found) -> str:
+def question(folder: MergedFolder, one: Side, old: SavedFile) -> str:
     """The commands that tell why nothing fits."""
     place = [] if folder.options.dir == "." else ["-C", folder.options.dir]
     other = [] if folder.options.dir == "." else ["--dir", folder.options.dir]
     keep = ["--keep-locked"] * folder.options.keep_locked
-    found = []
+    commands = []
     wrong = [lock_name(target) for target, data in one.locks.items() if folder.read(lock_name(target)) != data]
     wrong += [JOURNAL] * (folder.read(JOURNAL) != one.journal.data)
     if wrong:
-        found.append(shlex.join(["git", *place, "checkout", "--theirs" if one.name == THEIRS else "--ours", "--", *wrong]))
+        commands.append(shlex.join(["git", *place, "checkout", "--theirs" if one.name == THEIRS else "--ours", "--", *wrong]))
     show = shlex.join(["git", *place, "show", old.source])
     why = shlex.join(["reqlock", *other, "--index", folder.options.index, "why", "--explain", *keep, "--replace", "--was", "-"])
-    return "; ".join([*found, f"{show} | {why}"])
+    return "; ".join([*commands, f"{show} | {why}"])
 
 
-def lock(folder: Folder, one: Side, other: Side | None, place: Path) -> int:
+def lock(folder: MergedFolder, one: Side, other: Side | None, place: Path) -> int:
     """Locks the lines that are wanted in a place of its own, and puts what comes of it into the folder."""
     options, requirements, old = folder.options, folder.requirements(), one.whole()
     trial = Trial(place, options, one, old, requirements)
@@ -266,7 +266,7 @@ def lock(folder: Folder, one: Side, other: Side | None, place: Path) -> int:
 
 
 def run(options: MergeRequest) -> int:
-    folder = Folder(options)
+    folder = MergedFolder(options)
     with alone_in(options.dir), tempfile.TemporaryDirectory() as name:
         sides = chosen(folder)
         if sides is not None:

@@ -77,8 +77,8 @@ class Checkout:
         """The versions of these names; None where one isn't there."""
         form = "--batch-check=%(objecttype) %(objectname) %(objectsize)"
         rows = self.call("cat-file", form, data="".join(f"{name}\n" for name in names).encode()).splitlines()
-        found = [row.split(b" ") for row in rows]
-        return [Blob(words[1].decode(), int(words[2])) if words[0] == b"blob" else None for words in found]
+        fields = [row.split(b" ") for row in rows]
+        return [Blob(words[1].decode(), int(words[2])) if words[0] == b"blob" else None for words in fields]
 
     def content(self, place: str, blob: Blob) -> bytes:
         """What a version holds, which git has at this place."""
@@ -125,5 +125,5 @@ class Checkout:
 
     def mode(self, name: str) -> bytes:
         """The mode that the index has for a file, or that of a file in general."""
-        found = self.call("ls-files", "--stage", "-z", "--", name).partition(b" ")[0]
-        return found if found.startswith(b"100") else b"100644"
+        listed_mode = self.call("ls-files", "--stage", "-z", "--", name).partition(b" ")[0]
+        return listed_mode if listed_mode.startswith(b"100") else b"100644"

@@ -18,7 +18,7 @@ def told_pins(target: str, ours: Versions, theirs: Versions, locked: Versions) -
 
 
 def told_pin(name: str, here: str | None, there: str | None, locked: str | None) -> str:
-    others = [f"{it} {version}" for it, version in (("here", here), ("there", there)) if version not in (None, locked)]
+    others = [f"{side} {version}" for side, version in (("here", here), ("there", there)) if version not in (None, locked)]
     behind = f" ({', '.join(others)})" if others else ""
     if here == there == locked:
         return ""

@@ -42,8 +42,13 @@ class Journal(NamedTuple):
                 raise Refusal(f"{JOURNAL}: its steps move over {MOST_MOVED} lines: --ours or --theirs tells whose history goes on")
         return lines
 
-    def first_step(self) -> bytes:
-        return self.data.split(b"\n", 2)[1]
+    def steps(self) -> list[bytes]:
+        """The lines of the steps, the first one first."""
+        return self.data.split(b"\n")[1:-1]
+
+    def goes_on_in(self, other: "Journal") -> bool:
+        """Whether the first step is one of another history's, which may have more in front of it."""
+        return any(step in other.steps() for step in self.steps()[:1])
 
 
 def take_back(lines: list[bytes], splices: list[Any]) -> int:
@@ -64,15 +69,15 @@ def read_journal(place: str, data: bytes) -> Journal:
         locks = {target["name"]: target["lock"] for target in targets}
         environments = {target["name"]: target["environment"] for target in targets}
         is_read = all(TARGET.fullmatch(name) for name in locks) and isinstance(header["cursor"], int)
-        found = Journal(data, header["requirements"], locks, environments, header["cursor"]) if is_read else None
+        journal = Journal(data, header["requirements"], locks, environments, header["cursor"]) if is_read else None
     except (KeyError, TypeError, ValueError, RecursionError):
-        found = None
-    if found is None:
+        journal = None
+    if journal is None:
         raise Refusal(f"{place}: it is no journal of reqlock")
-    return found
+    return journal
 
 
-class Found(NamedTuple):
+class SavedFile(NamedTuple):
     """A file that a journal is for, and git's name for it."""
 
     data: bytes
@@ -84,7 +89,7 @@ class Side(NamedTuple):
 
     name: str
     journal: Journal
-    old: Found | None
+    old: SavedFile | None
     locks: dict[str, bytes | None]
 
     def way_out(self) -> str:
@@ -92,9 +97,9 @@ class Side(NamedTuple):
         if self.name != FOLDER:
             return "end this, and have that side's files belong together first"
         pins = [f"{target}={lock_name(target)}" if target else lock_name(target) for target in self.locks]
-        return f"stage the newer one, or begin anew: reqlock init {' '.join(f'--pins {it}' for it in pins)}"
+        return f"stage the newer one, or begin anew: reqlock init {' '.join(f'--pins {pin}' for pin in pins)}"
 
-    def whole(self) -> Found:
+    def whole(self) -> SavedFile:
         """The requirements file of a side whose files belong together; others are refused."""
         if self.old is None:
             raise Refusal(
@@ -108,14 +113,14 @@ class Side(NamedTuple):
         return self.old
 
 
-def saved(checkout: Checkout, name: str, digest: str, places: list[str]) -> Found | None:
+def saved(checkout: Checkout, name: str, digest: str, places: list[str]) -> SavedFile | None:
     """The version of a file with a digest: it is sought in these places, in the index, and in the last commits."""
     near = [f"{place}:./{name}" for place in [*places, ":0"]]
     seen: set[Blob] = set()
     return version_with(checkout, digest, near, seen) or version_with(checkout, digest, checkout.versions_of(name), seen)
 
 
-def version_with(checkout: Checkout, digest: str, places: list[str], seen: set[Blob]) -> Found | None:
+def version_with(checkout: Checkout, digest: str, places: list[str], seen: set[Blob]) -> SavedFile | None:
     """The first of these versions with a digest. They are looked at one by one, and none that was seen already."""
     for place, blob in zip(places, checkout.blobs(places)):
         if blob is None or blob in seen:
@@ -123,7 +128,7 @@ def version_with(checkout: Checkout, digest: str, places: list[str], seen: set[B
         seen.add(blob)
         data = checkout.content(place, blob)
         if digest_of(data) == digest:
-            return Found(data, place)
+            return SavedFile(data, place)
     return None
 
 
@@ -131,18 +136,18 @@ def read_side(checkout: Checkout, name: str, places: list[str]) -> Side | None:
     """A side as git has it; None where it has no journal. Of its places in git the first one counts that has a file: what git
     couldn't merge is in the index."""
     names = [f"{place}:./{JOURNAL}" for place in places]
-    found = next(((it, blob) for it, blob in zip(names, checkout.blobs(names)) if blob is not None), None)
-    if found is None:
+    named_blob = next(((name, blob) for name, blob in zip(names, checkout.blobs(names)) if blob is not None), None)
+    if named_blob is None:
         return None
-    journal = read_journal(f"{JOURNAL} of {name}", checkout.content(*found))
+    journal = read_journal(f"{JOURNAL} of {name}", checkout.content(*named_blob))
     locks = {target: saved(checkout, lock_name(target), digest, places) for target, digest in sorted(journal.locks.items())}
     old = saved(checkout, REQUIREMENTS, journal.requirements, places)
-    return Side(name, journal, old, {target: it and it.data for target, it in locks.items()})
+    return Side(name, journal, old, {target: blob and blob.data for target, blob in locks.items()})
 
 
 def are_of_one_history(one: Side, other: Side) -> bool:
-    """Whether two histories began alike, as far as it can be seen."""
-    if one.journal.data.count(b"\n") > 1 and one.journal.first_step() == other.journal.first_step():
+    """Whether two histories began alike, or one of them is without its first steps, as far as it can be seen."""
+    if one.journal.goes_on_in(other.journal) or other.journal.goes_on_in(one.journal):
         return True
     if one.old is None or other.old is None:
         return True

@@ -8,7 +8,7 @@ import sys
 COMMANDS = {
     "adopt": "reqlock-adopt", "check_refutation": "reqlock-check-refutation", "environment": "reqlock-environment",
     "fleet": "reqlock-fleet", "hashed_requirements": "reqlock-hashes", "merge": "reqlock-merge",
-    "portable_lock": "reqlock-portable-lock", "rql": "rql", "snapshot": "reqlock-snapshot",
+    "rql": "rql", "snapshot": "reqlock-snapshot",
 }
 # The words of rql that do what a tool does.
 OF_RQL = {"check_refutation": "check-refutation", "fleet": "fleet", "merge": "merge"}
@@ -40,4 +40,4 @@ def speaking(module: str) -> str:
 def called(text: str) -> str:
     """A text for the user, in which scripts stand as NAME.py or tools/NAME.py, with the names of the commands where they are
     installed."""
-    return SCRIPT.sub(lambda found: COMMANDS[found[1]], text) if is_installed() else text
+    return SCRIPT.sub(lambda script: COMMANDS[script[1]], text) if is_installed() else text

@@ -8,10 +8,10 @@ def number(kind: Callable[[str], Any], least: float, most: float = 1_000_000) ->
     """What reads a number within bounds, with the name that argparse tells."""
 
     def read(text: str) -> Any:
-        found = kind(text)
-        if not least <= found <= most:
+        number = kind(text)
+        if not least <= number <= most:
             raise ValueError
-        return found
+        return number
 
     read.__name__ = f"number from {least} to {most}"
     return read

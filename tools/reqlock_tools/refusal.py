@@ -17,7 +17,7 @@ class Refusal(Exception):
 
 def shown(text: str) -> str:
     """A text in which nothing can act on a terminal."""
-    return "".join(it if it.isprintable() else it.encode("unicode_escape").decode() for it in text)
+    return "".join(letter if letter.isprintable() else letter.encode("unicode_escape").decode() for letter in text)
 
 
 def tell(text: str) -> None:

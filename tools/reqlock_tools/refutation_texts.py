@@ -49,20 +49,20 @@ def read_version(text: str) -> Any:
     text = text.strip(SPACE)
     want(re.fullmatch("[!-~]+", text), "bad-version")
     try:
-        found = packaging_version.Version(text)
+        version = packaging_version.Version(text)
     except ValueError:
         raise Refusal("bad-version") from None
-    numbers = [found.epoch, *found.release, *(found.pre or ())[1:], found.post or 0, found.dev or 0]
-    numbers += [int(part) for part in (found.local or "").split(".") if part.isdigit()]
+    numbers = [version.epoch, *version.release, *(version.pre or ())[1:], version.post or 0, version.dev or 0]
+    numbers += [int(part) for part in (version.local or "").split(".") if part.isdigit()]
     want(max(numbers) <= LARGEST, "number-too-large")
-    return found
+    return version
 
 
 def parts_of(pattern: str | re.Pattern[str], text: str, flags: int = 0) -> tuple[Any, ...]:
     """The groups of a pattern that each text matches."""
-    found = re.fullmatch(pattern, text, flags)
-    want(found, "bad-text")
-    return found.groups() if found else ()
+    parts = re.fullmatch(pattern, text, flags)
+    want(parts, "bad-text")
+    return parts.groups() if parts else ()
 
 
 def read_clause(text: str) -> Clause:
@@ -126,10 +126,10 @@ def holds(marker: str | None, environment: dict[str, str], extra: Extra = None) 
     """Whether a marker holds, or there is none: its atoms are answered, then what stands in parentheses, the innermost first."""
     if marker is None:
         return True
-    text = ATOM.sub(lambda it: " T " if atom_holds(it[1], it[2], it[3], environment, extra) else " F ", marker)
+    text = ATOM.sub(lambda atom: " T " if atom_holds(atom[1], atom[2], atom[3], environment, extra) else " F ", marker)
     text = re.sub("[ \t]+(?![a-z])|(?<![a-z])[ \t]+", "", text)
     for _ in range(MOST_OPEN):
-        text = re.sub(r"\(([^()]*)\)", lambda it: joined(it[1]), text)
+        text = re.sub(r"\(([^()]*)\)", lambda group: joined(group[1]), text)
     return joined(text) == "T"
 
 

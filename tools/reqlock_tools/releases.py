@@ -51,5 +51,5 @@ def release_of(version: str, own: Document | None, files: list[File], say_of: Sa
         "requires_python": common_python(texts, say_of),
         "requires_dist": own.requires_dist if own else None,
         "yanked": yanked,
-        "files": [{"name": it.name, "url": it.url, "size": it.size, "sha256": it.sha256} for it in kept],
+        "files": [{"name": file.name, "url": file.url, "size": file.size, "sha256": file.sha256} for file in kept],
     }

@@ -28,11 +28,11 @@ class Need(NamedTuple):
 def need_of(text: str) -> Need | None:
     """What a text needs, None where it begins with no name or asks for a URL. Its versions are left to reqlock."""
     asked, _, marker = text.partition(";")
-    found = BEGINNING.match(asked)
-    if found is None or not is_name(found[1]) or found[3]:
+    beginning = BEGINNING.match(asked)
+    if beginning is None or not is_name(beginning[1]) or beginning[3]:
         return None
-    extras = sorted({normal(extra.strip()) for extra in (found[2] or "").split(",") if extra.strip()})
-    return Need(normal(found[1]), tuple(extras), marker.strip())
+    extras = sorted({normal(extra.strip()) for extra in (beginning[2] or "").split(",") if extra.strip()})
+    return Need(normal(beginning[1]), tuple(extras), marker.strip())
 
 
 def fault_of(text: str) -> str | None:
@@ -60,20 +60,20 @@ def doubt_of(text: str) -> str | None:
 def numbered_lines(text: str) -> Iterator[tuple[int, str]]:
     """The lines of a requirements file without comments, each with its number; not those that are blank."""
     for number, line in enumerate(text.split("\n"), 1):
-        if found := re.sub(r"(^|[ \t])#.*", "", line.removesuffix("\r")).strip():
-            yield number, found
+        if content := re.sub(r"(^|[ \t])#.*", "", line.removesuffix("\r")).strip():
+            yield number, content
 
 
 def read_lines(path: str, say: Say) -> list[str]:
     """The requirements of a requirements file. A line that only packaging refuses is said."""
-    found = []
+    requirements = []
     for number, text in numbered_lines(read_text(path)):
         if fault := fault_of(text):
             raise Refusal(f"{path}: line {number}: {text!a}: {fault}")
         if doubt := doubt_of(text):
             say(f"{path}: line {number}: {text!a} may be no requirement: {doubt}")
-        found.append(text)
-    return found
+        requirements.append(text)
+    return requirements
 
 
 def environment_node(path: str) -> Node:
@@ -86,5 +86,5 @@ def environment_node(path: str) -> Node:
 
 def variables_in(told: Node) -> dict[str, str]:
     """The eleven variables of an environment."""
-    found = {name: told.member(name).text() for name in VARIABLES}
-    return {**found, "python_full_version": found["python_full_version"].removesuffix("+")}
+    variables = {name: told.member(name).text() for name in VARIABLES}
+    return {**variables, "python_full_version": variables["python_full_version"].removesuffix("+")}

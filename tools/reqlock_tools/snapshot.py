@@ -71,7 +71,7 @@ def make_of_index(request: Request) -> None:
     for url in request.urls:
         if parts_of(url).password is not None:
             say(f"each process of this machine can read the password in the words of this call: {way(url)}")
-    credentials = Credentials(request.urls or [it.url for it in plan.indexes], say, are_typed=bool(request.urls))
+    credentials = Credentials(request.urls or [address.url for address in plan.indexes], say, are_typed=bool(request.urls))
     write_snapshot(Run(plan, request.asking, credentials).snapshot(), request.output)
 
 

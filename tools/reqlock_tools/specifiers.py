@@ -45,8 +45,8 @@ def read_set(text: str) -> list[Clause] | None:
     """The clauses of a set; None where one of them is none."""
     pieces = text.split(",") if text.strip(BLANK) else []
     pieces = pieces[:-1] if len(pieces) > 1 and not pieces[-1].strip(BLANK) else pieces
-    found = [clause for piece in pieces if (clause := read_clause(piece)) is not None]
-    return found if len(found) == len(pieces) else None
+    clauses = [clause for piece in pieces if (clause := read_clause(piece)) is not None]
+    return clauses if len(clauses) == len(pieces) else None
 
 
 def matches(clauses: Iterable[Clause], version: Version) -> bool:

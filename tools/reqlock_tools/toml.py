@@ -18,13 +18,13 @@ TOKEN = re.compile(
 def refuse_long(text: str) -> None:
     """Refuses keys of many parts, and numbers of many digits."""
     parts = 0
-    for found in TOKEN.finditer(text):
-        if found["open"]:
+    for token in TOKEN.finditer(text):
+        if token["open"]:
             raise Refusal("it is no TOML: a text in it has no end")
-        if found["digits"]:
+        if token["digits"]:
             raise Refusal(f"it has a number or a key of over {MOST_DIGITS} digits")
-        if found["mark"]:
-            parts = parts + 1 if found["mark"] == "." else 0
+        if token["mark"]:
+            parts = parts + 1 if token["mark"] == "." else 0
         if parts >= MOST_PARTS:
             raise Refusal(f"it has a key of over {MOST_PARTS} parts")
 
@@ -39,20 +39,13 @@ def read_toml(text: str) -> dict[str, Any]:
 
 def value_at(table: dict[str, Any], *keys: str) -> Any:
     """The value at these keys, one in the other; None where it isn't there."""
-    found: Any = table
+    value: Any = table
     for key in keys:
-        found = found.get(key) if isinstance(found, dict) else None
-    return found
+        value = value.get(key) if isinstance(value, dict) else None
+    return value
 
 
 def table_at(table: dict[str, Any], *keys: str) -> dict[str, Any]:
     """The table at these keys; an empty one where there is none."""
-    found = value_at(table, *keys)
-    return found if isinstance(found, dict) else {}
-
-
-def array_end(text: str, start: int) -> int | None:
-    """The place behind the bracket that ends an array of texts, which begins at a place; None where none does."""
-    marks = (found for found in TOKEN.finditer(text, start) if found["mark"] == "]" or found["open"])
-    end = next(marks, None)
-    return end.end() if end and end["mark"] else None
+    value = value_at(table, *keys)
+    return value if isinstance(value, dict) else {}

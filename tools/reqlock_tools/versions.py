@@ -28,20 +28,20 @@ def read_short(text: str) -> Version | None:
     if re.fullmatch("[!-~]+", text) is None:
         return None
     try:
-        found = packaging_version.Version(text)
+        version = packaging_version.Version(text)
     except ValueError:
         return None
-    numbers = [found.epoch, *found.release, *(found.pre or ())[1:], found.post or 0, found.dev or 0]
-    numbers += [int(part) for part in (found.local or "").split(".") if part.isdigit()]
-    return found if max(numbers) <= LARGEST else None
+    numbers = [version.epoch, *version.release, *(version.pre or ())[1:], version.post or 0, version.dev or 0]
+    numbers += [int(part) for part in (version.local or "").split(".") if part.isdigit()]
+    return version if max(numbers) <= LARGEST else None
 
 
 def version_of(text: str) -> Version:
     """The version of a text that spells one."""
-    found = read_version(text)
-    if found is None:
+    version = read_version(text)
+    if version is None:
         raise ValueError(text)
-    return found
+    return version
 
 
 @lru_cache(maxsize=2**14)

@@ -14,13 +14,13 @@ Pending = list[tuple[Needs, str, int]]
 @lru_cache(maxsize=2**14)
 def needs_of(texts: tuple[str, ...]) -> Needs:
     """What dependencies need, by the extras that their markers read. Each stands under no extra too. Releases often need the same."""
-    found: Needs = {NO_EXTRA: []}
+    needs: Needs = {NO_EXTRA: []}
     for need in map(need_of, texts):
         if need is not None:
             tree = tree_of(need.marker)
             for extra in (NO_EXTRA, *(extras_of(tree) if tree else ())):
-                found.setdefault(extra, []).append(need)
-    return found
+                needs.setdefault(extra, []).append(need)
+    return needs
 
 
 class Walk:
@@ -69,13 +69,13 @@ class Walk:
             return []
         self.known[id(need)] = need, where | before
         asked = self.asked.setdefault(need.name, {})
-        found: Pending = []
+        pending: Pending = []
         for extra in (NO_EXTRA, *need.extras):
             fresh = where & ~asked.get(extra, 0)
             if fresh:
                 asked[extra] = asked.get(extra, 0) | fresh
-                found += [(needs, extra, fresh & able) for needs, able in self.releases.get(need.name, ())]
-        return found
+                pending += [(needs, extra, fresh & able) for needs, able in self.releases.get(need.name, ())]
+        return pending
 
     def where(self, name: str) -> int:
         """The environments that can need a name."""
@@ -83,17 +83,17 @@ class Walk:
 
     def extras_asked(self) -> dict[str, list[str]]:
         """The extras that are asked for, by name, in order."""
-        found = {name: sorted(set(asked) - {NO_EXTRA}) for name, asked in sorted(self.asked.items())}
-        return {name: extras for name, extras in found.items() if extras}
+        by_name = {name: sorted(set(asked) - {NO_EXTRA}) for name, asked in sorted(self.asked.items())}
+        return {name: extras for name, extras in by_name.items() if extras}
 
     def extras_passed(self) -> dict[str, list[str]]:
         """The extras that releases of names that are reached have, and that nobody asks for, by name."""
-        found = {}
+        passed = {}
         for name, asked in sorted(self.asked.items()):
             known = {extra for needs, _ in self.releases.get(name, ()) for extra in needs}
             if extras := sorted(known - asked.keys() - {NO_EXTRA}):
-                found[name] = extras
-        return found
+                passed[name] = extras
+        return passed
 
 
 def extras_text(extras: dict[str, list[str]]) -> str:

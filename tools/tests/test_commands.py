@@ -80,7 +80,7 @@ class Calls(unittest.TestCase):
 
     def test_a_file_that_is_not_there_is_named(self):
         for command, *words in (
-            ("reqlock-snapshot", "none"), ("reqlock-hashes", "none"), ("reqlock-portable-lock", "none", "--index", "none"),
+            ("reqlock-snapshot", "none"), ("reqlock-hashes", "none"),
             ("reqlock-adopt", "none", "none", "--index", "none", "--env", "none"), ("reqlock-check-refutation", "none", "none", "none"),
             ("reqlock-snapshot", "simple", "http://127.0.0.1:1/simple/", "--for", "none"),
         ):
@@ -102,8 +102,8 @@ class Calls(unittest.TestCase):
     def test_ctrl_c(self):
         """It is pressed while the tool reads its input, which is longer than a pipe holds."""
         for command, *words in (
-            ("reqlock-hashes", "/dev/stdin"), ("reqlock-portable-lock", "/dev/stdin", "--index", "none"),
-            ("reqlock-adopt", "/dev/stdin", "none", "--index", "none", "--env", "none"), ("reqlock-check-refutation", "/dev/stdin", "none", "none"),
+            ("reqlock-hashes", "/dev/stdin"), ("reqlock-check-refutation", "/dev/stdin", "none", "none"),
+            ("reqlock-adopt", "/dev/stdin", "none", "--index", "none", "--env", "none"),
         ):
             with self.subTest(command=command), subprocess.Popen(
                 [sys.executable, "-B", self.folder / command, *words], cwd=self.folder, stdin=subprocess.PIPE, stdout=subprocess.PIPE,
@@ -142,7 +142,7 @@ class Calls(unittest.TestCase):
                 self.assertEqual(self.told(module), f"{command}: rql does this too: {words} (told once; this name stays)\n")
                 self.assertEqual(self.told(module), "")
                 self.assertRegex(listed, rf"(?m)^    {words.split()[1].rstrip(',')}( |$)")
-        for module in "hashed_requirements", "portable_lock", "rql":
+        for module in "hashed_requirements", "rql":
             self.assertEqual(self.told(module), "")
 
     @want_libraries("platformdirs")

@@ -9,7 +9,7 @@ import tomllib
 import unittest
 from xml.etree import ElementTree
 
-from support.installed import entries_installed, without_environments
+from support.installed import compares_no_version, entries_installed, without_environments
 from support.made.environments import LINUX, WINDOWS
 from support.places import TOP, needs_program, new_folder
 from support.program import Program
@@ -175,8 +175,34 @@ ASKING = (
     ("d", "1", []),
 )
 TOLD = (
-    f'platform_machine == "{LINUX["platform_machine"]}" and python_full_version >= "3.8" and python_full_version < "3.12"'
-    ' and python_full_version != "3.9.1" and python_version >= "3.9" and sys_platform == "linux"'
+    'platform_machine in "x86_64 amd64" and python_full_version >= "3.8" and python_full_version < "3.12"'
+    ' and python_full_version != "3.9.1" and python_version >= "3.9" and sys_platform != "win32"'
+)
+# what is told where a release asks so, for a machine with this `platform_release`
+ANSWERED = (
+    ("6.1", 'platform_release < "9.0"', 'platform_release < "9.0"'),
+    ("6.1", "platform_release >= '9.0'", 'platform_release < "9.0"'),
+    ("5.10", 'platform_release == "6.*"', 'platform_release != "6.*"'),
+    ("6.1-amd", "'amd' not in platform_release", '"amd" in platform_release'),
+    ("6.1-amd", 'platform_release == "x"', 'platform_release != "x"'),
+    ("6.1-amd", 'platform_release <= "b"', 'platform_release <= "b"'),
+    ("6.1-amd", 'platform_release > "b"', 'platform_release <= "b"'),
+    ("6.1", "'5.9' < platform_release", '"5.9" < platform_release'),
+    ("6.1-amd", "'x' != platform_release", '"x" != platform_release'),
+)
+# and where the whole text is: no opposite means the same everywhere, or installers answer otherwise here
+UNANSWERED = (
+    ("x", 'platform_release <= "=9.0"'),
+    ("6.1", 'platform_release ~= "6.2"'),
+    ("6.1", 'platform_release >= "9.0rc1"'),
+    ("9.0rc1", 'platform_release >= "9.0"'),
+    ("6.1-amd", 'platform_release < "9.0"'),
+    ("6.1-amd", 'platform_release == "6.*"'),
+    ("6.1", "'7.9' < platform_release"),
+    ("6.1", "'x' == platform_release"),
+    ("6.1", "'x' != platform_release"),
+    ("6.1-amd", "'x' == platform_release"),
+    ("6.1", """platform_release != 'a"b'"""),
 )
 PYTHONS = "3.7.9", "3.8.1", "3.9.0", "3.9.1", "3.10.2", "3.11.0rc1", "3.11.8", "3.12.0a1", "3.12.0rc1", "3.12.0", "3.13.1", "4.0.1"
 # no release of `a` can be taken there
@@ -220,6 +246,28 @@ class Pylock(Program):
         self.begin_asking("3.12.0rc1")
         self.assertIn('python_full_version in "3.12.0rc1" and "3.12.0rc1" in python_full_version', self.exported())
 
+    def told_of(self, text, asked):
+        """The marker where a release asks so of a machine with this `platform_release`, which holds here to `packaging` too."""
+        environment = LINUX | {"platform_release": text}
+        self.lock_for({"": environment})
+        self.begin(b"a\n", ("a", "1", [f"b; {asked}"]), ("b", "1", []))
+        self.assertEqual(self.call("init"), (0, "ok 0\n"))
+        marker = self.exported()
+        self.assertFalse(compares_no_version(marker, environment))
+        self.assertEqual(entries_installed(self.travelling(), environment), self.entries())
+        return marker
+
+    def test_what_was_asked_is_kept_with_its_answer(self):
+        for text, asked, told in ANSWERED:
+            with self.subTest(text=text, asked=asked):
+                self.assertEqual(self.told_of(text, asked), told)
+
+    def test_else_the_text_is_kept(self):
+        for text, asked in UNANSWERED:
+            with self.subTest(text=text, asked=asked):
+                one, both = f'platform_release == "{text}"', f'platform_release in "{text}" and "{text}" in platform_release'
+                self.assertIn(self.told_of(text, asked), (one, both))
+
     def test_no_bound_stands_for_another_where_texts_may_be_compared(self):
         asking = ("a", "1", ['b; platform_release >= "9.0"', 'c; platform_release >= "20.0"']), ("b", "1", []), ("c", "1", [])
         self.lock_for({"": LINUX | {"platform_release": "23.4.0"}})
@@ -247,7 +295,7 @@ class Pylock(Program):
             ("c", "1", []),
             ("z", "1", ['c; sys_platform=="win32"']),
         )
-        for lines, asked in (b"a>=2\n", ""), (b"a\n", f'os_name == "{LINUX["os_name"]}" and python_full_version >= "3.8"'):
+        for lines, asked in (b"a>=2\n", ""), (b"a\n", 'os_name != "nt" and python_full_version >= "3.8"'):
             self.begin(lines, *index)
             self.assertEqual(self.call("init"), (0, "ok 0\n"))
             self.assertEqual(self.exported(), asked)
@@ -257,7 +305,7 @@ class Pylock(Program):
         index = ("a", "1", ["b>=1a1,!=2.post1"]), ("b", "1", ["a>=1.dev0", 'z; os_name=="nt"']), ("z", "1", ['a; sys_platform=="win32"'])
         self.begin(b"a>=1a1\n", *index)
         self.assertEqual(self.call("init"), (0, "ok 0\n"))
-        self.assertEqual(self.exported(), f'os_name == "{LINUX["os_name"]}" and sys_platform == "{LINUX["sys_platform"]}"')
+        self.assertEqual(self.exported(), 'os_name != "nt" and sys_platform != "win32"')
 
     def test_a_new_lock_is_the_same_wherever_the_marker_holds(self):
         others = [self.environment_of(python) for python in PYTHONS]
@@ -284,17 +332,16 @@ class Pylock(Program):
         self.lock_for(TWO)
         self.begin(LINES.encode(), *RELEASES)
         self.assertEqual(self.call("init"), (0, "ok 0\n"))
-        for name, environment in TWO.items():
+        for name, sign in ("linux", "!="), ("win", "=="):
             status, output, error = self.told("export", "--format", "pylock", "--target", name)
             self.assertEqual((status, error), (0, ""))
             after, before = tomllib.loads(output), tomllib.loads((self.folder / file_name(name)).read_text())
-            self.assertEqual(after.pop("environments"), [f'os_name == "{environment["os_name"]}"'])
+            self.assertEqual(after.pop("environments"), [f'os_name {sign} "nt"'])
             del before["environments"]
             self.assertEqual(after, before)
-        for words, fault in ([], "'--target <NAME>' is needed, as there are several"), (["--target", "mac"], "no target has the name 'mac' of"):
-            status, output, error = self.told("export", "--format", "pylock", *words)
-            self.assertEqual((status, output), (2, ""))
-            self.assertTrue(error.startswith(f"error: {fault}"), error)
+        status, output, error = self.told("export", "--format", "pylock", "--target", "mac")
+        self.assertEqual((status, output), (2, ""))
+        self.assertTrue(error.startswith("error: no target has the name 'mac' of"), error)
 
     def test_says_what_is_lacking(self):
         self.begin_asking()

@@ -2,11 +2,12 @@
 second reading of PEP 751 has it, it installs all that a new lock there has, and nothing else. Of 40 indexes, and 40 as users have them, or 400 with LONG_TESTS=1. They need
 the program, which ./check builds first."""
 
+import tomllib
 import unittest
 from collections import Counter
 
 from support.drawn_files import DrawnFiles
-from support.installed import entries_installed, without_environments
+from support.installed import compares_no_version, entries_installed, markers_of, without_environments
 from support.made.environments import LINUX
 from support.made.releases import file_of
 from support.made.sessions import SETS, Draw
@@ -34,6 +35,7 @@ HOLDING = (
     'platform_release >= "9.0"', 'platform_release >= "20.0"', 'platform_release < "22"', 'platform_release <= "=9.0"', 'platform_release == "6.*"',
     'platform_release ~= "6.1"', 'platform_version > "10"', 'platform_version != "9"', "platform_machine >= 'b'", 'platform_machine != "386.0"',
     'platform_release in "6.1.0-13-amd64, 10"', "'amd' not in platform_release", 'platform_release < platform_version',
+    'platform_release > "=9.0"', '"nt" != os_name', "'win' not in sys_platform", "'10' >= platform_version", "platform_version < '#2'",
     "implementation_version < '7.3.10'", 'platform_python_implementation == "PyPy" and python_version < "3.10"',
     "(platform_system == 'Darwin' or python_full_version >= '3.10.1') and os_name == 'posix'",
 )
@@ -157,6 +159,8 @@ class Drawn(DrawnFiles):
             return
         lock = self.exported()
         self.assertEqual(entries_installed(lock, environment), locked[1])
+        for marker in markers_of(tomllib.loads(lock.decode())):
+            self.assertFalse(compares_no_version(marker, environment))
         for _ in range(OTHERS):
             other = draw.other_than(environment, draw.one((1, 1, 2, 3)))
             found, wanted = entries_installed(lock, other), self.ruled(lines, other)

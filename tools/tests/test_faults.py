@@ -14,7 +14,7 @@ PAGE = os.sysconf("SC_PAGESIZE")
 # Calls over a folder, one or more of each subcommand that reads one.
 IN_A_FOLDER = (
     ["init"], ["add", "c"], ["remove", "a"], ["constrain", "a"], ["upgrade"], ["relock"], ["replace", "-"], ["undo"], ["redo"], ["batch"],
-    ["try"], ["show"], ["show", "a"], ["show", "--tree"], ["log"], ["diff"], ["check"], ["check", "--current"], ["outdated"], ["export"],
+    ["forget", "--keep", "0"], ["try"], ["show"], ["show", "a"], ["show", "--tree"], ["log"], ["diff"], ["check"], ["check", "--current"], ["outdated"], ["export"],
     ["why"], ["why", "--init"], ["why", "--not", "a"], ["why", "--replace", "-"], ["add", "c", "--dry-run"], ["undo", "--dry-run"], ["init", "--dry-run"],
 )
 

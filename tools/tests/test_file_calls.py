@@ -17,7 +17,7 @@ import growths  # (it stands in tools/)
 SOURCE = SUPPORT / "file_calls.c"
 EDITS = (
     ["add", "p02"], ["remove", "p00"], ["constrain", "p00", "<2"], ["upgrade"], ["upgrade", "p00"], ["relock"], ["undo"], ["redo"],
-    ["replace", "-"], ["relock", "--if-needed"],
+    ["replace", "-"], ["relock", "--if-needed"], ["forget", "--before", "1"], ["forget", "--keep", "1"],
 )
 READINGS = (
     ["show"], ["show", "p00"], ["show", "--tree"], ["show", "--json"], ["log"], ["log", "--long"], ["log", "--json"], ["diff"],
@@ -208,6 +208,19 @@ class FileCalls(Fifty):
                     self.assertEqual(self.call("relock"), (0, "same\n"))
                     self.assertIn(self.files(), (after, ended))
 
+    def test_a_stop_at_each_call_of_one_that_shortens_the_history(self):
+        self.begin_history()
+        before = self.files()
+        _, _, calls = self.watched("forget", "--before", "1")
+        after = self.files()
+        self.assertEqual([call for call in calls if call.startswith("rename ")], ["rename reqlock.journal"])
+        for number, call in enumerate(calls, 1):
+            with self.subTest(number=number, call=call):
+                self.put(before)
+                self.assertEqual(self.watched("forget", "--before", "1", FILE_CALLS_STOP=str(number))[:2], (-9, ""))
+                self.assertEqual(self.call("relock"), (0, "same\n"))
+                self.assertEqual(self.files(), after if "rename reqlock.journal" in calls[: number - 1] else before)
+
     def test_a_file_system_without_locks(self):
         self.begin_all()
         for place, name in enumerate(["ENOLCK", "EOPNOTSUPP", "ENOSYS", "EINVAL"], 1):
@@ -270,6 +283,12 @@ class FileCallsWithTargets(FileCalls):
     """The same of saves of four files."""
 
     environments = {"linux": LINUX, "win": WINDOWS}
+
+    def test_a_lock_of_all_targets_only_reads(self):
+        self.begin_history()
+        for words in [], ["--covers", self.environment_file("win")]:
+            with self.subTest(words=words):
+                self.assertEqual(self.only_reads("export", "--format", "pylock", *words, locks=True)[0], 0)
 
 
 if __name__ == "__main__":

@@ -80,6 +80,20 @@ class OverProgram(Program):
         self.assertEqual({name: text for name, text in self.bytes_of("mail").items() if "journal" not in name},
                          {name: text for name, text in before.items() if "journal" not in name})
 
+    def test_histories_without_their_first_steps(self):
+        for words in ["add", "flask"], ["remove", "flask"]:
+            self.asked("mail", *words)
+        late = "the history stands at place 0, and can't begin 1 before it"
+        rows = ("mail", "ok 1", ""), ("site", "refused", late)
+        for more in ["--dry-run"], []:
+            told = f"{table(*rows)}\n2 folders: 1 ok, 1 refused\n"
+            self.assertEqual(self.fleet("mail", "site", "--", "forget", "--keep", "1", *more), (1, told, ""))
+        self.assertEqual(self.asked("mail", "log"), "  0 init\n* 1 remove flask\n")
+        found = json.loads(self.fleet("--json", "site", "--", "forget", "--keep=1")[1])["folders"][0]
+        self.assertEqual((found["kind"], found["reply"], found["status"], found["told"]), ("refused", "refused", 2, late))
+        self.assertEqual(self.fleet("mail", "site", "--", "forget", "--before", "0")[0], 0)
+        self.assertIn("--before or --keep is needed", self.fleet("mail", "--", "forget")[2])
+
     def test_a_folder_without_a_history(self):
         (self.outside / "bare").mkdir()
         (self.outside / "bare" / "requirements.txt").write_bytes(b"urllib3\n")

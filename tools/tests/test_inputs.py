@@ -26,7 +26,8 @@ class Order(Program):
     EDITED = *SAVED, "index"
     BEGUN = "requirements.txt", "index", "environment"
     NEEDED = (
-        (["undo"], SAVED), (["redo"], SAVED), (["show"], SAVED), (["log"], SAVED), (["check"], SAVED), (["add", "c"], EDITED),
+        (["undo"], SAVED), (["redo"], SAVED), (["forget", "--keep", "0"], SAVED), (["show"], SAVED), (["log"], SAVED), (["check"], SAVED),
+        (["add", "c"], EDITED),
         (["remove", "a"], EDITED), (["constrain", "a"], EDITED), (["upgrade"], EDITED), (["relock"], EDITED), (["batch"], EDITED),
         (["why"], EDITED), (["why", "c"], EDITED), (["replace", "--line", "a", "c"], EDITED), (["outdated"], EDITED), (["diff"], SAVED),
         (["export"], SAVED), (["init"], BEGUN), (["try"], BEGUN), (["skipped"], ["index"]),

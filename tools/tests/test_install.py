@@ -23,7 +23,7 @@ NOTHING = hashlib.sha256(b"").hexdigest()
 EVERYWHERE = {"--verbose", "--quiet", "--color", "--help"}  # the options of each subcommand
 COMMANDS = (
     "reqlock", "reqlock-adopt", "reqlock-check-refutation", "reqlock-environment", "reqlock-fleet", "reqlock-hashes",
-    "reqlock-merge", "reqlock-portable-lock", "reqlock-snapshot", "rql",
+    "reqlock-merge", "reqlock-snapshot", "rql",
 )
 
 
@@ -102,8 +102,9 @@ class Places(unittest.TestCase):
         shutil.copytree(self.prefix, self.folder / "first", symlinks=True)
         (self.tree / "install").write_text(text, encoding="utf-8")
         shutil.rmtree(older)
+        gone = "install: this version has no reqlock-gone: CHANGELOG.md says what takes its place\n"
         for words, left in ([], True), (["--remove"], False):
-            self.install(*words)
+            self.assertEqual(gone in self.install(*words), left)
             self.assertEqual([path for path in self.prefix.rglob("*") if path.name in ("older", "one.py", "gone.py", "reqlock-gone")], [])
             self.assertEqual((self.prefix / "bin" / "reqlock").exists(), left)
         self.assertEqual(list(self.prefix.rglob("*")), [])
@@ -111,7 +112,7 @@ class Places(unittest.TestCase):
         lines = (self.prefix / RECORD).read_text(encoding="utf-8").splitlines()
         paths = [line.split(" ")[2] for line in lines if not line.startswith("folder ")]
         (self.prefix / RECORD).write_text("\n".join([*paths, str(RECORD), ""]), encoding="utf-8")
-        self.install()
+        self.assertIn(gone, self.install())
         self.assertEqual([path for path in self.prefix.rglob("*") if path.name in ("older", "one.py", "gone.py", "reqlock-gone")], [])
         self.install("--remove")
         self.assertEqual([path for path in self.prefix.rglob("*") if not path.is_dir()], [])
@@ -274,7 +275,6 @@ class Installed(unittest.TestCase):
         words = "index.json", "environment.json", "requirements.txt", "--line", "z"
         self.assertEqual(self.run_installed("reqlock-check-refutation", *words, text=told), (0, "accepted\n"))
         self.assertEqual(self.run_installed("reqlock-hashes", "pylock.toml")[0], 0)
-        self.assertEqual(self.run_installed("reqlock-portable-lock", "pylock.toml", "--index", "index.json")[0], 0)
 
     def test_other_files_stay(self):
         (self.prefix / "bin").mkdir(parents=True)

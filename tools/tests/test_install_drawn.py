@@ -3,11 +3,12 @@ answer as its own does. The lock has each entry once, with the markers of the ta
 the answers alone: the entries of the targets that an environment meets."""
 
 import json
+import tomllib
 import unittest
 from collections import Counter
 from typing import NamedTuple
 
-from support.installed import check_markers, entries_of
+from support.installed import check_markers, check_references, entries_of
 from support.made.chance import Chance
 from support.made.environments import LINUX
 from support.made.journals import entry, package_text
@@ -30,7 +31,7 @@ OPPOSITES = {"==": "!=", "<": ">=", "in": "not in"}
 # what must have come
 SEEN = (
     "environments", "ambiguity", "wheels", "one target", "several targets", "a lock for all", "no marker", "markers joined",
-    "two entries of a name", "two of one version",
+    "two entries of a name", "two of one version", "told by markers",
 )
 
 
@@ -58,6 +59,10 @@ class Target(NamedTuple):
 
     def is_met(self, environment):
         return all(it.answer(environment) == it.answer(self.environment) for it in self.questions)
+
+    def has(self, pair):
+        """Whether it has an entry, which is a pair of a name and a table."""
+        return self.entries.get(pair[0]) == pair[1]
 
     def marker(self):
         return " and ".join(it.told(self.environment) for it in self.questions)
@@ -117,29 +122,38 @@ def pairs_of(targets):
     return [pair for place, pair in enumerate(pairs) if pair not in pairs[:place]]
 
 
-def dependency_texts(other, having, versions):
-    """The tables of a dependency. Where the name has several versions, those that the targets with the entry have are told."""
-    if len(versions[other]) == 1:
-        return [f'{{name = "{other}"}}']
-    taken = sorted({target.entries[other]["version"] for target in having})
-    return [f'{{name = "{other}", version = "{version}"}}' for version in taken]
+def marker_of(pair, targets):
+    """The marker of an entry: those of the targets that have it. It has none where all have it, or where one of them asks nothing."""
+    having = [target for target in targets if target.has(pair)]
+    is_marked = len(having) < len(targets) and all(target.questions for target in having)
+    return " or ".join(target.marker() for target in having) if is_marked else None
 
 
-def joint_package(name, entry, targets, versions):
+def dependency_texts(name, having, targets):
+    """The tables of a dependency. Where the name has several entries, those that the targets with the entry have are told, by the version and,
+    where that isn't enough, the marker."""
+    pairs = [pair for pair in pairs_of(targets) if pair[0] == name]
+    for pair in pairs_of(having) if len(pairs) > 1 else ():
+        if pair in pairs:
+            version, marker = pair[1]["version"], marker_of(pair, targets)
+            is_enough = [entry["version"] for _, entry in pairs].count(version) == 1 or marker is None
+            yield f'{{name = "{name}", version = "{version}"' + ("}" if is_enough else f", marker = {json.dumps(marker)}}}")
+    if len(pairs) == 1:
+        yield f'{{name = "{name}"}}'
+
+
+def joint_package(pair, targets):
     """An entry of the lock."""
-    having = [target for target in targets if target.entries.get(name) == entry]
-    text = package_text(name, entry).rstrip("\n")
-    for other in entry["dependencies"]:
-        text = text.replace(f'{{name = "{other}"}}', ", ".join(dependency_texts(other, having, versions)))
-    if len(having) < len(targets) and all(target.questions for target in having):
-        text += f"\nmarker = {json.dumps(' or '.join(target.marker() for target in having))}"
-    return text
+    having, marker = [target for target in targets if target.has(pair)], marker_of(pair, targets)
+    text = package_text(*pair).rstrip("\n")
+    for other in pair[1]["dependencies"]:
+        text = text.replace(f'{{name = "{other}"}}', ", ".join(dependency_texts(other, having, targets)))
+    return text if marker is None else f"{text}\nmarker = {json.dumps(marker)}"
 
 
 def joint_lock(targets):
     """The lock of several targets. It is for all environments where a target asks nothing."""
-    versions = {name: {target.entries[name]["version"] for target in targets if name in target.entries} for name in NAMES}
-    packages = [joint_package(*pair, targets, versions) for pair in sorted(pairs_of(targets), key=json.dumps)]
+    packages = [joint_package(pair, targets) for pair in sorted(pairs_of(targets), key=json.dumps)]
     head = ['lock-version = "1.0"', 'created-by = "drawn"']
     if all(target.questions for target in targets):
         head.append(f"environments = {json.dumps([target.marker() for target in targets])}")
@@ -190,6 +204,7 @@ class Drawn(unittest.TestCase):
             targets = draw.targets()
             data = joint_lock(targets)
             self.count_markers(targets, data)
+            self.check_told(data)
             for environment in [draw.environment() for _ in range(ENVIRONMENTS)] + [target.environment for target in targets]:
                 with self.subTest(seed=seed, environment=environment):
                     self.check(targets, data, environment)
@@ -204,6 +219,14 @@ class Drawn(unittest.TestCase):
         else:
             met = sum(target.is_met(environment) for target in targets)
             self.seen["one target" if met == 1 else "several targets"] += len(targets) > 1
+
+    def check_told(self, data):
+        """Each dependency tells one entry, where there are no two of one name, version and marker."""
+        lock = tomllib.loads(data.decode())
+        told = [(it["name"], it["version"], it.get("marker")) for it in lock["packages"]]
+        if len(set(told)) == len(told):
+            check_references(lock)
+            self.seen["told by markers"] += any("marker" in it for package in lock["packages"] for it in package.get("dependencies", []))
 
     def count_markers(self, targets, data):
         pairs = pairs_of(targets)

@@ -3,11 +3,12 @@ ends or what is installed. What the rows say of markers `packaging` says too."""
 
 import hashlib
 import json
+import tomllib
 import unittest
 
-from support.installed import check_dependencies, check_markers
+from support.installed import check_dependencies, check_markers, check_references
 from support.made.environments import LINUX, WINDOWS
-from support.rules.installs import Installing, NotForThisEnvironment, Refused, installed_by, validate
+from support.rules.installs import Installing, NotForThisEnvironment, Refused, installed_by, referred, validate
 from support.rules.requirements import Fault
 from support.rules.wheel_names import best_wheel
 
@@ -111,6 +112,9 @@ ERRORS = (
     ("`vcs.commit-id` is required", "vcs", lock(package('vcs = {type = "git", path = "a"}'))),
     ("`vcs` has a path or a URL", "vcs", lock(package('vcs = {type = "git", commit-id = "c0ffee"}'))),
     ("`directory.path` is required", "directory", lock(package("directory = {editable = true}"))),
+    ("of three entries of a name no two remain", "ambiguity", lock(*(package(marker(it)) for it in (NT, POSIX, f"{NT} or {IN_LINUX}")))),
+    ("a marker that doesn't hold is read too", "marker", lock(package(), package(marker("os_name = 'nt'")))),
+    ("an expression of `environments` that isn't needed is read too", "marker", lock(package(), head=environments(POSIX, "os_name"))),
 )
 # those at which the whole lock isn't for the environment
 ELSEWHERE_TOLD = "`requires-python` is met", "an expression of `environments` is satisfied", "one of several is", "one of none is"
@@ -121,11 +125,15 @@ INSTALLED = (
     ("a minor version that isn't supported is no error", "a wheels", lock(package()).replace("1.0", "1.1")),
     ("`requires-python` is met", "a wheels", lock(package(), head='requires-python = ">=3.8,<4"\n')),
     ("an expression of `environments` is satisfied", "a wheels", lock(package(), head=environments(NT, POSIX))),
+    ("several are", "a wheels", lock(package(), head=environments(IN_LINUX, NT, POSIX))),
     ("a package whose marker is satisfied is installed", "a wheels", lock(package(marker(POSIX)))),
     ("another one is skipped", "b wheels", lock(package(marker(NT)), package(name="b"))),
     ("and nothing else is checked of it", "", lock(package(marker(NT), 'requires-python = ">4"', VCS, SDIST))),
     ("packages stand in any order", "b wheels, a sdist", lock(package(name="b"), package(SDIST))),
     ("two entries of a name exclude one another", "a wheels", lock(package(marker(IN_LINUX)), package(marker(ELSEWHERE), SDIST))),
+    ("of several entries of a name none need be installed", "", lock(package(marker(NT)), package(marker(ELSEWHERE), SDIST))),
+    ("one of the markers that are joined holds", "a wheels", lock(package(marker(f"{NT} and {IN_LINUX} or {POSIX} and {IN_LINUX}")))),
+    ("`dependencies` that fit no entry are no error", "a wheels", lock(package('dependencies = [{name = "c"}]'))),
     ("`dependencies` must not be used", "a wheels", lock(package('dependencies = [{name = "b"}]'), package(marker(NT), name="b"))),
     ("`extras` is empty by default", "", lock(package(marker("'e-x' in extras")), head=GROUPS)),
     ("an extra is asked for", "a wheels", lock(package(marker("'e-x' in extras")), head=GROUPS), {"extras": ["e.X"]}),
@@ -145,6 +153,26 @@ INSTALLED = (
     ("a repository", "a vcs", lock(package(VCS))),
     ("a folder", "a directory", lock(package(DIRECTORY))),
     ("an archive", "a archive", lock(package(ARCHIVE))),
+)
+# the entries of a lock beside that of `a`, the dependencies of that one, and the places of those that they tell; None where that is an error
+SPAM = "\n".join(
+    f'[[packages]]\nname = "{name}"\nversion = "{version}"\nmarker = "{marker}"\n{source}\n'
+    for name, version, marker, source in (
+        ("spam", "1", "m", VCS), ("spam", "2", "m", 'sdist = {url = "u", hashes = {sha256 = "0"}}'), ("spam", "2", "n", DIRECTORY),
+        ("egg", "1", "m", ""),
+    )
+)
+REFERRED = (
+    ("none", "[]", []), ("a name", '[{name = "egg"}]', [3]), ("names", '[{name = "egg"}, {name = "spam", version = "1"}]', [3, 0]),
+    ("a version", '[{name = "spam", version = "1"}]', [0]), ("a marker too", '[{name = "spam", version = "2", marker = "n"}]', [2]),
+    ("each", '[{name = "spam", version = "2", marker = "m"}, {name = "spam", version = "2", marker = "n"}]', [1, 2]),
+    ("a source", '[{name = "spam", vcs = {url = "https://host.example/a"}}]', [0]),
+    ("a source by its key", '[{name = "spam", directory = {}}]', [2]),
+    ("an ambiguous name", '[{name = "spam"}]', None), ("an ambiguous version", '[{name = "spam", version = "2"}]', None),
+    ("another source", '[{name = "spam", vcs = {url = "https://host.example/b"}}]', None),
+    ("another version", '[{name = "spam", version = "3"}]', None), ("a name that isn't there", '[{name = "ham"}]', None),
+    ("the entry itself", '[{name = "a"}]', None), ("no name", '[{version = "1"}]', None),
+    ("a name that isn't normal", '[{name = "Egg"}]', None), ("no table", '["egg"]', None), ("no array", '{name = "egg"}', None),
 )
 # the wheel that is taken of these, where wheels of TAGS run
 WHEELS = (
@@ -214,6 +242,24 @@ class Rows(unittest.TestCase):
             with self.assertRaises(Refused) as raised:
                 validate({"size": size, "hashes": hashes}, data)
             self.assertEqual(raised.exception.step, step)
+
+    def test_what_a_dependency_tells(self):
+        for rule, told, places in REFERRED:
+            with self.subTest(rule=rule):
+                *others, package = tomllib.loads(f'{SPAM}[[packages]]\nname = "a"\ndependencies = {told}\n')["packages"]
+                if places is None:
+                    with self.assertRaises(Refused) as raised:
+                        referred(package, [*others, package])
+                    self.assertEqual(raised.exception.step, "packages.dependencies")
+                else:
+                    self.assertEqual(referred(package, [*others, package]), [others[place] for place in places])
+
+    def test_a_dependency_is_told_by_its_name_where_that_is_enough(self):
+        first, second, other = {"name": "b", "version": "1"}, {"name": "b", "version": "2"}, {"name": "c", "version": "1"}
+        package = {"name": "a", "dependencies": [first, second, {"name": "c"}]}
+        check_references({"packages": [package, first, second, other]})
+        with self.assertRaises(AssertionError):
+            check_references({"packages": [package | {"dependencies": [other]}, first, second, other]})
 
     def test_a_dependency_is_one_of_the_entries(self):
         first, second = {"name": "b", "version": "1"}, {"name": "b", "version": "2"}

@@ -75,7 +75,7 @@ class Signs(unittest.TestCase):
             with self.subTest(sign=sign):
                 self.assertEqual(specifiers.read_clause(f"{sign}1.0").sign, sign)
                 self.assertEqual(refutation_texts.read_clause(f"{sign}1.0").sign, sign)
-                self.assertEqual(markers.tree_of(f"python_version {sign} '3.9'", takes_all=False).sign, sign)
+                self.assertEqual(markers.tree_of(f"python_version {sign} '3.9'").sign, sign)
                 self.assertEqual(refutation_texts.ATOM.fullmatch(f"python_version {sign} '3.9'")[2], sign)
 
     def test_the_second_readings_read_each(self):

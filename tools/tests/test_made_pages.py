@@ -16,8 +16,8 @@ from page_makers.command import Command, Option, Value
 from page_makers.program_help import Unread, command_of
 
 COMMANDS = {
-    "init", "add", "remove", "constrain", "set", "upgrade", "relock", "lock", "sync", "check", "index", "env", "undo", "redo", "show", "tree",
-    "outdated", "why", "log", "diff", "export", "skipped", "fleet", "merge", "check-refutation",
+    "init", "add", "remove", "constrain", "set", "upgrade", "relock", "lock", "sync", "check", "index", "env", "undo", "redo", "forget", "show",
+    "tree", "outdated", "why", "log", "diff", "export", "skipped", "fleet", "merge", "check-refutation",
 }
 # How long a shell may take to show something.
 SECONDS = 10

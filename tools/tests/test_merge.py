@@ -160,8 +160,28 @@ class Merges(Two):
         self.git("checkout", "--quiet", "main")
         self.git("merge", "anew", fails=True)
         (self.folder / "requirements.txt").write_bytes(LINES + b"tool<2\naid\n")
-        self.check_refused("the other side began another history, by reqlock init; type merge.py --ours")
+        self.check_refused("the other side began another history, by reqlock init or forget; type merge.py --ours")
         self.assertEqual(self.merge("--ours")[:2], (0, "ok 2\nother side: aid 2\nthis side: tool 1\n"))
+
+    def begin_forgotten(self, keeps):
+        """A merge that stops, where this side kept so many of the steps that it has in common with the other one."""
+        self.begin_clone(LINES, *RELEASES)
+        self.edit("add", "tool<2")
+        self.edit("add", "aid")
+        self.on_branch("other", ("constrain", "web"), ("upgrade",))
+        self.edit("forget", "--keep", keeps)
+        self.edit("remove", "aid")
+        self.git("merge", "other", fails=True)
+
+    def test_a_side_without_its_first_steps(self):
+        self.begin_forgotten("1")
+        self.assertEqual(self.merge()[:2], (0, "ok 3\ngone: aid (there 2)\nother side: web 3 (here 2)\n"))
+        self.check_whole(3)
+
+    def test_a_side_without_any_step_of_the_other(self):
+        self.begin_forgotten("0")
+        self.check_refused("the other side began another history, by reqlock init or forget; type merge.py --ours")
+        self.assertEqual(self.merge("--theirs")[:2], (0, "ok 5\ngone: aid (here 2)\nthis side: web 3 (there 2)\n"))
 
     def test_a_side_without_a_history(self):
         self.begin_clone(LINES, *RELEASES)

@@ -298,6 +298,14 @@ class Program(Growths):
         self.check_single("redo", starts="ok 2")
         self.check_single("add", "c", starts="ok 2")
 
+    def test_forget(self):
+        self.prepare("init")
+        self.prepare("add", "d")
+        self.prepare("remove", "a")
+        for words, starts in (["--keep", "0"], "ok 0"), (["--before", "1", "--dry-run"], "ok 1"), (["--before", "0"], "same"):
+            self.check_single("forget", *words, starts=starts)
+        self.check_fault(self.words("forget", "--keep", "3"), 2, b"reqlock: the history stands at place 2, and can't begin 3 before it\n")
+
     def test_a_save_that_was_stopped(self):
         self.prepare("init")
         before = growths.files_in(self.folder)

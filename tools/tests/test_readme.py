@@ -102,6 +102,9 @@ class Tables(Program):
     """The program has the subcommands and options of the tables of docs/REFERENCE.md and no others, and a subcommand needs the options that
     stand beside it."""
 
+    # what help doesn't say that they need: lines stand in a file that is named, or by an option; and one of two options
+    OWN = {"replace": ["NEW"], "forget": ["--keep", "0"]}
+
     def rows(self, head):
         """The cells of the table with this head."""
         table = REFERENCE.split(f"{head}\n")[1].split("\n\n")[0]
@@ -112,9 +115,7 @@ class Tables(Program):
         for name, _, needs in self.rows("| Subcommand | Does | Needs |"):
             for shown in re.findall("`([^`]+)`", name):
                 subcommand, *words = re.sub(r"\[.*?\]", "", shown).split()
-                # (lines stand in a file that is named, or by an option)
-                words = ["NEW"] if subcommand == "replace" else words
-                yield [subcommand, *("a" for _ in words)], re.findall("--[a-z]+", needs)
+                yield [subcommand, *self.OWN.get(subcommand, ["a" for _ in words])], re.findall("--[a-z]+", needs)
 
     def test_name_each_subcommand_and_option(self):
         told = self.call("--help")[1]

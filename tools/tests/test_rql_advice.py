@@ -250,7 +250,7 @@ class Words(unittest.TestCase):
         return errors.getvalue().splitlines()[-1]
 
     def test_of_commands(self):
-        for word, told in ("install", COMMANDS["install"]), ("ad", "rql add?"), ("zzz", "rql --help names all"):
+        for word, told in *((it, COMMANDS[it]) for it in ("install", "portable-lock")), ("ad", "rql add?"), ("zzz", "rql --help names all"):
             self.assertEqual(self.told("-q", word, "x"), f"rql: error: there is no command {word!r}: {told}")
 
     def test_of_options(self):

@@ -13,7 +13,7 @@ from support.program import Program
 from support.rql_projects import SCRIPT, Projects
 from support.terminals import shown_on_terminal
 
-HANDED_ON = ("undo", "redo", "log", "diff", "show", "export", "skipped")
+HANDED_ON = ("undo", "redo", "forget", "log", "diff", "show", "export", "skipped")
 # (the program tells of a long `why` by itself)
 LATE = "#!/bin/sh\nsleep 2.3\necho 'reqlock: still at it; Ctrl-C ends the call, and changes no file' >&2\necho done\n"
 WAITS = "#!/bin/sh\ntrap 'echo ended; exit 7' INT\necho begun\nwhile :; do sleep 0.05; done\n"
@@ -129,13 +129,17 @@ class Real(Program):
         (kept / "index.json").write_bytes((self.outside / "index.json").read_bytes())
         calls = (
             ["log", "--long"], ["diff"], ["show"], ["show", "b", "--json"], ["show", "none"], ["export", "--format", "dot"], ["export", "--bogus"],
-            ["skipped"], ["undo", "--dry-run"], ["redo"],
+            ["skipped"], ["undo", "--dry-run"], ["redo"], ["forget", "--keep", "0", "--dry-run"], ["forget"], ["forget", "--keep", "9"],
         )
         for words in calls:
             with self.subTest(words=words):
                 index = ["--index", ".reqlock/index.json"] * (words[0] in ("show", "export", "skipped"))
                 found = self.typed([sys.executable, "-B", SCRIPT], *words)
                 self.assertEqual(found, self.typed(["reqlock"], *index, *words))
+
+    def test_forget(self):
+        self.assertEqual(self.typed([sys.executable, "-B", SCRIPT], "forget", "--keep", "0"), (0, b"ok 0\n", b""))
+        self.assertEqual(self.typed([sys.executable, "-B", SCRIPT], "undo")[:2], (1, b"refused nothing-to-undo\n"))
 
     def test_undo_and_redo(self):
         before = self.files()

@@ -9,11 +9,20 @@ import subprocess
 import sys
 import threading
 import time
+import tomllib
 import unittest
+from contextlib import redirect_stderr
+from io import StringIO
+from pathlib import Path
+from types import SimpleNamespace
 
 from support.made.served_index import wheel_of
 from support.rql_projects import ENVIRONMENT, SCRIPT, Projects, Served
 from support.terminals import shown_on_terminal
+
+from reqlock_tools.rql.calls import Answer
+from reqlock_tools.rql.exports import stale_exports, write_exports
+from reqlock_tools.rql.settings import ExportSetting
 
 FLASK = (
     wheel_of("flask", "2.0", "werkzeug"),
@@ -291,7 +300,7 @@ class Words(Served):
 class Exports(Served):
     def setUp(self):
         super().setUp()
-        self.serve(rich=[wheel_of("rich", "1"), wheel_of("rich", "2")])
+        self.serve(rich=[wheel_of("rich", "1"), wheel_of("rich", "2")], click=[wheel_of("click", "1")])
         self.begin("rich<2\n")
         self.settings = (self.folder / "reqlock.toml").read_text(encoding="utf-8")
         self.put("reqlock.toml", 'exports = [{ file = "deploy/linux.txt" }]\n' + self.settings)
@@ -331,6 +340,21 @@ class Exports(Served):
         self.accepts("check")
         self.accepts("relock")
         self.assertNotEqual((self.folder / "lock.toml").read_bytes(), before)
+
+    def test_a_lock_without_a_target_is_of_all(self):
+        environments = "".join(f'{it} = {{ python = "3.11", platform = "{it}-x86_64" }}\n' for it in ("linux", "windows"))
+        exports = 'exports = [{ file = "deploy/lock.toml", format = "pylock" }]\n'
+        self.put("reqlock.toml", f'index = ["{self.index.url}"]\n{exports}[environments]\n{environments}')
+        self.accepts("env", "lock")
+        self.accepts("add", "click ; sys_platform == 'win32'")
+        lock = tomllib.loads((self.folder / "deploy" / "lock.toml").read_text(encoding="utf-8"))
+        self.assertEqual([(it["name"], "marker" in it) for it in lock["packages"]], [("click", True), ("rich", False)])
+        self.assertEqual(len(lock["environments"]), 2)
+        own = self.folder / ".reqlock" / "environment.windows.json"
+        self.assertEqual(self.rql("export", "--format", "pylock", "--covers", own)[:2], (0, f"{own}: windows\n"))
+        self.accepts("undo")
+        self.assertNotIn("click", (self.folder / "deploy" / "lock.toml").read_text(encoding="utf-8"))
+        self.accepts("check")
 
     def test_of_hashes_need_no_index(self):
         self.accepts("relock")
@@ -385,6 +409,26 @@ class Exports(Served):
         self.export.symlink_to(other)
         self.assertIn("is a link, which isn't followed", self.refuses("relock"))
         self.assertEqual(len(other.read_bytes().splitlines()), 1)
+
+
+class ApartExports(unittest.TestCase):
+    """A lock for all targets that the program refuses, where some program stands in its place."""
+
+    TOLD = "the targets 'linux' and 'mac' can't stand in one file: one environment may meet the conditions of both, and a differs; relock"
+
+    def called(self, write):
+        place, settings = Path("no-such.toml"), SimpleNamespace(exports=[ExportSetting("no-such.toml", "pylock", None)])
+        project = SimpleNamespace(folder=Path("."), settings=settings, place=lambda *words: place)
+        caller = SimpleNamespace(ask=lambda *words: Answer(2, b"", f"error: {self.TOLD}\n\nmore\n".encode()))
+        errors = StringIO()
+        with redirect_stderr(errors):
+            found = write(project, SimpleNamespace(earlier=lambda: [Path("index.json")]), caller)
+        self.assertFalse(place.exists())
+        return found, errors.getvalue()
+
+    def test_are_told_with_what_the_program_says(self):
+        self.assertEqual(self.called(stale_exports), ([f"no-such.toml: it can't be made: {self.TOLD}"], ""))
+        self.assertIn(f"no-such.toml: it is as it was, since {self.TOLD}\n", self.called(write_exports)[1])
 
 
 class Stranger(Projects):

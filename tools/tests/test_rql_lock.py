@@ -136,7 +136,7 @@ class Merges(Committed):
         self.put("requirements.txt", "rich<2\nflask\n")
         found, output, errors = self.rql("lock")
         self.assertEqual((found, output), (1, ""))
-        self.assertRegex(errors, r"the other side began another history, by reqlock init; type (rql\.py )?merge --ours")
+        self.assertRegex(errors, r"the other side began another history, by reqlock init or forget; type (rql\.py )?merge --ours")
         self.accepts("merge", "--ours", "--dry-run")
         self.assertEqual(self.rql("lock", "--check")[0], 1)
         self.accepts("merge", "--ours", answer="ok 2\nother side: flask 2\nthis side: rich 1 (there 2)\n")
@@ -269,6 +269,13 @@ class Targets(Served):
         self.accepts("env", "add", "windows")
         self.assertIn('target = "linux"}]  # deployed\n', path.read_text(encoding="utf-8").replace(" }", "}"))
         self.assertIn("rich==1", (self.folder / "out.txt").read_text(encoding="utf-8"))
+
+    def test_a_lock_for_installers_is_of_all_targets(self):
+        path = self.folder / "reqlock.toml"
+        path.write_text('exports = [{ file = "out.toml", format = "pylock" }]\n' + path.read_text(encoding="utf-8"), encoding="utf-8")
+        self.accepts("env", "add", "windows")
+        self.assertNotIn("target", path.read_text(encoding="utf-8"))
+        self.assertIn('name = "rich"', (self.folder / "out.toml").read_text(encoding="utf-8"))
 
     def test_versions_stay(self):
         self.accepts("constrain", "rich")

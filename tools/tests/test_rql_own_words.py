@@ -120,6 +120,7 @@ class Forms(unittest.TestCase):
 
     def test_where_they_are_typed(self):
         self.assertEqual(own_call("reqlock --dir=../web show", Here(start="..")), "rql -C .. show")
+        self.assertEqual(own_call("reqlock --dir web forget --keep 5", Here(start="web")), "rql -C web forget --keep 5")
         call = "reqlock init --pins sub/locks/pylock.toml"
         self.assertEqual(own_call(call, Here(start="sub/deep", base="sub")), "rql -C sub init --from locks/pylock.toml")
 
@@ -137,6 +138,12 @@ class Texts(unittest.TestCase):
             "1. flask needs `reqlock show` says.\n",
         ):
             self.assertEqual(in_own_words(text, Here()), text)
+
+    def test_a_lock_of_no_target(self):
+        told = "reqlock: pylock.win.toml is of no target of this history, and no edit changes it: remove it"
+        way = f"{told}, or lock for it too by"
+        self.assertEqual(in_own_words(f"{way} init --env win=FILE\n", Here(start="a b")), f"{way} rql -C 'a b' env add win\n")
+        self.assertEqual(in_own_words(f"{told}\nline 1: {told}\n", Here()), f"{told}\nline 1: {told}\n")
 
     def test_colours(self):
         self.assertEqual(in_own_words("    \x1b[1mreqlock --dir a upgrade b\x1b[0m\n", Here()), "    \x1b[1mrql upgrade b\x1b[0m\n")

@@ -34,6 +34,11 @@ FORMS = (
     ("only-binary = 'yes'", "settings.only-binary: true or false is wanted"),
     ("exports = [{ file = 'a.txt', format = 'pip' }]", "settings.exports[0].format: one of hashes, dot, pylock is wanted"),
     ("exports = [{ file = 'a.txt', target = 'linux' }]", "exports[0].target: one of "),
+    ("exports = [{ file = 'a.txt' }]\nenvironments = { a = { python = '3.11', platform = 'linux-x86_64' } }", "exports[0].target: one of a is wanted"),
+    (
+        "exports = [{ file = 'a.txt', format = 'pylock', target = 'b' }]\nenvironments = { a = { python = '3.11', platform = 'linux-x86_64' } }",
+        "exports[0].target: one of a is wanted",
+    ),
     ("environments = { Linux = { python = '3.11', platform = 'linux-x86_64' } }", "settings.environments: 'Linux' is no name of a target"),
     ("environments = { a = { python = 3.11, platform = 'linux-x86_64' } }", "settings.environments.a.python: a text is wanted"),
     ("environments = { a = { python = '3.11' } }", "settings.environments.a.platform: a text is wanted"),

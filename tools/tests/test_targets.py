@@ -233,7 +233,7 @@ class Files(Targets):
         self.begin_two()
         old = self.files()
         self.lock_for({"": LINUX, "win": WINDOWS})
-        self.plays((["init"], 0, "ok 0\n"), (["check"], 0, "ok 0\n"))
+        self.plays((["init"], 0, "ok 0\n"), (["check", "-q"], 0, "ok 0\n"))
         self.assertEqual(sorted(self.files()), sorted([*self.names(), "pylock.linux.toml"]))
         self.assertEqual(self.files()["pylock.linux.toml"], old["pylock.linux.toml"])
         (self.folder / "pylock.linux.toml").write_bytes(b"x")

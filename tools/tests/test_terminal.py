@@ -203,6 +203,29 @@ class Told(Terminal):
             shown = self.plainly(*words, *more)[2]
             self.assertTrue(shown.endswith(f"2 steps that were undone {told} nothing left to go on to.\n"), shown)
 
+    def test_what_a_history_forgets(self):
+        self.begin_plugins()
+        for words in ["add", "aa"], ["remove", "aa"], ["add", "aa<2"]:
+            self.call(*words)
+        back = (
+            " Where git has them, this brings the files back as they were committed last:\n"
+            f"    git -C {self.folder} checkout HEAD -- requirements.txt 'pylock*.toml' reqlock.journal\n"
+        )
+        for words, reply, told in (
+            (["--keep", "1", "--dry-run"], "ok 1\n", "The first 2 steps would be gone from the history.\n"),
+            (["--before", "1", "--dry-run"], "ok 2\n", "The first step would be gone from the history.\n"),
+            (["--before", "0"], "same\n", "Nothing changes, and nothing is saved.\n"),
+            (["--before", "1"], "ok 2\n", f"The first step is gone from the history.{back}"),
+            (["--keep", "0"], "ok 0\n", f"The first 2 steps are gone from the history.{back}"),
+        ):
+            with self.subTest(words=words):
+                self.assertEqual(self.plainly("forget", *words, variables={"COLUMNS": ""}), (0, reply, told))
+        told = "reqlock: the history stands at place 0, and can't begin 1 before it\nThe places of the history are told by:\n    reqlock log\n"
+        self.assertEqual(self.plainly("forget", "--keep", "1"), (2, "", told))
+        self.assertEqual(self.plainly("forget", "--keep", "0", "-q"), (0, "same\n", ""))
+        self.call("add", "mid>1")
+        self.assertEqual(self.plainly("forget", "--keep", "0", variables={"CI": "1"})[2], "")
+
     def test_what_pip_would_warn_of(self):
         self.begin(
             b"late\n", ("late", "1rc1", []), ("aa", "1", []), ("aa", "2", [], {"yanked": True}), ("bb", "1", ["aa ; extra == 'x'"])

@@ -13,6 +13,7 @@ from support.made.archives import wheel
 from support.made.environments import LINUX, WINDOWS
 from support.places import PROGRAM, TOP, needs_program, new_folder
 from support.program import FILES
+from support.rules.installs import Installing, installed_by
 from support.shown import indented_blocks, typed_blocks
 
 HEAD = "# From a folder of wheels to an installed environment"
@@ -220,6 +221,18 @@ class TwoPlatforms(Shell):
             told = (self.folder / name / "kettle-1.0.dist-info" / "WHEEL").read_text(encoding="utf-8")
             self.assertIn(f"Tag: py3-none-{platform}\n", told)
         self.check_runs("reqlock undo\nreqlock check\n", "ok 0", "ok 0")
+
+    def test_one_file_has_both(self):
+        """By the reading of PEP 751: the pip here may be older."""
+        self.type_all()
+        [line] = re.findall(r"`(reqlock [^`]*--format pylock >\S+)`", section("## Two platforms"))
+        self.check_runs(f"{line}\n")
+        data = (self.folder / line.split(">")[1]).read_bytes()
+        for name, environment in ("linux", LINUX), ("windows", WINDOWS):
+            found = installed_by(data, Installing(environment, (f"py3-none-{self.PLATFORMS[name]}", "py3-none-any")))
+            self.assertEqual({it.package["name"]: it.package["version"] for it in found}, self.WANTED[name])
+            [kettle] = [it.source["name"] for it in found if it.package["name"] == "kettle"]
+            self.assertEqual(kettle, f"kettle-1.0-py3-none-{self.PLATFORMS[name]}.whl")
 
     def test_a_wheel_of_another_platform_is_refused_by_its_hash(self):
         self.type_all()

@@ -41,12 +41,12 @@ def target_differences(project: Project) -> list[str]:
     journal = journal_of(project)
     if journal is None or not project.settings.environments:
         return []
-    wanted, found = environments(project.settings), journal.environments
-    lines = [f"{named(name)} is in the settings, and isn't locked for: rql env lock" for name in wanted.keys() - found.keys()]
-    lines += [f"{named(name)} is locked for, and isn't in the settings: rql env lock" for name in found.keys() - wanted.keys()]
-    for name in sorted(wanted.keys() & found.keys()):
-        if not are_alike(wanted[name], found[name]):
-            lines.append(f"{named(name)} is {label_of(wanted[name])} in the settings, and {label_of(found[name])} is locked for: rql env lock")
+    wanted, locked = environments(project.settings), journal.environments
+    lines = [f"{named(name)} is in the settings, and isn't locked for: rql env lock" for name in wanted.keys() - locked.keys()]
+    lines += [f"{named(name)} is locked for, and isn't in the settings: rql env lock" for name in locked.keys() - wanted.keys()]
+    for name in sorted(wanted.keys() & locked.keys()):
+        if not are_alike(wanted[name], locked[name]):
+            lines.append(f"{named(name)} is {label_of(wanted[name])} in the settings, and {label_of(locked[name])} is locked for: rql env lock")
     return sorted(lines)
 
 
@@ -61,5 +61,5 @@ def source_differences(project: Project) -> list[str]:
     from reqlock_tools.rql.sources import differences, gathered
 
     path = project.folder / REQUIREMENTS
-    found = differences(gathered(project.top, project.base, project.settings.sources), content(path), typed_path(path))
-    return [*found, "sources and lines came apart: rql lock takes the sources over"] if found else []
+    differing = differences(gathered(project.top, project.base, project.settings.sources), content(path), typed_path(path))
+    return [*differing, "sources and lines came apart: rql lock takes the sources over"] if differing else []

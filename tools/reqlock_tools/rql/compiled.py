@@ -33,15 +33,15 @@ def read_text(path: str) -> str:
 
 def joined_lines(text: str) -> list[tuple[int, str]]:
     """The lines of a file with their numbers, each with those that it goes on in. A comment ends what goes on."""
-    found: list[tuple[int, str]] = []
+    whole_lines: list[tuple[int, str]] = []
     begun: list[tuple[int, str]] = []
     for number, line in enumerate([*text.splitlines(), ""], 1):
         goes_on = line.endswith("\\") and not line.lstrip().startswith("#")
         begun.append((number, "" if line.lstrip().startswith("#") else line.removesuffix("\\")))
         if not goes_on:
-            found.append((begun[0][0], " ".join(part for _, part in begun)))
+            whole_lines.append((begun[0][0], " ".join(part for _, part in begun)))
             begun = []
-    return found
+    return whole_lines
 
 
 def read_compiled(path: str) -> tuple[dict[str, Pin], bool]:
@@ -55,13 +55,13 @@ def read_compiled(path: str) -> tuple[dict[str, Pin], bool]:
             say(f"{path}: line {number}: an option isn't taken over: {text}")
             is_whole = is_whole and not re.match("-e|--editable", text)
         elif requirement:
-            found = PIN.fullmatch(requirement)
-            if found is None or read_version(found[2]) is None:
+            parts = PIN.fullmatch(requirement)
+            if parts is None or read_version(parts[2]) is None:
                 say(f"{path}: line {number}: it isn't NAME==VERSION, so it isn't taken over: {requirement}")
                 is_whole = False
                 continue
             digests = set(re.findall("--hash[= ]\\s*sha256:([0-9a-f]+)", text))
-            pin = Pin(normal(found[1]), found[2], found[3] or "", digests)
+            pin = Pin(normal(parts[1]), parts[2], parts[3] or "", digests)
             if pins.setdefault(pin.name, pin).version != pin.version:
                 say(f"{path}: line {number}: {pin.name} is pinned a second time, to {pin.version}, which isn't taken over")
                 is_whole = False

@@ -30,9 +30,9 @@ def pip_told(*words: str) -> str:
 
 def configured(key: str) -> str | None:
     """What pip's configuration has at a key, as index-url; None where it has nothing."""
-    found = re.findall(rf"(?m)^(?:global|install)\.{key}=(.*)$", pip_told("config", "list"))
+    values = re.findall(rf"(?m)^(?:global|install)\.{key}=(.*)$", pip_told("config", "list"))
     try:
-        return str(ast.literal_eval(found[-1])) if found else None
+        return str(ast.literal_eval(values[-1])) if values else None
     except (SyntaxError, ValueError):
         return None
 
@@ -45,10 +45,10 @@ def index_of_pip() -> tuple[str, str]:
     told = configured("index-url")
     if told:
         return told, "pip's configuration"
-    found = DEFAULT.search(" ".join(pip_told("install", "--help").split()))
-    if found is None:
+    default = DEFAULT.search(" ".join(pip_told("install", "--help").split()))
+    if default is None:
         raise SettingsFault("no index is known: pip isn't there to tell one: give it by --index URL")
-    return found[1], "pip install --help"
+    return default[1], "pip install --help"
 
 
 def plain_index(url: str, origin: str) -> str:
@@ -78,28 +78,28 @@ def indexes(given: tuple[str, ...], base: Path) -> tuple[str, ...]:
     others = other_indexes(base)
     default = default_of(others)
     url, origin = default or index_of_pip()
-    found = plain_index(url, origin)
-    say(f"index {found}, as {origin} says")
-    tell_others(others, found)
+    index = plain_index(url, origin)
+    say(f"index {index}, as {origin} says")
+    tell_others(others, index)
     if default is not None:
-        return (found,)
+        return (index,)
     if os.environ.get("PIP_EXTRA_INDEX_URL") or configured("extra-index-url"):
         say("pip's extra index isn't taken over, since pip mixes what indexes have: give all by --index URL, in order")
-    return (found,)
+    return (index,)
 
 
 def platform_name(told: Mapping[str, object]) -> str | None:
     """The name of the platform of an environment; None where it has none."""
-    is_musl = any("musllinux" in str(it) for it in as_texts(told.get("platforms")))
-    for name, it in PLATFORMS.items():
+    is_musl = any("musllinux" in str(tag) for tag in as_texts(told.get("platforms")))
+    for name, platform in PLATFORMS.items():
         values = (told["os_name"], told["platform_machine"], told["platform_system"], told["sys_platform"])
-        if values == tuple(it[:4]) and (it.family == "musl") == is_musl:
+        if values == tuple(platform[:4]) and (platform.family == "musl") == is_musl:
             return name
     return None
 
 
 def as_texts(value: object) -> list[str]:
-    return [str(it) for it in value] if isinstance(value, list) else []
+    return [str(item) for item in value] if isinstance(value, list) else []
 
 
 def refuse_platform(name: str) -> None:
@@ -136,7 +136,7 @@ def family_name(platform: str) -> str:
 
 def target_names(platforms: tuple[str, ...]) -> list[str]:
     """A name for each platform: that of its family, or where two have the same the whole."""
-    families = [family_name(it) for it in platforms]
-    return [it if families.count(it) == 1 else whole.replace("_", "-") for it, whole in zip(families, platforms)]
+    families = [family_name(platform) for platform in platforms]
+    return [family if families.count(family) == 1 else whole.replace("_", "-") for family, whole in zip(families, platforms)]
 
 

@@ -47,11 +47,11 @@ def project_table(base: Path) -> dict[str, Any]:
 
 def locks_of_others(base: Path) -> tuple[Path, ...]:
     """The lock of another tool that stands there. Of several a person says which counts."""
-    found = [base / name for name in LOCKS_OF_OTHERS if (base / name).is_file()]
-    if len(found) > 1:
-        names = ", ".join(path.name for path in found)
+    files = [base / name for name in LOCKS_OF_OTHERS if (base / name).is_file()]
+    if len(files) > 1:
+        names = ", ".join(path.name for path in files)
         raise SettingsFault(f"{base}: {names} stand there: --from FILE says whose pins are kept")
-    return tuple(found)
+    return tuple(files)
 
 
 def is_output(path: Path, has_lines: bool) -> bool:

@@ -66,7 +66,7 @@ class Edit:
         word = self.request.word
         if word == "remove":
             return present_index(self.project, self.kept)
-        texts = tuple(it for it in self.request.texts if not is_url(it)) if word in ("add", "set") else ()
+        texts = tuple(text for text in self.request.texts if not is_url(text)) if word in ("add", "set") else ()
         return made_index(self.project, self.kept, Wanted(texts=texts, is_asked=word in ASKING, untold=names_of(texts) if word == "add" else frozenset()))
 
     def given(self, folder: Path | None = None) -> list[str]:
@@ -79,7 +79,7 @@ class Edit:
             from reqlock_tools.rql.texts import name_in
 
             return ["replace", "--line", name_in(texts[0]), texts[0]]
-        return [self.request.word, *(["--"] * any(it.startswith("-") for it in texts)), *texts]
+        return [self.request.word, *(["--"] * any(text.startswith("-") for text in texts)), *texts]
 
     def run(self) -> int:
         request, saving = self.request, Saving(self.project)
@@ -116,12 +116,12 @@ class Edit:
         """Whether each edit is a line of `batch` that means the same there."""
         word, texts = self.request.word, self.request.texts
         if word == "remove":
-            return all(it.split() == [it] for it in texts)
-        return word == "add" and all(it.strip().splitlines() == [it] for it in texts)
+            return all(text.split() == [text] for text in texts)
+        return word == "add" and all(text.strip().splitlines() == [text] for text in texts)
 
     def run_batch(self) -> int:
         """The same by one call. Where an edit is refused, the first such reply is all that is printed: no other one came true."""
-        text = "".join(f"{self.request.word} {it}\n" for it in self.request.texts)
+        text = "".join(f"{self.request.word} {argument}\n" for argument in self.request.texts)
         answer = self.caller.answered(*self.given(), *self.keeping, "batch", "--all-or-none", text=text)
         replies = answer.output.splitlines(keepends=True)
         refused = [place for place, reply in enumerate(replies) if reply.startswith(b"refused ")]

@@ -33,8 +33,8 @@ def place_of(settings: Settings, setting: EnvironmentSetting) -> str:
 
 def environments(settings: Settings) -> dict[str, dict[str, Any]]:
     """The environments of the settings by the names of their targets; the one of this Python where they have none."""
-    found = {it.name: described(it, place_of(settings, it)) for it in settings.environments}
-    return found or {"": own_environment()}
+    targets = {environment.name: described(environment, place_of(settings, environment)) for environment in settings.environments}
+    return targets or {"": own_environment()}
 
 
 def variables_of(told: Mapping[str, Any]) -> dict[str, str]:

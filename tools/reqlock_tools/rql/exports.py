@@ -1,5 +1,6 @@
 """Files that are written anew after each accepted call, for tools that read no lock."""
 
+import re
 from collections.abc import Sequence
 from pathlib import Path
 
@@ -12,22 +13,27 @@ from reqlock_tools.rql.project import Project
 from reqlock_tools.rql.settings import ExportSetting
 
 FIRST_LINE = b"# Exported by rql. What is changed here is lost with its next call.\n"
+# What the program tells of targets that no file can have together.
+APART = re.compile(rb"(?m)^(?:error|reqlock): (the targets [^\n]* can't stand in one file: [^\n]*)$")
+GONE = "the index of this lock is gone: rql relock makes it anew"
 
 say = speaker("rql")
 
 
-def exported(project: Project, kept: Kept, caller: Caller, export: ExportSetting) -> bytes | None:
-    """What an export is to hold; None where it can't be made, as a lock that travels can't when its index is gone, and where the lines were
-    changed since they were locked, of which the program tells beside it."""
+def exported(project: Project, kept: Kept, caller: Caller, export: ExportSetting) -> bytes | str:
+    """What an export is to hold, or why it can't be made: two targets can't stand in one file, or the index of its lock is gone. The latter is
+    also the answer where the lines were changed since they were locked, of which the program tells beside it."""
     target = ["--target", export.target] if export.target else []
-    indexes = [["--index", typed_path(it)] for it in kept.earlier()] if export.format == "pylock" else [[]]
+    indexes = [["--index", typed_path(index)] for index in kept.earlier()] if export.format == "pylock" else [[]]
     for index in indexes:
         words = ["--dir", typed_path(project.folder), *index, "export", "--format", export.format, *target]
         answer = caller.ask(*words)
         if answer.status == 0 and not answer.errors:
             caller.tell([caller.program, *words])
             return FIRST_LINE + answer.output
-    return None
+        if found := APART.search(answer.errors):
+            return found[1].decode(errors="replace")
+    return GONE
 
 
 def is_exported(place: Path) -> bool:
@@ -46,20 +52,22 @@ def write_exports(project: Project, kept: Kept, caller: Caller, forced: Sequence
 
 
 def stale_exports(project: Project, kept: Kept, caller: Caller) -> list[str]:
-    """Which exports aren't what is locked, each with what to type. One that can't be made here is passed over."""
-    found = []
+    """Which exports aren't what is locked, each with what to type, and which no file can be. One whose index is gone is passed over."""
+    stale = []
     for export in project.settings.exports:
         place = project.place(export.file, "exports")
         data = exported(project, kept, caller, export)
-        if data is None:
+        if data == GONE:
             continue
-        if not is_exported(place):
-            found.append(f"{typed_path(place)}: rql didn't write it, so it isn't exported: move it away, and then: rql lock")
+        if isinstance(data, str):
+            stale.append(f"{typed_path(place)}: it can't be made: {data}")
+        elif not is_exported(place):
+            stale.append(f"{typed_path(place)}: rql didn't write it, so it isn't exported: move it away, and then: rql lock")
         elif not place.exists():
-            found.append(f"{typed_path(place)}: this export isn't there: rql lock writes it")
+            stale.append(f"{typed_path(place)}: this export isn't there: rql lock writes it")
         elif place.read_bytes() != data:
-            found.append(f"{typed_path(place)}: it isn't what is locked: rql lock exports it anew")
-    return found
+            stale.append(f"{typed_path(place)}: it isn't what is locked: rql lock exports it anew")
+    return stale
 
 
 def write_export(project: Project, kept: Kept, caller: Caller, export: ExportSetting, is_forced: bool) -> None:
@@ -68,8 +76,8 @@ def write_export(project: Project, kept: Kept, caller: Caller, export: ExportSet
         say(f"{typed_path(place)}: it isn't exported anew, since rql didn't write it: move it away")
         return
     data = exported(project, kept, caller, export)
-    if data is None:
-        say(f"{typed_path(place)}: it is as it was, since the index of this lock is gone: rql relock makes it anew")
+    if isinstance(data, str):
+        say(f"{typed_path(place)}: it is as it was, since {data}")
         return
     place.parent.mkdir(parents=True, exist_ok=True)
     if not place.is_file() or place.read_bytes() != data:

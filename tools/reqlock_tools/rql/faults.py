@@ -19,5 +19,5 @@ class IndexFault(Refusal):
 
 def status_of(fault: Exception) -> int:
     """The status with which a refusal ends."""
-    found: int = getattr(fault, "status", USAGE)
-    return found
+    status: int = getattr(fault, "status", USAGE)
+    return status

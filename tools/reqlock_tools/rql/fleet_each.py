@@ -42,13 +42,13 @@ def run_each(options: Options, words: Sequence[str]) -> int:
     """Makes the call in each folder. The status is 1 where one of them refused."""
     place = words.index("--")
     given, call = words[:place], list(words[place + 1 :])
-    if not call or any(it.startswith("-") for it in given):
+    if not call or any(word.startswith("-") for word in given):
         raise SettingsFault("fleet: folders are wanted, then --, and then a call of rql: rql fleet services/* -- upgrade urllib3")
-    folders = list(given) or [str(it) for it in folders_below(Path("."))]
+    folders = list(given) or [str(folder) for folder in folders_below(Path("."))]
     with ThreadPoolExecutor(min(MOST_AT_ONCE, os.cpu_count() or 1)) as pool:
         done = list(pool.map(lambda folder: called_in(options, folder, call), folders))
     print_done(done)
-    return FOUND if any(it.is_refused() for it in done) else 0
+    return FOUND if any(answer.is_refused() for answer in done) else 0
 
 
 def called_in(options: Options, folder: str, call: Sequence[str]) -> Done:
@@ -56,17 +56,17 @@ def called_in(options: Options, folder: str, call: Sequence[str]) -> Done:
     told = ["--offline"] * options.is_offline + ["--refresh"] * options.is_refreshed + ["-q"] * options.is_quiet + options.ways()
     program = ["--program", os.path.abspath(options.program)] if options.program else []
     command = [sys.executable, sys.argv[0], "-C", folder, *told, *program, *call]
-    found = subprocess.run(command, stdin=subprocess.DEVNULL, capture_output=True, encoding="utf-8", errors="replace", check=False)
-    return Done(folder, found.returncode, found.stdout, found.stderr)
+    completed = subprocess.run(command, stdin=subprocess.DEVNULL, capture_output=True, encoding="utf-8", errors="replace", check=False)
+    return Done(folder, completed.returncode, completed.stdout, completed.stderr)
 
 
 def print_done(done: Sequence[Done]) -> None:
     """Prints a line for each folder, and behind the table what was told where a call failed."""
-    width = max((len(shown(it.folder)) for it in done), default=0)
-    for it in done:
-        print(f"{shown(it.folder):<{width}}  {shown(it.reply())}")
-    failed = [it for it in done if it.is_refused()]
+    width = max((len(shown(answer.folder)) for answer in done), default=0)
+    for answer in done:
+        print(f"{shown(answer.folder):<{width}}  {shown(answer.reply())}")
+    failed = [answer for answer in done if answer.is_refused()]
     print(f"{len(done)} folder{'s' * (len(done) != 1)}, {len(failed)} refused")
-    for it in failed:
-        for line in it.errors.splitlines():
-            say(f"{it.folder}: {line}")
+    for answer in failed:
+        for line in answer.errors.splitlines():
+            say(f"{answer.folder}: {line}")

@@ -52,7 +52,7 @@ def run_table(words: Sequence[str]) -> int:
 def folders_below(top: Path) -> Iterator[Path]:
     """The folders with a history, in order. Links and hidden folders are passed over."""
     for place, names, files in os.walk(top):
-        names[:] = sorted(it for it in names if it not in PASSED_OVER and not it.startswith("."))
+        names[:] = sorted(name for name in names if name not in PASSED_OVER and not name.startswith("."))
         if JOURNAL in files:
             yield Path(place)
 
@@ -62,8 +62,8 @@ def rows_of(folder: Path, need: Need, clauses: Sequence[Clause]) -> Iterator[tup
     data = content(folder / JOURNAL)
     journal = read_journal(JOURNAL, data)
     for target in sorted(journal.locks):
-        found = locked_versions([str(folder / lock_name(target))]).get(need.name, set())
-        for version in sorted(it for it in found if matches(clauses, it)):
+        versions = locked_versions([str(folder / lock_name(target))]).get(need.name, set())
+        for version in sorted(version for version in versions if matches(clauses, version)):
             yield typed_path(folder), target or "-", str(version)
 
 

@@ -23,11 +23,11 @@ def default_groups(base: Path, table: dict[str, Any]) -> tuple[str, ...]:
     """The sources of the groups that uv installs by itself, where a project is one of uv. One that can't be read is told."""
     if not (isinstance(value_at(table, "tool", "uv"), dict) or (base / "uv.lock").is_file()):
         return ()
-    groups = [it for it in table_at(table, *GROUPS) if is_name(it)]
+    groups = [group for group in table_at(table, *GROUPS) if is_name(group)]
     told = value_at(table, "tool", "uv", "default-groups")
     wanted = groups if told == "all" else told if isinstance(told, list) else ["dev"]
-    normals = {normal(it) for it in wanted if isinstance(it, str)}
-    return tuple(it for it in (f"{PROJECT_FILE}:{name}" for name in groups if normal(name) in normals) if can_be_read(base, it))
+    normals = {normal(name) for name in wanted if isinstance(name, str)}
+    return tuple(source for source in (f"{PROJECT_FILE}:{name}" for name in groups if normal(name) in normals) if can_be_read(base, source))
 
 
 def can_be_read(base: Path, source: str) -> bool:
@@ -45,7 +45,7 @@ def tell_rest(base: Path, table: dict[str, Any], sources: tuple[str, ...]) -> No
         read = gathered(top_of(base), base, sources)
     except SettingsFault:
         return  # (which will be refused)
-    default = [it for it in sources if it != PROJECT_FILE]
+    default = [source for source in sources if source != PROJECT_FILE]
     if default:
         say(f"{', '.join(default)}: locked too, as `uv sync` installs it: what is taken out of sources in the settings isn't, after rql lock")
     tell_unread(table, read)
@@ -64,9 +64,9 @@ def taken_in(sources: str, *first: str) -> str:
 
 def tell_unread(table: dict[str, Any], read: Gathered) -> None:
     """Tells which groups and extras aren't among the sources."""
-    keys = {it.keys for it in read.sections}
-    names = [f"{PROJECT_FILE}:{it}" for it in table_at(table, *GROUPS) if (*GROUPS, it) not in keys]
-    names += [f"{PROJECT_FILE}[{it}]" for it in table_at(table, *EXTRAS) if (*EXTRAS, it) not in keys]
+    keys = {section.keys for section in read.sections}
+    names = [f"{PROJECT_FILE}:{group}" for group in table_at(table, *GROUPS) if (*GROUPS, group) not in keys]
+    names += [f"{PROJECT_FILE}[{extra}]" for extra in table_at(table, *EXTRAS) if (*EXTRAS, extra) not in keys]
     if names:
         them = "it" if len(names) == 1 else "them"
         joined = '", "'.join(names)
@@ -77,9 +77,9 @@ def tell_of_uv(table: dict[str, Any], read: Gathered) -> None:
     """Tells what uv knows of dependencies in tables of its own."""
     if value_at(table, "tool", "uv", "dev-dependencies"):
         first = "put its lines into dev in [dependency-groups], which uv reads too,"
-        is_there = any(it.keys == (*GROUPS, "dev") for it in read.sections)
+        is_there = any(section.keys == (*GROUPS, "dev") for section in read.sections)
         say(f"tool.uv.dev-dependencies: not locked: {f'{first} and call rql lock' if is_there else taken_in(f'{PROJECT_FILE}:dev', first)}")
-    names = {normal(it) for it in table_at(table, "tool", "uv", "sources")}
-    told = sorted({need.name for it in read.lines if (need := need_of(it.text)) is not None} & names)
+    names = {normal(name) for name in table_at(table, "tool", "uv", "sources")}
+    told = sorted({need.name for line in read.lines if (need := need_of(line.text)) is not None} & names)
     if told:
         say(f"tool.uv.sources isn't followed: {', '.join(told)}: the index is asked for it, whose package of this name may be another one")

@@ -25,12 +25,12 @@ def journal_of(project: Project) -> Journal | None:
 
 
 def wanted_journal(project: Project) -> Journal:
-    found = journal_of(project)
-    if found is None:
+    journal = journal_of(project)
+    if journal is None:
         lock = lock_name("")
         kept = f" --from {lock}" if (project.folder / lock).exists() else ""
         raise SettingsFault(f"{project.folder / JOURNAL}: it isn't there, so there is no history: rql init{kept} begins one")
-    return found
+    return journal
 
 
 def is_whole(project: Project, journal: Journal) -> bool:

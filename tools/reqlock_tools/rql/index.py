@@ -80,7 +80,7 @@ def addresses(project: Project) -> tuple["IndexAddress", ...]:
 
     if not project.settings.index:
         raise SettingsFault(f"{project.settings.file}: index: the address of an index is wanted, as [\"https://HOST/simple/\"]")
-    return tuple(IndexAddress(it.url, it.only) for it in project.settings.index)
+    return tuple(IndexAddress(setting.url, setting.only) for setting in project.settings.index)
 
 
 def locks_of(project: Project) -> list[Path]:
@@ -138,7 +138,7 @@ def plan_of(project: Project, kept: Kept, wanted: Wanted) -> "Plan":
         indexes=addresses(project),
         names=followed_texts([*remembered(kept), *wanted.names]),
         lines=followed_texts([*lines_of(project.folder / REQUIREMENTS), *wanted.texts]),
-        environments=tuple(environment_of(name, it, variables_of(it)) for name, it in told.items()),
+        environments=tuple(environment_of(name, described, variables_of(described)) for name, described in told.items()),
         constraints=tuple(replace(read_constraints(str(path), say), file=text) for text, path in constraint_files(project)),
         keep=texts_of(with_pins(locked_versions(map(str, locks)), wanted.pins)) if is_choosy(settings) else (),
         options=Choices(
@@ -178,7 +178,7 @@ def index_bytes(
     try:
         with telling(is_told(options)):
             # (settings are a file, which may be a stranger's)
-            credentials = Credentials((it.url for it in plan.indexes), say_index, are_typed=False)
+            credentials = Credentials((address.url for address in plan.indexes), say_index, are_typed=False)
             run = Run(plan, asking, credentials)
             data = snapshot_text(run.snapshot(may_be_none, untold)).encode()
     except (Refusal, OSError) as fault:

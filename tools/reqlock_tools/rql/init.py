@@ -43,20 +43,20 @@ def begun(options: Options, request: InitRequest) -> int:
     base = Path(os.path.realpath(options.start))
     if not base.is_dir():
         raise SettingsFault(f"{options.start}: there is no such folder")
-    found = settings_in(base)
-    if found is not None and (request.indexes or request.platforms or request.python):
-        raise SettingsFault(f"{found.file}: settings stand there already: change them there, or remove them")
+    present = settings_in(base)
+    if present is not None and (request.indexes or request.platforms or request.python):
+        raise SettingsFault(f"{present.file}: settings stand there already: change them there, or remove them")
     for platform in request.platforms:
         refuse_platform(platform)
     if request.python:
         refuse_python(request.python)
     draft = draft_of(base, request.pinned)
-    if found is None and PROJECT_FILE in draft.sources:
+    if present is None and PROJECT_FILE in draft.sources:
         from reqlock_tools.rql.groups import tell_rest
 
         tell_rest(base, project_table(base), draft.sources)
-    if found is not None:
-        return Beginning(project_of(found, options), draft, None, bool(request.pinned)).run()
+    if present is not None:
+        return Beginning(project_of(present, options), draft, None, bool(request.pinned)).run()
     file, text = new_settings(base, draft, request)
     whole = read_toml(text)
     settings = settings_of(whole if file.name == OWN_FILE else whole["tool"]["reqlock"], file, f"{file}: new settings")
@@ -167,7 +167,7 @@ class Beginning:
         self.write_settings()
         accepted(self.project, kept, self.caller, None if self.draft.index else index, self.forced())
         if self.draft.pinned:
-            locks = [locked_in(self.project.lock_path(it)) for it in environments(self.project.settings)]
+            locks = [locked_in(self.project.lock_path(target)) for target in environments(self.project.settings)]
             count = Outcome(self.caller, self.project.folder, self.draft.index or kept.index, packages).tell(locks, taken)
             self.is_taken = count == len(pins) and all(is_whole for _, is_whole in read)
             say(f"{count} of {len(pins)} pins are taken over")
@@ -177,7 +177,7 @@ class Beginning:
         """The index that is given, once the program has read it; or else one that has what is pinned."""
         given = self.draft.index
         if given is None:
-            return made_index(self.project, kept, Wanted(is_asked=True, pins=tuple(f"{it.name}=={it.version}" for it in pins)))
+            return made_index(self.project, kept, Wanted(is_asked=True, pins=tuple(f"{pin.name}=={pin.version}" for pin in pins)))
         answer = self.caller.ask("--dir", typed_path(self.project.folder), "--index", str(given), "skipped")
         if answer.status != 0:
             raise IndexFault(f"{given}: {answer.errors.decode(errors='replace').strip().removeprefix('reqlock: index: ')}")

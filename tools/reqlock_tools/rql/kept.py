@@ -77,7 +77,7 @@ class Kept:
 
     def earlier(self) -> list[Path]:
         """The indexes that are there, the present one first."""
-        return [it for it in (self.index, self.path("index.1.json"), self.path("index.2.json")) if it.is_file() and not it.is_symlink()]
+        return [path for path in (self.index, self.path("index.1.json"), self.path("index.2.json")) if path.is_file() and not path.is_symlink()]
 
     def accept(self, index: Path) -> None:
         """Has an index take the place of the present one, of which two are kept."""
@@ -99,7 +99,7 @@ class Kept:
         """The words that tell the program what is locked for."""
         from reqlock_tools.rql.environments import environments
 
-        files = [(name, typed_path(self.environment(name, it))) for name, it in environments(self.project.settings).items()]
+        files = [(name, typed_path(self.environment(name, described))) for name, described in environments(self.project.settings).items()]
         return [word for name, path in files for word in ("--env", f"{name}={path}" if name else path)]
 
     @property

@@ -34,7 +34,7 @@ def lacking(index: Path, texts: Iterable[str]) -> dict[str, str]:
 
 def near_names(name: str, index: Path) -> list[str]:
     """The names of an index that are nearly a name, the nearest first."""
-    return difflib.get_close_matches(name, [it for it, found in releases_by_name(str(index)).items() if found["releases"]], MOST, CLOSEST)
+    return difflib.get_close_matches(name, [known for known, package in releases_by_name(str(index)).items() if package["releases"]], MOST, CLOSEST)
 
 
 def lacking_text(options: Options, index: Path, name: str, text: str) -> str:

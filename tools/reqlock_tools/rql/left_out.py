@@ -38,22 +38,22 @@ def tell_left_out(project: Project, index: Path, words: Iterable[str], ask: Call
 def names_in(words: Iterable[str], answer: str) -> dict[str, None]:
     """The normal names that words begin with, and then those that an answer may name, each once."""
     needs = filter(None, map(need_of, words))
-    return dict.fromkeys([*(it.name for it in needs), *map(normal, dict.fromkeys(NAME.findall(COLOR.sub("", answer))))])
+    return dict.fromkeys([*(need.name for need in needs), *map(normal, dict.fromkeys(NAME.findall(COLOR.sub("", answer))))])
 
 
 def left_out(project: Project, index: Path) -> dict[str, list[str]]:
     """What constraints left out of an index, by normal names: a line for each file."""
     made = read_made(str(index))
     plan = plan_of(made)
-    bounds = Bounds(plan.constraints, Markers([it.variables for it in plan.environments]))
+    bounds = Bounds(plan.constraints, Markers([environment.variables for environment in plan.environments]))
     places = dict(constraint_files(project))
-    found: dict[str, list[str]] = {}
+    texts: dict[str, list[str]] = {}
     for left in left_of(made):
         for file, bound in bounds.of(left.name):
             if left.why == why_out(file):
                 text = f"{file} leaves out {releases_text(left)} ({bound_text(left.name, bound, places[file])})"
-                found.setdefault(left.name, []).append(text)
-    return found
+                texts.setdefault(left.name, []).append(text)
+    return texts
 
 
 def releases_text(left: LeftOut) -> str:

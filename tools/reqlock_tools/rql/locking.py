@@ -120,18 +120,18 @@ class Locking:
         """The lines that were saved with the journal: rql keeps them, or git has them."""
         if self.kept.saved.is_file() and digest_of(content(self.kept.saved)) == journal.requirements:
             return content(self.kept.saved)
-        found = saved(self.checkout, REQUIREMENTS, journal.requirements, ["HEAD"]) if self.checkout else None
-        if found is None:
+        earlier = saved(self.checkout, REQUIREMENTS, journal.requirements, ["HEAD"]) if self.checkout else None
+        if earlier is None:
             raise SettingsFault(
                 f"{typed_path(self.project.folder / REQUIREMENTS)}: nobody has the lines that were saved last. A new history, with the versions"
                 f" that are locked, is begun by: {self.beginning(journal)}"
             )
-        return found.data
+        return earlier.data
 
     def beginning(self, journal: Journal) -> str:
         """What begins a new history with the versions that are locked, as it is typed here."""
         place = [] if Path.cwd() == self.project.base else ["-C", typed_path(self.project.base)]
-        locks = [os.path.relpath(self.project.lock_path(it), self.project.base) for it in sorted(journal.locks)]
+        locks = [os.path.relpath(self.project.lock_path(target), self.project.base) for target in sorted(journal.locks)]
         return shlex.join(["rql", *place, "init", *(word for path in locks for word in ("--from", path))])
 
     # What git merges
@@ -169,12 +169,12 @@ class Locking:
 
     def stage(self, checkout: Checkout) -> None:
         """Tells git that those exports and sources are merged which it couldn't merge, as reqlock-merge does of the program's files."""
-        places = [self.project.place(it.file, "exports") for it in self.project.settings.exports]
+        places = [self.project.place(export.file, "exports") for export in self.project.settings.exports]
         if self.project.settings.sources:
             from reqlock_tools.rql import sources
 
-            places += [it.path for it in sources.gathered(self.project.top, self.project.base, self.project.settings.sources).sections]
-        names = [os.path.relpath(it, self.project.folder) for it in places]
+            places += [section.path for section in sources.gathered(self.project.top, self.project.base, self.project.settings.sources).sections]
+        names = [os.path.relpath(place, self.project.folder) for place in places]
         unmerged = checkout.unmerged(names).intersection(names) if names else set()
         if unmerged:
             checkout.call("add", "--", *sorted(unmerged))
@@ -182,13 +182,13 @@ class Locking:
 
 def both_locks(checkout: Checkout, sides: Sides, place: Path) -> tuple[Path, ...]:
     """The locks of both sides, as files."""
-    found: list[Path] = []
+    paths: list[Path] = []
     for name, places in ("ours", [":2", sides.ours]), ("theirs", [":3", sides.theirs or ":0"]):
         side = read_side(checkout, name, places)
         for target, data in (side.locks if side else {}).items():
             if data is not None:
-                found.append(place / f"{name}.{lock_name(target)}")
-                found[-1].write_bytes(data)
-    return tuple(found)
+                paths.append(place / f"{name}.{lock_name(target)}")
+                paths[-1].write_bytes(data)
+    return tuple(paths)
 
 

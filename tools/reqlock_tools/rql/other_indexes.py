@@ -43,16 +43,16 @@ def other_indexes(base: Path) -> list[OtherIndex]:
     """The indexes that pyproject.toml names, in the order in which they are asked."""
     table = project_table(base)
     text = read_text(str(base / PROJECT_FILE)) if table else ""
-    found = [*indexes_of_uv(table, text), *indexes_of_poetry(table, text)]
-    return sorted(found, key=rank)
+    indexes = [*indexes_of_uv(table, text), *indexes_of_poetry(table, text)]
+    return sorted(indexes, key=rank)
 
 
 def indexes_of_uv(table: dict[str, Any], text: str) -> Iterator[OtherIndex]:
     uv = table_at(table, "tool", "uv")
-    for number, it in enumerate(tables(uv.get("index"))):
-        kind: Kind = "bound" if it.get("explicit") is True else "default" if it.get("default") is True else "before"
-        url = text_of(it.get("url"))
-        yield OtherIndex(place(text, f"tool.uv.index[{number}]", url), url, kind, names_bound(table_at(uv, "sources"), "index", it.get("name")))
+    for number, entry in enumerate(tables(uv.get("index"))):
+        kind: Kind = "bound" if entry.get("explicit") is True else "default" if entry.get("default") is True else "before"
+        url = text_of(entry.get("url"))
+        yield OtherIndex(place(text, f"tool.uv.index[{number}]", url), url, kind, names_bound(table_at(uv, "sources"), "index", entry.get("name")))
     extra = uv.get("extra-index-url")
     for url in map(text_of, extra if isinstance(extra, list) else []):
         yield OtherIndex(place(text, "tool.uv.extra-index-url", url), url, "before")
@@ -63,15 +63,15 @@ def indexes_of_uv(table: dict[str, Any], text: str) -> Iterator[OtherIndex]:
 def indexes_of_poetry(table: dict[str, Any], text: str) -> Iterator[OtherIndex]:
     poetry = table_at(table, "tool", "poetry")
     needs = {name: need for _, group in [("", poetry), *table_at(poetry, "group").items()] for name, need in table_at(group, "dependencies").items()}
-    for number, it in enumerate(tables(poetry.get("source"))):
-        priority = "secondary" if it.get("secondary") is True else text_of(it.get("priority")).lower()
-        url = text_of(it.get("url"))
-        where = place(text, f"tool.poetry.source[{number}]", url or text_of(it.get("name")))
-        yield OtherIndex(where, url, PRIORITIES.get(priority, "default"), names_bound(needs, "source", it.get("name")))
+    for number, entry in enumerate(tables(poetry.get("source"))):
+        priority = "secondary" if entry.get("secondary") is True else text_of(entry.get("priority")).lower()
+        url = text_of(entry.get("url"))
+        where = place(text, f"tool.poetry.source[{number}]", url or text_of(entry.get("name")))
+        yield OtherIndex(where, url, PRIORITIES.get(priority, "default"), names_bound(needs, "source", entry.get("name")))
 
 
 def tables(value: object) -> list[dict[str, Any]]:
-    return [it for it in value if isinstance(it, dict)] if isinstance(value, list) else []
+    return [item for item in value if isinstance(item, dict)] if isinstance(value, list) else []
 
 
 def text_of(value: object) -> str:
@@ -80,8 +80,8 @@ def text_of(value: object) -> str:
 
 def names_bound(needs: dict[str, Any], key: str, name: object) -> tuple[str, ...]:
     """The packages that are taken from the index of a name."""
-    several = {it: tables(told if isinstance(told, list) else [told]) for it, told in needs.items()}
-    return tuple(it for it, told in several.items() if name is not None and any(one.get(key) == name for one in told))
+    several = {package: tables(told if isinstance(told, list) else [told]) for package, told in needs.items()}
+    return tuple(package for package, told in several.items() if name is not None and any(one.get(key) == name for one in told))
 
 
 def place(text: str, key: str, url: str) -> str:
@@ -100,32 +100,32 @@ def plain(url: str) -> str:
         return "URL"
 
 
-def default_of(found: list[OtherIndex]) -> tuple[str, str] | None:
+def default_of(indexes: list[OtherIndex]) -> tuple[str, str] | None:
     """The one index that another tool asks where nothing is said, and what says so."""
-    defaults = {plain(it.url): it for it in found if it.kind == "default"}
+    defaults = {plain(index.url): index for index in indexes if index.kind == "default"}
     only = next(iter(defaults.values())) if len(defaults) == 1 else None
     return (only.url, only.place) if only is not None and only.url else None
 
 
-def tell_others(found: list[OtherIndex], taken: str) -> None:
+def tell_others(indexes: list[OtherIndex], taken: str) -> None:
     """Tells which indexes aren't followed, and what has them asked too, where one is taken. That is asked in the place of a default, unless
     another tool has defaults of its own."""
-    left = [it for it in found if it.url and plain(it.url) != taken]
-    for it in left:
-        say(f"{it.place}: {plain(it.url)} isn't followed: {WHY[it.kind]}")
-    asked = [it for it in left if it.only or it.kind != "bound"]
+    left = [index for index in indexes if index.url and plain(index.url) != taken]
+    for index in left:
+        say(f"{index.place}: {plain(index.url)} isn't followed: {WHY[index.kind]}")
+    asked = [index for index in left if index.only or index.kind != "bound"]
     if asked:
-        own = [] if any(it.kind == "default" for it in left) else [OtherIndex("", taken, "default")]
+        own = [] if any(index.kind == "default" for index in left) else [OtherIndex("", taken, "default")]
         say(f"to ask {'it' if len(asked) == 1 else 'them'} too, {way_to_ask(sorted([*asked, *own], key=rank))}")
 
 
-def way_to_ask(found: list[OtherIndex]) -> str:
+def way_to_ask(indexes: list[OtherIndex]) -> str:
     """What has these indexes asked, in this order: settings, or where none is bound also words that begin anew."""
-    way = f"write index = [{', '.join(it.setting() for it in found)}] into the settings, and call rql relock"
-    words = " ".join(f"--index {plain(it.url)}" for it in found)
-    return way if any(it.only for it in found) else f"{way}; or begin with rql init {words}"
+    way = f"write index = [{', '.join(index.setting() for index in indexes)}] into the settings, and call rql relock"
+    words = " ".join(f"--index {plain(index.url)}" for index in indexes)
+    return way if any(index.only for index in indexes) else f"{way}; or begin with rql init {words}"
 
 
-def rank(found: OtherIndex) -> int:
+def rank(index: OtherIndex) -> int:
     """The place of an index in the order in which they are asked."""
-    return [*WHY].index(found.kind)
+    return [*WHY].index(index.kind)

@@ -10,7 +10,8 @@ from dataclasses import dataclass
 OF_SETTINGS = "--dir", "--index", "--env", "--for", "--output", "--color"
 # Subcommands that are words of rql too, and mean the same there.
 ALIKE = (
-    "add", "remove", "constrain", "upgrade", "relock", "undo", "redo", "show", "log", "diff", "outdated", "skipped", "export", "check", "why",
+    "add", "remove", "constrain", "upgrade", "relock", "undo", "redo", "forget", "show", "log", "diff", "outdated", "skipped", "export", "check",
+    "why",
 )
 
 
@@ -39,7 +40,7 @@ def call_of(text: str) -> Call | None:
     except ValueError:
         return None
     kept = without_settings(words)
-    place = next((place for place, it in enumerate(kept) if not it.startswith("-")), None)
+    place = next((place for place, word in enumerate(kept) if not word.startswith("-")), None)
     if place is None:
         return Call(program, tuple(kept))
     return Call(f"{program} {kept[place]}", (*kept[:place], *kept[place + 1 :]))
@@ -71,7 +72,7 @@ def front(folder: str) -> list[str]:
 
 def shown(call: Call, here: Here) -> list[str]:
     """The tree has a word of its own."""
-    words = [it for it in call.words if it != "--tree"]
+    words = [word for word in call.words if word != "--tree"]
     return [*front(here.start), "tree" if "--tree" in call.words else "show", *words]
 
 
@@ -94,7 +95,7 @@ def replaced(call: Call, here: Here) -> list[str] | None:
 def begun(call: Call, here: Here) -> list[str]:
     """A history that begins anew. Its settings stand in their own folder, from which the locks are named whose pins are kept."""
     pins = [value for option, value in zip(call.words, call.words[1:]) if option == "--pins"]
-    paths = [os.path.relpath(it.rpartition("=")[2], here.base) for it in pins]
+    paths = [os.path.relpath(pin.rpartition("=")[2], here.base) for pin in pins]
     return [*front(here.base), "init", *(word for path in paths for word in ("--from", path))]
 
 
@@ -116,8 +117,8 @@ def own_call(text: str, here: Here) -> str | None:
     bare, mark, output = text.partition(" >")
     is_put = mark != "" and "'" not in output
     call = call_of(bare if is_put else text)
-    found = WAYS[call.word](call, here) if call is not None and call.word in WAYS else None
-    return None if found is None else " ".join(map(quoted, found)) + (f" >{output}" if is_put else "")
+    words = WAYS[call.word](call, here) if call is not None and call.word in WAYS else None
+    return None if words is None else " ".join(map(quoted, words)) + (f" >{output}" if is_put else "")
 
 
 def quoted(word: str) -> str:

@@ -2,10 +2,11 @@
 at: what somebody typed, and what a package says, stays as it is."""
 
 import re
+import shlex
 import textwrap
 from collections.abc import Callable, Collection
 
-from reqlock_tools.rql.own_calls import Here, own_call
+from reqlock_tools.rql.own_calls import Here, front, own_call
 
 # What stands in front of a call in quotes, where something does.
 FRONTS = (
@@ -46,6 +47,8 @@ MERGING = re.compile(r"(?m)^(rql(?:\.py)?: .*(?:begin anew: |no history; |\| ))(
 LACKED = re.compile(spaced(r"(?m)^the index has no release of (\S+)(?:; near names: \S+(?:, \S+)*)?\n|^the snapshot has no package (\S+), which a line asks for\n"))
 LACKS = re.compile(spaced(r"(?m)the snapshot has no packages? \S"))
 TAKEN_IN = re.compile(spaced(r"(?m)^Where the package index has (?:it|them), the same edit by rql takes (?:it|them) in\.\n"))
+# What `check` says of a lock that is of no target.
+STRAY = re.compile(r"(?m)^(reqlock: pylock\.[^\n]*: remove it, or lock for it too by )init --env ([a-z][a-z0-9-]*)=FILE$")
 CALLS = LINE, QUESTION, QUOTED, MERGING
 KNOWN = {re.compile(rf"(?m)^{'[ ]'.join(map(re.escape, old.split(' ')))}$".replace("[ ]", "[ \n]")): new for old, new in SENTENCES.items()}
 
@@ -56,24 +59,24 @@ def in_own_words(text: str, here: Here, width: int | None = None) -> str:
     for pattern, sentence in KNOWN.items():
         text = pattern.sub(wrapped(sentence, width), text)
     for pattern in CALLS:
-        text = pattern.sub(lambda found: own(found, here), text)
-    return text
+        text = pattern.sub(lambda occurrence: own(occurrence, here), text)
+    return STRAY.sub(lambda stray: f"{stray[1]}{shlex.join(front(here.start))} env add {stray[2]}", text)
 
 
-def own(found: "re.Match[str]", here: Here) -> str:
+def own(occurrence: "re.Match[str]", here: Here) -> str:
     """What is found, with the call of rql. One that was broken begins a line of its own."""
-    before, call, behind = found.groups()
+    before, call, behind = occurrence.groups()
     told = own_call(" ".join(call.split("\n")), here)
     if told is None:
-        return found[0]
+        return occurrence[0]
     return f"{re.sub(' (?=`$)', chr(10), before) if chr(10) in call else before}{told}{behind}"
 
 
 def without_lacking(text: str, lacking: Callable[[], Collection[str]]) -> str:
     """The text without what it tells of names that the index lacks, and without what to do then where it tells of no others."""
     names = lacking() if LACKED.search(text) else ()
-    found = LACKED.sub(lambda it: "" if (it[1] or it[2]) in names else it[0], text)
-    return found if found == text or LACKS.search(found) else TAKEN_IN.sub("", found)
+    rest = LACKED.sub(lambda lack: "" if (lack[1] or lack[2]) in names else lack[0], text)
+    return rest if rest == text or LACKS.search(rest) else TAKEN_IN.sub("", rest)
 
 
 def with_whole_questions(text: str, width: int | None) -> str:

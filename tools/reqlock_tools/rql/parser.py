@@ -19,6 +19,7 @@ or the network failed; 130 after Ctrl-C."""
 # What is handed to the program with all words behind it, and what of it is told in help.
 PASSED = {
     "undo": "go back to the state before the last edit", "redo": "go on to the state that an undo left",
+    "forget": "take the first steps out of the history; the present state stays",
     "show": "print the lock as a table, with what asks for each entry", "tree": "print the lock below the lines that ask for it",
     "outdated": "print which locked releases have newer ones, and who holds them back",
     "why": "say why a line can't be locked", "log": "print the history, a line for each edit",
@@ -153,8 +154,8 @@ def add_env(words: "Subparsers", name: str) -> None:
     remove = kinds.add_parser("remove", help="lock for one environment less", allow_abbrev=False)
     remove.add_argument("name", metavar="NAME", help="the name of the target")
     lock = kinds.add_parser("lock", help="lock for the environments as the settings have them, whoever changed these", allow_abbrev=False)
-    for it in add, remove, lock:
-        it.add_argument("--anew", action="store_true", help="begin a new history, with the versions that are locked")
+    for command in add, remove, lock:
+        command.add_argument("--anew", action="store_true", help="begin a new history, with the versions that are locked")
     kinds.add_parser("list", help="print the environments", allow_abbrev=False)
 
 
@@ -171,7 +172,7 @@ def parsed(arguments: Sequence[str]) -> tuple[Options, Request]:
     word = arguments[place] if place < len(arguments) else ""
     is_handed_on = word in PASSED or word in TOOLS
     # (help in front of a word is that of all words)
-    asks_help = any(it in ("-h", "--help") for it in arguments[:place])
+    asks_help = any(argument in ("-h", "--help") for argument in arguments[:place])
     parser = parser_of(None if asks_help else word)
     if word and word not in BUILDERS and not asks_help:
         parser.error(f"there is no command {word!a}: {in_place_of_command(word, BUILDERS)}")
@@ -187,7 +188,7 @@ def parsed(arguments: Sequence[str]) -> tuple[Options, Request]:
 def refuse_rest(parser: argparse.ArgumentParser, word: str, rest: Sequence[str]) -> None:
     """Ends with the words that a command doesn't take, and with what does their work."""
     hint = in_place_of_options(word, rest)
-    choices = next(it.choices for it in parser._actions if isinstance(it, argparse._SubParsersAction))
+    choices = next(action.choices for action in parser._actions if isinstance(action, argparse._SubParsersAction))
     # (what stands in front of a word that is handed on is rql's own)
     (parser if word in PASSED or word in TOOLS else choices[word]).error(f"it doesn't take {' '.join(rest)}" + (f": {hint}" if hint else ""))
 

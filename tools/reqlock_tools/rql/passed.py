@@ -14,6 +14,8 @@ from reqlock_tools.rql.telling import is_told
 
 # Those that go to another state of the history.
 MOVING = "undo", "redo"
+# What saves a history, and leaves its present state.
+SHORTENING = "forget"
 # Those that read the index, where it is there.
 READING = "show", "tree", "export", "skipped"
 # The statuses of a question that is answered: by what is printed, by a refusal, or by that nothing can be locked.
@@ -31,6 +33,9 @@ def run_passed(project: Project, request: PassedRequest) -> int:
     kept = Kept(project)
     if request.word in MOVING:
         return moved(project, kept, caller, given, call)
+    if request.word == SHORTENING:
+        with kept.locked():
+            return caller.hand_over(*given, *call)
     if request.word in READING:
         return caller.hand_over(*given, *index_words(index_to_read(project, kept, request.word)), *call)
     if request.word in ("outdated", "why"):
@@ -102,7 +107,7 @@ def asked_index(project: Project, kept: Kept, request: PassedRequest) -> Path:
 
     if request.word == "outdated":
         return made_index(project, kept, Wanted(is_asked=True))
-    texts = [it for it in request.words if fault_of(it) is None] + new_lines(request.words)
+    texts = [text for text in request.words if fault_of(text) is None] + new_lines(request.words)
     return made_index(project, kept, Wanted(texts=tuple(texts)))
 
 
@@ -121,11 +126,11 @@ def run_tool(options: Options, request: PassedRequest) -> int:
         from reqlock_tools.rql.fleet_table import run_table
 
         return run_table(words[1:])
-    if request.word == "fleet" and "--" in words and not any(it.startswith(("--index", "-h", "--help")) for it in words):
+    if request.word == "fleet" and "--" in words and not any(word.startswith(("--index", "-h", "--help")) for word in words):
         from reqlock_tools.rql.fleet_each import run_each
 
         return run_each(options, words)
-    if request.word == "merge" and not any(it.startswith(("--index", "-h", "--help")) for it in words):
+    if request.word == "merge" and not any(word.startswith(("--index", "-h", "--help")) for word in words):
         from reqlock_tools.rql.locking import run_merge
         from reqlock_tools.rql.project import find_project
 

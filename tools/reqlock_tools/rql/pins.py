@@ -27,8 +27,8 @@ def is_compiled(path: Path) -> bool:
 def has_pins_alone(path: Path) -> bool:
     """Whether each line of a file pins a version, as those of a compiled file without comments do."""
     texts = [re.sub(r"(^|\s)#.*", "", line).strip() for _, line in joined_lines(read_text(str(path)))]
-    lines = [re.split(r"\s--", it)[0].strip() for it in texts if it and not it.startswith("-")]
-    return bool(lines) and all(PIN.fullmatch(it) for it in lines)
+    lines = [re.split(r"\s--", text)[0].strip() for text in texts if text and not text.startswith("-")]
+    return bool(lines) and all(PIN.fullmatch(line) for line in lines)
 
 
 def read_pins(path: Path) -> tuple[list[Pin], bool]:
@@ -38,8 +38,8 @@ def read_pins(path: Path) -> tuple[list[Pin], bool]:
             told = read_toml(read_text(str(path)))
         except Refusal as fault:
             raise SettingsFault(f"{path}: {str(fault).removeprefix(f'{path}: ')}") from None
-        found = list(pins_of(told, path))
-        return found, len(found) == sum(1 for it in packages_of(told, path) if not is_own_project(it))
+        locked_pins = list(pins_of(told, path))
+        return locked_pins, len(locked_pins) == sum(1 for package in packages_of(told, path) if not is_own_project(package))
     try:
         pins, is_whole = read_compiled(str(path))
         return list(pins.values()), is_whole
@@ -50,7 +50,7 @@ def read_pins(path: Path) -> tuple[list[Pin], bool]:
 def packages_of(lock: dict[str, Any], path: Path) -> list[dict[str, Any]]:
     """The packages of a lock in TOML."""
     packages = lock.get("packages" if path.name.startswith("pylock") else "package")
-    if not isinstance(packages, list) or not all(isinstance(it, dict) for it in packages):
+    if not isinstance(packages, list) or not all(isinstance(package, dict) for package in packages):
         raise SettingsFault(f"{path}: it has no list of packages; it is no lock of uv or Poetry, and no pylock.toml")
     return packages
 
@@ -89,8 +89,8 @@ def marker_of(package: dict[str, Any]) -> str:
     """The marker of a package behind a semicolon; nothing where it has none."""
     told = package.get("resolution-markers", package.get("marker", package.get("markers")))
     texts = told if isinstance(told, list) else [told] if isinstance(told, str) else []
-    found = [text for text in texts if isinstance(text, str) and text.isprintable()]
-    return f"; {' or '.join(f'({it})' for it in found)}" if found else ""
+    markers = [text for text in texts if isinstance(text, str) and text.isprintable()]
+    return f"; {' or '.join(f'({marker})' for marker in markers)}" if markers else ""
 
 
 def digests_of(package: dict[str, Any]) -> Iterable[str]:
@@ -100,9 +100,9 @@ def digests_of(package: dict[str, Any]) -> Iterable[str]:
         if isinstance(file, dict):
             hashes = file.get("hashes")
             told = file.get("hash", hashes.get("sha256") if isinstance(hashes, dict) else None)
-            found = re.fullmatch("(?:sha256:)?([0-9a-f]{64})", told) if isinstance(told, str) else None
-            if found:
-                yield found[1]
+            digest = re.fullmatch("(?:sha256:)?([0-9a-f]{64})", told) if isinstance(told, str) else None
+            if digest:
+                yield digest[1]
 
 
 def as_list(value: object) -> list[object]:

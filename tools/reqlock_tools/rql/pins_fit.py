@@ -25,25 +25,25 @@ def releases_by_name(path: str) -> Packages:
     return {normal(package["name"]): package for package in json.loads(read_text(path))["packages"]}
 
 
-def release_of(pin: Pin, packages: Packages) -> dict[str, Any] | None:
+def pinned_release(pin: Pin, packages: Packages) -> dict[str, Any] | None:
     wanted = version_of(pin.version)
     for release in packages.get(pin.name, {"releases": []})["releases"]:
         if read_version(release["version"]) == wanted:
-            found: dict[str, Any] = release
-            return found
+            listed: dict[str, Any] = release
+            return listed
     return None
 
 
 def must_be_named(pin: Pin, packages: Packages) -> bool:
     """Whether the release that is pinned may count only where a line names it."""
-    release = release_of(pin, packages)
+    release = pinned_release(pin, packages)
     return release is not None and (release.get("yanked") or version_of(pin.version).is_prerelease)
 
 
 def fits(pin: Pin, packages: Packages, absent: frozenset[str] | None) -> bool:
     """Whether the index has the release that is pinned; else it is said why the pin isn't taken over. Names that were never asked for, as
     nothing leads to them, aren't among those that are absent."""
-    release = release_of(pin, packages)
+    release = pinned_release(pin, packages)
     if release is None:
         is_asked = absent is None or pin.name in absent
         why = "the index hasn't this release of it" if pin.name in packages else "the index hasn't the package" if is_asked else "nothing needs it"
@@ -69,7 +69,7 @@ class Outcome:
         taken = 0
         for pin in pins:
             versions = sorted({lock[pin.name] for lock in locks if pin.name in lock})
-            if any(version_of(it) == version_of(pin.version) for it in versions):
+            if any(version_of(version) == version_of(pin.version) for version in versions):
                 taken += 1
             elif versions:
                 say(f"{pin.told()}: it isn't taken over: {', '.join(versions)} is locked{self.why_not(pin)}")
@@ -81,9 +81,9 @@ class Outcome:
 
     def why_not(self, pin: Pin) -> str:
         """Why a lock hasn't a pin that the index has."""
-        found = ", since over this index it doesn't fit"
+        reason = ", since over this index it doesn't fit"
         if not must_be_named(pin, self.packages):
-            return found
+            return reason
         words = ["--dir", typed_path(self.folder), "--index", typed_path(self.index), "why", "--not", f"{pin.name}=={pin.version}"]
         self.asked += 1
         if self.asked > MOST_ASKED:
@@ -92,4 +92,4 @@ class Outcome:
         for word, why in REASONS:
             if told.startswith(f"{pin.name} ") and word in told:
                 return f", since the pinned release {why}"
-        return found
+        return reason

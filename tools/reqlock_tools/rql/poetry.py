@@ -21,7 +21,7 @@ def caret(version: str, is_tilde: bool) -> str | None:
     """What `^1.2` or `~1.2` means; None where it can't be said."""
     if not VERSION.fullmatch(version):
         return None
-    parts = [int(it) for it in version.split(".")]
+    parts = [int(part) for part in version.split(".")]
     if is_tilde:
         place = min(1, len(parts) - 1)
     else:
@@ -32,10 +32,10 @@ def caret(version: str, is_tilde: bool) -> str | None:
 
 def clause_of(text: str) -> str | None:
     """A clause of Poetry as PEP 440 has it: empty for any version, None where it can't be said."""
-    found = CLAUSE.fullmatch(text.strip())
-    if found is None:
+    clause = CLAUSE.fullmatch(text.strip())
+    if clause is None:
         return None
-    sign, version = found[1] or "", found[2]
+    sign, version = clause[1] or "", clause[2]
     if version == "*":
         return "" if sign == "" else None
     if sign in ("^", "~"):
@@ -47,10 +47,10 @@ def specifiers_of(text: str) -> str | None:
     """The specifiers of a text; None where it can't be translated, as alternatives can't."""
     if "||" in text or " | " in text:
         return None
-    clauses = [clause_of(it) for it in re.split(r"\s*,\s*", text.strip())]
-    if any(it is None for it in clauses):
+    clauses = [clause_of(piece) for piece in re.split(r"\s*,\s*", text.strip())]
+    if any(clause is None for clause in clauses):
         return None
-    return ",".join(it for it in clauses if it)
+    return ",".join(clause for clause in clauses if clause)
 
 
 def line_of(name: str, value: Any) -> str | None:
@@ -61,7 +61,7 @@ def line_of(name: str, value: Any) -> str | None:
     if not isinstance(version, str) or not isinstance(extras, list) or not isinstance(markers, str) or told.keys() - known:
         return None
     specifiers = specifiers_of(version)
-    if specifiers is None or not markers.isprintable() or not all(isinstance(it, str) and is_name(it) for it in extras):
+    if specifiers is None or not markers.isprintable() or not all(isinstance(extra, str) and is_name(extra) for extra in extras):
         return None
     asked = f"[{','.join(extras)}]" if extras else ""
     return f"{name}{asked}{specifiers}" + (f" ; {markers}" if markers else "")
@@ -74,10 +74,10 @@ def lines_of_poetry(poetry: dict[str, Any], say: Say) -> bytes:
     for text in lines_of(poetry["dependencies"], "tool.poetry.dependencies", False, say):
         lines.setdefault(text, "")
     for key, group, table, is_optional in groups_of(poetry):
-        found = lines_of(table, key, is_optional, say)
-        for text in found:
+        group_lines = lines_of(table, key, is_optional, say)
+        for text in group_lines:
             lines.setdefault(text, f"  # group {group}")
-        if found:
+        if group_lines:
             say(f"{key}: it is locked too, as `poetry install` installs it: rql remove takes a line out")
     tell_outside([poetry["dependencies"], *(table for _, _, table, _ in groups_of(poetry))], say)
     say("tool.poetry.dependencies: translated once into requirements.txt: from now on its lines count")

@@ -39,12 +39,12 @@ class Project:
 
 def folders_above(start: Path) -> list[Path]:
     """The folder and those above it, up to the top of a git checkout or the home."""
-    home, found = Path(os.path.realpath(os.path.expanduser("~"))), list[Path]()
+    home, folders = Path(os.path.realpath(os.path.expanduser("~"))), list[Path]()
     for folder in (start, *start.parents):
-        found.append(folder)
+        folders.append(folder)
         if folder == home or os.path.lexists(folder / ".git"):
             break
-    return found
+    return folders
 
 
 def top_of(base: Path) -> Path:
@@ -63,19 +63,19 @@ def refuse_other_owner(file: Path, start: Path) -> None:
 def settings_in(folder: Path) -> Settings | None:
     """The settings of a folder; None where it has none."""
     files = [folder / name for name in (OWN_FILE, PROJECT_FILE) if os.path.lexists(folder / name)]
-    found = [it for it in map(read_settings, files) if it is not None]
-    if len(found) > 1:
-        raise SettingsFault(f"{found[1].file}: tool.reqlock: {OWN_FILE} beside it has settings too; one of them is to go")
-    return found[0] if found else None
+    present = [settings for settings in map(read_settings, files) if settings is not None]
+    if len(present) > 1:
+        raise SettingsFault(f"{present[1].file}: tool.reqlock: {OWN_FILE} beside it has settings too; one of them is to go")
+    return present[0] if present else None
 
 
 def find_settings(start: Path) -> Settings | None:
     """The settings of the nearest folder that has some."""
     for folder in folders_above(start):
-        found = settings_in(folder)
-        if found is not None:
-            refuse_other_owner(found.file, start)
-            return found
+        settings = settings_in(folder)
+        if settings is not None:
+            refuse_other_owner(settings.file, start)
+            return settings
     return None
 
 
@@ -95,13 +95,13 @@ def project_of(settings: Settings, options: Options) -> Project:
     base = settings.file.parent
     top = top_of(base)
     folder = place_in(top, base, settings.folder, f"{settings.file}: folder")
-    found = Project(settings, options, base, top, folder)
+    project = Project(settings, options, base, top, folder)
     for text in settings.constraints:
-        found.place(text, "constraints")
+        project.place(text, "constraints")
     for text in settings.sources:
-        found.place(PART.sub("", text), "sources")
-    check_exports(found)
-    return found
+        project.place(PART.sub("", text), "sources")
+    check_exports(project)
+    return project
 
 
 def is_programs(place: Path, folder: Path) -> bool:
@@ -115,7 +115,7 @@ def check_exports(project: Project) -> None:
     known = {project.settings.file}
     known |= {project.place(PART.sub("", text), "sources") for text in project.settings.sources}
     known |= {project.place(text, "constraints") for text in project.settings.constraints}
-    targets = {it.name for it in project.settings.environments} or {""}
+    targets = {environment.name for environment in project.settings.environments} or {""}
     for number, export in enumerate(project.settings.exports):
         key = f"exports[{number}]"
         place = project.place(export.file, f"{key}.file")
@@ -127,5 +127,5 @@ def check_exports(project: Project) -> None:
         if place in known:
             raise SettingsFault(f"{where}.file: {export.file!a}: the settings name this file already")
         known.add(place)
-        if (export.target or "") not in targets:
+        if (export.target or "") not in targets and not export.is_of_all():
             raise SettingsFault(f"{where}.target: one of {', '.join(sorted(targets)) or 'no target'} is wanted")

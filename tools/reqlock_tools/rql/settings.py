@@ -28,11 +28,15 @@ class IndexSetting:
 
 @dataclass(frozen=True)
 class ExportSetting:
-    """A file that is written anew after each accepted call. `target` is None where there is one target alone."""
+    """A file that is written anew after each accepted call. `target` is None where there is one target alone, and where it is of all."""
 
     file: str
     format: str
     target: str | None
+
+    def is_of_all(self) -> bool:
+        """Whether it has all targets, however many there are. Lines for pip are of one alone."""
+        return self.target is None and self.format != FORMATS[0]
 
 
 @dataclass(frozen=True)
@@ -88,10 +92,10 @@ class Table:
     def text(self, key: str, default: str | None = None) -> str:
         if default is None and key not in self.rest:
             raise self.fault(key, "a text")
-        found = self.take(key, str, "a text", default or "")
-        if not found.isprintable():
+        text = self.take(key, str, "a text", default or "")
+        if not text.isprintable():
             raise self.fault(key, "a text of visible characters")
-        return found
+        return text
 
     def flag(self, key: str, default: bool) -> bool:
         return self.take(key, bool, "true or false", default)
@@ -101,12 +105,12 @@ class Table:
         return [(item, f"{self.place}.{key}[{number}]") for number, item in enumerate(self.take(key, list, "an array", []))]
 
     def texts(self, key: str) -> tuple[str, ...]:
-        found = []
+        texts = []
         for item, place in self.items(key):
             if not isinstance(item, str) or not item.isprintable():
                 raise SettingsFault(f"{place}: a text of visible characters is wanted")
-            found.append(item)
-        return tuple(found)
+            texts.append(item)
+        return tuple(texts)
 
     def end(self) -> None:
         """Refuses keys that nobody knows."""
@@ -119,12 +123,12 @@ def index_setting(item: object, place: str) -> IndexSetting:
     if isinstance(item, str):
         return IndexSetting(checked_address(item, place))
     table = Table(item, place)
-    found = IndexSetting(checked_address(table.text("url"), f"{place}.url"), table.texts("only"))
+    setting = IndexSetting(checked_address(table.text("url"), f"{place}.url"), table.texts("only"))
     table.end()
-    for pattern in found.only:
+    for pattern in setting.only:
         if not PATTERN.fullmatch(pattern):
             raise SettingsFault(f"{place}.only: {pattern!a} is no name, in which * may stand for any text")
-    return IndexSetting(found.url, tuple(re.sub("[-_.]+", "-", it).lower() for it in found.only))
+    return IndexSetting(setting.url, tuple(re.sub("[-_.]+", "-", pattern).lower() for pattern in setting.only))
 
 
 def checked_address(url: str, place: str) -> str:
@@ -151,11 +155,11 @@ def way_of(url: str) -> str:
 def export_setting(item: object, place: str) -> ExportSetting:
     table = Table(item, place)
     target = table.text("target", "")
-    found = ExportSetting(table.text("file"), table.text("format", FORMATS[0]), target or None)
+    setting = ExportSetting(table.text("file"), table.text("format", FORMATS[0]), target or None)
     table.end()
-    if found.format not in FORMATS:
+    if setting.format not in FORMATS:
         raise SettingsFault(f"{place}.format: one of {', '.join(FORMATS)} is wanted")
-    return found
+    return setting
 
 
 def environment_setting(name: str, item: object, place: str) -> EnvironmentSetting:
@@ -163,11 +167,11 @@ def environment_setting(name: str, item: object, place: str) -> EnvironmentSetti
 
     table = Table(item, place)
     told = [table.text(key) for key in ("python", "platform")]
-    found = EnvironmentSetting(name, *told, *(table.text(key, "") for key in ("glibc", "musl", "macos")))
+    setting = EnvironmentSetting(name, *told, *(table.text(key, "") for key in ("glibc", "musl", "macos")))
     table.end()
-    if found.platform not in PLATFORMS:
+    if setting.platform not in PLATFORMS:
         raise SettingsFault(f"{place}.platform: one of {', '.join(PLATFORMS)} is wanted")
-    return found
+    return setting
 
 
 def environments_of(table: Table) -> tuple[EnvironmentSetting, ...]:
@@ -176,48 +180,48 @@ def environments_of(table: Table) -> tuple[EnvironmentSetting, ...]:
         raise SettingsFault(f"{table.place}.environment: it stands alone, or environments with names stand without it")
     if "environment" in table.rest:
         return (environment_setting("", table.rest.pop("environment"), f"{table.place}.environment"),)
-    found = []
+    settings = []
     named = table.take("environments", dict, "a table", {})
     for name, item in named.items():
         if not TARGET.fullmatch(name):
             raise SettingsFault(f"{table.place}.environments: {name!a} is no name of a target: small letters, digits and -")
-        found.append(environment_setting(name, item, f"{table.place}.environments.{name}"))
-    return tuple(found)
+        settings.append(environment_setting(name, item, f"{table.place}.environments.{name}"))
+    return tuple(settings)
 
 
 def settings_of(value: object, file: Path, place: str) -> Settings:
     """The settings of a table that stands at a place of a file."""
     table = Table(value, place)
     newest = table.take("newest", int, "a number from 1", 0) if "newest" in table.rest else None
-    found = Settings(
-        file=file, folder=table.text("folder", "."), index=tuple(index_setting(*it) for it in table.items("index")),
+    settings = Settings(
+        file=file, folder=table.text("folder", "."), index=tuple(index_setting(*item) for item in table.items("index")),
         sources=table.texts("sources"), constraints=table.texts("constraints"), exclude_newer=table.text("exclude-newer", ""),
         newest=newest, pre_releases=table.flag("pre-releases", True), only_binary=table.flag("only-binary", False),
         assume_no_dependencies=table.flag("assume-no-dependencies", False),
-        exports=tuple(export_setting(*it) for it in table.items("exports")), environments=environments_of(table),
+        exports=tuple(export_setting(*item) for item in table.items("exports")), environments=environments_of(table),
     )
     table.end()
     if newest is not None and newest < 1:
         raise table.fault("newest", "a number from 1")
-    if found.exclude_newer and not DAY.fullmatch(found.exclude_newer):
+    if settings.exclude_newer and not DAY.fullmatch(settings.exclude_newer):
         raise table.fault("exclude-newer", "a day, as 2024-05-01,")
-    return found
+    return settings
 
 
 def table_in(file: Path) -> tuple[object, str] | None:
     """The table of settings in a file, and its place; None where the file has none."""
     try:
-        found: object = read_toml(read_text(str(file)))
+        table: object = read_toml(read_text(str(file)))
     except Refusal as fault:
         raise SettingsFault(f"{file}: {str(fault).removeprefix(f'{file}: ')}") from None
     if file.name == OWN_FILE:
-        return found, f"{file}: settings"
+        return table, f"{file}: settings"
     for key in "tool", "reqlock":
-        found = found.get(key) if isinstance(found, dict) else None
-    return None if found is None else (found, f"{file}: tool.reqlock")
+        table = table.get(key) if isinstance(table, dict) else None
+    return None if table is None else (table, f"{file}: tool.reqlock")
 
 
 def read_settings(file: Path) -> Settings | None:
     """The settings of a file; None where it has none."""
-    found = table_in(file)
-    return found and settings_of(found[0], file, found[1])
+    table = table_in(file)
+    return table and settings_of(table[0], file, table[1])

@@ -28,26 +28,26 @@ def with_environments(settings: Settings, environments: Sequence[EnvironmentSett
     for told, export in zip(table.get("exports", []), exports):
         if export.target and "target" not in told:
             told["target"] = export.target
-    named = {it.name: it for it in environments}
+    named = {environment.name: environment for environment in environments}
     if "" in named:
         table["environment"] = inline(toml, named[""])
         return document.as_string().encode()
     table.pop("environment", None)
     if "environments" not in table:
         table["environments"] = toml.table()
-    found = table["environments"]
-    for name in [it for it in found if it not in named]:
-        del found[name]
-    for name, it in named.items():
-        if name not in found:
-            found[name] = inline(toml, it)
+    present = table["environments"]
+    for name in [name for name in present if name not in named]:
+        del present[name]
+    for name, environment in named.items():
+        if name not in present:
+            present[name] = inline(toml, environment)
     return document.as_string().encode()
 
 
-def inline(toml: Any, it: EnvironmentSetting) -> Any:
+def inline(toml: Any, environment: EnvironmentSetting) -> Any:
     """An environment as an inline table."""
     table = toml.inline_table()
     for key in "python", "platform", "glibc", "musl", "macos":
-        if getattr(it, key):
-            table[key] = getattr(it, key)
+        if getattr(environment, key):
+            table[key] = getattr(environment, key)
     return table

@@ -22,14 +22,14 @@ def array(texts: Sequence[str]) -> str:
     return f"[{', '.join(texts)}]"
 
 
-def environment_text(it: EnvironmentSetting) -> str:
-    keys = {"python": it.python, "platform": it.platform, "glibc": it.glibc, "musl": it.musl, "macos": it.macos}
+def environment_text(environment: EnvironmentSetting) -> str:
+    keys = {key: getattr(environment, key) for key in ("python", "platform", "glibc", "musl", "macos")}
     return "{ " + ", ".join(f"{key} = {quoted(value)}" for key, value in keys.items() if value) + " }"
 
 
-def export_text(it: ExportSetting) -> str:
-    target = f", target = {quoted(it.target)}" if it.target else ""
-    return f"{{ file = {quoted(it.file)}, format = {quoted(it.format)}{target} }}"
+def export_text(export: ExportSetting) -> str:
+    target = f", target = {quoted(export.target)}" if export.target else ""
+    return f"{{ file = {quoted(export.file)}, format = {quoted(export.format)}{target} }}"
 
 
 def settings_text(
@@ -41,13 +41,13 @@ def settings_text(
     if sources:
         keys["sources"] = array([quoted(text) for text in sources])
     if exports:
-        keys["exports"] = array([export_text(it) for it in exports])
-    named = [it for it in environments if it.name]
-    for it in environments:
-        if not it.name:
-            keys["environment"] = environment_text(it)
+        keys["exports"] = array([export_text(export) for export in exports])
+    named = [environment for environment in environments if environment.name]
+    for environment in environments:
+        if not environment.name:
+            keys["environment"] = environment_text(environment)
     lines = [f"[{table}]"] * (table != "") + [f"{key} = {value}  # {COMMENTS[key]}" for key, value in keys.items()]
     if named:
         lines += ["", f"[{f'{table}.' if table else ''}environments]  # {COMMENTS['environment']}, by the names of targets"]
-        lines += [f"{it.name} = {environment_text(it)}" for it in named]
+        lines += [f"{environment.name} = {environment_text(environment)}" for environment in named]
     return "\n".join(lines) + "\n"

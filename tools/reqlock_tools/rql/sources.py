@@ -26,7 +26,7 @@ class Gathered:
     @property
     def data(self) -> bytes:
         """The lines as requirements.txt has them."""
-        return "".join(it.whole() for it in self.lines).encode()
+        return "".join(line.whole() for line in self.lines).encode()
 
 
 def gathered(top: Path, base: Path, sources: Sequence[str], changed: Mapping[Path, bytes] | None = None) -> Gathered:
@@ -63,13 +63,13 @@ def gather(base: Path, sources: Sequence[str], top: Path | None = None) -> bytes
 
 def told_lines(data: bytes, file: str) -> list[tuple[str, str]]:
     """The lines of a file that was gathered, each with the label of its source. Another one is refused."""
-    found = []
+    lines = []
     for number, line in enumerate(data.decode(errors="replace").splitlines(), 1):
         text, mark, label = line.rpartition(FROM)
         if not mark:
             raise SettingsFault(f"{file}: line {number}: {line!a}: it doesn't tell from which source it came: rql lock gathers all")
-        found.append((text, label))
-    return found
+        lines.append((text, label))
+    return lines
 
 
 def differences(present: Gathered, data: bytes, file: str = "requirements.txt") -> list[str]:
@@ -80,7 +80,7 @@ def differences(present: Gathered, data: bytes, file: str = "requirements.txt") 
         old = told_lines(data, file)
     except SettingsFault as fault:
         return [str(fault)]
-    new = [(it.text, it.section.label) for it in present.lines]
-    found = [f"{it.where}: {it.text!a} isn't in {file}" for it in present.lines if (it.text, it.section.label) not in old]
-    found += [f"{file}: {text!a} isn't in {label} any more" for text, label in old if (text, label) not in new]
-    return found or [f"{file}: its lines have another order than those of the sources"]
+    new = [(line.text, line.section.label) for line in present.lines]
+    told = [f"{line.where}: {line.text!a} isn't in {file}" for line in present.lines if (line.text, line.section.label) not in old]
+    told += [f"{file}: {text!a} isn't in {label} any more" for text, label in old if (text, label) not in new]
+    return told or [f"{file}: its lines have another order than those of the sources"]

@@ -20,12 +20,12 @@ from reqlock_tools.rql.sources_change import Change, Sources
 
 def sources_of(project: Project) -> Sources:
     """The sources of a project. Where they and the lines came apart, they are refused with what differs."""
-    found = Sources(project.top, project.base, project.settings.sources)
+    sources = Sources(project.top, project.base, project.settings.sources)
     path = project.folder / REQUIREMENTS
-    told = differences(found.present, content(path), typed_path(path))
+    told = differences(sources.present, content(path), typed_path(path))
     if told:
         raise SettingsFault("\n".join([*told, "sources and lines came apart: rql lock takes the sources over"]))
-    return found
+    return sources
 
 
 def edit_sources(project: Project, kept: Kept, request: EditRequest) -> int:
@@ -57,7 +57,7 @@ def question_of(request: EditRequest) -> list[str]:
 
 def texts_in(change: Change) -> tuple[str, ...]:
     """The requirements that are gathered then."""
-    return tuple(it.partition("  # from ")[0] for it in change.data.decode().splitlines())
+    return tuple(line.partition("  # from ")[0] for line in change.data.decode().splitlines())
 
 
 def moved_sources(project: Project, kept: Kept, words: Sequence[str], move: Callable[[], int]) -> int:

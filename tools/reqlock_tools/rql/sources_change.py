@@ -47,11 +47,11 @@ class Sources:
 
     def edited(self, word: str, texts: Sequence[str]) -> Change:
         """What an edit makes of the sources: add, remove or set of several texts, or constrain of a name with specifiers."""
-        found = Change({}, self.present.data)
+        change = Change({}, self.present.data)
         for one in [texts] if word == "constrain" else [[text] for text in texts]:
-            now = gathered(self.top, self.base, self.sources, found.files)
-            found = self.changed(found, self.splice_of(now, word, one))
-        return found
+            now = gathered(self.top, self.base, self.sources, change.files)
+            change = self.changed(change, self.splice_of(now, word, one))
+        return change
 
     def splice_of(self, now: Gathered, word: str, texts: Sequence[str]) -> Splice:
         if word == "add":
@@ -83,10 +83,10 @@ class Sources:
         """The files with some changes. What then is gathered is what they must lead to."""
         files = dict(so_far.files)
         reader = Files(self.top, self.base, files)
-        for it in splices:
-            data = reader.text(it.section.path, it.section.label)
-            new = changed_array(data, it) if it.section.keys else changed_lines(data, it)
-            files[it.section.path] = new.encode()
+        for splice in splices:
+            data = reader.text(splice.section.path, splice.section.label)
+            new = changed_array(data, splice) if splice.section.keys else changed_lines(data, splice)
+            files[splice.section.path] = new.encode()
             reader.changed = files
         return Change(files, gathered(self.top, self.base, self.sources, files).data)
 
@@ -94,55 +94,55 @@ class Sources:
 
     def followed(self, data: bytes) -> Change:
         """What makes the sources have the lines that an undo or a redo leads to. Where nothing can, it is refused."""
-        found = Change({}, self.present.data)
+        change = Change({}, self.present.data)
         wanted: dict[str, list[str]] = {}
         for text, label in told_lines(data, "requirements.txt"):
             wanted.setdefault(label, []).append(text)
-        lists: dict[Section, list[Line]] = {it: [] for it in self.present.sections}
+        lists: dict[Section, list[Line]] = {section: [] for section in self.present.sections}
         for line in self.present.lines:
             lists[line.section].append(line)
         for section, lines in lists.items():
-            found = self.changed(found, *splices_to(section, lines, wanted.get(section.label, [])))
-        if found.data != data:
+            change = self.changed(change, *splices_to(section, lines, wanted.get(section.label, [])))
+        if change.data != data:
             raise SettingsFault("the sources as they are now can't have the lines from there, so nothing is changed: change them, and then rql lock")
-        return found
+        return change
 
 
 def splices_to(section: Section, lines: Sequence[Line], wanted: Sequence[str]) -> list[Splice]:
     """What makes of the lines of a list those that are wanted, from the last on, so that the places of earlier ones stay as they are."""
-    found: list[Splice] = []
-    matcher = difflib.SequenceMatcher(None, [it.text for it in lines], wanted, autojunk=False)
+    splices: list[Splice] = []
+    matcher = difflib.SequenceMatcher(None, [line.text for line in lines], wanted, autojunk=False)
     for kind, begin, end, new_begin, new_end in reversed(matcher.get_opcodes()):
         if kind != "equal":
             behind = lines[end].place if end < len(lines) else None
-            found += splices_of(section, lines[begin:end], wanted[new_begin:new_end], behind)
-    return found
+            splices += splices_of(section, lines[begin:end], wanted[new_begin:new_end], behind)
+    return splices
 
 
 def splices_of(section: Section, old: Sequence[Line], new: Sequence[str], behind: int | None) -> list[Splice]:
     """What puts texts in the place of lines that stand together, in front of the item `behind` or at the end."""
     both = min(len(old), len(new))
     more = new[both:] if behind is None else new[both:][::-1]
-    found = [Splice(section, behind, None, text) for text in more]
-    found += [Splice(section, it.place, it.text, None) for it in reversed(old[both:])]
-    return found + [Splice(section, it.place, it.text, text) for it, text in zip(old, new)]
+    splices = [Splice(section, behind, None, text) for text in more]
+    splices += [Splice(section, line.place, line.text, None) for line in reversed(old[both:])]
+    return splices + [Splice(section, line.place, line.text, text) for line, text in zip(old, new)]
 
 
 def lines_of(now: Gathered, name: str) -> list[Line]:
     """The lines on a name."""
-    return [it for it in now.lines if (need := need_of(it.text)) is not None and need.name == normal(name)]
+    return [line for line in now.lines if (need := need_of(line.text)) is not None and need.name == normal(name)]
 
 
 def only_line(now: Gathered, name: str) -> Line:
     """The one line on a name. None and several are refused with their places."""
     if not is_name(name):
         raise SettingsFault(f"{name!a}: it is no name")
-    found = lines_of(now, name)
-    if not found:
+    lines = lines_of(now, name)
+    if not lines:
         raise SettingsFault(f"{name}: no source has a line of this name: rql show tells what needs it")
-    if len(found) > 1:
-        raise SettingsFault(f"{name}: it stands in several places, of which rql doesn't choose: {', '.join(it.where for it in found)}")
-    return found[0]
+    if len(lines) > 1:
+        raise SettingsFault(f"{name}: it stands in several places, of which rql doesn't choose: {', '.join(line.where for line in lines)}")
+    return lines[0]
 
 
 def checked_word(text: str) -> str:

@@ -9,8 +9,8 @@ ENDING = re.compile(r"\r?\n\Z")
 
 
 def ending_of(line: str) -> str:
-    found = ENDING.search(line)
-    return found[0] if found else ""
+    ending = ENDING.search(line)
+    return ending[0] if ending else ""
 
 
 def changed_lines(text: str, splice: Splice) -> str:
@@ -20,7 +20,7 @@ def changed_lines(text: str, splice: Splice) -> str:
         line = lines[splice.place]
         lines[splice.place : splice.place + 1] = [] if splice.new is None else [exchanged(line, splice.old, splice.new)]
         return "".join(lines)
-    usual = next((it for line in lines if (it := ending_of(line))), "\n")
+    usual = next((ending for line in lines if (ending := ending_of(line))), "\n")
     new = f"{splice.new}{usual}"
     if splice.place is not None:
         return "".join([*lines[: splice.place], new, *lines[splice.place :]])

@@ -29,14 +29,14 @@ class PyprojectReader:
 
     def at(self, keys: tuple[str, ...]) -> Any:
         """The value at some keys; None where there is none."""
-        found: Any = self.table
+        value: Any = self.table
         for place, key in enumerate(keys):
-            if not isinstance(found, dict):
+            if not isinstance(value, dict):
                 raise self.fault(keys[:place], "a table is wanted")
-            found = found.get(key)
-            if found is None:
+            value = value.get(key)
+            if value is None:
                 return None
-        return found
+        return value
 
     # The lists
 
@@ -69,13 +69,13 @@ class PyprojectReader:
         table = self.at(keys)
         if table is not None and not isinstance(table, dict):
             raise self.fault(keys, "a table is wanted")
-        found = [key for key in table or {} if normal(key) == normal(name)]
-        if not found:
+        spellings = [key for key in table or {} if normal(key) == normal(name)]
+        if not spellings:
             there = f"there are {', '.join(table)}" if table else "there is none"
             raise self.fault(keys, f"no {kind} is named {name!a}; {there}")
-        if len(found) > 1:
-            raise self.fault(keys, f"{' and '.join(found)} are one name")
-        return found[0], (table or {})[found[0]]
+        if len(spellings) > 1:
+            raise self.fault(keys, f"{' and '.join(spellings)} are one name")
+        return spellings[0], (table or {})[spellings[0]]
 
     def read_list(self, section: Section, items: Any, follow: Callable[[Need, str], None]) -> None:
         if not isinstance(items, list):

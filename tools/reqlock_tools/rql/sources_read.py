@@ -62,7 +62,7 @@ class Taken:
     def reading(self, section: Section, where: str) -> Iterator[bool]:
         """Whether a list is to be read, for as long as it is."""
         if section in self.way:
-            raise SettingsFault(f"{where}: it leads to itself: {' -> '.join(it.label for it in [*self.way, section])}")
+            raise SettingsFault(f"{where}: it leads to itself: {' -> '.join(step.label for step in [*self.way, section])}")
         is_new = section not in self.sections
         if is_new:
             self.sections.append(section)
@@ -114,12 +114,12 @@ def way_of_url(text: str, is_typed: bool) -> str:
 
 def checked(text: str, where: str, is_typed: bool = False) -> str:
     """A requirement as a line has it. What PEP 508 can't read is refused, and so is a URL, with the place."""
-    found = text.strip()
-    if not found.isprintable():
-        raise SettingsFault(f"{where}: {found!a}: a requirement has visible characters alone")
-    fault = fault_of(found) or doubt_of(found)
+    requirement = text.strip()
+    if not requirement.isprintable():
+        raise SettingsFault(f"{where}: {requirement!a}: a requirement has visible characters alone")
+    fault = fault_of(requirement) or doubt_of(requirement)
     if fault:
-        raise SettingsFault(f"{where}: {found!a}: {fault}{way_of_url(found, is_typed)}")
-    if "#" in found:
-        raise SettingsFault(f"{where}: {found!a}: a requirement has no #")
-    return found
+        raise SettingsFault(f"{where}: {requirement!a}: {fault}{way_of_url(requirement, is_typed)}")
+    if "#" in requirement:
+        raise SettingsFault(f"{where}: {requirement!a}: a requirement has no #")
+    return requirement

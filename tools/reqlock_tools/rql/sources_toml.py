@@ -25,9 +25,9 @@ def changed_array(text: str, splice: Splice) -> str:
         document = tomlkit.parse(text)
         is_same = tomlkit.dumps(document) == text
         put(array_at(document, splice.section.keys), splice)
-        found: str = tomlkit.dumps(document)
-        if is_same and read_toml(found) == wanted:
-            return found
+        changed: str = tomlkit.dumps(document)
+        if is_same and read_toml(changed) == wanted:
+            return changed
     except (ValueError, TypeError, IndexError, KeyError, Refusal):
         pass
     raise SettingsFault(f"{where}: its array is written so that it can't be changed here: change it by hand, and then rql lock")

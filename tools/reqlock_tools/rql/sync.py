@@ -52,7 +52,7 @@ def run_sync(project: "Project", request: "SyncRequest") -> int:
     if settings.sources and not options.is_quiet:
         tell_apart(project)
     return sync(Sync(
-        base=project.base, folder=project.folder, indexes=tuple(IndexAddress(it.url, it.only) for it in settings.index),
+        base=project.base, folder=project.folder, indexes=tuple(IndexAddress(setting.url, setting.only) for setting in settings.index),
         venv=request.venv, target=request.target, keep=request.keep, is_exact=request.is_exact, is_dry=request.is_dry,
         is_offline=options.is_offline, is_verbose=options.is_verbose, is_quiet=options.is_quiet,
         ways=tuple(options.ways()),
@@ -72,7 +72,7 @@ def tell_apart(project: "Project") -> None:
 
 def sync(asked: Sync) -> int:
     """The status of a sync."""
-    keep = frozenset(kept_name(it) for it in asked.keep)
+    keep = frozenset(kept_name(word) for word in asked.keep)
     place = venv_of(asked)
     python_in(place)
     with alone_in(place):
@@ -110,13 +110,13 @@ def tell(asked: Sync, plan: Plan) -> None:
     for line in plan.lines() or ["nothing to do"]:
         print(shown(line), flush=True)
     if not asked.is_quiet:
-        for it, why in plan.stays:
-            say(f"{it.name} {it.version}".rstrip() + f" stays: {why}")
+        for installed, why in plan.stays:
+            say(f"{installed.name} {installed.version}".rstrip() + f" stays: {why}")
 
 
 def done(asked: Sync, environment: Environment, locked: dict[str, Locked], plan: Plan) -> int:
     """The status of doing what is planned."""
-    installs = [it for it, _ in plan.installs]
+    installs = [package for package, _ in plan.installs]
     if asked.is_offline and installs:
         say("--offline: nothing is changed, since pip asks the network for what is to be installed")
         return NETWORK
@@ -127,7 +127,7 @@ def done(asked: Sync, environment: Environment, locked: dict[str, Locked], plan:
         status = pip.install(installs, asked.indexes, asked.ways)
         if status != 0:
             return left(environment, locked, status)
-        status = pip.uninstall([it.name for it in plan.removals]) if plan.removals else 0
+        status = pip.uninstall([installed.name for installed in plan.removals]) if plan.removals else 0
     if status != 0:
         say("all that is locked is installed; not all that isn't could be taken out: rql sync goes on")
     return status and failed(status)
@@ -137,14 +137,14 @@ def text_for(asked: Sync, environment: Environment, installs: list[Locked]) -> s
     """The netrc file for pip; empty where nothing is fetched."""
     if not installs:
         return ""
-    known = known_credentials((it.url for it in asked.indexes), say)
-    refuse_elsewhere(known, (file.url for it in installs for file in it.files if file.is_linked))
+    known = known_credentials((address.url for address in asked.indexes), say)
+    refuse_elsewhere(known, (file.url for package in installs for file in package.files if file.is_linked))
     return netrc_text(known, environment.version)
 
 
 def tell_built(asked: Sync, installs: list[Locked]) -> None:
     """Tells what is built here: what its build needs is locked by nobody."""
-    names = [f"{it.name} {it.version}" for it in installs if it.is_built]
+    names = [f"{package.name} {package.version}" for package in installs if package.is_built]
     if names and not asked.is_quiet:
         say(f"{', '.join(names)}: built here of what is locked; what the build itself needs, pip takes of the index, unlocked")
 
@@ -152,7 +152,7 @@ def tell_built(asked: Sync, installs: list[Locked]) -> None:
 def left(environment: Environment, locked: dict[str, Locked], status: int) -> int:
     """Tells what is there after pip failed."""
     has = read_environment(environment.place).installed
-    count = sum(1 for name, it in locked.items() if name in has and is_as_locked(has[name], it))
+    count = sum(1 for name, package in locked.items() if name in has and is_as_locked(has[name], package))
     say(f"pip ended with status {status}: {count} of {len(locked)} packages are as locked, and nothing is taken out; rql sync goes on")
     return failed(status)
 

@@ -52,7 +52,7 @@ class Environment:
     @property
     def version(self) -> tuple[int, ...]:
         """The version of its Python, as 3.11."""
-        return tuple(int(it) for it in str(self.told["python_version"]).split("."))
+        return tuple(int(number) for number in str(self.told["python_version"]).split("."))
 
 
 def label_of(told: Mapping[str, object]) -> str:
@@ -80,17 +80,17 @@ def read_environment(place: Path) -> Environment:
         done = subprocess.run(command, stdin=subprocess.DEVNULL, capture_output=True, timeout=SECONDS, check=True)
         told = Node(str(python), json.loads(done.stdout))
         prefix = told.member("prefix").text()
-        found = [installed_of(it) for it in told.member("distributions").items()]
+        distributions = [installed_of(distribution) for distribution in told.member("distributions").items()]
         environment, places = told.member("environment").object(), told.member("places").texts()
     except (OSError, ValueError, Refusal, subprocess.SubprocessError):
         raise SettingsFault(f"{python}: it is no Python of version 3.6 or later that tells what it is") from None
     if prefix != os.path.realpath(place):
         raise SettingsFault(f"{place}: its Python is that of {prefix}: python3 -m venv --clear {place} makes it anew")
-    for it in places:
-        if not it.startswith(prefix + os.sep):
-            raise SettingsFault(f"{place}: a link leads from it to {it}: python3 -m venv --clear {place} makes it anew")
+    for path in places:
+        if not path.startswith(prefix + os.sep):
+            raise SettingsFault(f"{place}: a link leads from it to {path}: python3 -m venv --clear {place} makes it anew")
     # (of two of one name the first is the one that is imported)
-    return Environment(place, python, environment, {it.name: it for it in reversed(found)})
+    return Environment(place, python, environment, {distribution.name: distribution for distribution in reversed(distributions)})
 
 
 def installed_of(told: Node) -> Installed:

@@ -42,16 +42,16 @@ class Locked:
     @property
     def is_built(self) -> bool:
         """Whether it has to be built here, of an sdist."""
-        return not any(it.is_wheel for it in self.files)
+        return not any(file.is_wheel for file in self.files)
 
     @property
     def is_linked(self) -> bool:
         """Whether it can be had without an index."""
-        return any(it.is_wheel and it.is_linked for it in self.files)
+        return any(file.is_wheel and file.is_linked for file in self.files)
 
     def line(self) -> str:
         """The line for pip."""
-        return f"{self.name}=={self.version}" + "".join(f" --hash=sha256:{it}" for it in self.digests)
+        return f"{self.name}=={self.version}" + "".join(f" --hash=sha256:{digest}" for digest in self.digests)
 
 
 def file_of(table: dict[str, Any], name: str) -> LockedFile:
@@ -63,22 +63,22 @@ def file_of(table: dict[str, Any], name: str) -> LockedFile:
 def files_of(table: dict[str, Any], name: str) -> list[LockedFile]:
     """The files of a package, whose hashes have been read already."""
     files = tables(table, "wheels", name) + ([table["sdist"]] if "sdist" in table else [])
-    return [file_of(it, name) for it in files]
+    return [file_of(file, name) for file in files]
 
 
 def read_locked(path: Path, text: str, environment: Mapping[str, object]) -> dict[str, Locked]:
     """The packages of a lock by name, with the files that an environment takes. A package without any is refused."""
     try:
         packages = read_lock(text)[1]
-        files = {it["name"]: files_of(it, it["name"]) for it in read_toml(text)["packages"]}
+        files = {package["name"]: files_of(package, package["name"]) for package in read_toml(text)["packages"]}
     except Refusal as fault:
         raise SettingsFault(f"{path}: {fault}") from None
     tags = tags_of(environment)
-    found = {}
+    locked = {}
     for name, package in packages.items():
-        fitting = tuple(it for it in files[name] if not it.is_wheel or tags is None or takes(tags, it.name))
-        found[name] = locked_of(path, package, fitting)
-    return found
+        fitting = tuple(file for file in files[name] if not file.is_wheel or tags is None or takes(tags, file.name))
+        locked[name] = locked_of(path, package, fitting)
+    return locked
 
 
 def locked_of(path: Path, package: Package, files: tuple[LockedFile, ...]) -> Locked:

@@ -32,7 +32,7 @@ def known_credentials(urls: Iterable[str], say: Say) -> dict[str, tuple[str, str
     """User and password by index, of variables, netrc or keyring, for the indexes that have some."""
     urls = list(urls)
     credentials = Credentials(urls, say, are_typed=False)
-    found = {}
+    by_url = {}
     for url in urls:
         address = address_of(url)
         if credentials.get(address) is None:
@@ -40,8 +40,8 @@ def known_credentials(urls: Iterable[str], say: Say) -> dict[str, tuple[str, str
         value = credentials.get(address)
         if value is not None:
             user, _, password = base64.b64decode(value.removeprefix("Basic ")).decode().partition(":")
-            found[url] = (user, password)
-    return found
+            by_url[url] = (user, password)
+    return by_url
 
 
 def refuse_elsewhere(known: dict[str, tuple[str, str]], files: Iterable[str]) -> None:

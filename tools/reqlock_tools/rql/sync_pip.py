@@ -89,23 +89,23 @@ def heeds_netrc(environment: Environment) -> bool:
 
 def variables_for(pip: Sequence[str], environment: Environment, netrc: Path) -> dict[str, str]:
     """The variables of a call of pip. Of its configuration the way to the index alone is taken over."""
-    found = {name: value for name, value in os.environ.items() if not name.startswith(("PIP_", "PYTHON"))}
+    variables = {name: value for name, value in os.environ.items() if not name.startswith(("PIP_", "PYTHON"))}
     for line in (asked([*pip, "config", "list"]) or "").splitlines():
         told = CONFIGURED.fullmatch(line)
         if told is not None and told[1] in WAYS:
             with contextlib.suppress(ValueError, SyntaxError):
-                found[f"PIP_{told[1].upper().replace('-', '_')}"] = str(ast.literal_eval(told[2]))
+                variables[f"PIP_{told[1].upper().replace('-', '_')}"] = str(ast.literal_eval(told[2]))
     if not heeds_netrc(environment):
-        found.setdefault("XDG_CACHE_HOME", os.path.expanduser("~/.cache"))
-        found["HOME"] = str(netrc.parent)
-    return found | {"PIP_CONFIG_FILE": os.devnull, "PIP_DISABLE_PIP_VERSION_CHECK": "1", "PIP_NO_INPUT": "1", "NETRC": str(netrc)}
+        variables.setdefault("XDG_CACHE_HOME", os.path.expanduser("~/.cache"))
+        variables["HOME"] = str(netrc.parent)
+    return variables | {"PIP_CONFIG_FILE": os.devnull, "PIP_DISABLE_PIP_VERSION_CHECK": "1", "PIP_NO_INPUT": "1", "NETRC": str(netrc)}
 
 
 def page_of(locked: Iterable[Locked]) -> str:
     """A page of links to the files that are locked, each with its hash. pip takes of it the one that fits best."""
     links = []
-    for it in locked:
-        for file in it.files:
+    for package in locked:
+        for file in package.files:
             if file.is_linked:
                 url = html.escape(f"{urllib.parse.urldefrag(file.url).url}#sha256={file.sha256}")
                 links.append(f'<a href="{url}">{html.escape(file.name)}</a><br>\n')
@@ -114,8 +114,8 @@ def page_of(locked: Iterable[Locked]) -> str:
 
 def indexes_for(name: str, indexes: Sequence[IndexAddress]) -> tuple[str, ...]:
     """The indexes that are asked for a name: those of whose patterns it is, or else those without patterns."""
-    bound = [it for it in indexes if any(fnmatchcase(name, pattern) for pattern in it.only)]
-    return tuple(it.url for it in bound or [it for it in indexes if not it.only])
+    bound = [index for index in indexes if any(fnmatchcase(name, pattern) for pattern in index.only)]
+    return tuple(index.url for index in bound or [index for index in indexes if not index.only])
 
 
 def index_words(urls: Sequence[str]) -> list[str]:
@@ -128,11 +128,11 @@ def index_words(urls: Sequence[str]) -> list[str]:
 def calls_for(locked: Sequence[Locked], indexes: Sequence[IndexAddress]) -> dict[tuple[str, ...], list[Locked]]:
     """What each call of pip installs, by its words for indexes. Wheels to which the lock has links come first, and no index is asked for
     them; of what has none, or has to be built, no index is told a name that it isn't asked for."""
-    found: dict[tuple[str, ...], list[Locked]] = {}
-    for it in sorted(locked, key=lambda one: not one.is_linked):
-        words = ("--no-index", "--only-binary", ":all:") if it.is_linked else tuple(index_words(indexes_for(it.name, indexes)))
-        found.setdefault(words, []).append(it)
-    return found
+    calls: dict[tuple[str, ...], list[Locked]] = {}
+    for package in sorted(locked, key=lambda one: not one.is_linked):
+        words = ("--no-index", "--only-binary", ":all:") if package.is_linked else tuple(index_words(indexes_for(package.name, indexes)))
+        calls.setdefault(words, []).append(package)
+    return calls
 
 
 def quiet_words() -> list[str]:
@@ -143,7 +143,7 @@ def quiet_words() -> list[str]:
 def install_words(folder: Path, locked: Sequence[Locked], *others: str) -> list[str]:
     """The words that have pip install these packages. The lines and the links are put into a folder."""
     lines, page = folder / "locked.txt", folder / "links.html"
-    lines.write_text("".join(f"{it.line()}\n" for it in locked), encoding="utf-8")
+    lines.write_text("".join(f"{package.line()}\n" for package in locked), encoding="utf-8")
     page.write_text(page_of(locked), encoding="utf-8")
     # (each is installed anew: those that are as they should be aren't among them)
     fixed = ["--require-hashes", "--no-deps", "--force-reinstall", "--no-input", "--no-warn-script-location", *quiet_words()]

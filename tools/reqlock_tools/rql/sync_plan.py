@@ -28,8 +28,8 @@ class Plan:
 
     def lines(self) -> list[str]:
         """The changes as a person reads them."""
-        found = [install_line(*it) for it in self.installs]
-        return found + [f"- {it.name} {it.version}".rstrip() for it in self.removals]
+        lines = [install_line(*install) for install in self.installs]
+        return lines + [f"- {removal.name} {removal.version}".rstrip() for removal in self.removals]
 
 
 def install_line(locked: Locked, installed: Installed | None) -> str:
@@ -42,8 +42,8 @@ def install_line(locked: Locked, installed: Installed | None) -> str:
 
 def is_as_locked(installed: Installed, locked: Locked) -> bool:
     """Whether what is installed is what is locked: this version, and no folder, checkout or other archive."""
-    found = read_version(installed.version)
-    if found is None or found != read_version(locked.version):
+    version = read_version(installed.version)
+    if version is None or version != read_version(locked.version):
         return False
     return installed.origin is None or installed.origin.sha256 in locked.digests
 
@@ -51,10 +51,10 @@ def is_as_locked(installed: Installed, locked: Locked) -> bool:
 def plan_of(environment: Environment, locked: Mapping[str, Locked], keep: frozenset[str], is_exact: bool) -> Plan:
     """What an environment needs so that it has what is locked and nothing else."""
     installs = []
-    for name, it in sorted(locked.items()):
+    for name, package in sorted(locked.items()):
         installed = environment.installed.get(name)
-        if installed is None or not is_as_locked(installed, it):
-            installs.append((it, installed))
+        if installed is None or not is_as_locked(installed, package):
+            installs.append((package, installed))
     removals, stays = [], []
     needed = own_needs(environment)
     for name, other in sorted(environment.installed.items()):
@@ -85,17 +85,17 @@ def own_needs(environment: Environment) -> frozenset[str]:
     if own is None:
         return frozenset()
     markers = Markers([{key: str(value) for key, value in environment.told.items()}])
-    found, waiting = {OWN}, [(OWN, frozenset[str](), True)]
+    names, waiting = {OWN}, [(OWN, frozenset[str](), True)]
     seen = set(waiting)
     while waiting:
         name, extras, is_all = waiting.pop()
         for text in environment.installed[name].requires if name in environment.installed else ():
             need = need_of(text)
-            if need is None or not (is_all or any(markers.can_hold(need.marker, it) for it in ("", *extras))):
+            if need is None or not (is_all or any(markers.can_hold(need.marker, extra) for extra in ("", *extras))):
                 continue
-            found.add(need.name)
+            names.add(need.name)
             asked = (need.name, frozenset(need.extras), False)
             if asked not in seen:
                 seen.add(asked)
                 waiting.append(asked)
-    return frozenset(found)
+    return frozenset(names)

@@ -14,7 +14,7 @@ HEADER = re.compile(r"(Name|Version|Requires-Dist): *(.*)")
 
 def headers_of(path: str) -> Dict[str, List[str]]:
     """The headers of a METADATA or PKG-INFO file that count here; none where it can't be read."""
-    found: Dict[str, List[str]] = {}
+    headers: Dict[str, List[str]] = {}
     try:
         with open(path, encoding="utf-8", errors="replace") as file:
             for line in file:
@@ -22,20 +22,20 @@ def headers_of(path: str) -> Dict[str, List[str]]:
                     break
                 told = HEADER.match(line)
                 if told:
-                    found.setdefault(told.group(1), []).append(told.group(2).strip())
+                    headers.setdefault(told.group(1), []).append(told.group(2).strip())
     except OSError:
         pass
-    return found
+    return headers
 
 
 def origin_of(folder: str) -> Optional[Dict[str, Any]]:
     """What PEP 610 tells of where a distribution came from; None where it tells nothing."""
     try:
         with open(os.path.join(folder, "direct_url.json"), encoding="utf-8") as file:
-            found = json.load(file)
+            origin = json.load(file)
     except (OSError, ValueError):
         return None
-    return found if isinstance(found, dict) else None
+    return origin if isinstance(origin, dict) else None
 
 
 def link_of(path: str) -> Dict[str, Any]:
@@ -69,16 +69,16 @@ def distributions() -> Iterator[Dict[str, Any]]:
     for folder in dict.fromkeys(sys.path):
         if os.path.isdir(folder) and os.path.realpath(folder).startswith(top):
             for name in sorted(os.listdir(folder)):
-                found = distribution_at(os.path.join(folder, name))
-                if found is not None:
-                    yield found
+                distribution = distribution_at(os.path.join(folder, name))
+                if distribution is not None:
+                    yield distribution
 
 
 def main() -> None:
     describe = runpy.run_path(sys.argv[1])["own_environment"]
     told = {
         "prefix": os.path.realpath(sys.prefix), "environment": describe(), "distributions": list(distributions()),
-        "places": [os.path.realpath(sysconfig.get_path(it)) for it in ("purelib", "platlib", "scripts")],
+        "places": [os.path.realpath(sysconfig.get_path(path_name)) for path_name in ("purelib", "platlib", "scripts")],
     }
     print(json.dumps(told, sort_keys=True))
 

@@ -63,7 +63,7 @@ def journal_targets(folder: Path) -> list[Target]:
         journal = read_journal(str(folder / JOURNAL), content(folder / JOURNAL))
     except Refusal as fault:
         raise SettingsFault(f"{fault}: rql lock mends what git merged") from None
-    found = []
+    targets = []
     for name, environment in sorted(journal.environments.items()):
         path = folder / lock_name(name)
         if not path.exists():
@@ -71,13 +71,13 @@ def journal_targets(folder: Path) -> list[Target]:
         data = content(path)
         if digest_of(data) != journal.locks[name]:
             raise SettingsFault(f"{path}: it isn't the lock that was saved with the journal: rql check tells more, rql lock has them fit")
-        found.append(Target(name, path, text_of(path, data), environment))
-    return found
+        targets.append(Target(name, path, text_of(path, data), environment))
+    return targets
 
 
 def told_targets(folder: Path) -> list[Target]:
     """The targets of locks that stand alone, as in an image that has nothing else."""
-    found = []
+    targets = []
     for path in sorted(folder.glob("pylock*.toml")):
         name = LOCK.fullmatch(path.name)
         if name is None:
@@ -87,27 +87,27 @@ def told_targets(folder: Path) -> list[Target]:
             markers = read_lock(text)[0]
         except Refusal as fault:
             raise SettingsFault(f"{path}: {fault}") from None
-        found += [Target(name[1] or "", path, text, told_by(path, marker)) for marker in markers]
-    return found
+        targets += [Target(name[1] or "", path, text, told_by(path, marker)) for marker in markers]
+    return targets
 
 
 def told_by(path: Path, marker: str) -> dict[str, object]:
     """The variables that the marker of a lock's environment asks for: VARIABLE == TEXT, joined by `and`."""
     tree = tree_of(marker)
-    found = equalities(tree) if tree is not None else None
-    if found is None or not found.keys() >= TELLING.keys():
+    values = equalities(tree) if tree is not None else None
+    if values is None or not values.keys() >= TELLING.keys():
         raise SettingsFault(f"{path}: environments: it tells no whole environment, and no journal beside it does: rql init --from {path.name}")
-    return dict(found)
+    return dict(values)
 
 
 def equalities(tree: Tree) -> dict[str, str] | None:
     """The texts that variables must have; None where a marker asks anything else."""
-    found: dict[str, str] = {}
+    values: dict[str, str] = {}
     for part in tree.parts if isinstance(tree, Junction) and not tree.takes_one else (tree,):
         if not isinstance(part, Comparison) or part.sign != "==" or not part.left.is_name or part.right.is_name:
             return None
-        found[part.left.text] = part.right.text
-    return found
+        values[part.left.text] = part.right.text
+    return values
 
 
 def chosen_target(folder: Path, name: str | None, told: Mapping[str, object]) -> Target:
@@ -115,12 +115,12 @@ def chosen_target(folder: Path, name: str | None, told: Mapping[str, object]) ->
     targets = targets_in(folder)
     if not targets:
         raise SettingsFault(f"{folder}: no lock stands there: rql init, or rql lock, makes one")
-    named = [it for it in targets if name is None or it.name == name]
+    named = [target for target in targets if name is None or target.name == name]
     if not named:
-        raise SettingsFault(f"--target {name}: one of {', '.join(it.name or '(without a name)' for it in targets)} is wanted")
-    fitting = [it for it in named if not it.differences(told)]
+        raise SettingsFault(f"--target {name}: one of {', '.join(target.name or '(without a name)' for target in targets)} is wanted")
+    fitting = [target for target in named if not target.differences(told)]
     if len(fitting) > 1:
-        raise SettingsFault(f"{' and '.join(it.label() for it in fitting)} are for {label_of(told)}: rql sync --target {fitting[0].name}")
+        raise SettingsFault(f"{' and '.join(target.label() for target in fitting)} are for {label_of(told)}: rql sync --target {fitting[0].name}")
     if not fitting:
         raise SettingsFault(no_target(named, told))
     return fitting[0]
@@ -129,6 +129,6 @@ def chosen_target(folder: Path, name: str | None, told: Mapping[str, object]) ->
 def no_target(targets: list[Target], told: Mapping[str, object]) -> str:
     """What is told where no lock is for an environment."""
     lines = [f"no lock is for {label_of(told)}:"]
-    lines += [f"  {it.label()} is for {', '.join(it.differences(told))}" for it in targets]
+    lines += [f"  {target.label()} is for {', '.join(target.differences(told))}" for target in targets]
     lines.append(f"rql env add NAME --python {told['python_version']} --platform PLATFORM locks for it, or --venv DIR names another one")
     return "\n".join(lines)

@@ -39,7 +39,7 @@ def listed(settings: Settings) -> list[str]:
     """The environments as a table; a target without a name is a hyphen."""
     if not settings.environments:
         return [f"-  {label_of(told)}" for told in environments(settings).values()]
-    rows = [("target", "python", "platform")] + [(it.name or "-", it.python, it.platform) for it in settings.environments]
+    rows = [("target", "python", "platform")] + [(target.name or "-", target.python, target.platform) for target in settings.environments]
     widths = [max(len(row[place]) for row in rows) for place in range(2)]
     return [f"{name:<{widths[0]}}  {python:<{widths[1]}}  {platform}" for name, python, platform in rows]
 
@@ -131,17 +131,17 @@ def added(settings: Settings, request: EnvRequest) -> tuple[EnvironmentSetting, 
         refuse_python(request.python)
     new = EnvironmentSetting(request.name, request.python or own_version(settings), request.platform or platform_of(request.name))
     described(new, place_of(settings, new))
-    others = [it if it.name else replace(it, name=family_name(it.platform)) for it in settings.environments]
-    if request.name in [it.name for it in others]:
+    others = [target if target.name else replace(target, name=family_name(target.platform)) for target in settings.environments]
+    if request.name in [other.name for other in others]:
         raise SettingsFault(f"{place_of(settings, new)}: this target is there already")
     return (*others, new)
 
 
 def renamed_exports(settings: Settings, changed: Sequence[EnvironmentSetting]) -> tuple[ExportSetting, ...]:
-    """The exports, where the target without a name got one: they are of that one."""
-    if not any(it.name == "" for it in settings.environments):
+    """The exports, where the target without a name got one: they are of that one, but for those of all."""
+    if not any(environment.name == "" for environment in settings.environments):
         return settings.exports
-    return tuple(it if it.target else replace(it, target=changed[0].name) for it in settings.exports)
+    return tuple(export if export.target or export.is_of_all() else replace(export, target=changed[0].name) for export in settings.exports)
 
 
 def own_version(settings: Settings) -> str:
@@ -151,15 +151,15 @@ def own_version(settings: Settings) -> str:
 
 def platform_of(name: str) -> str:
     """The platform that the name of a target means: the first of its family, as windows-x86_64 for windows."""
-    found = next((it for it in PLATFORMS if family_name(it) == name), None)
-    if found is None:
+    platform = next((platform for platform in PLATFORMS if family_name(platform) == name), None)
+    if platform is None:
         raise SettingsFault(f"{name}: which platform is it? --platform says it: {', '.join(PLATFORMS)}")
-    return found
+    return platform
 
 
 def removed(settings: Settings, name: str) -> tuple[EnvironmentSetting, ...]:
     """The environments with one less."""
-    others = tuple(it for it in settings.environments if it.name != name)
+    others = tuple(environment for environment in settings.environments if environment.name != name)
     if len(others) == len(settings.environments):
         raise SettingsFault(f"{settings.file}: environments: {name!a} isn't among them: rql env list prints them")
     if not others:

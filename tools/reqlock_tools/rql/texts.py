@@ -11,7 +11,7 @@ def outside(names: Sequence[str]) -> str:
     """What to do about packages that no index has."""
     return (
         f"only what an index has can be locked, and not {', '.join(names)}: publish it to one; or install it after rql sync, by pip install"
-        f" --no-deps, add what it needs by rql add, and have it stay by rql sync {' '.join(f'--keep {it}' for it in names)}"
+        f" --no-deps, add what it needs by rql add, and have it stay by rql sync {' '.join(f'--keep {name}' for name in names)}"
     )
 
 

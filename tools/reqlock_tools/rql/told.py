@@ -78,10 +78,10 @@ def base_of(options: Options) -> str:
 
     start = Path(os.path.realpath(options.start))
     try:
-        found = find_settings(start)
+        settings = find_settings(start)
     except (Refusal, OSError):
-        found = None
-    base = os.path.relpath(found.file.parent if found else start)
+        settings = None
+    base = os.path.relpath(settings.file.parent if settings else start)
     return os.path.abspath(base) if base.startswith("..") else base
 
 

@@ -9,7 +9,7 @@ GROUPED = (
 )
 UPGRADED = "rql upgrade takes newer releases of all that is locked, and rql upgrade NAME of one"
 SYNCED = "rql sync installs what is locked, and changes no lock; what is locked is said by sources in the settings"
-# What does the work of a command of pip, uv, Poetry or pip-tools.
+# What does the work of a command of pip, uv, Poetry or pip-tools, or of an older reqlock.
 COMMANDS = {
     "install": "rql sync installs what is locked, and rql add NAME puts a line there",
     "update": UPGRADED, "up": UPGRADED, "outdate": "rql outdated", "delete": "rql remove NAME", "rm": "rql remove NAME",
@@ -19,6 +19,7 @@ COMMANDS = {
     "venv": "python3 -m venv .venv, and then rql sync",
     "pip": "rql sync installs what is locked; pip itself stays as it is",
     "python": "rql env add NAME --python VERSION locks for another Python",
+    "portable-lock": "rql export --format pylock, for all environments in one file",
     "status": "rql check", "history": "rql log", "new": "rql init", "verify": "rql check",
 }
 # What does the work of an option of theirs, by the commands of rql.
@@ -46,5 +47,5 @@ def in_place_of_command(word: str, commands: Iterable[str]) -> str:
 
 def in_place_of_options(command: str, words: Sequence[str]) -> str | None:
     """What to type in the place of words that a command doesn't take; None where nobody knows."""
-    found = (OPTIONS.get(command, {}).get(word.partition("=")[0]) for word in words)
-    return next((it for it in found if it is not None), None)
+    texts = (OPTIONS.get(command, {}).get(word.partition("=")[0]) for word in words)
+    return next((text for text in texts if text is not None), None)

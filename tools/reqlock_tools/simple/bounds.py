@@ -53,7 +53,7 @@ class Bound:
 
     def told(self, name: str) -> str:
         """What is asked of a package, as a text."""
-        clauses = [(it.sign, str(it.version), it.is_prefix) for it in self.clauses.get(name, ())]
+        clauses = [(clause.sign, str(clause.version), clause.is_prefix) for clause in self.clauses.get(name, ())]
         return repr((sorted(map(str, self.versions.get(name, ()))), name in self.versions, clauses))
 
     def is_out(self, name: str, version: Version) -> bool:

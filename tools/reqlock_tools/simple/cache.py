@@ -32,10 +32,10 @@ def default_folder() -> str | None:
 def beside_of(line: bytes) -> Beside:
     """What a line of JSON tells; nothing where it is no object."""
     try:
-        found = json.loads(line)
+        beside = json.loads(line)
     except (ValueError, RecursionError):
         return {}
-    return found if isinstance(found, dict) else {}
+    return beside if isinstance(beside, dict) else {}
 
 
 class Cache:

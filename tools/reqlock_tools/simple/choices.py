@@ -53,10 +53,10 @@ def is_of(release: Release, versions: set[Version]) -> bool:
 
 def by_version(links: list[Link]) -> list[Release]:
     """The links of each release, from the oldest release to the newest. Equal versions are one release."""
-    found: dict[Version, Release] = {}
+    releases: dict[Version, Release] = {}
     for link in links:
-        found.setdefault(version_of(link.version), []).append(link)
-    return [found[key] for key in sorted(found)]
+        releases.setdefault(version_of(link.version), []).append(link)
+    return [releases[key] for key in sorted(releases)]
 
 
 def without_files(releases: list[Release], is_out: Test, why: str, left: Left) -> list[Release]:
@@ -124,11 +124,11 @@ class Choices:
             releases = without_files(releases, lambda link: id(link) not in exempt and is_out(link), why, left)
         releases = without_yanked(releases, left)
         if self.options.no_pre:
-            releases = without_releases(releases, lambda it: is_pre(it) and not is_of(it, locked), "by --no-pre", left)
+            releases = without_releases(releases, lambda release: is_pre(release) and not is_of(release, locked), "by --no-pre", left)
         if self.options.newest is not None:
             kept = self.newest(releases, self.options.newest)
             why = f"by --newest {self.options.newest}"
-            releases = without_releases(releases, lambda it: id(it) not in kept and not is_of(it, locked), why, left)
+            releases = without_releases(releases, lambda release: id(release) not in kept and not is_of(release, locked), why, left)
         return Chosen(releases, left, versions)
 
     def is_locked(self, name: str, release: Release) -> bool:

@@ -70,23 +70,23 @@ class Broken(Exception):
 
 def causes_of(error: BaseException) -> Iterator[BaseException]:
     """A fault and those behind it."""
-    found: BaseException | None = error
-    while found is not None:
-        yield found
-        found = found.__cause__ or found.__context__
+    cause: BaseException | None = error
+    while cause is not None:
+        yield cause
+        cause = cause.__cause__ or cause.__context__
 
 
 def cause_of(error: BaseException) -> BaseException:
     """The fault of a connection behind that of urllib3."""
     faults = OSError, http.client.HTTPException, UnicodeError
-    return next((it for it in causes_of(error) if isinstance(it, faults)), error)
+    return next((cause for cause in causes_of(error) if isinstance(cause, faults)), error)
 
 
 def certificate_fault(error: BaseException) -> str | None:
     """What is wrong with a certificate, where that is the fault."""
-    for it in causes_of(error):
-        if isinstance(it, ssl.SSLCertVerificationError) or type(it).__name__ == "CertificateError":
-            return getattr(it, "verify_message", None) or str(it)
+    for cause in causes_of(error):
+        if isinstance(cause, ssl.SSLCertVerificationError) or type(cause).__name__ == "CertificateError":
+            return getattr(cause, "verify_message", None) or str(cause)
     return None
 
 
@@ -229,10 +229,10 @@ class Client:
     def admitted(self, address: Address, request: Request) -> tuple[Answer, float | None]:
         """The answer to a request, asked once more where it wants a user and keyring knows one."""
         used = self.credentials.get(address)
-        found = self.exchanged(address, request)
-        if found[0].status == 401 and self.credentials.find_more(address, used):
+        exchanged = self.exchanged(address, request)
+        if exchanged[0].status == 401 and self.credentials.find_more(address, used):
             return self.exchanged(address, request)
-        return found
+        return exchanged
 
     def exchanged(self, address: Address, request: Request) -> tuple[Answer, float | None]:
         """The answer to one request, and the pause that it asks for."""
@@ -285,10 +285,10 @@ class Client:
     def pause_asked(self, response: "HTTPResponse") -> float | None:
         """The seconds that Retry-After asks for; None where it asks for none."""
         try:
-            found = self.retry.get_retry_after(response)
+            seconds = self.retry.get_retry_after(response)
         except (urllib3.exceptions.HTTPError, ValueError, TypeError, OverflowError):
             return None
-        return None if found is None else min(max(float(found), 0.0), LONGEST_PAUSE)
+        return None if seconds is None else min(max(float(seconds), 0.0), LONGEST_PAUSE)
 
     # Connections
 
@@ -310,19 +310,19 @@ class Client:
     @cached_property
     def trust(self) -> ssl.SSLContext:
         """The authorities whose certificates are taken. To read them all takes a while, so it is done once, where they are needed."""
-        found = ssl.create_default_context()
+        context = ssl.create_default_context()
         # Before its version 2 urllib3 compares hosts and certificates itself, and needs this to reach a host by its number.
-        found.check_hostname = found.check_hostname and not urllib3.__version__.startswith("1.")
-        return found
+        context.check_hostname = context.check_hostname and not urllib3.__version__.startswith("1.")
+        return context
 
     def opened(self, proxy: str | None, scheme: str) -> Any:
         """What opens connections of a scheme, through a proxy where the surroundings name one."""
         is_plain = scheme == "http" and (proxy is None or not proxy.lower().startswith("https:"))
         trust = None if is_plain else self.trust
         timeout = urllib3.Timeout(connect=self.seconds, read=self.seconds)
-        found: Any
+        pool: Any
         if proxy is None:
-            found = urllib3.PoolManager(maxsize=self.jobs, timeout=timeout, ssl_context=trust)
+            pool = urllib3.PoolManager(maxsize=self.jobs, timeout=timeout, ssl_context=trust)
         else:
             url = proxy if "//" in proxy else f"http://{proxy}"
             if is_odd(url):
@@ -330,9 +330,9 @@ class Client:
             address, value = address_of(url), credentials_of(url)
             headers = {} if value is None else {"Proxy-Authorization": value}
             host = f"[{address.host}]" if ":" in address.host else address.host
-            found = urllib3.ProxyManager(
+            pool = urllib3.ProxyManager(
                 f"{address.scheme}://{host}:{address.port}", proxy_headers=headers, proxy_ssl_context=trust, maxsize=self.jobs,
                 timeout=timeout, ssl_context=trust,
             )
-        found.pool_classes_by_scheme = pools_of(self.watch)
-        return found
+        pool.pool_classes_by_scheme = pools_of(self.watch)
+        return pool

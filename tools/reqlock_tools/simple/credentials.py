@@ -55,7 +55,7 @@ class Credentials:
         """Takes an index. Two at one host and port have one user and password, since each is told them."""
         origin = address_of(url).origin
         other = self.urls.get(origin, url)
-        given = {credentials_of(it) for it in (other, url)} - {None}
+        given = {credentials_of(either) for either in (other, url)} - {None}
         if len(given) > 1:
             raise Refusal(f"{without_password(url)}: another index at its host and port has another user or password")
         self.urls[origin] = url if credentials_of(url) is not None else other
@@ -112,9 +112,9 @@ class Credentials:
         with self.lock:
             if address.origin not in self.asked:
                 self.asked.add(address.origin)
-                found = keyring_value(url)
-                if found is not None:
-                    self.values[address.origin] = found
+                value = keyring_value(url)
+                if value is not None:
+                    self.values[address.origin] = value
             return self.values.get(address.origin) != used
 
 

@@ -16,10 +16,10 @@ MOST_SECONDS = 86_400
 def seconds_of(headers: Mapping[str, str]) -> int:
     """How long an answer is fresh from now on."""
     told = headers.get("Cache-Control", "")
-    found, age = MAX_AGE.search(told), NUMBER.fullmatch(headers.get("Age", "0").strip())
-    if found is None or FORBIDS.search(told) or age is None:
+    max_age, age = MAX_AGE.search(told), NUMBER.fullmatch(headers.get("Age", "0").strip())
+    if max_age is None or FORBIDS.search(told) or age is None:
         return 0
-    return min(MOST_SECONDS, int(found[1]) - int(age[0]))
+    return min(MOST_SECONDS, int(max_age[1]) - int(age[0]))
 
 
 def freshness(headers: Mapping[str, str]) -> Beside:

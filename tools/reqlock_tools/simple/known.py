@@ -23,8 +23,8 @@ def keep(cache: Cache, key: str, project: Project) -> None:
     """Keeps a project, unless something of it could be there the next time."""
     if project.is_lasting:
         left = [[why, files, project.left.versions[why]] for why, files in project.left.files.items()]
-        found = [project.versions, left, project.releases, project.notes, project.untold]
-        cache.put(KIND, key, {}, json.dumps(found, ensure_ascii=False, separators=(",", ":")).encode())
+        values = [project.versions, left, project.releases, project.notes, project.untold]
+        cache.put(KIND, key, {}, json.dumps(values, ensure_ascii=False, separators=(",", ":")).encode())
 
 
 def known(cache: Cache, key: str, name: str, base: str) -> Project | None:
@@ -32,8 +32,8 @@ def known(cache: Cache, key: str, name: str, base: str) -> Project | None:
     kept = cache.get(KIND, key)
     if kept is None:
         return None
-    found: list[Any] = json.loads(kept[1])
+    values: list[Any] = json.loads(kept[1])
     left = Left()
-    for why, files, versions in found[1]:
+    for why, files, versions in values[1]:
         left.count(why, files, versions)
-    return Project(name, base, found[0], left, found[2], found[3], found[4])
+    return Project(name, base, values[0], left, values[2], values[3], values[4])

@@ -36,16 +36,16 @@ def ranges_of(versions: Sequence[str], all_versions: Sequence[str]) -> list[str]
     out, last = set(versions), len(all_versions) - 1
     if out.issuperset(all_versions):
         return ["all"]
-    found = []
+    ranges = []
     for is_out, run in groupby(range(len(all_versions)), lambda place: all_versions[place] in out):
         places = list(run)
         first, end = all_versions[places[0]], all_versions[places[-1]]
         if not is_out:
             continue
         if places[0] == 0:
-            found.append(f"{end} and older" if len(places) > 1 else end)
+            ranges.append(f"{end} and older" if len(places) > 1 else end)
         elif places[-1] == last:
-            found.append(f"{first} and newer" if len(places) > 1 else first)
+            ranges.append(f"{first} and newer" if len(places) > 1 else first)
         else:
-            found.append(f"{first} to {end}" if len(places) > 1 else first)
-    return found
+            ranges.append(f"{first} to {end}" if len(places) > 1 else first)
+    return ranges

@@ -27,37 +27,37 @@ class Page:
     base: str | None = None
     version: str = "1.0"
 
-    def take(self, tag: str, found: Attributes) -> None:
-        if tag == "a" and "href" in found:
-            self.links.append(found)
+    def take(self, tag: str, attributes: Attributes) -> None:
+        if tag == "a" and "href" in attributes:
+            self.links.append(attributes)
         elif tag == "base" and self.base is None:
-            self.base = found.get("href")
-        elif tag == "meta" and found.get("name") == "pypi:repository-version":
-            self.version = found.get("content", "")
+            self.base = attributes.get("href")
+        elif tag == "meta" and attributes.get("name") == "pypi:repository-version":
+            self.version = attributes.get("content", "")
 
 
 def behind(text: str, end: str, place: int) -> int:
     """The place behind the next of these; that of the text's end where there is none."""
-    found = text.find(end, place)
-    return len(text) if found < 0 else found + len(end)
+    end_place = text.find(end, place)
+    return len(text) if end_place < 0 else end_place + len(end)
 
 
 def read_attributes(text: str, place: int) -> tuple[Attributes, int] | None:
     """The attributes of a tag that are read, of two with one name the first, and the place behind the tag; None where it isn't
     ended."""
     attributes: Attributes = {}
-    while found := ATTRIBUTE.match(text, place):
-        value, place = "", found.end()
-        if found[2] and text[place : place + 1] in ("'", '"'):
+    while attribute := ATTRIBUTE.match(text, place):
+        value, place = "", attribute.end()
+        if attribute[2] and text[place : place + 1] in ("'", '"'):
             start, quote = place + 1, text[place]
             place = behind(text, quote, start)
             value = text[start : place - 1]
             if place == len(text):
                 return None
-        elif found[2]:
+        elif attribute[2]:
             value = UNQUOTED.match(text, place)[0]  # type: ignore[index]  # (it matches each text)
             place += len(value)
-        name = found[1].lower()
+        name = attribute[1].lower()
         if name in READ and name not in attributes:
             attributes[name] = unescaped(value)
     end = text.find(">", place)
@@ -73,14 +73,14 @@ def unescaped(value: str) -> str:
 
 def read_links(url: str, text: str, limits: Limits) -> Page:
     page, place = Page(), 0
-    while found := OPENING.search(text, place):
-        tag = found[1].lower()
+    while opening := OPENING.search(text, place):
+        tag = opening[1].lower()
         if tag == "!--":
-            place = behind(text, "-->", found.start() + 2)
+            place = behind(text, "-->", opening.start() + 2)
         elif not tag[0].isalpha():
-            place = behind(text, ">", found.start())
+            place = behind(text, ">", opening.start())
         else:
-            read = read_attributes(text, found.end())
+            read = read_attributes(text, opening.end())
             if read is None:
                 return page
             attributes, place = read

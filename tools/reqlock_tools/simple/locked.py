@@ -10,7 +10,7 @@ from reqlock_tools.versions import Version, normal, read_version, version_of
 Locked = dict[str, set[Version]]
 
 
-def read_lock(path: str) -> Node:
+def lock_node(path: str) -> Node:
     text = read_text(path)
     try:
         return Node(path, read_toml(text))
@@ -23,9 +23,9 @@ def version_of_package(package: Node) -> Version | None:
     told = package.member("version")
     if told.value is None:
         return None
-    found = read_version(told.text())
-    told.want(found is not None, "a version")
-    return found
+    version = read_version(told.text())
+    told.want(version is not None, "a version")
+    return version
 
 
 def texts_of(locked: Locked) -> tuple[str, ...]:
@@ -35,19 +35,19 @@ def texts_of(locked: Locked) -> tuple[str, ...]:
 
 def versions_of(texts: Iterable[str]) -> Locked:
     """The versions of such texts."""
-    found: Locked = {}
+    versions: Locked = {}
     for text in texts:
         name, _, version = text.partition("==")
-        found.setdefault(name, set()).add(version_of(version))
-    return found
+        versions.setdefault(name, set()).add(version_of(version))
+    return versions
 
 
 def locked_versions(paths: Iterable[str]) -> Locked:
     """The versions that locks have, by the normal names of packages."""
-    found: Locked = {}
+    versions: Locked = {}
     for path in paths:
-        for package in read_lock(path).member("packages").items():
+        for package in lock_node(path).member("packages").items():
             version = version_of_package(package)
             if version is not None:
-                found.setdefault(normal(package.member("name").name()), set()).add(version)
-    return found
+                versions.setdefault(normal(package.member("name").name()), set()).add(version)
+    return versions

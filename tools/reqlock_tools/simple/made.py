@@ -48,35 +48,35 @@ class LeftOut:
 # Writing
 
 
-def environment_json(it: Environment) -> Json:
-    told: Json = dict(it.variables)
-    if it.built is not None:
-        told |= {"interpreter": it.built.interpreter, "abis": list(it.built.abis), "platforms": list(it.built.platforms)}
-    return ({"name": it.name} if it.name else {}) | dict(sorted(told.items()))
+def environment_json(environment: Environment) -> Json:
+    told: Json = dict(environment.variables)
+    if environment.built is not None:
+        told |= {"interpreter": environment.built.interpreter, "abis": list(environment.built.abis), "platforms": list(environment.built.platforms)}
+    return ({"name": environment.name} if environment.name else {}) | dict(sorted(told.items()))
 
 
-def index_json(it: IndexAddress, packages: tuple[str, ...]) -> Json:
-    return {"url": it.url} | ({"only": list(it.only)} if it.only else {}) | {"packages": list(packages)}
+def index_json(address: IndexAddress, packages: tuple[str, ...]) -> Json:
+    return {"url": address.url} | ({"only": list(address.only)} if address.only else {}) | {"packages": list(packages)}
 
 
-def constraints_json(it: Constraints) -> Json:
-    return {"file": it.file, "requirements": list(it.requirements), "versions": list(it.versions)}
+def constraints_json(constraints: Constraints) -> Json:
+    return {"file": constraints.file, "requirements": list(constraints.requirements), "versions": list(constraints.versions)}
 
 
-def made_json(plan: Plan, found: Findings) -> Json:
+def made_json(plan: Plan, findings: Findings) -> Json:
     """The value of `made`: the plan, and what was found. It has no time in it, so the same answers give the same value."""
     options = {name: value for name, value in asdict(plan.options).items() if value not in (None, False)}
     return {
-        "indexes": [index_json(*pair) for pair in zip(plan.indexes, found.packages, strict=True)],
+        "indexes": [index_json(*pair) for pair in zip(plan.indexes, findings.packages, strict=True)],
         "names": list(plan.names),
         "lines": list(plan.lines),
-        "environments": [environment_json(it) for it in plan.environments],
-        "constraints": [constraints_json(it) for it in plan.constraints],
+        "environments": [environment_json(environment) for environment in plan.environments],
+        "constraints": [constraints_json(constraints) for constraints in plan.constraints],
         "keep": list(plan.keep),
         "options": options,
-        "extras": dict(found.extras),
-        "lacks": {"names": list(found.absent), "extras": dict(found.passed)},
-        "left": list(found.left),
+        "extras": dict(findings.extras),
+        "lacks": {"names": list(findings.absent), "extras": dict(findings.passed)},
+        "left": list(findings.left),
     }
 
 
@@ -126,8 +126,8 @@ def plan_of(made: Node) -> Plan:
 def left_of(made: Node) -> list[LeftOut]:
     """What was left out of a snapshot."""
     return [
-        LeftOut(it.member("name").name(), it.member("why").text(), it.member("releases").size(), tuple(it.member("ranges").texts()))
-        for it in made.member("left").items()
+        LeftOut(item.member("name").name(), item.member("why").text(), item.member("releases").size(), tuple(item.member("ranges").texts()))
+        for item in made.member("left").items()
     ]
 
 
@@ -180,16 +180,16 @@ def constraints_of(node: Node) -> Constraints:
 
 
 def options_of(node: Node) -> Options:
-    found = node.object()
-    kinds = {it.name: bool for it in fields(Options)} | {"newest": int, "exclude_newer": str}
-    for name, value in found.items():
+    options = node.object()
+    kinds = {option_field.name: bool for option_field in fields(Options)} | {"newest": int, "exclude_newer": str}
+    for name, value in options.items():
         node.want(name in kinds, f"one of {' '.join(kinds)} as a key")
         node.member(name).want(type(value) is kinds[name], f"a value of the kind {kinds[name].__name__}")
-    if "newest" in found:
-        node.member("newest").want(found["newest"] > 0, "a number from 1")
-    if "exclude_newer" in found:
-        node.member("exclude_newer").want(is_moment(found["exclude_newer"]), "a date or a time")
-    return Options(**found)
+    if "newest" in options:
+        node.member("newest").want(options["newest"] > 0, "a number from 1")
+    if "exclude_newer" in options:
+        node.member("exclude_newer").want(is_moment(options["exclude_newer"]), "a date or a time")
+    return Options(**options)
 
 
 def is_moment(text: str) -> bool:

@@ -28,9 +28,9 @@ DIGESTS = {name for name in hashlib.algorithms_guaranteed if not name.startswith
 SIZE = re.compile("[0-9]{1,19}")
 
 
-def refuse_other_digest(url: str, told: str, found: str) -> None:
-    if told != found:
-        raise Unfetched(f"{url}: its digest is {found}, and the index tells {told}: it was altered, or is broken on its way")
+def refuse_other_digest(url: str, told: str, own: str) -> None:
+    if told != own:
+        raise Unfetched(f"{url}: its digest is {own}, and the index tells {told}: it was altered, or is broken on its way")
 
 
 def sha256_of(file: IO[bytes]) -> str:
@@ -64,9 +64,9 @@ class MetadataReader:
 
     def read(self, link: Link, inner: str | None, data: bytes) -> Archive:
         """What metadata of a file tells, which counts for the limit of all."""
-        found = archive_of(link.file.url, link.file, inner, data)
-        self.count_needs(link.file.url, found.told.requires_dist or [])
-        return found
+        archive = archive_of(link.file.url, link.file, inner, data)
+        self.count_needs(link.file.url, archive.told.requires_dist or [])
+        return archive
 
     def count_needs(self, url: str, texts: list[str]) -> None:
         """Ends the run where the files depend on too much together, which all stays in memory."""

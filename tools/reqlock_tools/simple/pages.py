@@ -52,10 +52,10 @@ def version_in(file_name: str, project: str) -> str | None:
             return None
         text = words[1]
     else:
-        places = (found.start() for found in re.finditer("-", stem))
+        places = (dash.start() for dash in re.finditer("-", stem))
         text = next((stem[place + 1 :] for place in places if normal(stem[:place]) == project), "")
     texts = text, text.replace("_", "-")
-    return next((it for it in texts if read_version(it) is not None), None)
+    return next((text for text in texts if read_version(text) is not None), None)
 
 
 def refuse_other_api(url: str, text: str) -> None:
@@ -145,33 +145,33 @@ def read_json_page(page: PageFiles, data: bytes, limits: Limits) -> None:
 # HTML
 
 
-def html_metadata(found: Attributes) -> dict[str, str] | None:
+def html_metadata(attributes: Attributes) -> dict[str, str] | None:
     for key in "data-core-metadata", "data-dist-info-metadata":
-        if key in found:
-            return {} if found[key] == "true" else {name: digest.lower() for name, digest in DIGEST.findall(found[key])}
+        if key in attributes:
+            return {} if attributes[key] == "true" else {name: digest.lower() for name, digest in DIGEST.findall(attributes[key])}
     return None
 
 
-def take_html(page: PageFiles, base: str, found: Attributes) -> None:
-    url = found["href"].strip()
+def take_html(page: PageFiles, base: str, attributes: Attributes) -> None:
+    url = attributes["href"].strip()
     sha256 = dict(DIGEST.findall(url.partition("#")[2])).get("sha256", "")
     file = File(
         name="",
         url=url,
         size=None,
         sha256=sha256 if len(sha256) == 64 else None,
-        requires_python=found.get("data-requires-python"),
-        yanked="data-yanked" in found,
+        requires_python=attributes.get("data-requires-python"),
+        yanked="data-yanked" in attributes,
     )
-    page.take(base, url, None, Link(file, "", html_metadata(found), None))
+    page.take(base, url, None, Link(file, "", html_metadata(attributes), None))
 
 
 def read_html_page(page: PageFiles, data: bytes, charset: str, limits: Limits) -> None:
     read = read_links(page.url, data.decode(CHARSETS.get(charset.lower(), "utf-8"), errors="replace"), limits)
     refuse_other_api(page.url, read.version)
     base = page.url if read.base is None else joined(page.url, read.base)
-    for found in read.links:
-        take_html(page, base, found)
+    for attributes in read.links:
+        take_html(page, base, attributes)
 
 
 def read_page(url: str, content_type: str, data: bytes, project: str, limits: Limits) -> PageFiles:

@@ -87,16 +87,16 @@ class Asking:
     limits: Limits
 
 
-def environment_of(name: str, found: Mapping[str, Any], variables: Mapping[str, str]) -> Environment:
-    return Environment(name, dict(variables), built_of({**found, **variables}))
+def environment_of(name: str, described: Mapping[str, Any], variables: Mapping[str, str]) -> Environment:
+    return Environment(name, dict(variables), built_of({**described, **variables}))
 
 
 def followed_texts(texts: Iterable[str]) -> tuple[str, ...]:
     """What is followed of requirements, each once and in order: names with extras and markers. Their versions make no difference."""
-    found = set()
+    followed = set()
     for text in texts:
         need = need_of(text)
         if need is not None:
             extras = f"[{','.join(need.extras)}]" if need.extras else ""
-            found.add(f"{need.name}{extras}" + (f" ; {need.marker}" if need.marker else ""))
-    return tuple(sorted(found))
+            followed.add(f"{need.name}{extras}" + (f" ; {need.marker}" if need.marker else ""))
+    return tuple(sorted(followed))

@@ -16,10 +16,10 @@ class Platforms:
 
     def __init__(self, plan: Plan) -> None:
         self.all = (1 << max(1, len(plan.environments))) - 1
-        self.built = [] if plan.options.any_platform else [it.built for it in plan.environments]
-        self.tags = [None if it is None else built_tags(it) for it in self.built]
+        self.built = [] if plan.options.any_platform else [environment.built for environment in plan.environments]
+        self.tags = [None if built is None else built_tags(built) for built in self.built]
         self.known: dict[str, int] = {}
-        self.is_any = all(it is None for it in self.tags)
+        self.is_any = all(tags is None for tags in self.tags)
 
     def able(self, names: Iterable[str]) -> int:
         """The environments that can install one of these files."""

@@ -55,15 +55,15 @@ class Index:
         """Where the page of a project is."""
         return f"{self.base}/{urllib.parse.quote(name)}/"
 
-    def found(self, name: str) -> "Found | None":
+    def project_of(self, name: str) -> "IndexedProject | None":
         """What is chosen of a project, or the whole of it where an earlier run read it; None where there is no page."""
         page = None if len(name) > LONGEST_NAME else self.page(self.url(name))
-        return None if page is None else self.found_on(name, page)
+        return None if page is None else self.project_on(name, page)
 
-    def at_hand(self, name: str) -> "Found | None":
+    def at_hand(self, name: str) -> "IndexedProject | None":
         """The same of a project whose page is kept and needs no asking; None where it does, or where there is none."""
         kept = self.cache.get("page", self.url(name))
-        return None if kept is None or kept[0]["is_absent"] or not self.needs_no_asking(kept[0]) else self.found_on(name, kept)
+        return None if kept is None or kept[0]["is_absent"] or not self.needs_no_asking(kept[0]) else self.project_on(name, kept)
 
     def is_kept(self, name: str) -> bool:
         """Whether a page may be at hand."""
@@ -72,18 +72,18 @@ class Index:
     def needs_no_asking(self, kept: Beside) -> bool:
         return self.asking.is_offline or not self.asking.is_refreshed and is_fresh(kept)
 
-    def found_on(self, name: str, page: tuple[Beside, bytes]) -> "Found":
+    def project_on(self, name: str, page: tuple[Beside, bytes]) -> "IndexedProject":
         """What is chosen of a project's page."""
         key = known.key_of(self.url(name), page, self.choices.told(name), self.client.limits)
         project = known.known(self.cache, key, name, self.base)
         if project is not None:
-            return Found(self, key, project, [])
+            return IndexedProject(self, key, project, [])
         if len(page[1]) > LONG_PAGE:
             with self.lock:
                 chosen = self.chosen(name, *page)
         else:
             chosen = self.chosen(name, *page)
-        return Found(self, key, Project(name, self.base, chosen.versions, chosen.left), chosen.releases)
+        return IndexedProject(self, key, Project(name, self.base, chosen.versions, chosen.left), chosen.releases)
 
     def chosen(self, name: str, told: Beside, body: bytes) -> Chosen:
         """What is chosen of a page."""
@@ -156,7 +156,7 @@ class Index:
 
 
 @dataclass
-class Found:
+class IndexedProject:
     """A project of an index, and the releases of it that are to be read yet, each as its files. It is known again by the key."""
 
     index: Index
@@ -172,15 +172,15 @@ class Indexes:
     def __init__(self, plan: Plan, client: Client, cache: Cache, choices: Choices, asking: Asking) -> None:
         self.all = [Index(address, client, cache, choices, asking) for address in plan.indexes]
 
-    def found(self, name: str) -> Found | None:
+    def project_of(self, name: str) -> IndexedProject | None:
         """What is found of a project in the index that has it; None where none has it."""
-        return next((found for index in self.asked_for(name) if (found := index.found(name)) is not None), None)
+        return next((project for index in self.asked_for(name) if (project := index.project_of(name)) is not None), None)
 
     def is_kept(self, name: str) -> bool:
         """Whether a project may be at hand: of the first index that is asked for it."""
         return next((index.is_kept(name) for index in self.asked_for(name)), False)
 
-    def at_hand(self, name: str) -> Found | None:
+    def at_hand(self, name: str) -> IndexedProject | None:
         """What is found of a project where nobody need be asked; None where somebody must be."""
         return next((index.at_hand(name) for index in self.asked_for(name)), None)
 
@@ -190,5 +190,5 @@ class Indexes:
 
     def asked_for(self, name: str) -> list[Index]:
         """The indexes that are asked for a name, in order."""
-        bound = [it for it in self.all if any(fnmatchcase(name, pattern) for pattern in it.address.only)]
-        return bound or [it for it in self.all if not it.address.only]
+        bound = [index for index in self.all if any(fnmatchcase(name, pattern) for pattern in index.address.only)]
+        return bound or [index for index in self.all if not index.address.only]

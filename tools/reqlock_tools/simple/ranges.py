@@ -30,10 +30,10 @@ class RangedFile(SoughtFile):
 
     def fetch(self, asked: str) -> None:
         answer = self.ask(asked)
-        found = RANGE.fullmatch(answer.headers.get("Content-Range", ""))
-        if answer.status != 206 or found is None:
+        content_range = RANGE.fullmatch(answer.headers.get("Content-Range", ""))
+        if answer.status != 206 or content_range is None:
             raise NoRanges
-        start, last, size = map(int, found.groups())
+        start, last, size = map(int, content_range.groups())
         if len(answer.body) != last + 1 - start or self.size not in (-1, size) or size > LARGEST_SIZE:
             raise NoRanges
         self.fetched += len(answer.body)
@@ -45,7 +45,7 @@ class RangedFile(SoughtFile):
         self.place = max(0, {io.SEEK_SET: 0, io.SEEK_CUR: self.place, io.SEEK_END: self.size}[whence] + offset)
         return self.place
 
-    def found(self) -> bytes:
+    def known(self) -> bytes:
         """What is known from the present place on, possibly nothing."""
         for start, data in self.pieces:
             if start <= self.place < start + len(data):
@@ -55,9 +55,9 @@ class RangedFile(SoughtFile):
     def readinto(self, buffer: Any) -> int:
         if self.place >= self.size or len(buffer) == 0:
             return 0
-        if not self.found():
+        if not self.known():
             self.fetch(f"bytes={self.place}-{min(self.size, self.place + max(len(buffer), LEAST_FETCHED)) - 1}")
-        data = self.found()[: len(buffer)]
+        data = self.known()[: len(buffer)]
         if not data:
             raise NoRanges
         buffer[: len(data)] = data

@@ -226,7 +226,8 @@ def plan_again(path: str, sources: Sources) -> Plan:
     if sources.constraints:
         plan = replace(plan, constraints=tuple(read_constraints(path, say) for path in sources.constraints))
     elif plan.constraints:
-        say(f"constraints as they were then, of {', '.join(it.file for it in plan.constraints)}; --constraints FILE reads them anew")
+        files = ", ".join(constraints.file for constraints in plan.constraints)
+        say(f"constraints as they were then, of {files}; --constraints FILE reads them anew")
     return plan
 
 

@@ -41,12 +41,12 @@ class Result:
 
     def labels(self, where: int) -> str:
         """The environments with these bits, and what they do."""
-        names = [it.label for place, it in enumerate(self.plan.environments) if where >> place & 1]
+        names = [environment.label for place, environment in enumerate(self.plan.environments) if where >> place & 1]
         return f"as {' and '.join(names)} {'take' if len(names) > 1 else 'takes'} no file of them"
 
     def kept(self, project: Project) -> list[Release]:
         """The releases that each environment which can need the project can install. The others are told by these environments."""
-        where, found = self.first.where(project.name), []
+        where, releases = self.first.where(project.name), []
         unable: dict[int, list[str]] = {}
         if lost := project.left.versions.get(FOREIGN):
             unable[where] = list(lost)
@@ -55,39 +55,39 @@ class Result:
                 self.is_less = True
                 unable.setdefault(lacking, []).append(release["version"])
             else:
-                found.append(release)
+                releases.append(release)
         self.unable[project.name] = unable
-        return found
+        return releases
 
     def packages(self) -> Packages:
         return {name: {"name": name, "releases": releases} for name, releases in self.releases.items()}
 
     def absent_locked(self) -> list[str]:
         """The locked releases of names that are followed which the snapshot hasn't."""
-        found = []
+        absent = []
         for name in sorted(self.choices.locked.keys() & self.walk.asked.keys()):
             kept = {version_of(release["version"]) for release in self.releases.get(name, ())}
-            found += [f"{name} {version}" for version in sorted(self.choices.locked[name] - kept)]
-        return found
+            absent += [f"{name} {version}" for version in sorted(self.choices.locked[name] - kept)]
+        return absent
 
     def foreign(self) -> dict[str, list[str]]:
         """The projects with the ranges of them that environments can't install, by the cause."""
-        found: dict[str, list[str]] = {}
+        groups: dict[str, list[str]] = {}
         for name, project in self.projects.items():
             for where, versions in self.unable[name].items():
-                found.setdefault(self.labels(where), []).append(f"{name} {', '.join(ranges_of(versions, project.versions))}")
-        return dict(sorted(found.items()))
+                groups.setdefault(self.labels(where), []).append(f"{name} {', '.join(ranges_of(versions, project.versions))}")
+        return dict(sorted(groups.items()))
 
     def left_json(self) -> list[dict[str, Any]]:
         """What is left out of each project: how many releases, and which, by the causes."""
-        found = []
+        rows = []
         for name, project in self.projects.items():
             causes = {why: versions for why, versions in project.left.versions.items() if why != FOREIGN}
             causes |= {self.labels(where): versions for where, versions in self.unable[name].items()}
             for why, versions in sorted(causes.items()):
                 ranges = ranges_of(versions, project.versions)
-                found += [{"name": name, "why": why, "releases": len(versions), "ranges": ranges}] if versions else []
-        return found
+                rows += [{"name": name, "why": why, "releases": len(versions), "ranges": ranges}] if versions else []
+        return rows
 
     def findings(self, bases: list[str]) -> Findings:
         places = [tuple(name for name, project in self.projects.items() if project.base == base) for base in bases]

@@ -15,7 +15,7 @@ from reqlock_tools.simple.crew import Crew
 from reqlock_tools.simple.made import made_json
 from reqlock_tools.simple.plan import Asking, Plan
 from reqlock_tools.simple.project import Project, ReadRelease
-from reqlock_tools.simple.projects import Found, Indexes
+from reqlock_tools.simple.projects import IndexedProject, Indexes
 from reqlock_tools.simple.report import Report, size_text
 from reqlock_tools.simple.result import Result
 from reqlock_tools.snapshot_output import Snapshot, plural, say
@@ -34,7 +34,7 @@ class Run:
         self.progress = Progress()
         self.cache = Cache(asking.cache, asking.is_offline, self.say)
         self.client = Client(asking, credentials, self.say)
-        markers = Markers([it.variables for it in plan.environments])
+        markers = Markers([environment.variables for environment in plan.environments])
         self.choices = Choices(plan, markers)
         self.indexes = Indexes(plan, self.client, self.cache, self.choices, asking)
         self.walk = Walk(markers)
@@ -88,36 +88,36 @@ class Run:
                 self.ask_page(name)
 
     def ask_page(self, name: str) -> None:
-        self.crew.start(PAGES, partial(self.indexes.found, name), partial(self.take_project, name))
+        self.crew.start(PAGES, partial(self.indexes.project_of, name), partial(self.take_project, name))
 
-    def take_at_hand(self, name: str, found: Found | None) -> None:
-        if found is None:
+    def take_at_hand(self, name: str, indexed: IndexedProject | None) -> None:
+        if indexed is None:
             self.ask_page(name)
         else:
-            self.take_project(name, found)
+            self.take_project(name, indexed)
 
-    def take_project(self, name: str, found: Found | None) -> None:
-        if found is None:
+    def take_project(self, name: str, indexed: IndexedProject | None) -> None:
+        if indexed is None:
             self.absent.add(name)
             self.whole_packages += 1
             return
-        self.projects[name] = found.project
-        self.under_way[name] = len(found.releases)
-        self.whole_packages += not found.releases
-        for release in filter(None, found.project.releases):
+        self.projects[name] = indexed.project
+        self.under_way[name] = len(indexed.releases)
+        self.whole_packages += not indexed.releases
+        for release in filter(None, indexed.project.releases):
             self.indexes.count_needs(name, release)
             self.follow(name, release)
-        found.project.releases += [None] * len(found.releases)
-        for place, links in enumerate(found.releases):
-            self.crew.start(RELEASES, partial(found.index.release, name, links), partial(self.take_release, found, place))
+        indexed.project.releases += [None] * len(indexed.releases)
+        for place, links in enumerate(indexed.releases):
+            self.crew.start(RELEASES, partial(indexed.index.release, name, links), partial(self.take_release, indexed, place))
 
-    def take_release(self, found: Found, place: int, read: ReadRelease) -> None:
-        project = found.project
+    def take_release(self, indexed: IndexedProject, place: int, read: ReadRelease) -> None:
+        project = indexed.project
         project.take(place, read)
         self.under_way[project.name] -= 1
         if self.under_way[project.name] == 0:
             self.whole_packages += 1
-            found.index.keep(found.key, project)
+            indexed.index.keep(indexed.key, project)
         if read.release is not None:
             self.follow(project.name, read.release)
 

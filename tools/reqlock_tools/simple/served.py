@@ -7,7 +7,7 @@ from reqlock_tools.simple.addresses import Unfetched, Unreachable, address_of
 from reqlock_tools.simple.left import Left
 from reqlock_tools.simple.pages import Link
 
-Found = TypeVar("Found")
+Item = TypeVar("Item")
 
 
 class Served:
@@ -18,23 +18,23 @@ class Served:
         self.links, self.is_locked, self.origin = list(links), is_locked, address_of(index).origin
         self.left = Left()
 
-    def archives(self, read: Callable[[Link], Found]) -> list[Found]:
+    def archives(self, read: Callable[[Link], Item]) -> list[Item]:
         """What is read of the wheels, or where there is none any more, of the sdists."""
-        found: list[Found] = []
-        while self.links and not found:
+        archives: list[Item] = []
+        while self.links and not archives:
             telling = [link for link in self.links if link.is_wheel] or self.links
-            found = self.each(read, telling)
-        return found
+            archives = self.each(read, telling)
+        return archives
 
-    def each(self, read: Callable[[Link], Found], links: list[Link] | None = None) -> list[Found]:
+    def each(self, read: Callable[[Link], Item], links: list[Link] | None = None) -> list[Item]:
         """What is read of each of these files, or of all. Those where nobody is are left out."""
-        found = []
+        archives = []
         for link in list(self.links if links is None else links):
             try:
-                found.append(read(link))
+                archives.append(read(link))
             except Unreachable as fault:
                 self.leave(link, fault)
-        return found
+        return archives
 
     def leave(self, link: Link, fault: Unreachable) -> None:
         address = address_of(link.file.url)

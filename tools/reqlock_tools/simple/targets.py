@@ -14,8 +14,8 @@ NAMED = re.compile(r"([A-Za-z0-9._-]+)=(.+)")
 
 def own_target() -> Environment:
     """The environment of the Python that runs."""
-    found = own_environment()
-    return environment_of("", found, {name: str(found[name]) for name in VARIABLES})
+    described = own_environment()
+    return environment_of("", described, {name: str(described[name]) for name in VARIABLES})
 
 
 def read_target(word: str) -> tuple[str, Environment]:
@@ -30,12 +30,12 @@ def read_target(word: str) -> tuple[str, Environment]:
 def read_targets(words: Iterable[str], is_any: bool, is_here: bool, say: Say) -> tuple[Environment, ...]:
     """The environments of words. Where they are to be installed here, wheels of this Python count for those that tell of none, and where
     there is no word, this Python is the one that counts."""
-    found = []
-    for path, it in map(read_target, words):
-        if it.built is None and is_here:
-            it = Environment(it.name, it.variables, own_target().built)
-        if it.built is None and not is_any:
+    targets = []
+    for path, target in map(read_target, words):
+        if target.built is None and is_here:
+            target = Environment(target.name, target.variables, own_target().built)
+        if target.built is None and not is_any:
             way = called("tools/environment.py prints one that does")
             say(f"{path}: it doesn't tell which wheels it takes, so none is left out for it; {way}")
-        found.append(it)
-    return tuple(found) if found or not is_here else (own_target(),)
+        targets.append(target)
+    return tuple(targets) if targets or not is_here else (own_target(),)

@@ -28,9 +28,9 @@ class Exchange:
     def stop(self) -> None:
         """Makes whoever reads or writes there see the connection cut."""
         self.is_over = True
-        for it in self.sockets:
+        for open_socket in self.sockets:
             with suppress(OSError):
-                socket.socket.shutdown(it, socket.SHUT_RDWR)
+                socket.socket.shutdown(open_socket, socket.SHUT_RDWR)
 
 
 class Watch:
@@ -60,19 +60,19 @@ class Watch:
     @contextmanager
     def exchange(self) -> Iterator[None]:
         """An exchange of this thread. One that was stopped ends by TooLong, also where it seems whole."""
-        found = self.own.exchange = Exchange(time.monotonic() + self.limits.seconds)
+        exchange = self.own.exchange = Exchange(time.monotonic() + self.limits.seconds)
         with self.lock:
-            self.under_way.add(found)
+            self.under_way.add(exchange)
         try:
             yield
         except Exception:
-            if not found.is_over or self.stopped.is_set():
+            if not exchange.is_over or self.stopped.is_set():
                 raise
         finally:
             self.own.exchange = None
             with self.lock:
-                self.under_way.discard(found)
-        if found.is_over:
+                self.under_way.discard(exchange)
+        if exchange.is_over:
             raise TooLong("seconds")
 
     def over(self, sock: socket.socket) -> None:

@@ -110,17 +110,31 @@ ssize_t write(int descriptor, const void *bytes, size_t count) {
 
 /* Calls on paths */
 
+static void tell_opening(const char *path, int flags, bool makes) {
+    if (makes)
+        tell("create", path);
+    else if ((flags & O_ACCMODE) != O_RDONLY || flags & O_TRUNC)
+        tell("open", path);
+}
+
 int open(const char *path, int flags, ...) {
     bool makes = flags & O_CREAT || (flags & O_TMPFILE) == O_TMPFILE;
     va_list rest;
     va_start(rest, flags);
     mode_t mode = makes ? va_arg(rest, mode_t) : 0;
     va_end(rest);
-    if (makes)
-        tell("create", path);
-    else if ((flags & O_ACCMODE) != O_RDONLY || flags & O_TRUNC)
-        tell("open", path);
+    tell_opening(path, flags, makes);
     return (int)syscall(SYS_openat, AT_FDCWD, path, flags, mode);
+}
+
+int openat(int folder, const char *path, int flags, ...) {
+    bool makes = flags & O_CREAT || (flags & O_TMPFILE) == O_TMPFILE;
+    va_list rest;
+    va_start(rest, flags);
+    mode_t mode = makes ? va_arg(rest, mode_t) : 0;
+    va_end(rest);
+    tell_opening(path, flags, makes);
+    return (int)syscall(SYS_openat, folder, path, flags, mode);
 }
 
 int rename(const char *old, const char *new) {

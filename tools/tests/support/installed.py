@@ -1,11 +1,15 @@
 """What an installer installs by a lock, for tests: as the rules tell it, where `packaging` reads each marker of the lock as they do."""
 
 import json
+import re
 import tomllib
+from collections import Counter
 from functools import lru_cache
 
-from support.rules.installs import Installing, NotForThisEnvironment, holds_in, installed_by
+from support.rules.installs import Installing, NotForThisEnvironment, holds_in, installed_by, referred
 from support.rules.lock_tables import entry_of_table
+from support.rules.requirements import Fault, read_set
+from support.rules.versions import read_version
 
 try:
     from packaging.markers import Marker
@@ -14,6 +18,8 @@ except ImportError:
         from pip._vendor.packaging.markers import Marker
     except ImportError:
         Marker = None
+
+COMPARED = re.compile(r'(\w+|"[^"]*") (~=|[=!]=|[<>]=?) (\w+|"[^"]*")')
 
 
 def is_read(environment):
@@ -38,12 +44,37 @@ def markers_of(lock):
     return [*lock.get("environments", []), *(it["marker"] for it in lock["packages"] if "marker" in it)]
 
 
+def reads_as_clause(text):
+    try:
+        return "," not in text and bool(read_set(text))
+    except Fault:
+        return False
+
+
+def compares_no_version(text, environment):
+    """Whether a marker holds a text that is no version against one that reads as a clause, where `packaging` says no, or raises."""
+    for left, sign, right in COMPARED.findall(text):
+        texts = [it[1:-1] if it.startswith('"') else environment[it] for it in (left, right)]
+        if read_version(texts[0]) is None and reads_as_clause(sign + texts[1]):
+            return True
+    return False
+
+
+def is_met_by_theirs(text, environment):
+    try:
+        return theirs(text).evaluate(environment)
+    except ValueError:
+        return False
+
+
 def check_markers(data, environment):
-    """`packaging`, where it is there, tells of each marker what the rules tell. Markers of sets are new in it, and aren't asked."""
+    """`packaging`, where it is there, tells of each marker what the rules tell, or no where no version is compared. Markers of sets are
+    new in it, and aren't asked."""
     if Marker is None or not is_read(environment):
         return
     for text in markers_of(tomllib.loads(data.decode())):
-        if theirs(text).evaluate(environment) != holds_in(text, environment):
+        found, wanted = is_met_by_theirs(text, environment), holds_in(text, environment)
+        if found != wanted and (found or not compares_no_version(text, environment)):
             raise AssertionError((text, environment))
 
 
@@ -53,6 +84,15 @@ def check_dependencies(package, packages):
     fitting = [it["name"] for it in packages if any(table.items() <= it.items() for table in tables)]
     if sorted(fitting) != sorted({table["name"] for table in tables}):
         raise AssertionError((package, packages))
+
+
+def check_references(lock):
+    """Each dependency of an entry of a lock's table is one other entry of it. One of a name that has one entry alone is told by the name."""
+    names = Counter(it["name"] for it in lock["packages"])
+    for package in lock["packages"]:
+        for table, other in zip(package.get("dependencies", []), referred(package, lock["packages"])):
+            if names[other["name"]] == 1 and table != {"name": other["name"]}:
+                raise AssertionError((package, other))
 
 
 def lone_entry(package):

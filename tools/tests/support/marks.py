@@ -11,7 +11,7 @@ SLOW = (
     "test_rules_tables.Rows.test_are_those_that_are_drawn",
 )
 # Those that hold a call to a bound of some seconds by the clock.
-MEASURED = "test_batch", "test_hostile_files", "test_hostile_index", "test_portable_lock", "test_simple_requests"
+MEASURED = "test_batch", "test_hostile_files", "test_hostile_index", "test_simple_requests"
 
 
 def is_among(name: str, names: tuple[str, ...]) -> bool:

@@ -1,4 +1,4 @@
-"""Environments by their eleven variables: the two of the examples, and one of another Python."""
+"""Environments by their eleven variables: the two of the examples, one of another system, and one of another Python."""
 
 import json
 
@@ -17,5 +17,9 @@ def variables_of(name):
 
 LINUX = variables_of("environment.json")
 WINDOWS = variables_of("windows.json")
+MACOS = LINUX | {
+    "platform_machine": "arm64", "platform_release": "23.4.0", "platform_system": "Darwin", "platform_version": "Darwin Kernel Version 23.4.0",
+    "sys_platform": "darwin",
+}
 # an older Python on Linux
 OLDER = LINUX | {"implementation_version": "3.9.2", "python_full_version": "3.9.2", "python_version": "3.9"}

@@ -200,6 +200,28 @@ def sources_of(package):
     return [*alone, "files"] if "sdist" in package or package.get("wheels") else alone
 
 
+# What depends on what, which is for those who audit a lock: installers "MUST NOT use this information when doing installation"
+
+
+def fits(told, found):
+    """Whether what is told of an entry is so of one, "key-by-key"."""
+    if isinstance(told, dict) and isinstance(found, dict):
+        return all(key in found and fits(it, found[key]) for key, it in told.items())
+    return told == found
+
+
+def referred(package, packages):
+    """The entries on which one depends, in the order in which they are told: "each entry is a table which contains the minimum information
+    required to tell which other package entry it corresponds to where doing a key-by-key comparison would find the appropriate package
+    with no ambiguity (e.g. if there are two entries for the `spam` package, then you can include the version number like
+    `{name = "spam", version = "1.0.0"}`, or by source like `{name = "spam", vcs = { url = "..."}`)". """
+    tables = package.get("dependencies", [])
+    ask(isinstance(tables, list) and all(isinstance(it, dict) and is_normal(it.get("name")) for it in tables), "packages.dependencies")
+    found = [[other for other in packages if fits(table, other)] for table in tables]
+    ask(all(len(it) == 1 and it[0] is not package for it in found), "packages.dependencies")
+    return [it[0] for it in found]
+
+
 # Sources
 
 
