@@ -141,24 +141,47 @@ fn does_cover(held: &Held<'_>, other: &Held<'_>) -> bool {
 
 /// The environment of a file that is asked about.
 fn environment_at<R: Files + AllocGlobal>(rt: &R, path: &str) -> Result<Environment, Stop> {
-    let alloc = rt.alloc();
-    let Ok(name) = TargetName::parse(alloc, "") else {
-        return Err(Stop::from(AllocError));
-    };
-    let read = match read_bytes(rt, InputFile::Environment(name), path) {
-        Ok(bytes) => read_environment(alloc, bytes.as_slice()),
-        Err(Fault::Input(_, fault)) => Err(fault),
-        Err(_) => Err(InputFault::OutOfMemory),
-    };
-    match read {
+    match read_at(rt, path) {
         Ok(environment) => Ok(environment),
-        Err(InputFault::OutOfMemory) => Err(Stop::from(AllocError)),
-        Err(fault) => Err(no_environment(alloc, path, &fault)),
+        Err(fault) => Err(no_environment(rt.alloc(), path, fault)),
     }
 }
 
-fn no_environment(alloc: Global, path: &str, fault: &InputFault) -> Stop {
+fn read_at<R: Files + AllocGlobal>(rt: &R, path: &str) -> Result<Environment, InputFault> {
+    let bytes = bytes_at(rt, path)?;
+    read_environment(rt.alloc(), bytes.as_slice())
+}
+
+/// The bytes of a file, which is told by its path and not by a name.
+fn bytes_at<R: Files + AllocGlobal>(rt: &R, path: &str) -> Result<Vec<u8>, InputFault> {
+    let file = InputFile::Environment(no_name(rt.alloc())?);
+    match read_bytes(rt, file, path) {
+        Ok(bytes) => Ok(bytes),
+        Err(Fault::Input(_, fault)) => Err(fault),
+        Err(_) => Err(InputFault::OutOfMemory),
+    }
+}
+
+fn no_name(alloc: Global) -> Result<TargetName, InputFault> {
+    match TargetName::parse(alloc, "") {
+        Ok(name) => Ok(name),
+        Err(_) => Err(InputFault::OutOfMemory),
+    }
+}
+
+/// Why a file is no environment.
+fn no_environment(alloc: Global, path: &str, fault: InputFault) -> Stop {
+    match fault {
+        InputFault::OutOfMemory => Stop::from(AllocError),
+        fault => usage(
+            alloc,
+            ErrorKind::ValueValidation,
+            refused(alloc, path, &fault),
+        ),
+    }
+}
+
+fn refused(alloc: Global, path: &str, fault: &InputFault) -> Result<String, AllocError> {
     let fault = InputFaultText { fault };
-    let message = format!(in alloc; "'{path}' of '--covers <FILE>...' is no environment: {fault}");
-    usage(alloc, ErrorKind::ValueValidation, message)
+    format!(in alloc; "'{path}' of '--covers <FILE>...' is no environment: {fault}")
 }
