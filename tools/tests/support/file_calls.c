@@ -117,24 +117,27 @@ static void tell_opening(const char *path, int flags, bool makes) {
         tell("open", path);
 }
 
-int open(const char *path, int flags, ...) {
+static int opened(int folder, const char *path, int flags, va_list rest) {
     bool makes = flags & O_CREAT || (flags & O_TMPFILE) == O_TMPFILE;
+    mode_t mode = makes ? va_arg(rest, mode_t) : 0;
+    tell_opening(path, flags, makes);
+    return (int)syscall(SYS_openat, folder, path, flags, mode);
+}
+
+int open(const char *path, int flags, ...) {
     va_list rest;
     va_start(rest, flags);
-    mode_t mode = makes ? va_arg(rest, mode_t) : 0;
+    int file = opened(AT_FDCWD, path, flags, rest);
     va_end(rest);
-    tell_opening(path, flags, makes);
-    return (int)syscall(SYS_openat, AT_FDCWD, path, flags, mode);
+    return file;
 }
 
 int openat(int folder, const char *path, int flags, ...) {
-    bool makes = flags & O_CREAT || (flags & O_TMPFILE) == O_TMPFILE;
     va_list rest;
     va_start(rest, flags);
-    mode_t mode = makes ? va_arg(rest, mode_t) : 0;
+    int file = opened(folder, path, flags, rest);
     va_end(rest);
-    tell_opening(path, flags, makes);
-    return (int)syscall(SYS_openat, folder, path, flags, mode);
+    return file;
 }
 
 int rename(const char *old, const char *new) {
