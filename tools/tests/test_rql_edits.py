@@ -414,7 +414,7 @@ class Exports(Served):
 class ApartExports(unittest.TestCase):
     """A lock for all targets that the program refuses, where some program stands in its place."""
 
-    TOLD = "the targets 'linux' and 'mac' can't stand in one file: one environment may meet the conditions of both, and a differs; relock"
+    TOLD = "the targets 'linux' and 'mac' can't stand in one file: nothing that is asked tells them apart, and a differs; relock"
 
     def called(self, write):
         place, settings = Path("no-such.toml"), SimpleNamespace(exports=[ExportSetting("no-such.toml", "pylock", None)])

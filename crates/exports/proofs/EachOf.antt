@@ -1,5 +1,5 @@
 -- What holds of each item of a list.
-use Rattle.std.proofs.Common.{ℕ, ◌+◌, ◌<◌, ◌≤◌, List, [], ◌∷◌, ◌++◌, length, get_or, take, subst, sym}
+use Rattle.std.proofs.Common.{◌≡◌, ℕ, ◌+◌, ◌<◌, ◌≤◌, Contains, List, [], ◌∷◌, ◌++◌, length, get_or, take, subst, sym}
 use Rattle.std.specs.List.{AllByRecursion}
 use Rattle.std.specs.List.Sorted.{IsPermutation}
 use Rattle.std.proofs.lemmas.List.{take_all, take_more}
@@ -36,3 +36,7 @@ each-ordered P xs ys moved h = recursion_from_All P ys (All-permutation P xs ys 
 
 pub each-back : {A : Type 0} (P : A → Type 0) (xs ys : List A) → IsPermutation xs ys → AllByRecursion P ys → AllByRecursion P xs
 each-back P xs ys moved h = each-ordered P ys xs (IsPermutation-sym xs ys moved) h
+
+-- an item of a list stands there
+pub item-there : {X : Type 0} (xs : List X) (i : ℕ) (x : X) → i < length xs → x ≡ get_or xs i x → Contains xs x
+item-there xs i x within is = (i, within, sym is)

@@ -1,7 +1,7 @@
 -- What a lock of several targets says of each.
 use Rattle.std.proofs.Common.{◌≡◌, ◌≢◌, ◌∙◌, ◌==◌, ◌||◌, inl, inr, ℕ, Bool, true, false, List, [], ◌∷◌, length, map, Contains, if◌then◌else◌, refl, ap, sym, subst}
 use Rattle.std.proofs.lemmas.Bool.{cases_Bool}
-use Rattle.std.specs.List.{list_any}
+use Rattle.std.specs.List.{AllByRecursion, list_any}
 use Rattle.lists.proofs.Members.{Contains-cons_cases, Contains-here, Contains-map, Contains-map_of, Contains-nil, Contains-there}
 use Rattle.markers.specs.Environment.{IsEnvironment, Texts}
 use Rattle.pylock.specs.declared.joint.JointLock.{JointLock}
@@ -9,8 +9,8 @@ use Rattle.snapshot.specs.Packages.{Index}
 use Rattle.states.proofs.PartFacts.{All-member}
 use Rattle.states.specs.declared.target.Target.{Target}
 use Rattle.exports.specs.Conditions.{MeetsAll}
-use Rattle.exports.specs.Joint.{Differ, IsAnywhere, IsMarkedBy, IsOfSome, IsTold, TakesExactly}
-use Rattle.exports.specs.Tied.Apart.{IsCover}
+use Rattle.exports.specs.Joint.{Clash, DoClash, Fit, IsAnywhere, IsMarkedBy, IsOfSome, IsTold, TakesExactly}
+use Rattle.exports.specs.Tied.Covers.{IsCover}
 use Rattle.exports.specs.Tied.JointPackages.{HoldsOf, asks_nothing, entries_in, environments_told}
 use Rattle.exports.specs.declared.condition.Condition.{Condition}
 use Rattle.exports.specs.declared.cover.Cover.{Cover}
@@ -128,16 +128,30 @@ anywhere-of lines index covers f joint l targets are bare some = elim (cases_Boo
   | inr none ↦ absurd (some (sym are ∙ ap (map (λ (c : Cover). c.target)) (no-covers covers (sym (markers-told covers joint l none) ∙ bare))))
 ]
 
--- ---- two that don't fit
+-- ---- whether targets fit
 
-pub differ-of : (covers : List Cover) (targets : List Target) → map (λ c. c.target) covers ≡ targets → (one other : Cover) → Contains covers one → Contains covers other
-    → entries_in one ≢ entries_in other → Differ targets one.target.name other.target.name
-differ-of covers targets are one other here there differ = record {
-  first = one.target;
-  second = other.target;
-  first_there = subst (λ (ts : List Target). Contains ts one.target) are (Contains-map_of (λ (c : Cover). c.target) covers one here);
-  second_there = subst (λ (ts : List Target). Contains ts other.target) are (Contains-map_of (λ (c : Cover). c.target) covers other there);
+pub target-there : (covers : List Cover) (targets : List Target) → map (λ c. c.target) covers ≡ targets → (cover : Cover) → Contains covers cover → Contains targets cover.target
+target-there covers targets are cover there = subst (λ (ts : List Target). Contains ts cover.target) are (Contains-map_of (λ (c : Cover). c.target) covers cover there)
+
+pub all-fit : (lines : List (List ℕ)) (index : Index) (targets : List Target) → AllByRecursion (λ one. AllByRecursion (Fit lines index one) targets) targets
+    → (one other : Target) → Contains targets one → Contains targets other → Fit lines index one other
+all-fit lines index targets fit one other here there = All-member (Fit lines index one) targets other (All-member (λ (t : Target). AllByRecursion (Fit lines index t) targets) targets one fit here) there
+
+-- so do the covers of targets that fit
+pub covers-fit : (lines : List (List ℕ)) (index : Index) (covers : List Cover) (targets : List Target) → map (λ c. c.target) covers ≡ targets → AllByRecursion (IsCover lines index) covers
+    → AllByRecursion (λ one. AllByRecursion (Fit lines index one) targets) targets → AreFitting lines index covers
+covers-fit lines index covers targets are covers_are fit = record {
+  covers_are = covers_are;
+  fit = λ one other here there. all-fit lines index targets fit one.target other.target (target-there covers targets are one here) (target-there covers targets are other there);
+}
+
+pub clash-of : (lines : List (List ℕ)) (index : Index) (targets : List Target) (one other : Target) → Contains targets one → Contains targets other → Clash lines index one other → DoClash lines index targets one.name other.name
+clash-of lines index targets one other here there clash = record {
+  first = one;
+  second = other;
+  first_there = here;
+  second_there = there;
   first_named = refl;
   second_named = refl;
-  differ = differ;
+  clash = clash;
 }

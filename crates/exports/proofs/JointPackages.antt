@@ -1,5 +1,5 @@
 -- Which packages are taken where the marker of a target holds.
-use Rattle.std.proofs.Common.{◌≡◌, ◌∙◌, inl, inr, ℕ, true, List, [], Option, Some, None, Ok, Contains, refl, ap, sym, subst}
+use Rattle.std.proofs.Common.{◌≡◌, ◌∙◌, ◌⊎◌, inl, inr, ℕ, true, List, [], Option, Some, None, Ok, Contains, refl, ap, sym, subst}
 use Rattle.std.specs.List.{AllByRecursion, flat_map}
 use Rattle.std.specs.Prelude.{◌↔◌}
 use Rattle.lists.proofs.Members.{Contains-flat_map, Contains-flat_map_of, Contains-map, Contains-map_of, Contains-nil}
@@ -10,8 +10,9 @@ use Rattle.pylock.specs.declared.joint.JointPackage.{JointPackage}
 use Rattle.snapshot.specs.Packages.{Index}
 use Rattle.states.proofs.PartFacts.{All-member, All-of}
 use Rattle.exports.specs.Conditions.{IsMarkerOf, MeetsAll}
-use Rattle.exports.specs.Joint.{Takes, TakesExactly, is_held, is_taken}
-use Rattle.exports.specs.Tied.Apart.{AreApart, Fits, IsCover}
+use Rattle.exports.specs.Joint.{Fit, Takes, TakesExactly, is_held, is_taken}
+use Rattle.exports.specs.Questions.{AnswerOneApart}
+use Rattle.exports.specs.Tied.Covers.{IsCover}
 use Rattle.exports.specs.Tied.JointPackages.{AreMarkersWith, HasEntry, HoldsOf, IsJoined, IsMarked, IsPackageOf, entries_in}
 use Rattle.exports.specs.Tied.Told.{told}
 use Rattle.exports.specs.declared.condition.Condition.{Condition}
@@ -23,14 +24,25 @@ use Rattle.exports.proofs.ToldMarkers.{ReadsAsSpelled}
 -- covers of one list of lines that fit with one another
 pub record AreFitting (lines : List (List ℕ)) (index : Index) (covers : List Cover) : Type 0 where
   pub covers_are : AllByRecursion (IsCover lines index) covers
-  pub fit : AllByRecursion (λ one. AllByRecursion (Fits one) covers) covers
+  pub fit : (one other : Cover) → Contains covers one → Contains covers other → Fit lines index one.target other.target
 
 pub cover-of : (lines : List (List ℕ)) (index : Index) (covers : List Cover) → AreFitting lines index covers → (cover : Cover) → Contains covers cover → IsCover lines index cover
 cover-of lines index covers f cover there = All-member (IsCover lines index) covers cover f.covers_are there
 
-pub fit-of : (lines : List (List ℕ)) (index : Index) (covers : List Cover) → AreFitting lines index covers → (one other : Cover) → Contains covers one → Contains covers other → Fits one other
-fit-of lines index covers f one other here there =
-    All-member (Fits one) covers other (All-member (λ (c : Cover). AllByRecursion (Fits c) covers) covers one f.fit here) there
+-- no environment meets the conditions of both
+abbrev pub AreApart : Cover → Cover → Type 0
+AreApart one other = (e : Texts) → MeetsAll one.target.environment e one.conditions → MeetsAll other.target.environment e other.conditions → ⊥
+
+-- who meets the conditions of both answers each question as both do
+apart-of : (lines : List (List ℕ)) (index : Index) (one other : Cover) → IsCover lines index one → IsCover lines index other → AnswerOneApart lines index one.target.environment other.target.environment → AreApart one other
+apart-of lines index one other k l apart e met has = apart.differ (k.answers e met apart.question apart.counts ∙ sym (l.answers e has apart.question apart.counts))
+
+pub fit-of : (lines : List (List ℕ)) (index : Index) (covers : List Cover) → AreFitting lines index covers → (one other : Cover) → Contains covers one → Contains covers other
+    → AreApart one other ⊎ (entries_in one ≡ entries_in other)
+fit-of lines index covers f one other here there = elim (f.fit one other here there) [
+  | inl same ↦ inr same
+  | inr apart ↦ inl (apart-of lines index one other (cover-of lines index covers f one here) (cover-of lines index covers f other there) apart)
+]
 
 -- ---- one target's marker
 

@@ -1,14 +1,10 @@
 -- Conditions that grow, question by question.
-use Rattle.std.proofs.Common.{◌≡◌, ◌∙◌, ◌&&◌, ◌⊎◌, inl, inr, ℕ, ◌+◌, ◌<◌, ◌≤◌, true, List, [], ◌∷◌, ◌++◌, Option, Some, None, get_or, length, map, take, arith, refl, ap, subst, sym}
-use Rattle.std.specs.List.{AllByRecursion, slice_get}
-use Rattle.std.specs.Option.{option_map}
-use Rattle.std.specs.Prelude.{IfSome}
-use Rattle.std.proofs.lemmas.Option.{slice_get_cases}
+use Rattle.std.proofs.Common.{◌≡◌, ◌∙◌, ◌&&◌, ◌⊎◌, inl, inr, ℕ, ◌+◌, ◌<◌, ◌≤◌, true, List, [], ◌∷◌, ◌++◌, Option, Some, None, get_or, length, take, refl, ap, subst, sym}
+use Rattle.std.specs.List.{AllByRecursion}
 use Rattle.markers.specs.Comparisons.{version_read}
 use Rattle.markers.specs.Environment.{Texts, text_of}
 use Rattle.markers.specs.MarkerAtoms.{Relation, operand_text, relates}
-use Rattle.markers.specs.MarkerRelations.{RelationAlike, RelationsDecide, relations_in}
-use Rattle.markers.specs.Marker.{Tree}
+use Rattle.markers.specs.MarkerRelations.{RelationAlike}
 use Rattle.markers.specs.declared.variable.Variable.{Variable}
 use Rattle.pep440.specs.Matching.{clause_matches, matches, operator_matches}
 use Rattle.pep440.specs.Version.{VersionParts}
@@ -16,18 +12,12 @@ use Rattle.pep440.specs.declared.specifier.Clause.{Clause}
 use Rattle.pep440.specs.SetGrammar.{takes}
 use Rattle.pep440.specs.declared.specifier.Operator.{Operator}
 use Rattle.pep440.specs.declared.specifier.Operator.TheVariants as operators
-use Rattle.snapshot.specs.Packages.{Index, releases_of}
-use Rattle.snapshot.specs.Release.{Release}
-use Rattle.snapshot.specs.declared.package.Package.{Package}
-use Rattle.exports.specs.Alike.{AnswersAlike, LineAlike, MarkerAlike, ReachAlike}
 use Rattle.exports.specs.Conditions.{IsTellable, Meets, MeetsAll, is_matched}
-use Rattle.exports.specs.Laws.{HasSameBest}
 use Rattle.exports.specs.Tied.Implication.{opposite_of}
 use Rattle.exports.specs.Tied.Kept.{AreOwn, ClauseAlike, ClausesAlike, IsOwn, Keeps, OperandAlike, SaysAmong, Settles, VersionsAlike, both_read, same_text}
 use Rattle.exports.specs.declared.condition.Condition.{Condition}
 use Rattle.exports.specs.declared.condition.Condition.TheVariants as conditions
 use Rattle.exports.proofs.SaidConditions.{opposite-turns}
-use Rattle.exports.proofs.SameRules.{best-same}
 use Rattle.exports.proofs.EachOf.{each-front, each-map, each-last, each-more, each-push, each-whole}
 
 -- ---- any question
@@ -56,17 +46,6 @@ pub kept-more : {A : Type 0} (P : Texts → A → Type 0) (environment : Texts) 
 kept-more P environment old between new xs i x within is k l =
     kept-both environment old between new (λ other. AllByRecursion (P other) (take i xs)) (λ other. P other x) (λ other. AllByRecursion (P other) (take (i + 1) xs))
     k l (λ other h j. each-more (P other) xs i x within h (subst (P other) is j))
-
--- one question more, about the item at a place
-pub kept-placed : {A : Type 0} (P : Texts → A → Type 0) (environment : Texts) (old between new : List Condition) (xs : List A) (i : ℕ) → i < length xs
-    → Keeps environment old between (λ other. AllByRecursion (P other) (take i xs)) → Keeps environment between new (λ other. IfSome (slice_get xs i) (P other))
-    → Keeps environment old new (λ other. AllByRecursion (P other) (take (i + 1) xs))
-kept-placed P environment old between new xs i within k l = elim (slice_get_cases xs i).1 [
-  | inl found ↦
-      kept-more P environment old between new xs i found.0 within (sym found.3) k
-      (kept-as environment between new (λ other. IfSome (slice_get xs i) (P other)) (λ other. P other found.0) l (λ other h. rw found.2 at h))
-  | inr past ↦ absurd (omega arith)
-]
 
 -- none yet
 pub kept-start : {A : Type 0} (P : Texts → A → Type 0) (environment : Texts) (old : List Condition) (xs : List A) → Keeps environment old old (λ other. AllByRecursion (P other) (take 0 xs))
@@ -166,30 +145,13 @@ settled-clauses environment other variable (clause ∷ clauses) some h = elim h.
   ]
 ]
 
--- ---- relations and markers
+-- ---- relations
 
 pub settled-operands : (environment other : Texts) (relation : Relation) → OperandAlike environment relation.left other → OperandAlike environment relation.right other → RelationAlike environment other relation
 settled-operands environment other relation left right =
     let lefts : operand_text environment relation.left ≡ operand_text other relation.left = sym left in
     let rights : operand_text environment relation.right ≡ operand_text other relation.right = sym right in
     λ i. relates relation.operator (lefts i) (rights i)
-
-each-mapped : {A B : Type 0} (P : B → Type 0) (f : A → B) (xs : List A) → AllByRecursion (λ x. P (f x)) xs → AllByRecursion P (map f xs)
-each-mapped P f [] h = tt
-each-mapped P f (x ∷ xs) h = (h.0, each-mapped P f xs h.1)
-
-pub settled-marker : {A : Type 0} (decide : RelationsDecide) (environment other : Texts) (tree : Tree) (f : A → Relation) (found : List A) → map f found ≡ relations_in tree
-    → AllByRecursion (λ x. RelationAlike environment other (f x)) found → MarkerAlike environment other (Some tree)
-settled-marker decide environment other tree f found e h extra =
-    decide tree environment other extra (subst (AllByRecursion (RelationAlike environment other)) e (each-mapped (RelationAlike environment other) f found h))
-
--- ---- packages
-
--- what holds of the releases of a name holds of those of the package that has it
-pub kept-package : (P : Release → Type 0) (packages : List Package) (found : Option Package) (name : List ℕ) → option_map (λ p. p.name) found ≡ Some name → AllByRecursion P (releases_of name packages)
-    → IfSome found (λ p. AllByRecursion P (releases_of p.name packages))
-kept-package P packages None name e h = tt
-kept-package P packages (Some p) name e h = let same : name ≡ p.name = cc in subst (λ (n : List ℕ). AllByRecursion P (releases_of n packages)) same h
 
 -- ---- conditions none of which another says
 
@@ -214,20 +176,3 @@ own-met environment some h = each-map (IsOwn environment) (Meets environment env
 
 pub own-tellable : (environment : Texts) (some : List Condition) → AreOwn environment some → AllByRecursion IsTellable some
 own-tellable environment some h = each-map (IsOwn environment) IsTellable some (λ condition own. own.1) h
-
-pub answers-alike : (lines : List (List ℕ)) (index : Index) (environment : Texts) (some all least : List Condition)
-    → Keeps environment [] some (λ other. AllByRecursion (LineAlike environment other) lines)
-    → Keeps environment some all (λ other. ReachAlike lines index environment other)
-    → ((other : Texts) → MeetsAll environment other least → MeetsAll environment other all)
-    → (other : Texts) → MeetsAll environment other least → AnswersAlike lines index environment other
-answers-alike lines index environment some all least k l m other h = record {
-  of_lines = k.settled other (l.stronger other (m other h));
-  of_releases = l.settled other (m other h);
-}
-
-pub has-same-best : (lines : List (List ℕ)) (index : Index) (environment : Texts) (some all least : List Condition)
-    → Keeps environment [] some (λ other. AllByRecursion (LineAlike environment other) lines)
-    → Keeps environment some all (λ other. ReachAlike lines index environment other)
-    → ((other : Texts) → MeetsAll environment other least → MeetsAll environment other all)
-    → (other : Texts) → MeetsAll environment other least → HasSameBest lines index environment other
-has-same-best lines index environment some all least k l m other h = best-same lines index environment other (answers-alike lines index environment some all least k l m other h)

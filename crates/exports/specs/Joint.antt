@@ -12,6 +12,7 @@ use Rattle.snapshot.specs.Packages.{Index}
 use Rattle.states.specs.declared.target.Target.{Target}
 use Rattle.exports.specs.Conditions.{IsMarkerOf, MeetsAll}
 use Rattle.exports.specs.Laws.{HasSameLock}
+use Rattle.exports.specs.Questions.{AnswerEachAlike, AnswerOneApart}
 use Rattle.exports.specs.declared.condition.Condition.{Condition}
 use Rattle.exports.specs.declared.joint.JointFault.{JointFault}
 use Rattle.exports.specs.declared.joint.JointFault.TheVariants as faults
@@ -62,17 +63,25 @@ IsAnywhere lines index targets = (target : Target) × Contains targets target ×
 abbrev pub IsSameWhere : List (List ℕ) → Index → Texts → Tree → Type 0
 IsSameWhere lines index environment marker = (other : Texts) → IsEnvironment other → holds marker other None ≡ true → HasSameLock lines index environment other
 
--- two targets whose entries differ
-pub record Differ (targets : List Target) (one other : List ℕ) : Type 0 where
+-- two targets may stand in one lock: they have the same entries, or some question that counts has two answers
+abbrev pub Fit : List (List ℕ) → Index → Target → Target → Type 0
+Fit lines index one other = (one.lock.entries ≡ other.lock.entries) ⊎ AnswerOneApart lines index one.environment other.environment
+
+-- they may not: their entries differ, and each question that counts has one answer
+abbrev pub Clash : List (List ℕ) → Index → Target → Target → Type 0
+Clash lines index one other = (one.lock.entries ≢ other.lock.entries) × AnswerEachAlike lines index one.environment other.environment
+
+-- two targets with these names clash
+pub record DoClash (lines : List (List ℕ)) (index : Index) (targets : List Target) (one other : List ℕ) : Type 0 where
   pub first : Target
   pub second : Target
   pub first_there : Contains targets first
   pub second_there : Contains targets second
   pub first_named : first.name ≡ one
   pub second_named : second.name ≡ other
-  pub differ : first.lock.entries ≢ second.lock.entries
+  pub clash : Clash lines index first second
 
--- why targets are refused: memory, or two whose entries differ
-abbrev pub IsRefused : List Target → JointFault → Type 0
-IsRefused targets faults.OutOfMemory = ⊤
-IsRefused targets (faults.Differ one other) = Differ targets one other
+-- why targets are refused: memory, or two that clash
+abbrev pub IsRefused : List (List ℕ) → Index → List Target → JointFault → Type 0
+IsRefused lines index targets faults.OutOfMemory = ⊤
+IsRefused lines index targets (faults.Differ one other) = DoClash lines index targets one other

@@ -1,5 +1,6 @@
 -- What serves proofs alone. Each file begins with the law that ties it to a definition outside this folder.
-pub mod Apart
+pub mod Answers
+pub mod Covers
 pub mod Implication
 pub mod JointPackages
 pub mod Kept

@@ -1,36 +1,27 @@
 // The conditions under which all answers stay the same.
 
-ghost use Rattle.std.specs.Prelude.{◌≡◌, IfOk, IfSome, ℕ, List};
-ghost use Rattle.std.specs.List.{AllByRecursion, slice_get};
+ghost use Rattle.std.specs.Prelude.{◌≡◌, IfOk, true};
+ghost use Rattle.std.specs.List.{AllByRecursion};
 ghost use Rattle.std.specs.List.Sorted.{IsPermutation};
-ghost use Rattle.std.specs.Option.{option_copied};
 ghost use Rattle.markers.specs.Environment.{Texts};
-ghost use Rattle.pep508.specs.Requirement.{requirement_of};
-ghost use Rattle.snapshot.specs.Packages.{releases_of};
-ghost use Rattle.exports.specs.Alike.{AnswersAlike, LineAlike, MatchedAlike, ReachAlike, ReleaseAlike, marker_in};
+ghost use Rattle.exports.specs.Alike.{AnswersAlike};
 ghost use Rattle.exports.specs.Conditions.{IsTellable, MeetsAll};
 ghost use Rattle.exports.specs.Laws.{HasSameBest, HasSameLock};
+ghost use Rattle.exports.specs.Questions.{AnswerEachAlike};
+ghost use Rattle.exports.specs.Tied.Answers.{are_matched_alike, is_line_alike};
 ghost use Rattle.exports.specs.Tied.Kept.{AreOwn, Keeps};
+ghost use Rattle.exports.specs.Tied.Reach.{AreAsked};
 
+use crate::answers::marker_of;
 use crate::condition::Condition;
-use crate::kept_conditions::{keep, keep_marker, keep_matching, keep_releases};
-use crate::reach::{asked_by, is_closed};
+use crate::kept_conditions::{keep, keep_marker, keep_matching};
+use crate::reach::{Asked, asked_by};
 use lists::Seq;
-use markers::marker_relations::Operand;
+use markers::marker_relations::{Operand, the_relations_decide};
 use pep440::Operator;
-use pep508::{Environment, Line, Marker, ReqFile, Requirement};
+use pep508::{Environment, Line, ReqFile, Requirement};
 use snapshot::Snapshot;
 use std::alloc::{AllocError, Global};
-
-/// The marker of what a line asks for.
-fn marker_of(line: &Line) -> Option<&Marker>
-    ensures { option_copied result ≡ marker_in (requirement_of line.now) }
-{
-    match line.requirement() {
-        Some(requirement) => requirement.marker(),
-        None => None,
-    }
-}
 
 /// Asks for the same answers of lines.
 fn keep_lines(
@@ -40,47 +31,11 @@ fn keep_lines(
     lines: &[Line],
 ) -> Result<(), AllocError>
     ensures { IfOk result (λ _. Keeps environment.now conditions.old conditions.new
-        (λ other. AllByRecursion (LineAlike environment.now other) lines.now)) }
+        (λ other. AllByRecursion (λ line. is_line_alike environment.now other line ≡ true)
+        lines.now)) }
 {
     for line in lines {
         keep_marker(alloc, environment, conditions, marker_of(line))?;
-    }
-    Ok(())
-}
-
-/// Asks for the same answers of the releases of the package at a place of the index.
-fn keep_package(
-    alloc: Global,
-    environment: &Environment,
-    conditions: &mut Seq<Condition>,
-    snapshot: &Snapshot,
-    place: usize,
-) -> Result<(), AllocError>
-    ensures { IfOk result (λ _. Keeps environment.now conditions.old conditions.new
-        (λ other. IfSome (slice_get snapshot.now.packages place)
-        (λ p. AllByRecursion (ReleaseAlike environment.now other)
-        (releases_of p.name snapshot.now.packages)))) }
-{
-    let Some(name) = snapshot.name_at(place) else {
-        return Ok(());
-    };
-    keep_releases(alloc, environment, conditions, snapshot.releases(name))?;
-    Ok(())
-}
-
-/// Asks for the same answers of each release of an index.
-fn keep_packages(
-    alloc: Global,
-    environment: &Environment,
-    conditions: &mut Seq<Condition>,
-    snapshot: &Snapshot,
-) -> Result<(), AllocError>
-    ensures { IfOk result (λ _. Keeps environment.now conditions.old conditions.new
-        (λ other. (name : List ℕ) → AllByRecursion (ReleaseAlike environment.now other)
-        (releases_of name snapshot.now.packages))) }
-{
-    for place in 0..snapshot.package_count() {
-        keep_package(alloc, environment, conditions, snapshot, place)?;
     }
     Ok(())
 }
@@ -94,8 +49,8 @@ fn keep_asked(
     asked: &[Requirement],
 ) -> Result<(), AllocError>
     ensures { IfOk result (λ _. Keeps environment.now conditions.old conditions.new
-        (λ other. AllByRecursion (λ wanted. AllByRecursion (MatchedAlike environment.now other wanted)
-        (releases_of wanted.name snapshot.now.packages)) asked.now)) }
+        (λ other. AllByRecursion
+        (λ wanted. are_matched_alike environment.now other snapshot.now wanted ≡ true) asked.now)) }
 {
     for wanted in asked {
         keep_matching(
@@ -106,32 +61,6 @@ fn keep_asked(
             snapshot.releases(wanted.name()),
         )?;
     }
-    Ok(())
-}
-
-/// Asks for the same answers of each release that the lines can lead to.
-fn keep_reached(
-    alloc: Global,
-    environment: &Environment,
-    conditions: &mut Seq<Condition>,
-    lines: &[Line],
-    snapshot: &Snapshot,
-) -> Result<(), AllocError>
-    ensures { IfOk result (λ _. Keeps environment.now conditions.old conditions.new
-        (λ other. ReachAlike lines.now snapshot.now environment.now other)) }
-{
-    let asked = asked_by(alloc, lines, snapshot)?;
-    if is_closed(&asked, lines, snapshot) {
-        keep_asked(
-            alloc,
-            environment,
-            conditions,
-            snapshot,
-            asked.requirements(),
-        )?;
-        return Ok(());
-    }
-    keep_packages(alloc, environment, conditions, snapshot)?;
     Ok(())
 }
 
@@ -190,10 +119,33 @@ fn in_order(conditions: Seq<Condition>) -> Result<Seq<Condition>, AllocError>
     Ok(Seq::from_vec(items))
 }
 
-/// The conditions under which another environment answers all questions of the lines and the index as this one does, which
-/// meets them itself; so the best solution is the same there, and its lock but for the environment, whatever versions are kept.
-/// Each release is asked that the lines can lead to over this index: whose version matches what a line asks for, or a dependency
-/// of a release that is asked, also one that no lock has.
+/// The conditions under which another environment answers each question alike that the lines can ask over the index, which this one
+/// meets itself. Each release is asked that the lines can lead to: whose version matches what a line asks for, or a dependency of a
+/// release that is asked, also one that no lock has.
+pub(crate) fn conditions_over(
+    alloc: Global,
+    lines: &[Line],
+    snapshot: &Snapshot,
+    asked: &Asked,
+    environment: &Environment,
+) -> Result<Seq<Condition>, AllocError>
+    requires { AreAsked lines.now snapshot.now asked.now }
+    ensures own { IfOk result (λ conditions. MeetsAll environment.now environment.now conditions) }
+    ensures tellable { IfOk result (λ conditions. AllByRecursion IsTellable conditions) }
+    ensures answers { IfOk result (λ conditions. (other : Texts)
+        → MeetsAll environment.now other conditions
+        → AnswerEachAlike lines.now snapshot.now environment.now other) }
+{
+    let mut all = Seq::new(alloc);
+    keep_lines(alloc, environment, &mut all, lines)?;
+    keep_asked(alloc, environment, &mut all, snapshot, asked.requirements())?;
+    let least = least(alloc, environment, all)?;
+    let conditions = in_order(least)?;
+    Ok(conditions)
+}
+
+/// The conditions under which another environment answers each question alike that the lines can ask over the index, which this one
+/// meets itself; so the best solution is the same there, and its lock but for the environment, whatever versions are kept.
 pub fn conditions_of(
     alloc: Global,
     lines: &ReqFile,
@@ -202,6 +154,9 @@ pub fn conditions_of(
 ) -> Result<Seq<Condition>, AllocError>
     ensures own { IfOk result (λ conditions. MeetsAll environment.now environment.now conditions) }
     ensures tellable { IfOk result (λ conditions. AllByRecursion IsTellable conditions) }
+    ensures answers { IfOk result (λ conditions. (other : Texts)
+        → MeetsAll environment.now other conditions
+        → AnswerEachAlike lines.now snapshot.now environment.now other) }
     ensures alike { IfOk result (λ conditions. (other : Texts)
         → MeetsAll environment.now other conditions
         → AnswersAlike lines.now snapshot.now environment.now other) }
@@ -212,10 +167,9 @@ pub fn conditions_of(
         → MeetsAll environment.now other conditions
         → HasSameLock lines.now snapshot.now environment.now other) }
 {
-    let mut all = Seq::new(alloc);
-    keep_lines(alloc, environment, &mut all, lines.lines())?;
-    keep_reached(alloc, environment, &mut all, lines.lines(), snapshot)?;
-    let least = least(alloc, environment, all)?;
-    let conditions = in_order(least)?;
+    the_relations_decide();
+    let lines = lines.lines();
+    let asked = asked_by(alloc, lines, snapshot)?;
+    let conditions = conditions_over(alloc, lines, snapshot, &asked, environment)?;
     Ok(conditions)
 }

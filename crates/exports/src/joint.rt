@@ -3,8 +3,7 @@
 ghost use Rattle.std.specs.Prelude.{◌≡◌, ◌≢◌, [], ℕ, IfErr, IfOk, List, map};
 ghost use Rattle.std.specs.List.{AllByRecursion, AllPairs, Contains, list_any};
 ghost use Rattle.states.specs.declared.target.Target.{Target};
-ghost use Rattle.exports.specs.Joint.{IsAnywhere, IsOfSome, IsRefused, IsTold};
-ghost use Rattle.exports.specs.Tied.Apart.{Fits, IsCover};
+ghost use Rattle.exports.specs.Joint.{Fit, IsAnywhere, IsOfSome, IsRefused, IsTold};
 ghost use Rattle.exports.specs.declared.joint.JointFault.TheVariants as faults;
 ghost use Rattle.exports.specs.Tied.JointPackages.{HoldsOf, asks_nothing, environments_told};
 
@@ -12,6 +11,7 @@ use crate::apart::first_two_unfit;
 use crate::cover::{Cover, covers_of};
 use crate::joint_entries::joint_entries;
 use crate::joint_packages::joint_packages;
+use crate::reach::asked_by;
 use lists::{Seq, Text};
 use markers::marker_laws::a_text_reads_as_the_marker_that_it_spells;
 use pep508::ReqFile;
@@ -24,7 +24,7 @@ use std::alloc::{AllocError, Global};
 pub enum JointFault {
     /// Memory was refused.
     OutOfMemory,
-    /// It isn't known that no environment meets the conditions of both targets, and their entries differ.
+    /// Both targets answer each question alike that the lines can ask, and their entries differ.
     Differ(TargetName, TargetName),
 }
 
@@ -89,8 +89,8 @@ fn differing(one: &Target, other: &Target) -> Result<JointFault, AllocError>
 }
 
 /// The lock of several targets in one file. Wherever the marker of a target holds, the packages that an installer takes are exactly
-/// the entries of its lock; so they are in every environment, if the lock has no `environments`. Two targets of which it isn't known
-/// that no environment meets the conditions of both are refused, if their entries differ.
+/// the entries of its lock; so they are in every environment, if the lock has no `environments`. Two targets are refused if their
+/// entries differ and they answer each question alike that the lines can ask over the index.
 pub fn joint_lock(
     alloc: Global,
     lines: &ReqFile,
@@ -99,6 +99,9 @@ pub fn joint_lock(
 ) -> Result<JointLock, JointFault>
     ensures told { IfOk result (λ joint. (target : Target)
         → Contains targets.now target → IsTold lines.now snapshot.now joint target) }
+    ensures fit { IfOk result (λ _. (one other : Target)
+        → Contains targets.now one → Contains targets.now other
+        → Fit lines.now snapshot.now one other) }
     ensures only { IfOk result (λ joint. (text : List ℕ)
         → Contains joint.environments text
         → IsOfSome lines.now snapshot.now joint targets.now text) }
@@ -107,13 +110,15 @@ pub fn joint_lock(
     ensures once { IfOk result
         (λ joint. AllPairs (λ e f. e ≢ f) (map (λ p. p.entry) joint.packages)) }
     ensures digest { IfOk result (λ joint. joint.snapshot ≡ snapshot.now.digest) }
-    ensures refused { IfErr result (IsRefused targets.now) }
+    ensures refused { IfErr result (IsRefused lines.now snapshot.now targets.now) }
 {
     a_text_reads_as_the_marker_that_it_spells();
-    let covers = covers_of(alloc, lines, snapshot, targets)?;
-    let unfit = first_two_unfit(alloc, covers.as_slice())?;
+    let lines = lines.lines();
+    let asked = asked_by(alloc, lines, snapshot)?;
+    let unfit = first_two_unfit(alloc, lines, snapshot, &asked, targets)?;
     if let Some((one, other)) = unfit {
-        return Err(differing(&one.target, &other.target)?);
+        return Err(differing(one, other)?);
     }
+    let covers = covers_of(alloc, lines, snapshot, &asked, targets)?;
     Ok(lock_of(alloc, covers.as_slice(), snapshot.digest())?)
 }

@@ -1,21 +1,21 @@
 // Conditions that grow, question by question.
 
-ghost use Rattle.std.specs.Prelude.{◌≡◌, IfOk, IfSome};
+ghost use Rattle.std.specs.Prelude.{◌≡◌, IfOk, IfSome, true};
 ghost use Rattle.std.specs.List.{AllByRecursion};
 ghost use Rattle.std.specs.Option.{option_copied};
 ghost use Rattle.markers.specs.MarkerRelations.{RelationAlike};
 ghost use Rattle.problems.specs.Admission.{meets_python};
-ghost use Rattle.exports.specs.Alike.{MarkerAlike, MatchedAlike, ReleaseAlike, WantedAlike};
 ghost use Rattle.exports.specs.Conditions.{Meets};
 ghost use Rattle.markers.specs.Environment.{is_versioned};
 ghost use Rattle.pep440.specs.SetGrammar.{IsLawfulClause};
+ghost use Rattle.exports.specs.Tied.Answers.{is_marker_alike, is_matched_alike, is_release_alike, is_wanted_alike};
 ghost use Rattle.exports.specs.Tied.Kept.{ClauseAlike, ClausesAlike, IsOwn, Keeps, OperandAlike, Settles, VersionsAlike};
 
 use crate::condition::Condition;
 use crate::implication::{is_said, opposite};
 use crate::settling_relations::settling_relation;
 use lists::Seq;
-use markers::marker_relations::{CachedRelation, Operand, the_relations_decide};
+use markers::marker_relations::{CachedRelation, Operand};
 use pep440::Clause;
 use pep508::{Environment, Marker, Requirement, Variable};
 use snapshot::{Release, RequiresPython};
@@ -242,7 +242,7 @@ fn keep_relations(
     Ok(())
 }
 
-/// Asks for the same answer of a marker that may be there, whatever extra is asked.
+/// Asks for the same answer of each relation of a marker that may be there.
 pub(crate) fn keep_marker(
     alloc: Global,
     environment: &Environment,
@@ -250,9 +250,8 @@ pub(crate) fn keep_marker(
     marker: Option<&Marker>,
 ) -> Result<(), AllocError>
     ensures { IfOk result (λ _. Keeps environment.now conditions.old conditions.new
-        (λ other. MarkerAlike environment.now other (option_copied marker.entry))) }
+        (λ other. is_marker_alike environment.now other (option_copied marker.entry) ≡ true)) }
 {
-    the_relations_decide();
     let Some(marker) = marker else {
         return Ok(());
     };
@@ -269,7 +268,8 @@ fn keep_dependencies(
     dependencies: &[Requirement],
 ) -> Result<(), AllocError>
     ensures { IfOk result (λ _. Keeps environment.now conditions.old conditions.new
-        (λ other. AllByRecursion (WantedAlike environment.now other) dependencies.now)) }
+        (λ other. AllByRecursion (λ wanted. is_wanted_alike environment.now other wanted ≡ true)
+        dependencies.now)) }
 {
     for dependency in dependencies {
         keep_marker(alloc, environment, conditions, dependency.marker())?;
@@ -310,7 +310,7 @@ fn keep_release(
     release: &Release,
 ) -> Result<(), AllocError>
     ensures { IfOk result (λ _. Keeps environment.now conditions.old conditions.new
-        (λ other. ReleaseAlike environment.now other release.now)) }
+        (λ other. is_release_alike environment.now other release.now ≡ true)) }
 {
     keep_python(environment, conditions, release.requires_python())?;
     keep_dependencies(alloc, environment, conditions, release.dependencies())?;
@@ -326,7 +326,7 @@ fn keep_matched(
     release: &Release,
 ) -> Result<(), AllocError>
     ensures { IfOk result (λ _. Keeps environment.now conditions.old conditions.new
-        (λ other. MatchedAlike environment.now other wanted.now release.now)) }
+        (λ other. is_matched_alike environment.now other wanted.now release.now ≡ true)) }
 {
     if !wanted.specifiers().matches(release.version()) {
         return Ok(());
@@ -344,26 +344,11 @@ pub(crate) fn keep_matching(
     releases: &[Release],
 ) -> Result<(), AllocError>
     ensures { IfOk result (λ _. Keeps environment.now conditions.old conditions.new
-        (λ other. AllByRecursion (MatchedAlike environment.now other wanted.now) releases.now)) }
+        (λ other. AllByRecursion
+        (λ release. is_matched_alike environment.now other wanted.now release ≡ true) releases.now)) }
 {
     for release in releases {
         keep_matched(alloc, environment, conditions, wanted, release)?;
-    }
-    Ok(())
-}
-
-/// Asks for the same answers of releases.
-pub(crate) fn keep_releases(
-    alloc: Global,
-    environment: &Environment,
-    conditions: &mut Seq<Condition>,
-    releases: &[Release],
-) -> Result<(), AllocError>
-    ensures { IfOk result (λ _. Keeps environment.now conditions.old conditions.new
-        (λ other. AllByRecursion (ReleaseAlike environment.now other) releases.now)) }
-{
-    for release in releases {
-        keep_release(alloc, environment, conditions, release)?;
     }
     Ok(())
 }

@@ -8,6 +8,7 @@
 //! ```
 #![tactic(auto)]
 
+mod answers;
 mod apart;
 mod condition;
 mod conditions;

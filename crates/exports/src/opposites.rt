@@ -47,7 +47,7 @@ fn has_number(operator: Option<Operator>, number: usize) -> bool
 }
 
 /// Whether the operators are opposite, and the versions the same. Versions with a pre, post, dev or local part are not compared.
-pub(crate) fn is_opposed(clause: &Clause, other: &Clause) -> bool
+fn is_opposed(clause: &Clause, other: &Clause) -> bool
     ensures { result ≡ is_opposed clause.now other.now }
 {
     has_number(opposite(clause.operator), number_of(other.operator))

@@ -190,7 +190,7 @@ fn no_joint(alloc: Global, targets: &[Target], one: &TargetName, other: &TargetN
         None => "a package",
     };
     let message = format!(in alloc;
-        "the targets '{one}' and '{other}' can't stand in one file: one environment may meet the conditions of both, and {differing} differs; upgrade it in all of them, or export one by '--target <NAME>'"
+        "the targets '{one}' and '{other}' can't stand in one file: nothing that is asked tells them apart, and {differing} differs; upgrade it in all of them, or export one by '--target <NAME>'"
     );
     usage(alloc, ErrorKind::ValueValidation, message)
 }

@@ -10,7 +10,7 @@ from support.rules.installs import holds_in
 KEYS = {"created-by", "lock-version", "packages", "tool"}
 # The first line of what is told where two targets can't stand in one file: their names, and that of a package.
 REFUSAL = re.compile(
-    r"(?:error|reqlock): the targets '([a-z0-9-]*)' and '([a-z0-9-]*)' can't stand in one file: one environment may meet the conditions of both,"
+    r"(?:error|reqlock): the targets '([a-z0-9-]*)' and '([a-z0-9-]*)' can't stand in one file: nothing that is asked tells them apart,"
     r" and '?([a-z0-9-]+)'? differs; [^\n]*\n"
 )
 

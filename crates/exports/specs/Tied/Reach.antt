@@ -1,44 +1,64 @@
 -- Which requirements stand for all that lines can ask for.
--- Tied to `CanAsk` by the contract of `keep_reached`; need not be read.
-use Rattle.std.specs.Prelude.{ℕ, ◌&&◌, ◌||◌, not, Bool, true, List, Option, Some, None, Result, Ok, Err}
-use Rattle.std.specs.List.{list_all, list_any}
-use Rattle.std.specs.Str.{bytes_eq}
+-- Tied to `CanAsk` by the contract of `asked_by`; need not be read.
+use Rattle.std.specs.Prelude.{◌≡◌, ℕ, true, if◌then◌else◌, List, [], ◌∷◌, ◌++◌, Option, Some, None, Result, Ok, Err}
+use Rattle.std.specs.List.{Contains, flat_map}
 use Rattle.markers.specs.declared.fault.Cause.{Cause}
 use Rattle.pep440.specs.Matching.{matches}
+use Rattle.pep440.specs.Version.{VersionParts}
 use Rattle.pep440.specs.declared.specifier.Clause.{Clause}
 use Rattle.pep508.specs.Requirement.{RequirementParts, requirement_of}
 use Rattle.snapshot.specs.Packages.{Index, releases_of}
 use Rattle.snapshot.specs.Release.{Release}
-use Rattle.exports.specs.Tied.Implication.{does_follow}
+use Rattle.exports.specs.Alike.{CanAsk}
+use Rattle.exports.specs.Tied.Kept.{ClauseFollows}
 
--- some clause is known to say another
-abbrev pub is_followed : List Clause → Clause → Bool
-is_followed clauses wanted = list_any (λ clause. does_follow clause wanted) clauses
+-- some clause matches no version that the wanted one doesn't
+abbrev pub IsFollowed : List Clause → Clause → Type 0
+IsFollowed clauses wanted = (clause : Clause) × Contains clauses clause × ClauseFollows clause wanted
 
--- a requirement on the same name, each of whose clauses the other's say
-abbrev pub is_wider : RequirementParts → RequirementParts → Bool
-is_wider wide wanted = bytes_eq wide.name wanted.name && list_all (is_followed wanted.clauses) wide.clauses
+-- a requirement on the same name, which matches each version that the other does
+pub record IsWider (wide wanted : RequirementParts) : Type 0 where
+  pub named : wide.name ≡ wanted.name
+  pub matched : (version : VersionParts) → matches wanted.clauses version ≡ true → matches wide.clauses version ≡ true
 
--- some requirement is as wide
-abbrev pub is_covered : List RequirementParts → RequirementParts → Bool
-is_covered asked wanted = list_any (λ wide. is_wider wide wanted) asked
+-- one of the requirements is as wide
+abbrev pub IsCovered : List RequirementParts → RequirementParts → Type 0
+IsCovered asked wanted = (wide : RequirementParts) × Contains asked wide × IsWider wide wanted
 
--- so it is with the dependencies of a release, where its version matches
-abbrev pub covers_release : List RequirementParts → RequirementParts → Release → Bool
-covers_release asked above release = not (matches above.clauses release.version) || list_all (is_covered asked) release.dependencies
+-- what a line asks for, if anything
+abbrev pub wanted_in : Result (Option RequirementParts) Cause → List RequirementParts
+wanted_in (Ok (Some wanted)) = wanted ∷ []
+wanted_in (Ok None) = []
+wanted_in (Err cause) = []
 
-abbrev pub covers_releases : List RequirementParts → Index → RequirementParts → Bool
-covers_releases asked index above = list_all (covers_release asked above) (releases_of above.name index.packages)
+abbrev pub wanted_by : List ℕ → List RequirementParts
+wanted_by line = wanted_in (requirement_of line)
 
--- and with what a line asks for
-abbrev pub covers_read : List RequirementParts → Result (Option RequirementParts) Cause → Bool
-covers_read asked (Ok (Some wanted)) = is_covered asked wanted
-covers_read asked (Ok None) = true
-covers_read asked (Err cause) = true
+-- what a release depends on, if its version matches the clauses of a requirement
+abbrev pub needs_of : RequirementParts → Release → List RequirementParts
+needs_of above release = if matches above.clauses release.version then release.dependencies else []
 
-abbrev pub covers_line : List RequirementParts → List ℕ → Bool
-covers_line asked line = covers_read asked (requirement_of line)
+-- so it is with the releases on the name of a requirement
+abbrev pub needs_below : Index → RequirementParts → List RequirementParts
+needs_below index above = flat_map (needs_of above) (releases_of above.name index.packages)
 
--- the requirements are as wide as those of lines, and as the dependencies of each release that they match
-abbrev pub is_closed : List RequirementParts → List (List ℕ) → Index → Bool
-is_closed asked lines index = list_all (covers_line asked) lines && list_all (covers_releases asked index) asked
+-- requirements were put behind others, each of them one of these; all of these are covered then
+pub record Gathers (old new wanted : List RequirementParts) : Type 0 where
+  pub more : List RequirementParts
+  pub added : new ≡ old ++ more
+  pub only : (x : RequirementParts) → Contains more x → Contains wanted x
+  pub covered : (x : RequirementParts) → Contains wanted x → IsCovered new x
+
+-- what is needed below each of some requirements is covered
+abbrev pub CoversBelow : Index → List RequirementParts → List RequirementParts → Type 0
+CoversBelow index asked some = (above : RequirementParts) → Contains some above → (x : RequirementParts) → Contains (needs_below index above) x → IsCovered asked x
+
+-- requirements that lines can ask for, as wide as what lines ask for, and as what is needed below some of them
+pub record AreAskedTo (lines : List (List ℕ)) (index : Index) (asked some : List RequirementParts) : Type 0 where
+  pub counted : (x : RequirementParts) → Contains asked x → CanAsk lines index x
+  pub lines_covered : (x : RequirementParts) → Contains (flat_map wanted_by lines) x → IsCovered asked x
+  pub below_covered : CoversBelow index asked some
+
+-- and below all of them: so as wide as all that lines can ask for
+abbrev pub AreAsked : List (List ℕ) → Index → List RequirementParts → Type 0
+AreAsked lines index asked = AreAskedTo lines index asked asked

@@ -1,6 +1,6 @@
 use Rattle.std.proofs.Common.{◌≡◌, map, take}
 use Rattle.std.specs.List.{AllByRecursion}
-use Rattle.exports.specs.Tied.Apart.{IsCover}
+use Rattle.exports.specs.Tied.Covers.{IsCover}
 use Rattle.exports.proofs.cover.covers_of.Given as goal
 
 abbrev pub invariant-loop-target : goal.invariant-loop-target
