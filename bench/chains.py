@@ -63,7 +63,7 @@ def main():
     packages, lines, conflicts = SHAPES[shape](int(count))
     os.makedirs(folder, exist_ok=True)
     with open(f"{folder}/index.json", "w", encoding="ascii") as out:
-        json.dump({"snapshot": 1, "packages": packages}, out)
+        out.write(json.dumps({"snapshot": 1, "packages": packages}))
     with open(f"{folder}/requirements.txt", "w", encoding="ascii") as out:
         out.writelines(f"{line}\n" for line in lines)
     with open(f"{folder}/conflicts.txt", "w", encoding="ascii") as out:

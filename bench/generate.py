@@ -190,7 +190,7 @@ def problem(rng, folder, count, strays):
         packages.append({"name": name, "releases": releases})
     os.makedirs(folder, exist_ok=True)
     with open(f"{folder}/index.json", "w") as out:
-        json.dump({"snapshot": 1, "packages": packages}, out)
+        out.write(json.dumps({"snapshot": 1, "packages": packages}))
     with open(f"{folder}/requirements.txt", "w") as out:
         out.write(names[0] + range_with(rng, listed[0], places[0]) + "\n")
 
@@ -243,7 +243,7 @@ def main():
     listed = {name: versions(rng) for name in names}
     packages = [{"name": n, "releases": [release(n, v) for v in listed[n]]} for n in names]
     with open(f"{folder}/index.json", "w") as out:
-        json.dump({"snapshot": 1, "packages": packages}, out)
+        out.write(json.dumps({"snapshot": 1, "packages": packages}))
     with open(f"{folder}/requirements.txt", "w") as out:
         for name in rng.sample(names[:PACKAGES], PACKAGES):
             out.write(line(rng, name, listed[name]) + "\n")
@@ -262,12 +262,12 @@ def main():
     names = [f"package-{n:05}" for n in range(WHOLE_PACKAGES)]
     packages = [{"name": n, "releases": [whole_release(rng, n, v) for v in versions(rng)]} for n in names]
     with open(f"{folder}/whole.json", "w") as out:
-        json.dump({"snapshot": 1, "packages": packages}, out)
+        out.write(json.dumps({"snapshot": 1, "packages": packages}))
     alike = random.Random(int(sys.argv[1]))
     for package in packages:
         make_alike(alike, package["releases"])
     with open(f"{folder}/alike.json", "w") as out:
-        json.dump({"snapshot": 1, "packages": packages}, out)
+        out.write(json.dumps({"snapshot": 1, "packages": packages}))
     os.makedirs(f"{folder}/long", exist_ok=True)
     with open(f"{folder}/long/index.json", "w") as out:
         json.dump({"snapshot": 1, "packages": []}, out)

@@ -64,7 +64,7 @@ def write_index(path, count):
             releases.append({"version": version, "requires_dist": needs, "files": [wheel]})
         packages.append({"name": name, "releases": releases})
     with open(path, "w", encoding="ascii") as file:
-        json.dump({"snapshot": 1, "packages": packages}, file)
+        file.write(json.dumps({"snapshot": 1, "packages": packages}))
 
 
 def lines_of(count, blank):

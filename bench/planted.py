@@ -65,7 +65,7 @@ def planted(seed, count, lows=RELEASES // 2):
 def write_problem(folder, packages, lines):
     os.makedirs(folder, exist_ok=True)
     with open(f"{folder}/index.json", "w", encoding="ascii") as out:
-        json.dump({"snapshot": 1, "packages": packages}, out)
+        out.write(json.dumps({"snapshot": 1, "packages": packages}))
     with open(f"{folder}/requirements.txt", "w", encoding="ascii") as out:
         out.writelines(f"{line}\n" for line in lines)
 

@@ -2,14 +2,14 @@
 
 import json
 import unittest
-from itertools import combinations
+from itertools import combinations, product
 
 from support.made.environments import LINUX
 from support.made.releases import index_in, problem_in
 from support.made.sessions import Draw
 from support.rules.edits import History, Refused, begun, edited, with_set
 from support.rules.locks import (
-    Choice, Problem, best_solution, case_of, entries_of, is_refutation, read_index, read_refutation, solutions,
+    Choice, Problem, best_solution, case_of, entries_of, is_refutation, is_solution, read_index, read_refutation, solutions,
 )
 from support.rules.requirements import Fault, cut_lines, order_key
 from support.rules.states import is_state
@@ -167,6 +167,19 @@ class Refutations(unittest.TestCase):
     def test_faulty_texts(self):
         for text in "-", "a==1 \n", "b==1 a==1\n", "a==1 a==1\n", "A==1\n", "a==01\n", "a[]==1\n", "\n", "a=1\n":
             self.assertRaises(Fault, read_refutation, text)
+
+    def test_solutions_are_those_among_all_maps(self):
+        count = 0
+        for seed in range(PROBLEMS):
+            draw = Draw(seed, ("a", "b-b"))
+            problem = Problem(cut_lines(draw.requirements()), LINUX, read_index(json.dumps(draw.index()).encode()), {})
+            names = list(problem.releases)
+            places = product(*([None, *problem.candidates(name)] for name in names))
+            maps = [{name: place for name, place in zip(names, it) if place is not None} for it in places]
+            found = list(solutions(problem))
+            self.assertCountEqual(found, [it for it in maps if is_solution(problem, it)])
+            count += len(found)
+        self.assertGreater(count, PROBLEMS // 2)
 
     def test_the_empty_conflict_is_reached_where_there_is_no_solution(self):
         answers = set()

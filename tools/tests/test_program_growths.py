@@ -10,9 +10,10 @@ import sys
 import tempfile
 import unittest
 from pathlib import Path
+from unittest import mock
 
 from support.made.environments import LINUX, WINDOWS
-from support.places import IS_LONG, PROGRAM, needs_program, new_folder
+from support.places import IS_LONG, MEMORY, PROGRAM, needs_program, new_folder
 from support.terminals import shown_on_terminal
 
 import growths  # (these stand in tools/)
@@ -130,6 +131,7 @@ class Growths(unittest.TestCase):
     environments = {"": LINUX}
 
     def setUp(self):
+        self.enterContext(mock.patch.object(tempfile, "tempdir", MEMORY))
         outside = new_folder(self.addCleanup)
         self.folder = outside / "files"
         self.folder.mkdir()

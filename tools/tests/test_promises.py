@@ -25,6 +25,7 @@ BY_SIGNS = {"eq", "from"}
 ITEM = re.compile(r"^(?!\s|//|#|\}|\)).*?(?=^(?!\s|\}|\)|where)|\Z)", re.MULTILINE | re.DOTALL)
 HEAD = re.compile(r"(?:pub )?(?:(?P<kind>trait|struct|enum) (?P<type>\w+)|impl(?:<[^>]*>)? (?:(?P<trait>.+) for )?&?(?P<self>\w+))")
 METHOD = re.compile(r"^    (?P<pub>pub )?fn (?P<name>\w+)\b.*?^    \}$|^    (?P<pub2>pub )?fn (?P<name2>\w+)\b[^{]*?(?:\{[^\n]*\}[^{;]*?)*;", re.MULTILINE | re.DOTALL)
+CALL = re.compile(r"(?<!fn )(?<!\w)(\w+)(?:::<[^>]*>)?\(")
 CLAUSE = re.compile(r"\b(?:ensures|requires)\b.*?\{(.*)\}", re.DOTALL)
 
 
@@ -110,15 +111,16 @@ def rests_on(it: Stated) -> set[str]:
     return {name for _, name in found}
 
 
-def is_called(name: str) -> bool:
-    """Whether a crate that the program stands on calls it."""
-    call = re.compile(rf"(?<!fn )(?<!\w){name}(?:::<[^>]*>)?\(")
+@cache
+def called_names() -> set[str]:
+    """What crates call that the program stands on."""
+    found: set[str] = set()
     for crate in sorted(path.name for path in (TOP / "crates").iterdir()):
         for path in sources(crate) if crate != "conformance" else ():
             for line in path.read_text(encoding="utf-8").splitlines():
-                if call.search(line) and not line.lstrip().startswith(("//", "ghost", "ensures")):
-                    return True
-    return False
+                if not line.lstrip().startswith(("//", "ghost", "ensures")):
+                    found.update(CALL.findall(line))
+    return found
 
 
 class Promises(unittest.TestCase):
@@ -144,7 +146,7 @@ class Promises(unittest.TestCase):
                 if module in LAWS or last in FOR_OTHERS | BY_SIGNS or (not module and name[0].isupper()):
                     continue
                 with self.subTest(page=row.page, crate=row.crate, cited=name):
-                    self.assertTrue(is_called(last))
+                    self.assertTrue(last in called_names())
 
 
 if __name__ == "__main__":

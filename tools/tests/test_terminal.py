@@ -4,8 +4,11 @@ a CI job are told none of it."""
 import os
 import re
 import resource
+import signal
 import subprocess
+import time
 import unittest
+from pathlib import Path
 
 from support.made.environments import LINUX, WINDOWS
 from support.places import PROGRAM
@@ -13,12 +16,20 @@ from support.program import Program
 from support.terminals import shown_on_terminal
 
 CODE = re.compile("\x1b\\[[0-9]*m")
+TICKS = os.sysconf("SC_CLK_TCK")
 BOLD, RED, GREEN, END = "\x1b[1m", "\x1b[31m", "\x1b[32m", "\x1b[0m"
 
 
+def used_by(process):
+    """The seconds that a process used a processor so far."""
+    told = Path(f"/proc/{process}/stat").read_text(encoding="ascii").rpartition(")")[2].split()
+    return (int(told[11]) + int(told[12])) / TICKS
+
+
 class Terminal(Program):
-    def at_terminal(self, *words, variables=(), before=None):
-        """The status of a call whose standard error is a terminal, its standard output, and what the terminal shows."""
+    def at_terminal(self, *words, variables=(), before=None, begun=None):
+        """The status of a call whose standard error is a terminal, its standard output, and what the terminal shows. `begun` is given the
+        process."""
         told = []
 
         def start(terminal):
@@ -26,6 +37,8 @@ class Terminal(Program):
                 [PROGRAM, *self.needed(words), *words], stdin=subprocess.DEVNULL, stdout=subprocess.PIPE, stderr=terminal,
                 env={"PATH": os.environ["PATH"], "TERM": "xterm", **dict(variables)}, preexec_fn=before,
             )
+            if begun is not None:
+                begun(call.pid)
             told.append(call.communicate(timeout=60)[0].decode())
             return call
 
@@ -271,8 +284,10 @@ class Told(Terminal):
 
 
 class Waiting(Terminal):
-    """A reason that takes longer to find than anybody waits: of twelve packages each two take different ones of eleven places."""
+    """A reason that takes longer to find than anybody waits: of twelve packages each two take different ones of eleven places. The call may use
+    a processor for a second, and is stopped once meanwhile, for longer than a person isn't told."""
 
+    PATIENCE = 2
     WORDS = ["why", "--init"], ["why", "--init", "--explain"]
 
     def begin_pigeons(self):
@@ -282,14 +297,31 @@ class Waiting(Terminal):
 
     @staticmethod
     def end_soon():
-        """The call may use a processor for six seconds."""
-        resource.setrlimit(resource.RLIMIT_CPU, (6, 6))
+        resource.setrlimit(resource.RLIMIT_CPU, (1, 1))
+
+    def rest(self, call):
+        """Stops a process that is at work, and has it go on later."""
+        while used_by(call) < 0.4:
+            time.sleep(0.02)
+        os.kill(call, signal.SIGSTOP)
+        time.sleep(self.PATIENCE + 0.2)
+        os.kill(call, signal.SIGCONT)
+
+    def in_a_pipe(self, *words):
+        """What a call writes that no person reads."""
+        call = subprocess.Popen(
+            [PROGRAM, *self.options(), *words], stdin=subprocess.DEVNULL, stdout=subprocess.PIPE, stderr=subprocess.STDOUT, preexec_fn=self.end_soon,
+        )
+        self.rest(call.pid)
+        written = call.communicate(timeout=60)[0]
+        self.assertLess(call.returncode, 0)
+        return written.decode()
 
     def test_a_call_that_takes_long_says_so_once(self):
         self.begin_pigeons()
         for words in self.WORDS:
             with self.subTest(words=words):
-                status, output, shown = self.plainly(*words, before=self.end_soon)
+                status, output, shown = self.plainly(*words, before=self.end_soon, begun=self.rest)
                 self.assertLess(status, 0)
                 self.assertEqual((output, shown), ("", "reqlock: still at it; Ctrl-C ends the call, and changes no file\n"))
 
@@ -297,8 +329,10 @@ class Waiting(Terminal):
         self.begin_pigeons()
         for words in self.WORDS:
             with self.subTest(words=words):
-                self.assertEqual(self.plainly("-q", *words, before=self.end_soon)[1:], ("", ""))
-                self.assertEqual(self.call(*words, before=self.end_soon)[1], "")
+                status, output, shown = self.plainly("-q", *words, before=self.end_soon, begun=self.rest)
+                self.assertLess(status, 0)
+                self.assertEqual((output, shown), ("", ""))
+                self.assertEqual(self.in_a_pipe(*words), "")
 
 
 class Output(Terminal):

@@ -6,7 +6,7 @@ import subprocess
 import tempfile
 from pathlib import Path
 
-from support.places import PROGRAM
+from support.places import MEMORY, PROGRAM
 from support.rules.journals import REQUIREMENTS, tells_in
 
 
@@ -33,7 +33,7 @@ def heads_of(log):
 def checked(files):
     """What `check` answers in a folder of these files, by their names: status, standard output and standard error; and what the lines of
     `log` begin with, where it has some. Where it has none, it tells what `check` does. The files stay."""
-    with tempfile.TemporaryDirectory() as name:
+    with tempfile.TemporaryDirectory(dir=MEMORY) as name:
         folder = Path(name)
         for file, data in files.items():
             (folder / file).write_bytes(data)

@@ -19,6 +19,20 @@ sys.path.insert(0, str(TOOLS))
 os.environ.pop("CI", None)
 
 
+def in_memory() -> str | None:
+    """A file system in memory with room for small folders, from which programs can be run; None where there is none."""
+    place = "/dev/shm"
+    if not os.access(place, os.W_OK | os.X_OK):
+        return None
+    told = os.statvfs(place)
+    return place if told.f_bavail * told.f_frsize >= 2**26 and not told.f_flag & os.ST_NOEXEC else None
+
+
+# Where thousands of small folders are made, one behind the other. (The program reads a file whose whole path begins with /dev/ otherwise, so no
+# other folders are made there.)
+MEMORY = in_memory()
+
+
 def built(crate: str) -> Path:
     """The program of a crate. Where tests without a program are asked for, it isn't there."""
     return TOP / "crates" / crate / ("none" if IS_WITHOUT_PROGRAM else "out") / crate

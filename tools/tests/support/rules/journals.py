@@ -7,6 +7,7 @@ is what is told without the lines."""
 import hashlib
 import json
 import re
+from functools import lru_cache
 from typing import NamedTuple
 
 from support.rules.lock_tables import read_lock
@@ -124,11 +125,11 @@ def read_splice(value):
     return place, old, new
 
 
-def read_entry(value, header):
-    """The entry of an array, on one of the header's targets. Version 1 doesn't name the target."""
-    target, name, old, new = parts(value, 4) if header.version == 2 else ["", *parts(value, 3)]
+def read_entry(value, version, targets):
+    """The entry of an array, on one of these targets. Version 1 doesn't name the target."""
+    target, name, old, new = parts(value, 4) if version == 2 else ["", *parts(value, 3)]
     want_text(target)
-    want(target in [known.name for known in header.targets], "a target of the header")
+    want(target in targets, "a target of the header")
     want_name(name)
     for entry in old, new:
         if entry is not None:
@@ -138,6 +139,12 @@ def read_entry(value, header):
 
 def read_step(line, header):
     """The change of a step's line, which is minimal, in the form of the header's version."""
+    return step_for(line, header.version, tuple(target.name for target in header.targets))
+
+
+@lru_cache(2**10)
+def step_for(line, version, targets):
+    """The same in a version, with targets of these names."""
     step = read_json(line)
     want_keys(step, ("entries", "lines", "snapshot"))
     want_list(step["lines"])
@@ -146,7 +153,7 @@ def read_step(line, header):
     if digests is not None:
         for digest in parts(digests, 2):
             want_digest(digest)
-    entries = [read_entry(value, header) for value in step["entries"]]
+    entries = [read_entry(value, version, targets) for value in step["entries"]]
     change = Change(list(map(read_splice, step["lines"])), entries, digests and tuple(digests))
     want(is_minimal(change), "a minimal change")
     return change

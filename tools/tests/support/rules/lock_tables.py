@@ -3,10 +3,10 @@ rules alone."""
 
 import re
 import tomllib
+from functools import lru_cache
 
 from support.rules.requirements import Fault, want
 from support.rules.values import is_rising, want_digest, want_entry, want_keys, want_list, want_text
-
 
 
 def file_of_table(table):
@@ -41,8 +41,8 @@ def entry_of_table(package):
     return package["name"], entry
 
 
-# A quoted text, a comment, `=` with the space around it, a line break, or another character.
-TOML_PART = re.compile(r""""(?:[^"\\\n]|\\.)*"|'[^'\n]*'|#[^\n]*|\s*=\s*|\r?\n|.""", re.DOTALL)
+# A quoted text, a comment, `=` with the space around it, a line break, characters that mean nothing here, or another one.
+TOML_PART = re.compile(r""""(?:[^"\\\n]|\\.)*"|'[^'\n]*'|#[^\n]*|\s*=\s*|\r?\n|[^"'#=\s{}]+|.""", re.DOTALL)
 
 
 def in_toml_1_0(text):
@@ -59,6 +59,12 @@ def in_toml_1_0(text):
 
 def read_lock(data):
     """The text of a lock's environment, its digest of the index, and its entries by name."""
+    environment, digest, entries = parsed(data)
+    return environment, digest, dict(entries)
+
+
+@lru_cache(2**9)
+def parsed(data):
     try:
         lock = tomllib.loads(in_toml_1_0(data.decode("utf-8")))
     except (ValueError, RecursionError):

@@ -1,11 +1,10 @@
 """What is locked: which releases a requirement admits, what a solution is, which one is the best, the entries of its lock, and
-what a refutation is. The rules are read plainly, for tests that ask what an answer must be: each map from names to versions is
+what a refutation is. The rules are read plainly, for tests that ask what an answer must be: each version of each name that is needed is
 tried. It is written from the rules alone, so that it shares no mistake with the program. It is for small indexes."""
 
 import hashlib
 import json
 import re
-from itertools import product
 from typing import NamedTuple
 
 from support.rules.requirements import (
@@ -232,13 +231,16 @@ def is_solution(problem, chosen):
     return all(is_met(need, chosen) for node in nodes for need in problem.needs_at(node, chosen[node[0]]))
 
 
-def solutions(problem):
-    """All solutions, of all maps."""
-    names = list(problem.releases)
-    for places in product(*([None, *problem.candidates(name)] for name in names)):
-        chosen = {name: place for name, place in zip(names, places) if place is not None}
-        if is_solution(problem, chosen):
-            yield chosen
+def solutions(problem, chosen=None):
+    """All solutions that have what is chosen so far. Each has every name that this needs, so the least one that isn't chosen yet gets each of
+    its candidates in turn."""
+    chosen = chosen or {}
+    name = min((name for name, _ in needed_nodes(problem, chosen) if name not in chosen), default=None)
+    if name is not None:
+        for place in problem.candidates(name):
+            yield from solutions(problem, {**chosen, name: place})
+    elif is_solution(problem, chosen):
+        yield chosen
 
 
 def turns(problem, solution):

@@ -2,6 +2,7 @@
 what an answer must be. It is written from the rules alone, so that it shares no mistake with the program. All faults are one."""
 
 import re
+from functools import lru_cache
 from typing import NamedTuple
 
 import support.places  # noqa: F401  (tools/ is on the path from here on)
@@ -54,6 +55,7 @@ def read_name(text):
 # Sets of specifiers
 
 
+@lru_cache(2**14)
 def read_clause(text):
     operator = re.match("===|~=|==|!=|<=|>=|<|>|", text)[0]
     want(operator in OPERATORS, "an operator")
@@ -180,6 +182,7 @@ class MarkerReader:
         return token
 
 
+@lru_cache(2**12)
 def read_marker(text):
     reader = MarkerReader(text)
     tree = reader.marker()
@@ -264,6 +267,7 @@ def read_requirement(text):
     return Requirement(normal_name, extras, read_set(part), read_marker(marker) if semicolon else None)
 
 
+@lru_cache(2**12)
 def read_line(line):
     """What a line asks for; None for a blank line or a comment."""
     body = line.removesuffix("\n")

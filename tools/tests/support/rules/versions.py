@@ -1,6 +1,7 @@
 """Versions as PEP 440 has them: what a text spells, a version's one text, and the key by which versions are ordered."""
 
 import re
+from functools import lru_cache
 from typing import NamedTuple
 
 LARGEST = 2**64 - 1
@@ -40,6 +41,7 @@ def local_part(text):
     return number_of(text) if text.isdigit() else text.lower()
 
 
+@lru_cache(2**14)
 def read_version(text):
     """The version that a text spells; None where it spells none, or has a number of more than 64 bits."""
     found = VERSION.fullmatch(text.strip(SPACE))
