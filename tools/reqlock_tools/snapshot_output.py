@@ -7,11 +7,12 @@ from typing import Any, NamedTuple
 
 from reqlock_tools.files import is_own, usual_mode, write_whole
 from reqlock_tools.refusal import Refusal, speaker
-from reqlock_tools.simple.addresses import hidden
 
 ENCODER = json.JSONEncoder(ensure_ascii=False, separators=(",", ":"))
 Packages = dict[str, dict[str, Any]]
 Made = dict[str, Any]
+
+say = speaker("snapshot")
 
 
 class Snapshot(NamedTuple):
@@ -19,11 +20,6 @@ class Snapshot(NamedTuple):
 
     packages: Packages
     made: Made | None
-
-
-def say(text: str) -> None:
-    """Tells a line in which no URL has a password."""
-    speaker("snapshot")(hidden(text))
 
 
 def plural(count: int, noun: str) -> str:

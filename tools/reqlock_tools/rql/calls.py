@@ -11,7 +11,7 @@ from collections.abc import Callable, Sequence
 from dataclasses import dataclass
 
 from reqlock_tools.program import program_path
-from reqlock_tools.refusal import Refusal, shown, speaker, tell
+from reqlock_tools.refusal import Refusal, hidden, shown, speaker, tell
 from reqlock_tools.rql.faults import STOPPED
 from reqlock_tools.rql.requests import Options
 from reqlock_tools.rql.told import ERRORS, Lacking, Told, in_words_of_rql
@@ -72,7 +72,7 @@ def question_of(words: Sequence[str]) -> list[str]:
 def tell_call(words: Sequence[str], text: str | None = None) -> None:
     """Prints a call so that it can be typed."""
     given = f"printf %s {shlex.quote(text)} | " if text is not None else ""
-    tell(f"+ {shown(given + shlex.join(words))}")
+    tell(f"+ {shown(hidden(given + shlex.join(words)))}")
 
 
 class Caller:

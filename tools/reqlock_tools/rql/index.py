@@ -182,9 +182,7 @@ def index_bytes(
             run = Run(plan, asking, credentials)
             data = snapshot_text(run.snapshot(may_be_none, untold)).encode()
     except (Refusal, OSError) as fault:
-        from reqlock_tools.simple.addresses import hidden
-
-        raise IndexFault(hidden(fault_text(fault))) from None
+        raise IndexFault(fault_text(fault)) from None
     if run.none is not None and not options.is_quiet:
         say(f"{run.none}; is the name right? And {IS_ADDRESS}")
     return data

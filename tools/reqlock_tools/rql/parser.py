@@ -5,6 +5,7 @@ from collections.abc import Callable, Sequence
 from typing import TYPE_CHECKING, Any
 
 from reqlock_tools.number_words import number
+from reqlock_tools.refusal import hidden
 from reqlock_tools.rql.requests import (
     CheckRequest, EditRequest, EnvRequest, IndexRequest, InitRequest, LockRequest, Options, PassedRequest, Request, SyncRequest,
 )
@@ -175,7 +176,7 @@ def parsed(arguments: Sequence[str]) -> tuple[Options, Request]:
     asks_help = any(argument in ("-h", "--help") for argument in arguments[:place])
     parser = parser_of(None if asks_help else word)
     if word and word not in BUILDERS and not asks_help:
-        parser.error(f"there is no command {word!a}: {in_place_of_command(word, BUILDERS)}")
+        parser.error(f"there is no command {hidden(word)!a}: {in_place_of_command(word, BUILDERS)}")
     told, rest = parser.parse_known_args(list(arguments[: place + 1] if is_handed_on else arguments))
     if rest:
         refuse_rest(parser, told.word, rest)
@@ -190,7 +191,7 @@ def refuse_rest(parser: argparse.ArgumentParser, word: str, rest: Sequence[str])
     hint = in_place_of_options(word, rest)
     choices = next(action.choices for action in parser._actions if isinstance(action, argparse._SubParsersAction))
     # (what stands in front of a word that is handed on is rql's own)
-    (parser if word in PASSED or word in TOOLS else choices[word]).error(f"it doesn't take {' '.join(rest)}" + (f": {hint}" if hint else ""))
+    (parser if word in PASSED or word in TOOLS else choices[word]).error(f"it doesn't take {hidden(' '.join(rest))}" + (f": {hint}" if hint else ""))
 
 
 def place_of_word(arguments: Sequence[str]) -> int:

@@ -39,7 +39,10 @@ def items_in(section: Section, text: str) -> Iterator[Line | Followed]:
         if option:
             yield Followed(option[2].strip("\"'"), place, FOLLOWED[option[1]])
         elif line.startswith("-") or BEHIND.search(line):
-            raise SettingsFault(f"{where}: {line!a}: of options -r and -c alone are followed: settings tell of an index, and rql sync of hashes")
+            raise SettingsFault(
+                f"{where}: {line!a}: of options -r and -c alone are followed: take it out: rql init --index URL, or index in the settings, names"
+                " an index, and hashes are always locked"
+            )
         elif line:
             yield Line(checked(line, where), section, place)
 

@@ -8,7 +8,7 @@ from collections.abc import Callable, Collection, Sequence
 from pathlib import Path
 
 from reqlock_tools.names import speaking
-from reqlock_tools.refusal import Refusal
+from reqlock_tools.refusal import Refusal, hidden
 from reqlock_tools.rql.requests import Options
 
 # Answers the names of which rql tells that the index lacks them.
@@ -66,7 +66,7 @@ def in_words_of_rql(told: bytes, options: Options, question: Sequence[str] = (),
     from reqlock_tools.rql.own_words import has_call, in_own_words, without_lacking
 
     here = Here(options.start, base_of(options), tuple(question))
-    text = in_own_words(without_lacking(told.decode(errors="surrogateescape"), lacking), here, width())
+    text = in_own_words(without_lacking(hidden(told.decode(errors="surrogateescape")), lacking), here, width())
     if has_call(text):
         text += f"{speaking('rql')}: {LEFT}\n"
     return text.encode(errors="surrogateescape")

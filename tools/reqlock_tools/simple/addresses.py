@@ -19,8 +19,6 @@ PLAIN = re.compile(r"https?://[A-Za-z0-9.-]+(?::[1-9][0-9]{0,3})?/[A-Za-z0-9/%:!
 SLASH = rb"(?:\\?/|\\u002[Ff]|&#0*47;|&#[Xx]0*2[Ff];|&sol;)"
 AT = rb"(?:@|\\u0040|&#0*64;|&#[Xx]0*40;|&commat;)"
 CREDENTIALS = re.compile(rb"(%b{2})(?:(?!%b)(?:[^/?\\\s\"'<>]|\\u[0-9A-Fa-f]{4})){0,999}%b" % (SLASH, SLASH, AT))
-# What reads as a host, a port and a part of a path, and may be a user and a password with a `/` in it.
-ODD = re.compile(r"(?<=://)[^/\s@]*:[0-9]*/\S{0,999}@")
 
 
 class Unfetched(Refusal):
@@ -97,11 +95,6 @@ def without_password(text: str) -> str:
 def is_odd(url: str) -> bool:
     """Whether a URL may have a password with a `/` in it, as http://USER:12/34@HOST/ has, so that it leads to a host named USER."""
     return "@" in parts_of(url).path
-
-
-def hidden(text: str) -> str:
-    """A text as it may be told: what may be a password is cut out of its URLs."""
-    return ODD.sub("", text)
 
 
 def without_passwords(data: bytes) -> bytes:
