@@ -15,6 +15,7 @@ and DIR stays as it was; 2 where the words are no request.
 import argparse
 import contextlib
 import os
+import shlex
 import shutil
 from dataclasses import dataclass
 from pathlib import Path
@@ -56,7 +57,7 @@ def check_place(folder: str, source: str) -> None:
     for name in FILES:
         path = Path(folder) / name
         if os.path.lexists(path) and not (name == FILES[0] and is_same(path, source)):
-            next_step = f"rename it first (git mv {path} compiled.txt), or give" if name == FILES[0] else "give"
+            next_step = f"rename it first ({shlex.join(['git', 'mv', str(path), 'compiled.txt'])}), or give" if name == FILES[0] else "give"
             raise Refusal(f"{path}: it stands there already and would be lost: {next_step} a new folder by --dir")
 
 

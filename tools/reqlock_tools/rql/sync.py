@@ -2,6 +2,7 @@
 
 import contextlib
 import os
+import shlex
 from dataclasses import dataclass
 from pathlib import Path
 from typing import TYPE_CHECKING
@@ -9,7 +10,7 @@ from typing import TYPE_CHECKING
 from reqlock_tools.folder_lock import alone_in
 from reqlock_tools.refusal import Refusal, shown, speaker
 from reqlock_tools.rql.faults import NETWORK, STOPPED, SettingsFault
-from reqlock_tools.rql.sync_installed import Environment, is_own, python_in, read_environment
+from reqlock_tools.rql.sync_installed import Environment, is_own, making, python_in, read_environment
 from reqlock_tools.rql.sync_locked import Locked, read_locked
 from reqlock_tools.rql.sync_netrc import known_credentials, netrc_file, netrc_text, refuse_elsewhere
 from reqlock_tools.rql.sync_pip import Pip, mended_end, pip_of, variables_for
@@ -97,11 +98,12 @@ def venv_of(asked: Sync) -> Path:
     active = os.environ.get("VIRTUAL_ENV", "")
     place = Path(active) if active else asked.base / VENV
     if not active and not place.exists():
-        raise SettingsFault(f"{place}: there is no environment, and none is active: python3 -m venv {place} makes one")
+        raise SettingsFault(f"{place}: there is no environment, and none is active: {making(place)} makes one")
     if not active and place.is_symlink():
-        raise SettingsFault(f"{place}: it is a link, which isn't followed: rql sync --venv {os.path.realpath(place)} says that it is meant")
+        meant = shlex.quote(os.path.realpath(place))
+        raise SettingsFault(f"{place}: it is a link, which isn't followed: rql sync --venv {meant} says that it is meant")
     if is_own(place):
-        raise SettingsFault(f"{place}: rql itself runs in it: rql sync --venv {place} says that it is meant")
+        raise SettingsFault(f"{place}: rql itself runs in it: rql sync --venv {shlex.quote(str(place))} says that it is meant")
     return place
 
 

@@ -2,6 +2,7 @@
 
 import json
 import os
+import shlex
 import subprocess
 import sys
 from collections.abc import Mapping
@@ -60,14 +61,19 @@ def label_of(told: Mapping[str, object]) -> str:
     return f"{told['implementation_name']} {told['python_version']} on {told['sys_platform']} {told['platform_machine']}".rstrip()
 
 
+def making(place: Path, *options: str) -> str:
+    """The call that makes a virtual environment."""
+    return shlex.join(["python3", "-m", "venv", *options, str(place)])
+
+
 def python_in(place: Path) -> Path:
     """The Python of a virtual environment. A folder that is none is refused, so that nobody's system is emptied."""
     if not (place / "pyvenv.cfg").is_file():
-        next_step = f"python3 -m venv {place} makes one" if not place.exists() else "only those are changed that venv or virtualenv made"
+        next_step = f"{making(place)} makes one" if not place.exists() else "only those are changed that venv or virtualenv made"
         raise SettingsFault(f"{place}: it is no virtual environment: {next_step}")
     python = place / "bin" / "python"
     if not os.access(python, os.X_OK):
-        raise SettingsFault(f"{place}: its Python can't be run: python3 -m venv --clear {place} makes it anew")
+        raise SettingsFault(f"{place}: its Python can't be run: {making(place, '--clear')} makes it anew")
     return python
 
 
@@ -85,10 +91,10 @@ def read_environment(place: Path) -> Environment:
     except (OSError, ValueError, Refusal, subprocess.SubprocessError):
         raise SettingsFault(f"{python}: it is no Python of version 3.6 or later that tells what it is") from None
     if prefix != os.path.realpath(place):
-        raise SettingsFault(f"{place}: its Python is that of {prefix}: python3 -m venv --clear {place} makes it anew")
+        raise SettingsFault(f"{place}: its Python is that of {prefix}: {making(place, '--clear')} makes it anew")
     for path in places:
         if not path.startswith(prefix + os.sep):
-            raise SettingsFault(f"{place}: a link leads from it to {path}: python3 -m venv --clear {place} makes it anew")
+            raise SettingsFault(f"{place}: a link leads from it to {path}: {making(place, '--clear')} makes it anew")
     # (of two of one name the first is the one that is imported)
     return Environment(place, python, environment, {distribution.name: distribution for distribution in reversed(distributions)})
 
