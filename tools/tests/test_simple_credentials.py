@@ -44,7 +44,7 @@ class Secret(Simple):
             self.assertNotRegex(text, "s3cr3t|tP W|" + self.value[6:20])
 
     def check_refused_as_it_is_secret(self):
-        self.check_refused(self.index, "a", fault="^/simple/a/: 401 Unauthorized; user and password stand in ~/.netrc, or in REQLOCK_INDEX_<")
+        self.check_refused(self.index, "a", fault=f"^/simple/a/: 401 Unauthorized; user and password stand in ~/.netrc, or in {self.variable}_USERNAME and ")
 
 
 class Places(Secret):
@@ -95,6 +95,9 @@ class Places(Secret):
             found = Credentials([url], self.fail, are_typed=False)
             self.assertEqual(found.get(address_of(url)) is not None, is_told)
             self.assertFalse(not is_told and found.find_more(address_of(url), None))
+            way = "REQLOCK_INDEX_INDEX_EXAMPLE_PASSWORD$" if is_told else "^are told over https alone to an index that settings or a snapshot name$"
+            self.assertRegex(found.told_of(f"{url}a/"), way)
+            self.assertRegex(found.told_of("https://files.example/a.whl"), "^are told to an index at its own host and port alone")
             self.assertIsNotNone(Credentials([url], self.fail).get(address_of(url)))
 
     def test_of_netrc(self):

@@ -63,6 +63,15 @@ class Credentials:
     def get(self, address: Address) -> str | None:
         return self.values.get(address.origin)
 
+    def told_of(self, url: str) -> str:
+        """Where user and password for a URL stand, behind these words; or why it is told none."""
+        index = self.urls.get(address_of(url).origin)
+        if index is None:
+            return "are told to an index at its own host and port alone, and this is another one"
+        if not self.may_have(index):
+            return "are told over https alone to an index that settings or a snapshot name"
+        return f"stand in ~/.netrc, or in {variable_of(index)}_USERNAME and {variable_of(index)}_PASSWORD"
+
     def refuse_alike(self) -> None:
         """Refuses variables that could be meant for either of two indexes."""
         known: dict[str, str] = {}
