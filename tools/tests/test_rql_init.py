@@ -2,6 +2,7 @@
 
 import os
 import re
+import shlex
 import tomllib
 import unittest
 from unittest import mock
@@ -205,6 +206,20 @@ class Begin(Served):
         self.assertIn("tool.poetry.dependencies: other: it can't be translated: rql add 'other>=1' adds it, with the versions that", errors)
         self.assertIn("poetry.lock: mine: it isn't taken over: it comes from no index", errors)
         self.assertIn("1 of 1 pins are taken over", errors)
+
+    def test_a_lock_of_poetry_that_comes_from_an_index_of_its_own(self):
+        """Poetry writes it as a source of the type legacy, and a Git repository as one of the type git."""
+        source = '[package.source]\ntype = "legacy"\nurl = "https://index.example/simple"\nreference = "team"\n\n[[package]]\nname = "mine"'
+        self.put("poetry.lock", POETRY.replace("DIGEST", self.rich[0].sha256).replace('[[package]]\nname = "mine"', source))
+        self.put("requirements.txt", "rich\n")
+        self.assertIn("1 of 1 pins are taken over", self.init())
+        self.assertEqual(self.locked(), {"rich": "1"})
+
+    def test_a_dependency_of_poetry_that_names_an_index(self):
+        self.put("pyproject.toml", "[tool.poetry.dependencies]\nflask = '*'\nrich = { version = '^1', source = 'team', extras = ['a'] }\n")
+        told = re.search("rich: it comes from the index team: put { url = .* } into index in the settings; then rql (add .*) adds it\n", self.init())
+        self.assertEqual(shlex.split(told[1]), ["add", "rich[a]>=1,<2"])
+        self.accepts(*shlex.split(told[1]), answer="ok 1\n")
 
     def test_a_pin_with_other_files_is_not_taken_over(self):
         self.put("poetry.lock", POETRY.replace("DIGEST", "0" * 64))

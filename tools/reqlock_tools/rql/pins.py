@@ -74,7 +74,8 @@ def pins_of(lock: dict[str, Any], path: Path) -> Iterable[Pin]:
 def elsewhere(package: dict[str, Any]) -> bool:
     """Whether a package comes from a folder, a checkout or a URL."""
     source = package.get("source", package)
-    if not isinstance(source, dict):
+    # (so Poetry writes an index that isn't PyPI)
+    if not isinstance(source, dict) or source.get("type") == "legacy":
         return False
     return source.get("type") in ("git", "url", "file", "directory") or any(key in source for key in ELSEWHERE)
 

@@ -119,9 +119,12 @@ def untranslated(name: str, value: Any) -> str:
     origin = origin_of(value)
     if origin is not None:
         return f"it comes from {origin}, so it isn't locked"
-    adding = f"rql add {shlex.quote(f'{name}>=1')} adds it, with the versions that you want in the place of >=1"
-    if isinstance(value, dict) and isinstance(value.get("source"), str):
-        return f"it comes from the index {value['source']}: put {{ url = URL, only = [\"{name}\"] }} into index in the settings; then {adding}"
+    table = value if isinstance(value, dict) else {}
+    line = line_of(name, {key: told for key, told in table.items() if key != "source"})
+    wanted = f"{shlex.quote(f'{name}>=1')} adds it, with the versions that you want in the place of >=1"
+    adding = f"rql add {wanted if line is None else f'{shlex.quote(line)} adds it'}"
+    if isinstance(table.get("source"), str):
+        return f"it comes from the index {table['source']}: put {{ url = URL, only = [\"{name}\"] }} into index in the settings; then {adding}"
     return f"it can't be translated: {adding}"
 
 
