@@ -18,13 +18,13 @@ Nothing changes unless a lock is found. The status is 0 where it is, or where no
 
 import argparse
 import os
-import re
 import shlex
 import subprocess
 import tempfile
 from dataclasses import dataclass
 from pathlib import Path
 
+from reqlock_tools.conflicts import conflict_in
 from reqlock_tools.files import refuse_no_file
 from reqlock_tools.folder_lock import alone_in
 from reqlock_tools.merge_git import Checkout
@@ -37,7 +37,6 @@ from reqlock_tools.names import called, tool
 from reqlock_tools.program import program_path
 from reqlock_tools.refusal import Refusal, fault_text, speaker
 
-MARKER = re.compile(rb"(<{7}|\|{7}|={7}|>{7})( |\r?$)")
 DONE, FAILED, UNSOLVED, STOPPED = 0, 1, 3, 130
 OURS, THEIRS = "this side", "the other side"
 
@@ -79,10 +78,9 @@ class MergedFolder:
         data = self.read(REQUIREMENTS)
         if data is None:
             raise Refusal(f"{self.path / REQUIREMENTS}: it isn't there; give it the lines that are wanted")
-        marked = [str(number) for number, line in enumerate(data.split(b"\n"), 1) if MARKER.match(line)]
-        if marked:
-            lines = f"line{'s' * (len(marked) > 1)} {', '.join(marked)}"
-            raise Refusal(f"{REQUIREMENTS}: conflict markers in {lines}: leave the lines that are wanted, then call this again")
+        conflict = conflict_in(data.decode("latin-1"))
+        if conflict is not None:
+            raise Refusal(f"{REQUIREMENTS}: {conflict}")
         return data
 
     def is_whole(self) -> bool:

@@ -4,6 +4,7 @@ import re
 import tomllib
 from typing import Any
 
+from reqlock_tools.conflicts import conflict_in
 from reqlock_tools.refusal import Refusal
 
 # No key has so many parts, and no number so many digits.
@@ -34,7 +35,7 @@ def read_toml(text: str) -> dict[str, Any]:
     try:
         return tomllib.loads(text)
     except (ValueError, RecursionError) as error:
-        raise Refusal(f"it is no TOML: {error}") from None
+        raise Refusal(f"it is no TOML: {conflict_in(text) or error}") from None
 
 
 def value_at(table: dict[str, Any], *keys: str) -> Any:

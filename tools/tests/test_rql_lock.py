@@ -167,6 +167,20 @@ class Merges(Committed):
         self.assertEqual(re.findall(r"(?m)^[a-z]+==\S+", exported), ["flask==2", "rich==1"])
         self.accepts("check")
 
+    def test_a_conflict_in_a_source(self):
+        """Git's marks are told as that, and not as what can't be read in a line."""
+        conflict = "<<<<<<< HEAD\n{0}rich<2{1}\n=======\n{0}flask{1}\n>>>>>>> other\n"
+        project = '[project]\nname = "app"\ndependencies = [\n', "]\n"
+        for name, text, fault in (
+            ("base.in", "tool\n" + conflict.format("", ""), "conflict markers in lines 2, 4, 6: leave the lines that are wanted"),
+            ("pyproject.toml", conflict.format('"', '",').join(project), "it is no TOML: conflict markers in lines 4, 6, 8: leave the lines that"),
+        ):
+            self.put(name, text)
+            self.put("reqlock.toml", f'folder = "locks"\nsources = ["{name}"]\nindex = ["{self.index.url}"]\n{ENVIRONMENT}')
+            for word in "lock", "check":
+                with self.subTest(name=name, word=word):
+                    self.assertIn(f"{self.folder}/{name}: {fault}", self.refuses(word))
+
     def test_a_bot_in_a_new_clone(self):
         """A bot changes a bound in a clone that has nothing of what rql keeps."""
         self.accepts("constrain", "rich", "<2")

@@ -4,6 +4,7 @@ import re
 from collections.abc import Iterator
 from dataclasses import dataclass
 
+from reqlock_tools.conflicts import conflict_in
 from reqlock_tools.rql.faults import SettingsFault
 from reqlock_tools.rql.sources_read import Files, Line, Section, Taken, checked
 
@@ -30,6 +31,9 @@ def cut(text: str) -> list[str]:
 
 def items_in(section: Section, text: str) -> Iterator[Line | Followed]:
     """The requirements of a file, and the files that it names, in their order."""
+    conflict = conflict_in(text)
+    if conflict is not None:
+        raise SettingsFault(f"{section.path}: {conflict}")
     for place, raw in enumerate(cut(text)):
         where = section.where(place)
         line = COMMENT.sub("", raw.rstrip("\r\n").removeprefix("\ufeff" if place == 0 else "")).strip()
