@@ -1,5 +1,6 @@
 """Tests of `rql fleet`: a call in each of many projects, and which version is locked where."""
 
+import shlex
 import unittest
 
 from support.made.served_index import wheel_of
@@ -46,6 +47,33 @@ class Fleets(Served):
     def test_folders_that_are_named(self):
         status, output, _ = self.rql("fleet", "services/a", "services/b", "--", "check")
         self.assertEqual((status, output.splitlines()), (0, ["services/a  ok 0", "services/b  ok 0", "2 folders, 0 refused"]))
+
+    def test_words_that_are_no_call_are_refused_once_with_what_is_meant(self):
+        for words, told in (
+            (["--", "chek"], "rql: error: there is no command 'chek': rql check?"), (["--", "add"], "arguments are required: TEXT"),
+            (["services/a", "--"], "-- upgrade urllib3\n"), ([], "rql fleet services/* -- upgrade urllib3\n"),
+            (["--explain", "--", "check"], "--explain: options of rql stand in front of fleet"),
+        ):
+            status, output, errors = self.rql("fleet", *words)
+            self.assertEqual((status, output, errors.count(told)), (2, "", 1), errors)
+        for words in ["check"], ["services/a", "show", "rich>=1"]:
+            errors = self.rql("fleet", *words)[2]
+            meant = shlex.split(errors.partition(" may stand: rql ")[2])
+            self.assertEqual([word for word in meant if word != "--"], ["fleet", *words])
+            self.assertNotEqual(self.rql(*meant)[1], "")
+
+    def test_what_stands_behind_the_dashes_is_the_calls_own(self):
+        status, output, errors = self.rql("fleet", "services/a", "--", "init", "--index", self.index.url)
+        self.assertEqual((status, output.splitlines()[-1]), (1, "1 folder, 1 refused"))
+        self.assertIn("services/a: ", errors)
+        self.assertIn("settings stand there already", errors)
+
+    def test_a_dry_run_is_told_by_its_reply(self):
+        self.assertEqual(self.rql("fleet", "services/a", "--", "add", "rich", "--dry-run")[1].splitlines()[0], "services/a  ok 1")
+
+    def test_a_lock_that_is_gone(self):
+        (self.folder / "services" / "b" / "pylock.toml").unlink()
+        self.assertEqual(self.rql("fleet", "show", "rich")[2], "services/b: services/b/pylock.toml: No such file or directory\n")
 
     def test_with_an_index_it_is_the_tool(self):
         status, output, _ = self.rql("fleet", "--index", "services/a/.reqlock/index.json", "services/a", "--", "relock")

@@ -6,7 +6,7 @@ from collections.abc import Iterator, Sequence
 from pathlib import Path
 
 from reqlock_tools.merge_sides import lock_name, read_journal
-from reqlock_tools.refusal import Refusal, shown, speaker
+from reqlock_tools.refusal import Refusal, fault_text, shown, speaker
 from reqlock_tools.requirements import Need, need_of
 from reqlock_tools.rql.calls import typed_path
 from reqlock_tools.rql.faults import FOUND, SettingsFault
@@ -43,7 +43,7 @@ def run_table(words: Sequence[str]) -> int:
         try:
             rows += rows_of(folder, need, clauses)
         except (Refusal, OSError) as fault:
-            say(f"{folder}: {fault}")
+            say(f"{folder}: {fault_text(fault)}")
             is_whole = False
     print_table(rows)
     return 0 if is_whole else FOUND

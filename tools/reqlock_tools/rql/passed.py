@@ -3,6 +3,7 @@
 import importlib
 from contextlib import suppress
 from dataclasses import replace
+from itertools import takewhile
 from pathlib import Path
 
 from reqlock_tools.refusal import Refusal
@@ -126,7 +127,8 @@ def run_tool(options: Options, request: PassedRequest) -> int:
         from reqlock_tools.rql.fleet_table import run_table
 
         return run_table(words[1:])
-    if request.word == "fleet" and "--" in words and not any(word.startswith(("--index", "-h", "--help")) for word in words):
+    # (what stands behind -- is the call's own)
+    if request.word == "fleet" and not any(word.startswith(("--index", "-h", "--help")) for word in takewhile("--".__ne__, words)):
         from reqlock_tools.rql.fleet_each import run_each
 
         return run_each(options, words)
