@@ -12,6 +12,8 @@ from reqlock_tools.toml import read_toml
 
 PROJECT_FILE, OWN_FILE = "pyproject.toml", "reqlock.toml"
 FORMATS = "hashes", "dot", "pylock"
+# The keys of an environment: those that it has, and those that it may have.
+WANTED, SYSTEMS = ("python", "platform"), ("glibc", "musl", "macos")
 TARGET = re.compile("[a-z][a-z0-9-]{0,31}")
 PATTERN = re.compile(r"[A-Za-z0-9*](?:[A-Za-z0-9*._-]*[A-Za-z0-9*])?")
 DAY = re.compile(r"[0-9]{4}-[0-9]{2}-[0-9]{2}(?:T[0-9:]{8}Z)?")
@@ -115,7 +117,16 @@ class Table:
     def end(self) -> None:
         """Refuses keys that nobody knows."""
         for key in self.rest:
-            raise SettingsFault(f"{self.place}.{key}: this key isn't known")
+            raise self.unknown(key)
+
+    def refuse_others(self, *known: str) -> None:
+        """Refuses a key that isn't among these, before what is wanted in its place is missed."""
+        for key in self.rest:
+            if key not in known:
+                raise self.unknown(key)
+
+    def unknown(self, key: str) -> SettingsFault:
+        return SettingsFault(f"{self.place}.{key}: this key isn't known")
 
 
 def index_setting(item: object, place: str) -> IndexSetting:
@@ -123,8 +134,8 @@ def index_setting(item: object, place: str) -> IndexSetting:
     if isinstance(item, str):
         return IndexSetting(checked_address(item, place))
     table = Table(item, place)
+    table.refuse_others("url", "only")
     setting = IndexSetting(checked_address(table.text("url"), f"{place}.url"), table.texts("only"))
-    table.end()
     for pattern in setting.only:
         if not PATTERN.fullmatch(pattern):
             raise SettingsFault(f"{place}.only: {pattern!a} is no name, in which * may stand for any text")
@@ -154,9 +165,8 @@ def way_of(url: str) -> str:
 
 def export_setting(item: object, place: str) -> ExportSetting:
     table = Table(item, place)
-    target = table.text("target", "")
-    setting = ExportSetting(table.text("file"), table.text("format", FORMATS[0]), target or None)
-    table.end()
+    table.refuse_others("file", "format", "target")
+    setting = ExportSetting(table.text("file"), table.text("format", FORMATS[0]), table.text("target", "") or None)
     if setting.format not in FORMATS:
         raise SettingsFault(f"{place}.format: one of {', '.join(FORMATS)} is wanted")
     return setting
@@ -166,9 +176,8 @@ def environment_setting(name: str, item: object, place: str) -> EnvironmentSetti
     from reqlock_tools.environment import PLATFORMS
 
     table = Table(item, place)
-    told = [table.text(key) for key in ("python", "platform")]
-    setting = EnvironmentSetting(name, *told, *(table.text(key, "") for key in ("glibc", "musl", "macos")))
-    table.end()
+    table.refuse_others(*WANTED, *SYSTEMS)
+    setting = EnvironmentSetting(name, *map(table.text, WANTED), *(table.text(key, "") for key in SYSTEMS))
     if setting.platform not in PLATFORMS:
         raise SettingsFault(f"{place}.platform: one of {', '.join(PLATFORMS)} is wanted")
     return setting
