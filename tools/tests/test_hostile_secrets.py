@@ -5,6 +5,7 @@ import hashlib
 import json
 import os
 import socket
+import sys
 import threading
 import unittest
 from unittest import mock
@@ -16,6 +17,7 @@ from test_hostile_index import METADATA, PATH, SECONDS, Hostile, page_of, raw
 from reqlock_tools.limits import Limits
 from reqlock_tools.refusal import Refusal
 from reqlock_tools.simple.addresses import without_passwords
+from reqlock_tools.simple.cache import Cache
 from reqlock_tools.simple.pages import read_page
 
 NOBODY = 65534
@@ -162,6 +164,8 @@ class Secrets(Hostile):
             for words in [], ["--offline"]:
                 fault = f"{path}: it belongs to another user, who could change what is locked; --cache names another folder$"
                 self.check_refused(self.index, "a", *words, fault=fault)
+            with mock.patch.object(sys, "argv", ["rql"]), self.assertRaisesRegex(Refusal, "; XDG_CACHE_HOME names another folder$"):
+                Cache(str(cache), False, self.fail)
             os.chown(path, 0, 0)
         [entry] = (cache / "2" / "page").rglob("*/*")
         data = entry.read_bytes()

@@ -10,6 +10,7 @@ from typing import Any
 
 from reqlock_tools.files import OWN, is_own, write_whole
 from reqlock_tools.libraries import library
+from reqlock_tools.names import is_of_rql
 from reqlock_tools.refusal import Refusal, Say
 from reqlock_tools.regular_file import open_at_once
 from reqlock_tools.simple.addresses import Unfetched
@@ -48,7 +49,8 @@ class Cache:
         self.is_kept, self.made = True, set[str]()
         for path in folder, os.path.join(folder, VERSION):
             if os.path.lexists(path) and not (is_own(os.lstat(path)) and (not os.path.exists(path) or is_own(os.stat(path)))):
-                raise Refusal(f"{path}: it belongs to another user, who could change what is locked; --cache names another folder")
+                way = "XDG_CACHE_HOME" if is_of_rql() else "--cache"
+                raise Refusal(f"{path}: it belongs to another user, who could change what is locked; {way} names another folder")
 
     def path(self, kind: str, key: str) -> str:
         name = hashlib.sha256(key.encode()).hexdigest()
