@@ -252,9 +252,11 @@ class Words(unittest.TestCase):
     def test_of_commands(self):
         for word, told in *((it, COMMANDS[it]) for it in ("install", "portable-lock")), ("ad", "rql add?"), ("zzz", "rql --help names all"):
             self.assertEqual(self.told("-q", word, "x"), f"rql: error: there is no command {word!r}: {told}")
+        for word, meant in ("instal", "install"), ("uninstal", "uninstall"), ("freez", "freeze"):
+            self.assertEqual(self.told(word), f"rql: error: there is no command {word!r}: {COMMANDS[meant]}")
 
     def test_of_options(self):
-        for command, option, *more in ("add", "--dev", "pytest"), ("add", "-r", "more.txt"), ("upgrade", "--all"), ("sync", "--frozen"):
+        for command, option, *more in ("add", "--dev", "pytest"), ("add", "-r", "more.txt"), ("upgrade", "--all"), ("sync", "--frozen"), ("check", "--fix"):
             self.assertEqual(self.told(command, option, *more), f"rql {command}: error: it doesn't take {option}: {OPTIONS[command][option]}")
         self.assertEqual(self.told("lock", "more"), "rql lock: error: it doesn't take more")
         self.assertEqual(self.told("--bogus", "log"), "rql: error: it doesn't take --bogus")

@@ -32,6 +32,7 @@ OPTIONS = {
     "remove": dict.fromkeys(("--dev", "-D", "--group", "-G", "--optional"), "rql remove NAME takes the line out wherever it stands"),
     "upgrade": dict.fromkeys(("-a", "--all", "-U", "--upgrade"), UPGRADED),
     "lock": dict.fromkeys(("-U", "--upgrade", "-P", "--upgrade-package"), UPGRADED),
+    "check": {"--fix": "rql lock has the lock fit the lines again"},
     "sync": dict.fromkeys(("--frozen", "--locked", "--dev", "--no-dev", "--group", "--no-group", "--extra", "--all-extras", "--only"), SYNCED),
     "init": dict.fromkeys(("--index-url", "-i", "--extra-index-url"), "--index URL, several times where there are several, in order"),
 }
@@ -41,8 +42,10 @@ def in_place_of_command(word: str, commands: Iterable[str]) -> str:
     """What to type in the place of a command that there isn't."""
     if word in COMMANDS:
         return COMMANDS[word]
-    near = difflib.get_close_matches(word, list(commands), 1)
-    return f"rql {near[0]}?" if near else "rql --help names all"
+    near = difflib.get_close_matches(word, [*commands, *COMMANDS], 1)
+    if not near:
+        return "rql --help names all"
+    return COMMANDS.get(near[0], f"rql {near[0]}?")
 
 
 def in_place_of_options(command: str, words: Sequence[str]) -> str | None:
