@@ -127,7 +127,10 @@ def usual_mode() -> int:
 def write_whole(path: str, data: bytes, mode: int) -> None:
     """Writes a file beside its place, by a name that nobody knows, and puts it there once it is whole. It gets this mode; unless
     that is OWN, one that stands there keeps its rights."""
-    number, beside = tempfile.mkstemp(prefix=f".{os.path.basename(path)[:64]}.", suffix=".part", dir=os.path.dirname(path) or ".")
+    try:
+        number, beside = tempfile.mkstemp(prefix=f".{os.path.basename(path)[:64]}.", suffix=".part", dir=os.path.dirname(path) or ".")
+    except OSError as fault:
+        raise OSError(fault.errno, fault.strerror, path) from None
     try:
         try:
             left = memoryview(data)

@@ -2,6 +2,7 @@
 and disk."""
 
 import bz2
+import errno
 import gzip
 import io
 import json
@@ -28,7 +29,7 @@ from reqlock_tools.archives import METADATA, PKG_INFO, metadata_of
 from reqlock_tools.files import OWN, usual_mode, write_whole
 from reqlock_tools.index_documents import header_values
 from reqlock_tools.limits import Limits
-from reqlock_tools.refusal import Refusal
+from reqlock_tools.refusal import Refusal, fault_text
 from reqlock_tools.snapshot_output import refuse_place
 
 SECONDS = 20
@@ -339,6 +340,12 @@ class Links(Hostile):
         write_whole(str(place), b"z", OWN)
         self.assertEqual(place.stat().st_mode & 0o777, OWN)
         self.assertEqual([path.name for path in self.folder.iterdir()], ["index.json"])
+
+    def test_a_file_that_cannot_be_written_is_told_by_its_own_name(self):
+        place = self.folder / "none" / "index.json"
+        with self.assertRaises(FileNotFoundError) as found:
+            write_whole(str(place), b"x", usual_mode())
+        self.assertEqual(fault_text(found.exception), f"{place}: {os.strerror(errno.ENOENT)}")
 
     @unittest.skipUnless(os.geteuid() == 0, "optional: only root can give a link to another user")
     def test_a_snapshot_is_written_through_no_link_of_another_user(self):
