@@ -32,7 +32,8 @@ class StandIn(Projects):
                 self.assertEqual(self.rql(word, "--long", "a b", "*", STATUS="5"), (5, wanted, "told\n"))
 
     def test_tree_is_show(self):
-        self.assertEqual(self.rql("tree", "a")[1], "--dir\n.\nshow\n--tree\na\n")
+        self.assertEqual(self.rql("tree", "--color", "never")[1], "--dir\n.\nshow\n--tree\n--color\nnever\n")
+        self.assertEqual(self.refuses("tree", "a b"), "tree: it takes no name: rql show 'a b' tells what needs it\n")
 
     def test_an_index_that_is_kept_is_filled_in(self):
         self.put(".reqlock/index.json", "")

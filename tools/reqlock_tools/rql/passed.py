@@ -1,6 +1,7 @@
 """Calls that are handed on: the program's own, with folder and index filled in, and those of other tools."""
 
 import importlib
+import shlex
 from contextlib import suppress
 from dataclasses import replace
 from itertools import takewhile
@@ -8,6 +9,7 @@ from pathlib import Path
 
 from reqlock_tools.refusal import Refusal
 from reqlock_tools.rql.calls import Caller, typed_path
+from reqlock_tools.rql.faults import SettingsFault
 from reqlock_tools.rql.kept import Kept
 from reqlock_tools.rql.project import Project
 from reqlock_tools.rql.requests import Options, PassedRequest
@@ -25,6 +27,8 @@ ANSWERS = 0, 1, 3
 
 def run_passed(project: Project, request: PassedRequest) -> int:
     """The status of a call of the program with the words that were given."""
+    if request.word == "tree" and request.words and not request.words[0].startswith("-"):
+        raise SettingsFault(f"tree: it takes no name: {shlex.join(['rql', 'show', request.words[0]])} tells what needs it")
     caller = Caller(project.options)
     words = ["show", "--tree"] if request.word == "tree" else [request.word]
     call = [*words, *request.words]
